@@ -1,0 +1,38 @@
+-- Sums of words of a list in parts, and of a list with one word replaced.
+use Rattle.std.proofs.Common.{◌≡◌, ℕ, ◌+◌, ◌-◌, ◌*◌, ◌%◌, ◌<◌, ◌≤◌, List, [], ◌∷◌, ◌++◌, length, take, drop, arith, ap, sym, length-drop}
+use Rattle.std.proofs.lemmas.List.{take-append-drop, length-take-le, drop-drop}
+use Rattle.sums.specs.Sum.{word_sum, ones_sum}
+
+-- the words of two lists one after the other, the first of even length
+pub word_sum-append : (xs ys : List ℕ) (h : ℕ) → length xs ≡ 2 * h → word_sum (xs ++ ys) ≡ word_sum xs + word_sum ys
+word_sum-append [] ys h e = omega arith
+word_sum-append (x ∷ []) ys h e = absurd (omega arith)
+word_sum-append (x ∷ y ∷ xs) ys h e =
+    let shorter : length xs ≡ 2 * (h - 1) = omega arith in
+    omega (arith, word_sum-append xs ys (h - 1) shorter)
+
+-- the first word and the others
+pub word_sum-split : (xs : List ℕ) → 2 ≤ length xs → word_sum xs ≡ word_sum (take 2 xs) + word_sum (drop 2 xs)
+word_sum-split [] h = absurd (omega arith)
+word_sum-split (x ∷ []) h = absurd (omega arith)
+word_sum-split (x ∷ y ∷ xs) h = omega arith
+
+-- a word at an even place replaced by the bytes a and b
+pub word_sum-replace : (h : ℕ) (xs : List ℕ) (a b : ℕ) → 2 * h + 2 ≤ length xs → word_sum (take (2 * h) xs ++ (a ∷ b ∷ [] ++ drop (2 * h + 2) xs)) + word_sum (take 2 (drop (2 * h) xs)) ≡ word_sum xs + (256 * a + b)
+word_sum-replace h xs a b fits =
+    let front : length (take (2 * h) xs) ≡ 2 * h = length-take-le (2 * h) xs (omega arith) in
+    let new = word_sum-append (take (2 * h) xs) (a ∷ b ∷ [] ++ drop (2 * h + 2) xs) h front in
+    let old = word_sum-append (take (2 * h) xs) (drop (2 * h) xs) h front in
+    let whole : word_sum xs ≡ word_sum (take (2 * h) xs ++ drop (2 * h) xs) = ap word_sum (sym (take-append-drop (2 * h) xs)) in
+    let long : 2 ≤ length (drop (2 * h) xs) = simp length-drop (omega arith) in
+    let rest : drop 2 (drop (2 * h) xs) ≡ drop (2 * h + 2) xs = drop-drop 2 (2 * h) xs in
+    let two : word_sum (drop (2 * h) xs) ≡ word_sum (take 2 (drop (2 * h) xs)) + word_sum (drop (2 * h + 2) xs) = rw rest at (word_sum-split (drop (2 * h) xs) long) in
+    omega (arith, new, old, whole, two)
+
+-- a one's complement sum goes on from what was summed so far
+pub ones_sum-more : (m n : ℕ) → ones_sum (ones_sum m + n) ≡ ones_sum (m + n)
+ones_sum-more m n = omega arith
+
+-- the field that makes a whole sum 0 modulo 65535 is the complement of the other words' sum
+pub ones_sum-complement : (u s : ℕ) → u < 65535 → 0 < s → (u + s) % 65535 ≡ 0 → u ≡ 65535 - ones_sum s
+ones_sum-complement u s small some whole = omega arith
