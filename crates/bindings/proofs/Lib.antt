@@ -1,0 +1,4 @@
+pub mod Found
+pub mod Slots
+pub mod Choice
+pub mod Members

@@ -1,0 +1,3 @@
+pub mod Datagram
+pub mod Header
+pub mod Order

@@ -1,0 +1,13 @@
+//! IPv4 packets and the UDP datagrams in them, read and written in place.
+#![tactic(auto)]
+
+mod faults;
+mod header;
+mod udp;
+
+pub use faults::Ipv4Fault;
+pub use header::{Ipv4View, Ipv4ViewMut, ipv4_grammar};
+pub use udp::{UdpView, UdpViewMut, udp_grammar};
+
+#[cfg(test)]
+mod tests;
