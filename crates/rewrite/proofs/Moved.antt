@@ -1,0 +1,122 @@
+-- How whole sums change with addresses and ports.
+use Rattle.std.proofs.Common.{◌≡◌, ℕ, ◌+◌, ◌-◌, ◌*◌, ◌/◌, ◌%◌, ◌<◌, ◌≤◌, List, [], ◌∷◌, ◌++◌, length, take, drop, append_assoc, slice_index, arith, refl, ap, ap₂, ◌∙◌}
+use Rattle.byteorder.specs.Endian.{big_number}
+use Rattle.sums.specs.Sum.{word_sum, ones_sum, checksum_of, IsRight, IsUpdate}
+use Rattle.sums.proofs.Words.{word_sum-replace}
+use Rattle.rewrite.specs.declared.flows.Flow.{Flow}
+use Rattle.rewrite.specs.Sums.{address_sum, flow_sum}
+use Rattle.rewrite.specs.Translated.{header_unsummed, header_with, udp_sum, segment_with_ports, moved_sum, with_word, udp_field, udp_with}
+use Rattle.ipv4.specs.Header.{word_at}
+
+-- the two words of an address, by the four bytes that it is written as
+address_sum-written : (a : ℕ) → a < 4294967296 → address_sum a ≡ 256 * (a / 16777216 % 256) + a / 65536 % 256 + (256 * (a / 256 % 256) + a % 256)
+address_sum-written a h = omega arith
+
+-- the flow's words are within the ranges of their types
+pub record InRange (flow : Flow) : Type 0 where
+  pub source : flow.source.0 < 4294967296
+  pub destination : flow.destination.0 < 4294967296
+  pub source_port : flow.source_port.0 < 65536
+  pub destination_port : flow.destination_port.0 < 65536
+
+-- the whole sum of a segment changes by the difference of the flows
+pub udp_sum-moved : (old new : Flow) (segment : List ℕ) → InRange old → InRange new → 8 ≤ length segment → old.source_port.0 ≡ big_number 2 segment → old.destination_port.0 ≡ big_number 2 (drop 2 segment) → udp_sum new (segment_with_ports new segment) + flow_sum old ≡ udp_sum old segment + flow_sum new
+udp_sum-moved old new (a ∷ b ∷ c ∷ d ∷ e ∷ f ∷ g ∷ h ∷ payload) old_fits new_fits long is_source is_destination =
+    let w1 = address_sum-written old.source.0 old_fits.source in
+    let w2 = address_sum-written old.destination.0 old_fits.destination in
+    let w3 = address_sum-written new.source.0 new_fits.source in
+    let w4 = address_sum-written new.destination.0 new_fits.destination in
+    omega (arith, w1, w2, w3, w4)
+udp_sum-moved old new _ old_fits new_fits long is_source is_destination = absurd (omega arith)
+
+-- an update by the flows is the sum that the whole sums ask for
+pub moved_sum-update : (t old new s s2 u : ℕ) → s2 + old ≡ s + new → IsUpdate t old new u → u ≡ moved_sum t s s2
+moved_sum-update t old new s s2 u same is_update = omega arith
+
+-- the words that a rewrite of a UDP segment writes are those of the definition
+pub udp-rewritten : (old new : Flow) (segment : List ℕ) (t sum : ℕ) → InRange old → InRange new → 8 ≤ length segment → old.source_port.0 ≡ big_number 2 segment → old.destination_port.0 ≡ big_number 2 (drop 2 segment) → t ≡ word_at 6 segment → IsUpdate t (flow_sum old) (flow_sum new) sum → with_word 6 (udp_field t sum) (segment_with_ports new segment) ≡ udp_with old new segment
+udp-rewritten old new segment t sum old_fits new_fits long is_source is_destination is_t is_update =
+    let moved : udp_sum new (segment_with_ports new segment) + flow_sum old ≡ udp_sum old segment + flow_sum new = udp_sum-moved old new segment old_fits new_fits long is_source is_destination in
+    let is_sum : sum ≡ moved_sum t (udp_sum old segment) (udp_sum new (segment_with_ports new segment)) = moved_sum-update t (flow_sum old) (flow_sum new) (udp_sum old segment) (udp_sum new (segment_with_ports new segment)) sum moved is_update in
+    let is_field : udp_field t sum ≡ udp_field (word_at 6 segment) (moved_sum (word_at 6 segment) (udp_sum old segment) (udp_sum new (segment_with_ports new segment))) = ap₂ udp_field is_t (is_sum ∙ ap (λ x. moved_sum x (udp_sum old segment) (udp_sum new (segment_with_ports new segment))) is_t) in
+    ap (λ x. with_word 6 x (segment_with_ports new segment)) is_field
+
+-- two updates after one another are one by the sums of their words
+pub update-join : (c old new old2 new2 u v : ℕ) → IsUpdate c old new u → IsUpdate u old2 new2 v → IsUpdate c (old + old2) (new + new2) v
+update-join c old new old2 new2 u v first second = (second.0, omega (arith, first, second))
+
+-- the two words of an address in four bytes
+address_sum-bytes : (a b c d : ℕ) → a < 256 → b < 256 → c < 256 → d < 256 → address_sum (a * 16777216 + (b * 65536 + (c * 256 + (d * 1 + 0)))) ≡ 256 * a + b + (256 * c + d)
+address_sum-bytes a b c d a_fits b_fits c_fits d_fits = omega arith
+
+-- the words of a header that a translation replaces, added up
+abbrev pub old_words : List ℕ → ℕ
+old_words header = word_at 8 header + address_sum (big_number 4 (drop 12 header)) + address_sum (big_number 4 (drop 16 header))
+
+-- and those that it writes
+abbrev pub new_words : Flow → List ℕ → ℕ
+new_words new header = (word_at 8 header - 256) + address_sum new.source.0 + address_sum new.destination.0
+
+-- sums that begin with the same word
+sum-same : (w x y p q : ℕ) → x + p ≡ y + q → w + x + p ≡ w + y + q
+sum-same w x y p q h = omega arith
+
+-- sums that begin with the words v and w
+sum-other : (v w x y p q : ℕ) → x + p ≡ y + q → v + x + (w + p) ≡ w + y + (v + q)
+sum-other v w x y p q h = omega arith
+
+-- the words that go, and those that come, in the order of the definitions
+regroup_old : (hops check a b c d : ℕ) → hops + (check + (a + (b + (c + (d + 0))))) ≡ check + (hops + (a + b) + (c + d))
+regroup_old hops check a b c d = omega arith
+
+regroup_new : (ttl protocol a b c d : ℕ) → 0 < ttl → 256 * (ttl - 1) + protocol + (0 + (a + (b + (c + (d + 0))))) ≡ 256 * ttl + protocol - 256 + (a + b) + (c + d)
+regroup_new ttl protocol a b c d h = omega arith
+
+word-bytes : (a b : ℕ) → a * 256 + (b * 1 + 0) ≡ 256 * a + b
+word-bytes a b = omega arith
+
+positive-first : (a b rest : ℕ) → 0 < a → 0 < 256 * a + b + rest
+positive-first a b rest h = omega arith
+
+-- the whole sum of a header changes by the difference of its words, and isn't 0
+pub header_sum-moved : (new : Flow) (header : List ℕ) → InRange new → ((i : ℕ) → slice_index header i < 256) → 20 ≤ length header → 0 < slice_index header 0 → 0 < slice_index header 8 → (word_sum (header_unsummed new header) + (word_at 10 header + old_words header) ≡ word_sum header + new_words new header) × (0 < word_sum (header_unsummed new header))
+header_sum-moved new (b0 ∷ b1 ∷ b2 ∷ b3 ∷ b4 ∷ b5 ∷ b6 ∷ b7 ∷ b8 ∷ b9 ∷ b10 ∷ b11 ∷ b12 ∷ b13 ∷ b14 ∷ b15 ∷ b16 ∷ b17 ∷ b18 ∷ b19 ∷ options) fits small long version ttl =
+    let tail = sum-other (256 * (new.source.0 / 16777216 % 256) + (new.source.0 / 65536 % 256)) (256 * b12 + b13) _ _ _ _ (sum-other (256 * (new.source.0 / 256 % 256) + (new.source.0 % 256)) (256 * b14 + b15) _ _ _ _ (sum-other (256 * (new.destination.0 / 16777216 % 256) + (new.destination.0 / 65536 % 256)) (256 * b16 + b17) _ _ _ _ (sum-other (256 * (new.destination.0 / 256 % 256) + (new.destination.0 % 256)) (256 * b18 + b19) (word_sum options) (word_sum options) 0 0 refl))) in
+    let all = sum-same (256 * b0 + b1) _ _ _ _ (sum-same (256 * b2 + b3) _ _ _ _ (sum-same (256 * b4 + b5) _ _ _ _ (sum-same (256 * b6 + b7) _ _ _ _ (sum-other (256 * (b8 - 1) + b9) (256 * b8 + b9) _ _ _ _ (sum-other 0 (256 * b10 + b11) _ _ _ _ tail))))) in
+    let olds = regroup_old (256 * b8 + b9) (256 * b10 + b11) (256 * b12 + b13) (256 * b14 + b15) (256 * b16 + b17) (256 * b18 + b19) in
+    let news = regroup_new b8 b9 (256 * (new.source.0 / 16777216 % 256) + (new.source.0 / 65536 % 256)) (256 * (new.source.0 / 256 % 256) + (new.source.0 % 256)) (256 * (new.destination.0 / 16777216 % 256) + (new.destination.0 / 65536 % 256)) (256 * (new.destination.0 / 256 % 256) + (new.destination.0 % 256)) ttl in
+    let from = address_sum-bytes b12 b13 b14 b15 (small 12) (small 13) (small 14) (small 15) in
+    let to = address_sum-bytes b16 b17 b18 b19 (small 16) (small 17) (small 18) (small 19) in
+    let from' = address_sum-written new.source.0 fits.source in
+    let to' = address_sum-written new.destination.0 fits.destination in
+    (rw (from, to, from', to', word-bytes b10 b11, word-bytes b8 b9, ← olds, ← news) all, positive-first b0 b1 _ version)
+header_sum-moved new _ fits small long version ttl = absurd (omega arith)
+
+-- so an update by the words, of a right checksum, is the complement of the whole sum
+pub checksum-update : (t old new sum whole c : ℕ) → sum + (t + old) ≡ whole + new → 0 < sum → whole % 65535 ≡ 0 → IsUpdate t old new c → c ≡ 65535 - ones_sum sum
+checksum-update t old new sum whole c same some right is_update = omega (arith, is_update)
+
+-- a word from 0 to 65535 in its two bytes
+word-written : (v : ℕ) → v < 65536 → 256 * (v / 256 % 256) + v % 256 ≡ v
+word-written v h = omega arith
+
+-- a field that is the complement of the other words' sum makes the whole sum right
+complement-right : (whole sum field : ℕ) → 0 < sum → whole ≡ sum + field → field ≡ 65535 - ones_sum sum → (whole % 65535 ≡ 0) × (0 < whole)
+complement-right whole sum field some is_whole is_field = (omega arith, omega arith)
+
+-- bytes with a field of 0 that is filled with the complement of their sum
+filled-right : (u : List ℕ) (v : ℕ) → v ≡ checksum_of u → 12 ≤ length u → word_sum (take 2 (drop 10 u)) ≡ 0 → 0 < word_sum u → IsRight (with_word 10 v u)
+filled-right u v is_v long empty some =
+    let replaced : word_sum (take 10 u ++ (v / 256 % 256 ∷ v % 256 ∷ [] ++ drop 12 u)) + word_sum (take 2 (drop 10 u)) ≡ word_sum u + (256 * (v / 256 % 256) + v % 256) = word_sum-replace 5 u (v / 256 % 256) (v % 256) long in
+    let small : v < 65536 = omega (arith, is_v) in
+    let written : 256 * (v / 256 % 256) + v % 256 ≡ v = word-written v small in
+    let whole : word_sum (take 10 u ++ (v / 256 % 256 ∷ v % 256 ∷ [] ++ drop 12 u)) ≡ word_sum u + v = omega (arith, replaced, written, empty) in
+    let joined : word_sum (with_word 10 v u) ≡ word_sum u + v = ap word_sum (append_assoc (take 10 u) (v / 256 % 256 ∷ v % 256 ∷ []) (drop 12 u)) ∙ whole in
+    complement-right (word_sum (with_word 10 v u)) (word_sum u) v some joined is_v
+
+-- a header with the complement of the whole sum is right
+pub header_with-right : (flow : Flow) (header : List ℕ) → 20 ≤ length header → 0 < slice_index header 0 → IsRight (header_with flow header)
+header_with-right flow (b0 ∷ b1 ∷ b2 ∷ b3 ∷ b4 ∷ b5 ∷ b6 ∷ b7 ∷ b8 ∷ b9 ∷ b10 ∷ b11 ∷ b12 ∷ b13 ∷ b14 ∷ b15 ∷ b16 ∷ b17 ∷ b18 ∷ b19 ∷ options) long version =
+    let u = header_unsummed flow (b0 ∷ b1 ∷ b2 ∷ b3 ∷ b4 ∷ b5 ∷ b6 ∷ b7 ∷ b8 ∷ b9 ∷ b10 ∷ b11 ∷ b12 ∷ b13 ∷ b14 ∷ b15 ∷ b16 ∷ b17 ∷ b18 ∷ b19 ∷ options) in
+    filled-right u (checksum_of u) refl (omega arith) refl (positive-first b0 b1 _ version)
+header_with-right flow _ long version = absurd (omega arith)
