@@ -101,7 +101,17 @@ pub struct EthViewMut<'a> {
 }
 
 impl<'a> EthViewMut<'a> {
-    /// Where it isn't known that the header is whole, [`EthView::parse`] tests it first.
+    /// A caller that is to know the bytes afterwards tests them with [`EthView::parse`] and calls
+    /// [`EthViewMut::new`].
+    pub fn parse(bytes: &'a mut [u8]) -> Result<EthViewMut<'a>, FrameFault>
+        ensures ok { IsOk result ↔ IsFrame bytes.old }
+        ensures bytes { IfOk result (λ v. v.bytes.now ≡ bytes.old) }
+        ensures same_reference { IfOk result (λ v. v.bytes.ghost_name ≡ bytes.entry.ghost_name) }
+    {
+        EthView::parse(bytes)?;
+        Ok(EthViewMut { bytes })
+    }
+
     pub fn new(bytes: &'a mut [u8]) -> EthViewMut<'a>
         requires { IsFrame bytes.old }
         ensures bytes { result.bytes.now ≡ bytes.old }

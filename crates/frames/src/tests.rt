@@ -36,6 +36,10 @@ fn refuses_half_a_header(rt: HostRuntime) -> Result<(), Fail> {
     assert_eq!(rt; text.as_str(), "the frame is too short");
     let empty = EthView::parse(&SENT[..14]);
     assert!(rt; empty.is_ok());
+    let mut bytes = SENT;
+    let cut = EthViewMut::parse(&mut bytes[..13]).err();
+    assert_eq!(rt; cut, Some(FrameFault::TooShort));
+    assert!(rt; EthViewMut::parse(&mut bytes).is_ok());
     Ok(())
 }
 

@@ -199,7 +199,17 @@ pub struct Ipv4ViewMut<'a> {
 }
 
 impl<'a> Ipv4ViewMut<'a> {
-    /// Where it isn't known that the bytes are a packet, [`Ipv4View::parse`] tests it first.
+    /// A caller that is to know the bytes afterwards tests them with [`Ipv4View::parse`] and calls
+    /// [`Ipv4ViewMut::new`].
+    pub fn parse(bytes: &'a mut [u8]) -> Result<Ipv4ViewMut<'a>, Ipv4Fault>
+        ensures refusal { result_err result ≡ ipv4_refusal bytes.old }
+        ensures bytes { IfOk result (λ v. v.bytes.now ≡ bytes.old) }
+        ensures same_reference { IfOk result (λ v. v.bytes.ghost_name ≡ bytes.entry.ghost_name) }
+    {
+        Ipv4View::parse(bytes)?;
+        Ok(Ipv4ViewMut { bytes })
+    }
+
     pub fn new(bytes: &'a mut [u8]) -> Ipv4ViewMut<'a>
         requires { 20 ≤ length bytes.old }
         ensures bytes { result.bytes.now ≡ bytes.old }

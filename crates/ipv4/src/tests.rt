@@ -148,6 +148,19 @@ fn writes_field_by_field(rt: HostRuntime) {
 }
 
 #[test]
+fn lends_what_is_right(rt: HostRuntime) {
+    let mut bytes = SENT;
+    assert!(rt; Ipv4ViewMut::parse(&mut bytes).is_ok());
+    assert!(rt; UdpViewMut::parse(&mut bytes[20..]).is_ok());
+    let cut = UdpViewMut::parse(&mut bytes[23..]).err();
+    assert_eq!(rt; cut, Some(Ipv4Fault::BadTransport));
+    let mut changed = SENT_ON;
+    changed[8] = 1;
+    let fault = Ipv4ViewMut::parse(&mut changed).err();
+    assert_eq!(rt; fault, Some(Ipv4Fault::BadHeaderSum));
+}
+
+#[test]
 fn prints_faults(rt: HostRuntime) -> Result<(), Fail> {
     let text = format!(in rt.alloc(); "{}", Ipv4Fault::BadHeaderSum)?;
     assert_eq!(rt; text.as_str(), "a wrong header checksum");

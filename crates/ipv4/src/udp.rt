@@ -1,4 +1,4 @@
-ghost use Rattle.std.specs.Prelude.{◌≡◌, ◌≤◌, ◌↔◌, length, IsOk, IfOk, None, List, ℕ};
+ghost use Rattle.std.specs.Prelude.{◌≡◌, ◌≤◌, ◌↔◌, length, IsOk, IfOk, IfErr, None, List, ℕ};
 ghost use Rattle.std.specs.Result.{result_err};
 ghost use Rattle.byteorder.specs.Endian.{big_bytes};
 ghost use Rattle.frames.specs.Bytes.{Puts};
@@ -117,6 +117,20 @@ pub struct UdpViewMut<'a> {
 }
 
 impl<'a> UdpViewMut<'a> {
+    /// The datagram in a packet's payload. A caller that is to know the bytes afterwards tests them with
+    /// [`UdpView::parse`] and calls [`UdpViewMut::new`].
+    pub fn parse(payload: &'a mut [u8]) -> Result<UdpViewMut<'a>, Ipv4Fault>
+        ensures ok { IsOk result ↔ IsDatagram payload.old }
+        ensures err { IfErr result (λ f. f ≡ Ipv4Fault.BadTransport) }
+        ensures bytes { IfOk result (λ v. v.bytes.now ≡ payload.old) }
+        ensures same_reference { IfOk result (λ v. v.bytes.ghost_name ≡ payload.entry.ghost_name) }
+    {
+        if no_datagram(payload) {
+            return Err(Ipv4Fault::BadTransport);
+        }
+        Ok(UdpViewMut { bytes: payload })
+    }
+
     /// The bytes begin with the UDP header.
     pub fn new(bytes: &'a mut [u8]) -> UdpViewMut<'a>
         requires { 8 ≤ length bytes.old }

@@ -1,0 +1,4 @@
+pub mod Lines
+pub mod Unique
+pub mod Truths
+pub mod Rows

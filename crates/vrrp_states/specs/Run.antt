@@ -1,0 +1,19 @@
+-- What a router is told one event after another, and what it sends.
+use Rattle.std.specs.Prelude.{◌≡◌, ℕ, List, [], ◌∷◌}
+use Rattle.vrrp_states.specs.declared.Action.{Action}
+use Rattle.vrrp_states.specs.Table.{Router, Event, Heard, IsStep}
+
+-- one event, its moment, and what was sent
+pub record Told : Type 0 where
+  pub event : Event
+  pub now : ℕ
+  pub action : Action
+
+-- steps one after another, from a router to what it is afterwards
+abbrev pub Runs : Router → List Told → Router → Type 0
+Runs router [] last = last ≡ router
+Runs router (told ∷ more) last = (next : Router) × IsStep router told.event told.now told.action next × Runs next more last
+
+-- hearing the advertisement of a router, from its primary address
+abbrev pub hears : Router → Event
+hears other = Heard other.priority other.interval other.address
