@@ -33,7 +33,8 @@ entry-push es e x live h =
       | inr s ↦ find-push_other (serves x) es e (and_right (is_pair e.state) (same_endpoint e.pair.endpoint x) s) ∙ sym (cond-false (same_endpoint e.pair.endpoint x) (Some e) (entry_of es x) s)
     ]
 
-other_way : (a b : Key) → same_key a b ≡ false → same_key b a ≡ false
+-- the test on keys fails either way
+pub other_way : (a b : Key) → same_key a b ≡ false → same_key b a ≡ false
 other_way a b fails = key-false b a (λ e. both_ways (same_key a b) fails (key-true a b (sym e)))
 
 pub distinct_keys-push : (es : List Entry) (e : Entry) → HasDistinctKeys es → slot_of es e.pair.key ≡ None → HasDistinctKeys (es ++ e ∷ [])

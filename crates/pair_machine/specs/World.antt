@@ -1,0 +1,111 @@
+-- The pair with its mail: every datagram that was ever sent may come, any number of times and in any order.
+use Rattle.std.specs.Prelude.{IsTrue, List, Some, [], false, length, true, ℕ, ◌&&◌, ◌++◌, ◌||◌, ◌∷◌, ◌≡◌}
+use Rattle.nat_types.specs.declared.gateways.GatewayId.{GatewayId}
+use Rattle.nat_types.specs.declared.gateways.GatewayId.TheVariants.{Zero, One}
+use Rattle.nat_types.specs.declared.notes.Note.{Note}
+use Rattle.nat_types.specs.declared.pairs.Key.{Key}
+use Rattle.nat_types.specs.declared.pairs.Pair.{Pair}
+use Rattle.trace_words.specs.Past.{Fits, Silent, Kept, GoesOn}
+use Rattle.pair_machine.specs.Acts.{MayAct, Crash, Act, box_after, PeerOff, letters_by, read_by, notes_of}
+use Rattle.pair_machine.specs.Box.{never, Box, In, Letter, founder}
+use Rattle.pair_machine.specs.Ports.{Ranges}
+use Rattle.pair_machine.specs.Talk.{Slot, held, translated}
+
+-- what one gateway sees: itself and the other, all that each ever sent, and the notes of both, the newest first
+pub record Scene : Type 0 where
+  pub mine : Box
+  pub theirs : Box
+  pub my_mail : List Letter
+  pub their_mail : List Letter
+  pub trace : List Note
+
+-- what the other sees
+abbrev pub flip : Scene → Scene
+flip s = record { mine = s.theirs; theirs = s.mine; my_mail = s.their_mail; their_mail = s.my_mail; trace = s.trace }
+
+-- what has to hold outside the gateway: the operator's word is true, and the last synced gateway doesn't crash
+abbrev pub Outside : Scene → Act → Type 0
+Outside s (PeerOff number back) = (s.theirs.up ≡ false) × (number ≡ s.theirs.boot)
+Outside s Crash = s.mine.synced ≡ true → s.theirs.synced ≡ true
+Outside s x = Unit {0}
+
+-- The world is the scene that gateway 0 sees. An event is an act of one of the two.
+pub record Event : Type 0 where
+  pub by : GatewayId
+  -- the moment of its clock, which stands in the notes
+  pub moment : ℕ
+  pub act : Act
+
+-- the scene as this one sees it
+abbrev pub seen_by : GatewayId → Scene → Scene
+seen_by Zero s = s
+seen_by One s = flip s
+
+-- gateway 0 is founded with boot 1, gateway 1 down
+abbrev pub start : Ranges → Scene
+start r = record { mine = founder (λ p. r.in_ranges p && r.at_start p); theirs = never; my_mail = []; their_mail = []; trace = [] }
+
+-- the scene with gateway 0 as it is now, all notes and all its letters
+abbrev pub with_zero : Scene → Box → List Note → List Letter → Scene
+with_zero s now notes letters = record { mine = now; theirs = s.theirs; my_mail = letters; their_mail = s.their_mail; trace = notes }
+
+-- the same of gateway 1
+abbrev pub with_one : Scene → Box → List Note → List Letter → Scene
+with_one s now notes letters = record { mine = s.mine; theirs = now; my_mail = s.my_mail; their_mail = letters; trace = notes }
+
+-- what belongs to gateway 0, and what to gateway 1
+abbrev pub both : {A : Type 0} → A → A → GatewayId → A
+both a b Zero = a
+both a b One = b
+
+-- the two tables
+abbrev pub tables_of : Scene → GatewayId → Key → Slot
+tables_of s = both s.mine.table s.theirs.table
+
+-- the pair is in the table
+abbrev pub Holds : (GatewayId → Key → Slot) → GatewayId → Pair → Type 0
+Holds tables i p = held (tables i p.key) ≡ Some p.endpoint
+
+-- the pair translates there
+abbrev pub Translates : (GatewayId → Key → Slot) → GatewayId → Pair → Type 0
+Translates tables i p = translated (tables i p.key) ≡ Some p.endpoint
+
+-- What is promised of the trace and the two tables of each world.
+pub record IsKept (t : List Note) (tables : GatewayId → Key → Slot) : Type 0 where
+  pub fits : Fits t
+  pub kept : Kept (Holds tables) t
+  pub silent : Silent t
+  pub goes_on : GoesOn (Translates tables) t
+
+-- What is promised of the ports of each world.
+pub record HasOwners (r : Ranges) (s : Scene) : Type 0 where
+  -- no port is owned by two synced gateways
+  pub apart : s.mine.synced ≡ true → s.theirs.synced ≡ true → (p : ℕ) → IsTrue (s.mine.owned p) → IsTrue (s.theirs.owned p) → ⊥
+  -- where both are synced and every record pushed was taken, each port of the ranges has one owner
+  pub whole : s.mine.synced ≡ true → s.theirs.synced ≡ true → s.mine.taken ≡ length s.theirs.sent → s.theirs.taken ≡ length s.mine.sent
+      → (p : ℕ) → IsTrue (r.in_ranges p) → IsTrue (s.mine.owned p || s.theirs.owned p)
+  -- and no other port is owned
+  pub within : (i : GatewayId) → (both s.mine s.theirs i).synced ≡ true → (p : ℕ) → IsTrue ((both s.mine s.theirs i).owned p) → IsTrue (r.in_ranges p)
+
+module _ (r : Ranges) where
+  -- An act is allowed where the gateway may do it, what it reads was sent, and the outside is so.
+  abbrev pub Can : GatewayId → Scene → Act → Type 0
+  Can i s x = MayAct r i s.mine x × ((l : Letter) → In l (read_by x) → In l s.their_mail) × Outside s x
+
+  -- the scene afterwards
+  abbrev pub after : GatewayId → ℕ → Scene → Act → Scene
+  after i moment s x = record { mine = box_after r i s.mine x; theirs = s.theirs; my_mail = letters_by s.mine x ++ s.my_mail; their_mail = s.their_mail; trace = notes_of i moment x ++ s.trace }
+
+  -- the world after an event
+  abbrev pub happens : Scene → Event → Scene
+  happens s e = seen_by e.by (after e.by e.moment (seen_by e.by s) e.act)
+
+  -- after these events
+  abbrev pub run : List Event → Scene → Scene
+  run [] s = s
+  run (e ∷ es) s = run es (happens s e)
+
+  -- each event is allowed where it comes
+  abbrev pub AreAllowed : List Event → Scene → Type 0
+  AreAllowed [] s = Unit {0}
+  AreAllowed (e ∷ es) s = Can e.by (seen_by e.by s) e.act × AreAllowed es (happens s e)
