@@ -1,0 +1,101 @@
+-- What the machine says of slots, as it is said of tables.
+use Rattle.std.proofs.Common.{◌≡◌, true, List, [], Option, Some, None, ◌↔◌, refl, ap, ◌∙◌}
+use Rattle.std.specs.List.{Contains}
+use Rattle.nat_types.specs.declared.gateways.GatewayId.{GatewayId}
+use Rattle.nat_types.specs.declared.gateways.GatewayId.TheVariants.{Zero, One}
+use Rattle.nat_types.specs.declared.notes.Note.{Note}
+use Rattle.nat_types.specs.declared.pairs.EntryState.{EntryState}
+use Rattle.nat_types.specs.declared.pairs.EntryState.TheVariants as state
+use Rattle.nat_types.specs.declared.pairs.Endpoint.{Endpoint}
+use Rattle.nat_types.specs.declared.pairs.Key.{Key}
+use Rattle.nat_types.specs.declared.pairs.Pair.{Pair}
+use Rattle.bindings.specs.declared.entries.Entry.{Entry}
+use Rattle.bindings.specs.Entries.{slot_of, entry_in, pairs_in, is_pair, translates, HasDistinctKeys}
+use Rattle.bindings.proofs.Slots.{slot-key}
+use Rattle.bindings.proofs.Members.{listed-slot, slot-listed}
+use Rattle.trace_words.specs.Trace.{Kept, GoesOn}
+use Rattle.pair_machine.specs.Talk as machine
+use Rattle.pair_machine.specs.World as world
+use Rattle.pair_machine.specs.Mapped.{slot_in}
+use Rattle.gateway.specs.Machine.{machine_slot, slots_of}
+use Rattle.gateway.specs.Shown.{Shown}
+use Rattle.frame_sim.specs.Seen.{Seen, entries_of, Holds, Translates}
+use Rattle.frame_sim.specs.Scene.{box_at, scene_of, HasTable}
+
+-- the states in which the machine has the pair, and in which it translates
+held-state : (s : EntryState) (e x : Endpoint) → machine.held (slot_in s e) ≡ Some x → (is_pair s ≡ true) × (e ≡ x)
+held-state state.Pending e x h = (refl, cc)
+held-state state.Doomed e x h = cc
+held-state state.Live e x h = (refl, cc)
+held-state state.Closing e x h = (refl, cc)
+held-state state.Held e x h = (refl, cc)
+
+translated-state : (s : EntryState) (e x : Endpoint) → machine.translated (slot_in s e) ≡ Some x → (translates s ≡ true) × (e ≡ x)
+translated-state state.Pending e x h = cc
+translated-state state.Doomed e x h = cc
+translated-state state.Live e x h = (refl, cc)
+translated-state state.Closing e x h = cc
+translated-state state.Held e x h = (refl, cc)
+
+translates-slot : (s : EntryState) (e : Endpoint) → translates s ≡ true → machine.translated (slot_in s e) ≡ Some e
+translates-slot state.Pending e h = cc
+translates-slot state.Doomed e h = cc
+translates-slot state.Live e h = refl
+translates-slot state.Closing e h = cc
+translates-slot state.Held e h = refl
+
+-- an entry is its pair in its state
+whole : (es : List Entry) (p : Pair) (x : Entry) → slot_of es p.key ≡ Some x → x.pair.endpoint ≡ p.endpoint → slot_of es p.key ≡ Some (entry_in x.state p)
+whole es p x found same =
+    let key : x.pair.key ≡ p.key = slot-key es p.key x found in
+    let pair : x.pair ≡ p = ap (λ (k : Key). let q : Pair = record { key = k; endpoint = x.pair.endpoint } in q) key ∙ ap (λ (e : Endpoint). let q : Pair = record { key = p.key; endpoint = e } in q) same in
+    found ∙ ap (λ (q : Pair). let e : Entry = record { pair = q; state = x.state } in Some e) pair
+
+held-listed : (es : List Entry) (p : Pair) → machine.held (slots_of es p.key) ≡ Some p.endpoint → Contains (pairs_in is_pair es) p
+held-listed es p h = at (slot_of es p.key) refl h
+  where
+    at : (o : Option Entry) → slot_of es p.key ≡ o → machine.held (machine_slot o) ≡ Some p.endpoint → Contains (pairs_in is_pair es) p
+    at None found h = cc
+    at (Some x) found h =
+        let parts = held-state x.state x.pair.endpoint p.endpoint h in
+        listed-slot is_pair es p x.state (whole es p x found parts.1) parts.0
+
+translated-listed : (es : List Entry) (p : Pair) → machine.translated (slots_of es p.key) ≡ Some p.endpoint → Contains (pairs_in translates es) p
+translated-listed es p h = at (slot_of es p.key) refl h
+  where
+    at : (o : Option Entry) → slot_of es p.key ≡ o → machine.translated (machine_slot o) ≡ Some p.endpoint → Contains (pairs_in translates es) p
+    at None found h = cc
+    at (Some x) found h =
+        let parts = translated-state x.state x.pair.endpoint p.endpoint h in
+        listed-slot translates es p x.state (whole es p x found parts.1) parts.0
+
+listed-translated : (es : List Entry) (p : Pair) → HasDistinctKeys es → Contains (pairs_in translates es) p → machine.translated (slots_of es p.key) ≡ Some p.endpoint
+listed-translated es p keys h =
+    let found = slot-listed translates es p keys h in
+    ap (λ (o : Option Entry). machine.translated (machine_slot o)) found.1 ∙ translates-slot found.0 p.endpoint found.2
+
+-- of one gateway
+at-held : (g : Option Shown) (p : Pair) → machine.held ((box_at g).table p.key) ≡ Some p.endpoint → Contains (pairs_in is_pair (entries_of g)) p
+at-held None p h = cc
+at-held (Some g) p h = held-listed g.table.entries p h
+
+at-translated : (g : Option Shown) (p : Pair) → HasTable g → (machine.translated ((box_at g).table p.key) ≡ Some p.endpoint) ↔ Contains (pairs_in translates (entries_of g)) p
+at-translated None p table = (λ h. cc, λ h. listed-translated [] p tt h)
+at-translated (Some g) p table = (translated-listed g.table.entries p, listed-translated g.table.entries p table.keys)
+
+pub holds-kept : (w : Seen) (t : List Note) → Kept (world.Holds (world.tables_of (scene_of w))) t → Kept (Holds w) t
+holds-kept w t kept p opened i synced = at i (kept p opened i synced)
+  where
+    at : (i : GatewayId) → world.Holds (world.tables_of (scene_of w)) i p → Holds w i p
+    at Zero h = at-held w.zero p h
+    at One h = at-held w.one p h
+
+pub translates-on : (w : Seen) (t : List Note) → HasTable w.zero → HasTable w.one → GoesOn (world.Translates (world.tables_of (scene_of w))) t → GoesOn (Translates w) t
+translates-on w t zero one goes i synced p = at i (goes i synced p)
+  where
+    over : {A B C : Type 0} → (A ↔ B) → (B ↔ C) → (A ↔ C)
+    over f g = (λ a. g.0 (f.0 a), λ c. f.1 (g.1 c))
+
+    at : {A : Type 0} (j : GatewayId) → (A ↔ world.Translates (world.tables_of (scene_of w)) j p) → (A ↔ Translates w j p)
+    at Zero h = over h (at-translated w.zero p zero)
+    at One h = over h (at-translated w.one p one)

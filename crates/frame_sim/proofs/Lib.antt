@@ -1,0 +1,4 @@
+pub mod Scenes
+pub mod Founding
+pub mod Keeping
+pub mod Steps

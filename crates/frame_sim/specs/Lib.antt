@@ -1,0 +1,4 @@
+pub mod Seen
+pub mod Scene
+pub mod Truly
+pub mod Runs

@@ -1,0 +1,12 @@
+pub mod Choices
+pub mod Deeds
+pub mod Effects
+pub mod Frames
+pub mod Networks
+pub mod Reasons
+pub mod Shown
+pub mod Steps
+pub mod Told
+pub mod Verdict
+pub mod Truly
+pub mod Machine

@@ -1,0 +1,257 @@
+ghost use Rattle.std.specs.Prelude.{◌≡◌, ◌≤◌, ◌<◌, IsTrue, IfOk, OnOk, OnErr, Ok, length};
+ghost use Rattle.nat_types.specs.declared.gateways.GatewayId.TheVariants.{Zero};
+ghost use Rattle.frames.specs.Frame.{frame_of};
+ghost use Rattle.ipv4.specs.Header.{IsIpv4, header_of};
+ghost use Rattle.ipv4.specs.Datagram.{IsUdp};
+ghost use Rattle.bindings.specs.Entries.{IsTable, is_pair, translates, pairs_in, place_of, entry_in, with_entry};
+ghost use Rattle.gateway.specs.Choices.{IsNew, IsAllowed};
+ghost use Rattle.nat_types.specs.declared.pairs.EntryState.TheVariants.{Live};
+ghost use Rattle.std.specs.List.Sorted.{IsPermutation, IsNonDecreasingBy};
+ghost use Rattle.gateway.specs.Shown.{started, IsLone, size_of, bounds_of, networks_of, empty_table};
+ghost use Rattle.gateway.specs.Deeds.{Acts};
+ghost use Rattle.gateway.specs.Effects.{outcome_on, shown_on, told_on, shown_by, told_by, notes_of, clock_after};
+ghost use Rattle.gateway.specs.Truly.{TellsTruly};
+ghost use Rattle.gateway.specs.Machine.{IsMachineStep};
+ghost use Rattle.gateway.specs.Verdict.{plan_of, verdict};
+
+use crate::choices::Choice;
+use crate::networks::{Direction, Network, Networks, direction_taken};
+use crate::plans::{Plan, plan_inward, plan_outward};
+use crate::steps::read_packet;
+use crate::translations::make_frame;
+use crate::{Event, NoMemory, Out, Outcome, Reason};
+use bindings::{PortBounds, Table};
+use nat_types::{EntryState, GatewayId, Happening, Note, Pair, Side};
+use settings::{Neighbour, PortRange, Settings};
+use std::alloc::Global;
+use std::marker::Model;
+
+/// The greatest moment of a clock, in centiseconds.
+const LAST_MOMENT: u64 = 4_000_000_000_000;
+
+/// One gateway of the pair.
+#[derive(Drop)]
+pub struct Gateway {
+    alloc: Global,
+    id: GatewayId,
+    boot: u64,
+    networks: Networks,
+    neighbours: Vec<Neighbour>,
+    synced: bool,
+    moment: u64,
+    table: Table,
+}
+
+impl Model for Gateway {
+    ghost use Rattle.gateway.specs.Shown.{Shown, IsLone};
+
+    ghost Value = { Shown };
+
+    ghost view = { λ g. record {
+      id = g.id;
+      boot = g.boot;
+      networks = g.networks;
+      neighbours = g.neighbours.items;
+      synced = g.synced;
+      moment = g.moment;
+      table = g.table;
+    } };
+
+    ghost invariant = { λ g. IsLone g.table };
+}
+
+fn size(range: PortRange) -> usize
+    ensures size { result ≡ size_of range }
+    ensures small { result ≤ 65536 }
+{
+    usize::from(range.highest.0) + 1 - usize::from(range.lowest.0)
+}
+
+fn bounds(range: PortRange) -> PortBounds
+    ensures { result ≡ bounds_of range }
+{
+    PortBounds {
+        lowest: range.lowest,
+        highest: range.highest,
+    }
+}
+
+fn networks_for(settings: &Settings, id: GatewayId) -> Networks
+    ensures { result ≡ networks_of settings.now id }
+{
+    let own = settings.gateway(id);
+    Networks {
+        inside: Network {
+            interface: settings.inside,
+            own_mac: own.inside_mac,
+        },
+        outside: Network {
+            interface: settings.outside,
+            own_mac: own.outside_mac,
+        },
+        router: settings.router,
+    }
+}
+
+fn table_for(alloc: Global, settings: &Settings, id: GatewayId) -> Result<Table, NoMemory>
+    ensures { IfOk result (λ t. t ≡ empty_table settings.now id) }
+{
+    let capacity = 2 * (size(settings.ports.zero) + size(settings.ports.one));
+    let own = bounds(settings.ports.of(id));
+    Ok(Table::new(alloc, own, capacity)?)
+}
+
+impl Gateway {
+    /// A gateway in the life of that number. Gateway 0 of a pair that is founded anew is synced at once, any
+    /// other isn't until it is loaded.
+    #[tactic(auto, unfolding(crate::specs::Shown::started))]
+    pub fn new(
+        alloc: Global,
+        settings: &Settings,
+        id: GatewayId,
+        boot: u64,
+        found: bool,
+    ) -> Result<Gateway, NoMemory>
+        requires boot { 0 < boot }
+        requires found { IsTrue found → id ≡ Zero }
+        ensures { IfOk result (λ g. g ≡ started settings.now id boot found) }
+    {
+        Ok(Gateway {
+            alloc,
+            id,
+            boot,
+            networks: networks_for(settings, id),
+            neighbours: Vec::from_slice(alloc, &settings.neighbours)?,
+            synced: found,
+            moment: 0,
+            table: table_for(alloc, settings, id)?,
+        })
+    }
+
+    /// What each gateway keeps.
+    pub fn audit(&self)
+        ensures lone { IsLone self.now.table }
+        ensures table { IsTable self.now.table }
+    {
+        self.table.audit();
+    }
+
+    /// Whether its table is loaded.
+    pub fn synced(&self) -> bool
+        ensures { result ≡ self.now.synced }
+    {
+        self.synced
+    }
+
+    /// All pairs of its table, by protocol (tcp first) and port.
+    pub fn pairs(&self) -> Result<Vec<Pair>, NoMemory>
+        ensures all { IfOk result (λ v. IsPermutation (pairs_in is_pair self.now.table.entries) v.items) }
+        ensures sorted { IfOk result (λ v. IsNonDecreasingBy place_of v.items) }
+    {
+        Ok(self.table.pairs()?)
+    }
+
+    /// The pairs that translate, by protocol (tcp first) and port.
+    pub fn translating(&self) -> Result<Vec<Pair>, NoMemory>
+        ensures all { IfOk result (λ v. IsPermutation (pairs_in translates self.now.table.entries) v.items) }
+        ensures sorted { IfOk result (λ v. IsNonDecreasingBy place_of v.items) }
+    {
+        Ok(self.table.translating()?)
+    }
+
+    /// One step.
+    pub fn step(&mut self, event: Event<'_>, out: &mut Out) -> Result<Outcome, NoMemory>
+        ensures outcome { IfOk result (λ o. o ≡ outcome_on self.old event.entry) }
+        ensures shown { OnOk result (self.new ≡ shown_on self.old event.entry) }
+        ensures told { OnOk result (out.new ≡ told_on self.old event.entry out.old) }
+        ensures acts { OnOk result (Acts self.old self.new out.old out.new) }
+        ensures machine { OnOk result (IsMachineStep self.old self.new out.old out.new) }
+        ensures truly { OnOk result (TellsTruly self.old event.entry out.old out.new) }
+        ensures same { OnErr result (self.new ≡ self.old) }
+        ensures untold { OnErr result (out.new ≡ out.old) }
+    {
+        self.audit();
+        match event {
+            Event::Frame(side, bytes) => self.take_frame(side, bytes, out),
+            Event::Tick(now) => {
+                self.tick(now);
+                Ok(Outcome::Done)
+            }
+        }
+    }
+
+    fn tick(&mut self, now: u64)
+        ensures { self.new ≡ record self.old { moment = clock_after self.old.moment now } }
+    {
+        self.moment = self.moment.max(now.min(LAST_MOMENT));
+    }
+
+    #[tactic(auto, unfolding(crate::specs::Verdict::plan_of))]
+    fn plan(&self, side: Side, bytes: &[u8]) -> Result<Plan, Reason>
+        ensures plan { result ≡ plan_of self.now side bytes.now }
+        ensures allowed { IfOk result (λ plan. IsAllowed self.now.table plan.choice) }
+        ensures whole { OnOk result (14 ≤ length bytes.now) }
+        ensures ipv4 { OnOk result (IsIpv4 (frame_of bytes.now).body) }
+        ensures udp { OnOk result (IsUdp (frame_of bytes.now).body) }
+        ensures ttl { OnOk result (2 ≤ (header_of (frame_of bytes.now).body).ttl) }
+    {
+        let packet = read_packet(&self.networks.of(side), self.synced, bytes)?;
+        match direction_taken(&self.networks, side, packet.source, packet.destination)? {
+            Direction::Outward => plan_outward(
+                &self.networks,
+                &self.neighbours,
+                &self.table,
+                &packet,
+            ),
+            Direction::Inward => plan_inward(&self.neighbours, &self.table, &packet),
+        }
+    }
+
+    fn take_frame(&mut self, side: Side, bytes: &[u8], out: &mut Out) -> Result<Outcome, NoMemory>
+        ensures outcome { IfOk result (λ o. o ≡ verdict self.old side bytes.now) }
+        ensures shown { OnOk result (self.new ≡ shown_by self.old (plan_of self.old side bytes.now)) }
+        ensures told { OnOk result (out.new ≡ told_by self.old bytes.now out.old (plan_of self.old side bytes.now)) }
+        ensures same { OnErr result (self.new ≡ self.old) }
+        ensures untold { OnErr result (out.new ≡ out.old) }
+    {
+        let plan = match self.plan(side, bytes) {
+            Ok(plan) => plan,
+            Err(reason) => return Ok(Outcome::Dropped(reason)),
+        };
+        let frame = make_frame(self.alloc, &self.networks, &plan, bytes)?;
+        let exit = plan.direction.exit();
+        match plan.choice {
+            Choice::Known(pair) => out.send(exit, frame, &[self.note(Happening::Used(pair))])?,
+            Choice::New(pair) => {
+                let notes = [
+                    self.note(Happening::Retaken(pair)),
+                    self.note(Happening::Used(pair)),
+                ];
+                out.send(exit, frame, &notes)?;
+                self.add_live(pair);
+            }
+        }
+        Ok(Outcome::Sent)
+    }
+
+    fn add_live(&mut self, pair: Pair)
+        requires { IsNew self.old.table pair }
+        ensures { self.new ≡ record self.old { table = with_entry self.old.table (entry_in Live pair) } }
+    {
+        self.table.audit();
+        match self.table.add(pair, EntryState::Live) {
+            Ok(()) => {}
+            Err(_fault) => unreachable!(),
+        }
+    }
+
+    fn note(&self, what: Happening) -> Note
+        ensures { result ≡ record { by = self.now.id; at = self.now.moment; what = what } }
+    {
+        Note {
+            by: self.id,
+            at: self.moment,
+            what,
+        }
+    }
+}
