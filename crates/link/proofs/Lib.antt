@@ -1,0 +1,9 @@
+pub mod Loop
+pub mod Fields
+pub mod Records
+pub mod Headers
+pub mod Wholes
+pub mod Readings
+pub mod Lists
+pub mod Ends
+pub mod Law

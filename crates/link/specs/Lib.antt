@@ -1,0 +1,5 @@
+pub mod End
+pub mod Grammar
+pub mod Reading
+pub mod Sessions
+pub mod View
