@@ -1,0 +1,55 @@
+-- Whom an interface knows: fixed neighbours and learnt ones.
+use Rattle.std.specs.Prelude.{◌≡◌, ◌≢◌, ◌≤◌, ℕ, ◌-◌, ◌%◌, ◌==◌, ◌&&◌, not, nat_lt, List, [], ◌∷◌, ◌++◌, length, drop, replicate, slice_index, Option, Some, None, if◌then◌else◌}
+use Rattle.std.specs.List.{filter}
+use Rattle.nat_types.specs.declared.addresses.Mac.{Mac}
+use Rattle.nat_types.specs.Address.{IsIn}
+use Rattle.arp.specs.declared.caches.Neighbour.{Neighbour}
+use Rattle.arp.specs.declared.caches.Entry.{Entry}
+
+-- the fixed neighbours, and the entries in the order in which they were learnt or renewed
+pub record Neighbours : Type 0 where
+  pub fixed : List Neighbour
+  pub learnt : List Entry
+
+-- the entries of other addresses
+abbrev pub without : ℕ → List Entry → List Entry
+without address entries = filter (λ e. not (e.address.0 == address)) entries
+
+-- the newest so many
+abbrev pub newest : {X : Type 0} → ℕ → List X → List X
+newest n entries = drop (length entries - n) entries
+
+-- an entry is learnt or renewed; a full cache loses its oldest
+abbrev pub with_entry : Entry → List Entry → List Entry
+with_entry entry entries = newest 1023 (without entry.address.0 entries) ++ entry ∷ []
+
+-- the first fixed neighbour of that address
+abbrev pub fixed_mac : ℕ → List Neighbour → Option Mac
+fixed_mac address [] = None
+fixed_mac address (n ∷ neighbours) = if n.address.0 == address then Some n.mac else fixed_mac address neighbours
+
+-- the first valid entry of that address: fewer than 120,000 centiseconds old
+abbrev pub learnt_mac : ℕ → ℕ → List Entry → Option Mac
+learnt_mac address now [] = None
+learnt_mac address now (e ∷ entries) = if e.address.0 == address && nat_lt (now - e.at) 120000 then Some e.mac else learnt_mac address now entries
+
+-- the first that there is
+abbrev pub or_else : {X : Type 0} → Option X → Option X → Option X
+or_else None other = other
+or_else (Some x) other = Some x
+
+abbrev pub mac_at : ℕ → ℕ → Neighbours → Option Mac
+mac_at address now known = or_else (fixed_mac address known.fixed) (learnt_mac address now known.learnt)
+
+-- a sender that is learnt: of the interface's network, another than its own and the virtual address, with one station's hardware address
+pub record IsLearnable (address network length own shared : ℕ) (mac : List ℕ) : Type 0 where
+  pub near : IsIn address network length
+  pub not_own : address ≢ own
+  pub not_shared : address ≢ shared
+  pub not_zero : mac ≢ replicate 6 0
+  pub one_station : slice_index mac 0 % 2 ≡ 0
+
+-- room for all that a cache may learn
+pub record HasRoom (count capacity : ℕ) : Type 0 where
+  pub most : count ≤ 1024
+  pub room : 1024 ≤ capacity

@@ -1,0 +1,19 @@
+// What follows of packets from the definitions of their bytes.
+ghost use Rattle.std.specs.Prelude.{◌≡◌, ◌<◌, ◌↔◌, ℕ, List, None, slice_index};
+ghost use Rattle.arp.specs.declared.packets.ArpPacket.{ArpPacket};
+ghost use Rattle.arp.specs.Packet.{arp_refusal, IsArp, packet_of, IsPacket, Spells, IsReadAs};
+
+/// Bytes are refused just where they are no packet.
+pub fn arp_grammar()
+    ensures { (bytes : List ℕ) → (arp_refusal bytes ≡ None) ↔ IsArp bytes }
+{}
+
+/// A packet that was written, with any padding behind it, is read as the same packet.
+pub fn written_is_read()
+    ensures { (bytes : List ℕ) (p : ArpPacket) → IsPacket p → Spells bytes p → IsReadAs bytes p }
+{}
+
+/// Bytes that are read begin with the packet that they are read as.
+pub fn read_is_spelled()
+    ensures { (bytes : List ℕ) → ((i : ℕ) → slice_index bytes i < 256) → IsArp bytes → Spells bytes (packet_of bytes) }
+{}

@@ -1,0 +1,13 @@
+//! ARP for IPv4 over Ethernet: packets and the cache of neighbours (RFC 826).
+#![tactic(auto)]
+
+mod caches;
+mod laws;
+mod packets;
+
+pub use caches::{Cache, Neighbour, is_learnable};
+pub use laws::{arp_grammar, read_is_spelled, written_is_read};
+pub use packets::{ArpFault, ArpPacket, Operation, gratuitous, parse, reply, request};
+
+#[cfg(test)]
+mod tests;

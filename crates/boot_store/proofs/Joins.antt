@@ -1,0 +1,30 @@
+-- Calls one after the other.
+use Rattle.std.proofs.Common.{◌≡◌, ℕ, List, [], ◌∷◌, ◌++◌, sym, ◌∙◌, ap, append_assoc}
+use Rattle.std.proofs.lemmas.List.{append-nil}
+use Rattle.std.specs.List.{AllByRecursion}
+use Rattle.boot_store.specs.Moment.{Moment}
+use Rattle.boot_store.specs.Crash.{LeavesAtLeast, Since, Keeps}
+
+pub all_append : (P : Moment → Type 0) (a b : List Moment) → AllByRecursion P a → AllByRecursion P b → AllByRecursion P (a ++ b)
+all_append P [] b pa pb = pb
+all_append P (s ∷ a) b pa pb = (pa.0, all_append P a b pa.1 pb)
+
+-- no call
+pub none_passed : (past : List Moment) (s : Moment) → Since past past (Keeps s s)
+none_passed past s = ([], sym (append-nil past), λ m l. (tt, l))
+
+-- a call before which a crash could have come
+pub one_passed : (before after : List Moment) (s e : Moment) → after ≡ before ++ s ∷ [] → ((m : ℕ) → LeavesAtLeast m s → LeavesAtLeast m e) → Since before after (Keeps s e)
+one_passed before after s e is keeps = (s ∷ [], is, λ m l. ((l, tt), keeps m l))
+
+-- a call within which one could have come too
+pub two_passed : (before after : List Moment) (s t e : Moment) → after ≡ before ++ s ∷ t ∷ [] → ((m : ℕ) → LeavesAtLeast m s → LeavesAtLeast m t) → ((m : ℕ) → LeavesAtLeast m s → LeavesAtLeast m e) → Since before after (Keeps s e)
+two_passed before after s t e is within keeps = (s ∷ t ∷ [], is, λ m l. ((l, (within m l, tt)), keeps m l))
+
+-- calls, and then more
+pub then_passed : (p q r : List Moment) (s t e : Moment) → Since p q (Keeps s t) → Since q r (Keeps t e) → Since p r (Keeps s e)
+then_passed p q r s t e first second = (
+  first.0 ++ second.0,
+  second.1 ∙ ap (λ (l : List Moment). l ++ second.0) first.1 ∙ append_assoc p first.0 second.0,
+  λ m l. let a = first.2 m l in let b = second.2 m a.1 in (all_append (LeavesAtLeast m) first.0 second.0 a.0 b.0, b.1),
+)

@@ -1,0 +1,7 @@
+mod Answered
+mod Joins
+mod Leaves
+mod Loops
+mod Numbers
+mod Runs
+mod Stored

@@ -1,0 +1,39 @@
+use Rattle.std.proofs.Common.{⊎_elim, length, sym, ◌∙◌, ap, subst}
+use Rattle.boot_store.specs.Moment.{written, synced}
+use Rattle.boot_store.specs.Crash.{LeavesAtLeast}
+use Rattle.boot_store.proofs.Joins.{one_passed, two_passed, then_passed}
+use Rattle.boot_store.proofs.Numbers.{length-slot}
+use Rattle.boot_store.proofs.Stored.{keeps_synced, keeps_written, keeps_within}
+use Rattle.boot_store.proofs.starts.store.Goals as goal
+
+pub returns-in_err-write_at-clause-any_moment : goal.returns-in_err-write_at-clause-any_moment
+returns-in_err-write_at-clause-any_moment g c h =
+    let ready = c.requires.ready h in
+    let size = ap length c.slot_of.ensures ∙ length-slot c.args.boot in
+    two_passed _ _ _ _ _ (c.write_at.ensures.passes h) (keeps_within _ _ _ size ready) (λ m l. ⊎_elim
+    (λ as_before. subst (LeavesAtLeast m) (sym as_before) l)
+    (λ torn. subst (LeavesAtLeast m) (sym torn.2) (keeps_written _ torn.0 _ (torn.1 ∙ size) ready m l))
+    (c.in_err-write_at.ensures.torn h))
+
+pub returns-in_err-sync-clause-any_moment : goal.returns-in_err-sync-clause-any_moment
+returns-in_err-sync-clause-any_moment g c h =
+    let ready = c.requires.ready h in
+    let size = ap length c.slot_of.ensures ∙ length-slot c.args.boot in
+    let h2 = c.write_at.ensures.honesty.0 h in
+    then_passed _ _ _ _ (g.D.Disk.now c.write_at.new.self) _
+    (two_passed _ _ _ _ _ (c.write_at.ensures.passes h) (keeps_within _ _ _ size ready) (λ m l. subst (LeavesAtLeast m) (sym (c.in_ok-write_at.ensures.written h)) (keeps_written _ _ _ size ready m l)))
+    (one_passed _ _ _ _ (c.sync.ensures.passes h2) (λ m l. subst (LeavesAtLeast m) (sym (c.in_err-sync.ensures.as_before h2)) l))
+
+pub returns-clause-any_moment : goal.returns-clause-any_moment
+returns-clause-any_moment g c h =
+    let ready = c.requires.ready h in
+    let size = ap length c.slot_of.ensures ∙ length-slot c.args.boot in
+    let h2 = c.write_at.ensures.honesty.0 h in
+    then_passed _ _ _ _ (g.D.Disk.now c.write_at.new.self) _
+    (two_passed _ _ _ _ _ (c.write_at.ensures.passes h) (keeps_within _ _ _ size ready) (λ m l. subst (LeavesAtLeast m) (sym (c.in_ok-write_at.ensures.written h)) (keeps_written _ _ _ size ready m l)))
+    (one_passed _ _ _ _ (c.sync.ensures.passes h2) (λ m l. subst (LeavesAtLeast m) (sym (c.in_ok-sync.ensures.synced h2)) (keeps_synced _ m l)))
+
+pub returns-clause-stored : goal.returns-clause-stored
+returns-clause-stored g c h =
+    let h2 = c.write_at.ensures.honesty.0 h in
+    c.in_ok-sync.ensures.synced h2 ∙ ap synced (c.in_ok-write_at.ensures.written h ∙ ap (λ x. written c.args.place x (g.D.Disk.now c.args.disk.now)) c.slot_of.ensures)

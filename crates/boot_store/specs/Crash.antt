@@ -1,0 +1,41 @@
+-- What crashes leave of a boot file's number.
+use Rattle.std.specs.Prelude.{◌≡◌, ◌⊎◌, ◌≤◌, ◌<◌, ℕ, List, ◌++◌, length, Option, Some, None, take, Result, IfOk}
+use Rattle.std.specs.List.{AllByRecursion}
+use Rattle.boot_store.specs.declared.faults.BootFault.{BootFault}
+use Rattle.boot_store.specs.Moment.{Moment, MayLeave, bytes_of, synced}
+use Rattle.boot_store.specs.BootFile.{number_of, slot_at}
+
+-- the file's number is at least m
+abbrev pub HasAtLeast : ℕ → List ℕ → Type 0
+HasAtLeast m file = (n : ℕ) × (number_of file ≡ Some n) × (m ≤ n)
+
+-- a crash at that moment leaves a number of at least m
+abbrev pub LeavesAtLeast : ℕ → Moment → Type 0
+LeavesAtLeast m moment = (file : List ℕ) → MayLeave moment file → HasAtLeast m file
+
+-- a crash at that moment leaves this number
+abbrev pub LeavesNumber : ℕ → Moment → Type 0
+LeavesNumber n moment = (file : List ℕ) → MayLeave moment file → number_of file ≡ Some n
+
+-- the moments that have passed from one past to a later one
+abbrev pub Since : List Moment → List Moment → (List Moment → Type 0) → Type 0
+Since before after P = (since : List Moment) × (after ≡ before ++ since) × P since
+
+-- whatever a crash at the start leaves at least, a crash at each moment since and at the end leaves at least
+abbrev pub Keeps : Moment → Moment → List Moment → Type 0
+Keeps start end since = (m : ℕ) → LeavesAtLeast m start → AllByRecursion (LeavesAtLeast m) since × LeavesAtLeast m end
+
+-- an answered number is greater than that, and a crash at the end leaves at least the answered one
+abbrev pub Rises : Moment → Moment → Result ℕ BootFault → Type 0
+Rises start end answer = (m : ℕ) → LeavesAtLeast m start → IfOk answer (λ n. (m < n) × LeavesAtLeast n end)
+
+-- all is on the disk, and the slot beside the place has the file's number
+pub record IsReady (place : ℕ) (moment : Moment) : Type 0 where
+  pub steady : synced moment ≡ moment
+  pub long : 32 ≤ length moment
+  pub beside : ((place ≡ 0) × (slot_at 16 (bytes_of moment) ≡ number_of (bytes_of moment))) ⊎ ((place ≡ 16) × (slot_at 0 (bytes_of moment) ≡ number_of (bytes_of moment)))
+
+-- the 32 bytes that were read, or none where there are fewer
+abbrev pub WholeFile : List ℕ → Option (List ℕ) → Type 0
+WholeFile bytes None = length bytes < 32
+WholeFile bytes (Some file) = (32 ≤ length bytes) × (file ≡ take 32 bytes)

@@ -1,0 +1,6 @@
+pub mod BootFile
+pub mod Cells
+pub mod Crash
+pub mod Moment
+pub mod Past
+pub mod Run

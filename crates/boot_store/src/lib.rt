@@ -1,0 +1,20 @@
+//! A gateway's boot numbers: a file of two slots, whose number rises over every crash.
+#![tactic(auto)]
+
+mod cells;
+mod disk;
+mod faults;
+mod laws;
+mod model;
+mod pasts;
+mod slots;
+mod starts;
+
+pub use disk::{Cell, DeviceFault, Disk};
+pub use faults::BootFault;
+pub use laws::boot_numbers_rise;
+pub use model::{ModelDisk, Trouble};
+pub use starts::{init, next_boot};
+
+#[cfg(test)]
+mod tests;

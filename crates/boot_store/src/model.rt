@@ -1,0 +1,175 @@
+// A disk in memory, which stops, tears writes and fails as it is told.
+ghost use Rattle.std.specs.Prelude.{◌≡◌, ◌≤◌, ◌+◌, [], length};
+ghost use Rattle.boot_store.specs.Moment.{MayLeave, bytes_of, left_by_crash};
+
+use crate::cells::{read_cells, sync_cells, tear_cells, write_cells};
+use crate::pasts::{Failures, Past};
+use crate::{Cell, DeviceFault, Disk};
+
+/// What goes wrong with a modelled disk, once its good calls are used up.
+#[derive(Clone, Copy, Debug, PartialEq, Eq)]
+pub enum Trouble {
+    /// Nothing.
+    None,
+    /// One call fails.
+    FailsOnce,
+    /// The disk stops before a call.
+    StopsBefore,
+    /// The disk stops within a call.
+    StopsWithin,
+}
+
+/// What becomes of a call.
+#[derive(Clone, Copy, Debug, PartialEq, Eq)]
+enum Fate {
+    Done,
+    Torn,
+    Undone,
+}
+
+/// An honest disk of 32 bytes in memory.
+#[derive(Drop)]
+pub struct ModelDisk {
+    cells: [Cell; 32],
+    any: [u8; 32],
+    good_calls: u64,
+    trouble: Trouble,
+    past: Past,
+    failures: Failures,
+}
+
+impl ModelDisk {
+    /// A disk with these bytes, all of them kept, with which nothing goes wrong.
+    pub fn new(file: &[u8; 32]) -> Self
+        ensures { ⟦<ModelDisk as Disk>⟧.now result ≡ left_by_crash file.now }
+    {
+        let mut cells = [Cell {
+            byte: 0,
+            loose: false,
+        }; 32];
+        write_cells(&mut cells, 0, file);
+        sync_cells(&mut cells);
+        ModelDisk {
+            cells,
+            any: [0; 32],
+            good_calls: 0,
+            trouble: Trouble::None,
+            past: Past::none(),
+            failures: Failures::none(),
+        }
+    }
+
+    /// After so many good calls there is trouble. A write that fails, or in which the disk stops, leaves the bytes
+    /// that stand at its place in `any`.
+    pub fn set_trouble(&mut self, good_calls: u64, trouble: Trouble, any: &[u8; 32])
+        ensures now { ⟦<ModelDisk as Disk>⟧.now self.new ≡ ⟦<ModelDisk as Disk>⟧.now self.old }
+        ensures past { ⟦<ModelDisk as Disk>⟧.past self.new ≡ ⟦<ModelDisk as Disk>⟧.past self.old }
+        ensures failures { ⟦<ModelDisk as Disk>⟧.failures self.new ≡ ⟦<ModelDisk as Disk>⟧.failures self.old }
+    {
+        self.good_calls = good_calls;
+        self.trouble = trouble;
+        self.any = *any;
+    }
+
+    /// A crash, after which nothing goes wrong. Where a byte was written since the last sync that succeeded, the one in
+    /// `any` is left.
+    pub fn crash(&mut self, any: &[u8; 32])
+        ensures may { MayLeave (⟦<ModelDisk as Disk>⟧.now self.old) (bytes_of (⟦<ModelDisk as Disk>⟧.now self.new)) }
+        ensures picked { MayLeave (⟦<ModelDisk as Disk>⟧.now self.old) any.now → bytes_of (⟦<ModelDisk as Disk>⟧.now self.new) ≡ any.now }
+        ensures kept { ⟦<ModelDisk as Disk>⟧.now self.new ≡ left_by_crash (bytes_of (⟦<ModelDisk as Disk>⟧.now self.new)) }
+    {
+        tear_cells(&mut self.cells, any);
+        sync_cells(&mut self.cells);
+        self.trouble = Trouble::None;
+    }
+
+    /// The bytes as they are read.
+    pub fn bytes(&self) -> [u8; 32]
+        ensures { result ≡ bytes_of (⟦<ModelDisk as Disk>⟧.now self.now) }
+    {
+        let mut file = [0; 32];
+        read_cells(&self.cells, &mut file);
+        file
+    }
+
+    /// What becomes of the next call.
+    fn fate(&mut self) -> Fate
+        ensures cells { self.new.cells ≡ self.old.cells }
+        ensures any { self.new.any ≡ self.old.any }
+        ensures past { self.new.past ≡ self.old.past }
+        ensures failures { self.new.failures ≡ self.old.failures }
+    {
+        let (fate, good_calls, trouble) = next_fate(self.good_calls, self.trouble);
+        self.good_calls = good_calls;
+        self.trouble = trouble;
+        fate
+    }
+
+    /// A call failed.
+    fn failed(&mut self) -> DeviceFault
+        ensures cells { self.new.cells ≡ self.old.cells }
+        ensures past { self.new.past ≡ self.old.past }
+        ensures failures { self.new.failures ≡ self.old.failures + 1 }
+    {
+        self.failures.count();
+        DeviceFault
+    }
+}
+
+/// What becomes of the next call, and the good calls and the trouble that are left.
+fn next_fate(good_calls: u64, trouble: Trouble) -> (Fate, u64, Trouble) {
+    match trouble {
+        Trouble::None => (Fate::Done, good_calls, trouble),
+        _ if good_calls > 0 => (Fate::Done, good_calls - 1, trouble),
+        Trouble::FailsOnce => (Fate::Torn, 0, Trouble::None),
+        Trouble::StopsWithin => (Fate::Torn, 0, Trouble::StopsBefore),
+        Trouble::StopsBefore => (Fate::Undone, 0, trouble),
+    }
+}
+
+impl Disk for ModelDisk {
+    ghost now = { λ d. d.cells };
+
+    ghost past = { λ d. d.past };
+
+    ghost failures = { λ d. d.failures };
+
+    ghost honest = { λ _. Unit {0} };
+
+    fn read(&mut self, room: &mut [u8; 32]) -> Result<usize, DeviceFault> {
+        self.past.keep(&self.cells);
+        if self.fate() == Fate::Done {
+            read_cells(&self.cells, room);
+            return Ok(32);
+        }
+        Err(self.failed())
+    }
+
+    fn write_at(&mut self, at: usize, bytes: &[u8]) -> Result<(), DeviceFault> {
+        self.past.keep(&self.cells);
+        let file = self.bytes();
+        let end = at + bytes.len();
+        let any = self.any;
+        let mut within = self.cells;
+        write_cells(&mut within, at, &file[at..end]);
+        self.past.keep(&within);
+        match self.fate() {
+            Fate::Done => {
+                write_cells(&mut self.cells, at, bytes);
+                return Ok(());
+            }
+            Fate::Torn => write_cells(&mut self.cells, at, &any[at..end]),
+            Fate::Undone => {}
+        }
+        Err(self.failed())
+    }
+
+    fn sync(&mut self) -> Result<(), DeviceFault> {
+        self.past.keep(&self.cells);
+        if self.fate() == Fate::Done {
+            sync_cells(&mut self.cells);
+            return Ok(());
+        }
+        Err(self.failed())
+    }
+}

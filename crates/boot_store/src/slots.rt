@@ -1,0 +1,71 @@
+// The two slots of a boot file, 16 bytes each.
+ghost use Rattle.std.specs.Prelude.{◌≡◌, ◌≤◌, ◌<◌, ◌^◌, length, IfOk};
+ghost use Rattle.boot_store.specs.BootFile.{slot_number, greater, boot_answer, next_place, slot_bytes};
+
+use crate::BootFault;
+use byteorder::{BigEndian, ByteOrder};
+
+/// The number of a valid slot.
+#[tactic(auto, unfolding(crate::specs::BootFile::slot_number))]
+pub fn slot_number(slot: &[u8]) -> Option<u64>
+    requires { 16 ≤ length slot.now }
+    ensures { result ≡ slot_number slot.now }
+{
+    let number = BigEndian::read_u64(slot);
+    let complement = BigEndian::read_u64(&slot[8..]);
+    if complement == u64::MAX - number {
+        Some(number)
+    } else {
+        None
+    }
+}
+
+/// The greater of two slots' numbers.
+fn greater(first: Option<u64>, second: Option<u64>) -> Option<u64>
+    ensures { result ≡ greater first second }
+{
+    match (first, second) {
+        (None, other) => other,
+        (Some(a), None) => Some(a),
+        (Some(a), Some(b)) => Some(a.max(b)),
+    }
+}
+
+/// The next boot number over the numbers of the two slots.
+pub fn next_number(first: Option<u64>, second: Option<u64>, found: bool) -> Result<u64, BootFault>
+    ensures answer { result ≡ boot_answer found (greater first second) }
+    ensures fits { IfOk result (λ n. n < 2 ^ 64) }
+{
+    let Some(number) = greater(first, second) else {
+        return Err(BootFault::Damaged);
+    };
+    if found && number != 0 {
+        return Err(BootFault::FoundTwice);
+    }
+    match number.checked_add(1) {
+        Some(boot) => Ok(boot),
+        None => Err(BootFault::BootsUsedUp),
+    }
+}
+
+/// Where the next number goes: over the invalid slot, else over the one with the lower number.
+pub fn next_place(first: Option<u64>, second: Option<u64>) -> usize
+    ensures { result ≡ next_place first second }
+{
+    match (first, second) {
+        (None, _) => 0,
+        (Some(_), None) => 16,
+        (Some(a), Some(b)) => { if b < a { 16 } else { 0 } }
+    }
+}
+
+/// A valid slot of this number.
+#[tactic(auto, unfolding(crate::specs::BootFile::slot_bytes))]
+pub fn slot_of(number: u64) -> [u8; 16]
+    ensures { result ≡ slot_bytes number }
+{
+    let mut slot = [0; 16];
+    BigEndian::write_u64(&mut slot, number);
+    BigEndian::write_u64(&mut slot[8..], u64::MAX - number);
+    slot
+}

@@ -1,0 +1,88 @@
+// A start reads the boot file and writes the next number, so that a crash at any moment leaves one.
+ghost use Rattle.std.specs.Prelude.{◌≡◌, ◌≤◌, ◌<◌, ◌+◌, ◌↔◌, ◌-◌, ◌++◌, ◌⊎◌, length, take, Option, Some, None, Result, OnOk, OnErr, IfOk, IfSome, IfNone, IsErrOf};
+ghost use Rattle.boot_store.specs.Moment.{bytes_of, written, synced};
+ghost use Rattle.boot_store.specs.BootFile.{number_of, boot_answer, with_number, slot_bytes};
+ghost use Rattle.boot_store.specs.Crash.{LeavesNumber, Since, Keeps, Rises, IsReady, WholeFile};
+
+use crate::slots::{next_number, next_place, slot_number, slot_of};
+use crate::{BootFault, DeviceFault, Disk};
+
+/// Writes a boot file of number 0, on which a gateway can be founded.
+pub fn init<D: Disk>(disk: &mut D) -> Result<(), BootFault>
+    ensures only_device { OnErr result (IsErrOf result BootFault.Device) }
+    ensures zero { D.honest disk.old → OnOk result (LeavesNumber 0 (D.now disk.new)) }
+    ensures honesty { D.honest disk.old ↔ D.honest disk.new }
+    ensures ok { OnOk result (D.failures disk.new ≡ D.failures disk.old) }
+    ensures device { OnErr result (D.failures disk.old < D.failures disk.new) }
+{
+    disk.write_at(0, &zero_file())?;
+    disk.sync()?;
+    Ok(())
+}
+
+/// Both slots of number 0.
+#[tactic(auto, unfolding(crate::specs::BootFile::slot_bytes))]
+fn zero_file() -> [u8; 32]
+    ensures { result ≡ slot_bytes 0 ++ slot_bytes 0 }
+{
+    let slot = slot_of(0);
+    let mut file = [0; 32];
+    file[..16].copy_from_slice(&slot);
+    file[16..].copy_from_slice(&slot);
+    file
+}
+
+/// The file as a crash from now on leaves it, where it has 32 bytes.
+fn settled_file<D: Disk>(disk: &mut D) -> Result<Option<[u8; 32]>, DeviceFault>
+    ensures any_moment { D.honest disk.old → Since (D.past disk.old) (D.past disk.new) (Keeps (D.now disk.old) (D.now disk.new)) }
+    ensures synced { D.honest disk.old → OnOk result (D.now disk.new ≡ synced (D.now disk.old)) }
+    ensures whole { D.honest disk.old → IfOk result (WholeFile (bytes_of (D.now disk.old))) }
+    ensures honesty { D.honest disk.old ↔ D.honest disk.new }
+    ensures ok { OnOk result (D.failures disk.new ≡ D.failures disk.old) }
+    ensures failed { OnErr result (D.failures disk.old < D.failures disk.new) }
+{
+    disk.sync()?; // a call that failed may have left its bytes loose
+    let mut file = [0; 32];
+    let count = disk.read(&mut file)?;
+    if count < 32 {
+        return Ok(None);
+    }
+    Ok(Some(file))
+}
+
+/// Writes a slot, and syncs.
+fn store<D: Disk>(disk: &mut D, place: usize, boot: u64) -> Result<(), DeviceFault>
+    requires place { place + 16 ≤ 32 }
+    requires ready { D.honest disk.old → IsReady place (D.now disk.old) }
+    ensures any_moment { D.honest disk.old → Since (D.past disk.old) (D.past disk.new) (Keeps (D.now disk.old) (D.now disk.new)) }
+    ensures stored { D.honest disk.old → OnOk result (D.now disk.new ≡ synced (written place (slot_bytes boot) (D.now disk.old))) }
+    ensures honesty { D.honest disk.old ↔ D.honest disk.new }
+    ensures ok { OnOk result (D.failures disk.new ≡ D.failures disk.old) }
+    ensures failed { OnErr result (D.failures disk.old < D.failures disk.new) }
+{
+    disk.write_at(place, &slot_of(boot))?;
+    disk.sync()?; // only then may the number be used
+    Ok(())
+}
+
+/// The next boot number, once it is on the disk: greater than each that was answered before. `found` is the founding
+/// of a pair, which wants a file of number 0.
+pub fn next_boot<D: Disk>(disk: &mut D, found: bool) -> Result<u64, BootFault>
+    ensures rises { D.honest disk.old → Rises (D.now disk.old) (D.now disk.new) result }
+    ensures any_moment { D.honest disk.old → Since (D.past disk.old) (D.past disk.new) (Keeps (D.now disk.old) (D.now disk.new)) }
+    ensures decided { D.honest disk.old → D.failures disk.new ≡ D.failures disk.old → result ≡ boot_answer found (number_of (bytes_of (D.now disk.old))) }
+    ensures device { D.failures disk.old < D.failures disk.new → IsErrOf result BootFault.Device }
+    ensures failed { IsErrOf result BootFault.Device → D.failures disk.old < D.failures disk.new }
+    ensures later { D.failures disk.old ≤ D.failures disk.new }
+    ensures file { D.honest disk.old → IfOk result (λ n. bytes_of (D.now disk.new) ≡ with_number n (bytes_of (D.now disk.old))) }
+    ensures honesty { D.honest disk.old ↔ D.honest disk.new }
+{
+    let Some(file) = settled_file(disk)? else {
+        return Err(BootFault::Damaged);
+    };
+    let first = slot_number(&file[..16]);
+    let second = slot_number(&file[16..]);
+    let boot = next_number(first, second, found)?;
+    store(disk, next_place(first, second), boot)?;
+    Ok(boot)
+}
