@@ -2,26 +2,20 @@
 use Rattle.std.proofs.Common.{◌≡◌, ℕ, Bool, true, false, cond, List, [], ◌∷◌, ◌++◌, Option, Some, None, Result, Ok, Err, IsTrue, refl, sym, ap, ◌∙◌, subst, reverse, not, nat_lt, ◌≤◌}
 use Rattle.std.proofs.lemmas.Bool.{and_from, le-ltb}
 use Rattle.nat_types.specs.Same.{parity_of}
-use Rattle.nat_types.specs.declared.gateways.GatewayId.{GatewayId}
 use Rattle.nat_types.specs.declared.gateways.Side.{Side}
-use Rattle.nat_types.specs.declared.notes.Note.{Note}
-use Rattle.nat_types.specs.declared.notes.Happening.TheVariants.{Used, Retaken}
 use Rattle.nat_types.specs.declared.pairs.Key.{Key}
 use Rattle.nat_types.specs.declared.pairs.Endpoint.{Endpoint}
 use Rattle.nat_types.specs.declared.pairs.Pair.{Pair}
-use Rattle.nat_types.specs.declared.pairs.EntryState.TheVariants.{Live}
-use Rattle.nat_types.specs.declared.pairs.Protocol.TheVariants.{Udp}
 use Rattle.bindings.specs.declared.entries.Entry.{Entry}
-use Rattle.bindings.specs.Entries.{Bindings, IsTable, slot_of, entry_of, entry_in, translates, is_pair}
-use Rattle.bindings.specs.Ports.{chosen_port, key_of}
+use Rattle.bindings.specs.Entries.{Bindings, IsTable, slot_of, entry_of, translates, is_pair}
+use Rattle.bindings.specs.Ports.{chosen_port}
 use Rattle.bindings.proofs.Slots.{slot-key, found-slot}
 use Rattle.bindings.proofs.Choice.{chosen-free, chosen-within}
 use Rattle.pair_machine.specs.Talk as machine
-use Rattle.pair_machine.specs.Box.{Box, In}
 use Rattle.pair_machine.specs.Ports.{Ranges, no_port}
 use Rattle.nat_types.proofs.Equal.{key-self}
-use Rattle.pair_machine.specs.Acts.{Act, LoneNew, LoneUse, MayAct, box_after}
-use Rattle.pair_machine.specs.Step.{IsStep, Follows}
+use Rattle.pair_machine.specs.Acts.{Act, LoneNew, LoneUse}
+use Rattle.pair_machine.specs.Step.{IsStep}
 use Rattle.gateway.specs.declared.reasons.Reason.{Reason}
 use Rattle.gateway.specs.declared.reasons.Reason.TheVariants.{CannotWait, NoBinding}
 use Rattle.gateway.specs.declared.networks.Direction.{Direction}
@@ -33,7 +27,7 @@ use Rattle.bindings.specs.declared.entries.PortBounds.{PortBounds}
 use Rattle.gateway.specs.declared.choices.Choice.{Choice}
 use Rattle.gateway.specs.declared.choices.Choice.TheVariants.{Known, New}
 use Rattle.gateway.specs.declared.plans.Plan.{Plan}
-use Rattle.gateway.specs.Choices.{IsNew, known_choice, new_choice, outward_choice, outward_choice_by, inward_choice, inward_choice_by, source_of, target_of, table_after}
+use Rattle.gateway.specs.Choices.{known_choice, new_choice, outward_choice, outward_choice_by, inward_choice, inward_choice_by, source_of, target_of, table_after}
 use Rattle.gateway.specs.Verdict.{plan_of, after, unless, plan_to, outward_plan, inward_plan, way_plan}
 use Rattle.gateway.specs.Steps.{up_refusal, size_refusal, first_reason, frame_refusal, packet_in}
 use Rattle.gateway.specs.Networks.{network_of, direction_of}
@@ -42,7 +36,7 @@ use Rattle.gateway.specs.Told.{Told}
 use Rattle.std.proofs.lemmas.List.{append-nil}
 use Rattle.gateway.specs.Shown.{Shown}
 use Rattle.gateway.specs.Machine.{slots_of, machine_slot, box_of, ports_of, IsMachineStep}
-use Rattle.gateway.proofs.Slots.{key-translates, endpoint-translates, endpoint-is_new, table-push_live}
+use Rattle.gateway.proofs.Slots.{key-translates, endpoint-is_new, table-push_live}
 
 -- a choice that a lone gateway of the machine may make: a pair that translates, or a new one
 abbrev pub MayChoose : Bindings → Choice → Type 0

@@ -1,5 +1,5 @@
 -- What a table's look-ups and additions are to the pair machine.
-use Rattle.std.proofs.Common.{◌≡◌, Bool, true, false, cond, List, [], ◌∷◌, ◌++◌, Option, Some, None, refl, sym, ap, ◌∙◌, subst}
+use Rattle.std.proofs.Common.{◌≡◌, Bool, true, false, cond, List, [], ◌∷◌, ◌++◌, Option, Some, None, refl, sym, ap, ◌∙◌}
 use mathlib.Core.Path.{fun_ext}
 use Rattle.nat_types.specs.declared.pairs.EntryState.{EntryState}
 use Rattle.nat_types.specs.declared.pairs.EntryState.TheVariants as state
@@ -8,8 +8,8 @@ use Rattle.nat_types.specs.declared.pairs.Key.{Key}
 use Rattle.nat_types.specs.declared.pairs.Pair.{Pair}
 use Rattle.nat_types.specs.Same.{same_key}
 use Rattle.bindings.specs.declared.entries.Entry.{Entry}
-use Rattle.bindings.specs.Entries.{slot_of, entry_of, entry_in, translates, is_pair, set_at, HasDistinctKeys, HasDistinctEndpoints}
-use Rattle.bindings.proofs.Slots.{slot-key, entry-serves, found-slot, found-entry, slot-push}
+use Rattle.bindings.specs.Entries.{slot_of, entry_of, entry_in, translates, is_pair, HasDistinctKeys, HasDistinctEndpoints}
+use Rattle.bindings.proofs.Slots.{found-slot, found-entry, slot-push}
 use Rattle.pair_machine.specs.Talk as machine
 use Rattle.pair_machine.specs.Mapped.{slot_in}
 use Rattle.gateway.specs.Machine.{machine_slot, slots_of}

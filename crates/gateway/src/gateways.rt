@@ -133,7 +133,7 @@ impl Gateway {
         ensures lone { IsLone self.now.table }
         ensures table { IsTable self.now.table }
     {
-        self.table.audit();
+        Table::audit(&self.table);
     }
 
     /// Whether its table is loaded.

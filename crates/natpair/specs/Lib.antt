@@ -1,0 +1,4 @@
+pub mod Script
+pub mod Faults
+pub mod Status
+pub mod Commands
