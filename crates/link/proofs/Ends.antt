@@ -139,7 +139,7 @@ pub record IsTaken (e : End) (d : Datagram) (now : ℕ) (t : Taken) (new : End) 
   pub taken : t ≡ taken_of e d
   pub after : new ≡ after_take e d now
 
-answered_ok : (o : Option LinkFault) (t u : Taken) → answered o t ≡ Ok u → (o ≡ None) × (u ≡ t)
+pub answered_ok : (o : Option LinkFault) (t u : Taken) → answered o t ≡ Ok u → (o ≡ None) × (u ≡ t)
 answered_ok None t u e = (refl, cc)
 answered_ok (Some f) t u e = absurd cc
 

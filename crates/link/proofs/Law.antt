@@ -52,7 +52,7 @@ joins (x ∷ xs) more (y ∷ ys) (suc m) (rest, p) (behind, q) =
     let t = joins xs more ys m (rest, tail) (behind, q) in
     (t.0, ap (λ (z : Record). z ∷ ((xs ++ more) ++ t.0)) head ∙ ap (λ (z : List Record). y ∷ z) t.1)
 
-takeable_begins : (places : ℕ) (rs : List Record) → IsBeginning (takeable places rs) rs
+pub takeable_begins : (places : ℕ) (rs : List Record) → IsBeginning (takeable places rs) rs
 takeable_begins places [] = ([], refl)
 takeable_begins places (r ∷ rs) =
     elim (needs_answer r) as (λ b. IsBeginning (cond b (cond (places == 0) [] (r ∷ takeable (places - 1) rs)) (r ∷ takeable places rs)) (r ∷ rs)) [
@@ -204,7 +204,7 @@ same_end p t i e ticked due s =
       unheard_taken = s.unheard_taken;
     }
 
-take_again : (n : ℕ) (xs : List Record) → take n xs ≡ take (length (take n xs)) xs
+pub take_again : (n : ℕ) (xs : List Record) → take n xs ≡ take (length (take n xs)) xs
 take_again zero xs = refl
 take_again (suc n) [] = refl
 take_again (suc n) (x ∷ xs) = ap (λ (t : List Record). x ∷ t) (take_again n xs)
@@ -330,7 +330,7 @@ pub record IsStep (p t : Histories) (i : GatewayId) (e after : End) (peer : ℕ)
 here_before : (w : World) (i : GatewayId) (own peer : ℕ) → IsInStep w → IsBeginning (w.taken i own peer) (w.pushed (other i) peer own)
 here_before w i own peer k = subst (λ (j : GatewayId). IsBeginning (w.taken j own peer) (w.pushed (other i) peer own)) (other-other i) (k.prefixes (other i) peer own)
 
-beginning_parts : (e : End) (d : Datagram) → is_beginning e d ≡ true → (d.receiver_boot ≡ e.boot) × (d.first ≡ 1)
+pub beginning_parts : (e : End) (d : Datagram) → is_beginning e d ≡ true → (d.receiver_boot ≡ e.boot) × (d.first ≡ 1)
 beginning_parts e d h =
     let outer = and_parts ((d.receiver_boot == e.boot) && (d.delivered == 0)) (d.first == 1) h in
     let inner = and_parts (d.receiver_boot == e.boot) (d.delivered == 0) outer.0 in
