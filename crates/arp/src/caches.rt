@@ -1,5 +1,5 @@
 // The cache of neighbours.
-ghost use Rattle.std.specs.Prelude.{◌≡◌, ◌≤◌, ◌++◌, ◌∷◌, [], ◌<◌, ◌↔◌, ◌-◌, ◌+◌, length, drop, vec_len, vec_capacity, IfOk, IsTrue};
+ghost use Rattle.std.specs.Prelude.{◌≡◌, ◌≤◌, ◌++◌, ◌∷◌, [], ◌<◌, ◌↔◌, ◌-◌, ◌+◌, length, vec_len, vec_capacity, IfOk, IsTrue};
 ghost use Rattle.arp.specs.Neighbours.{without, newest, with_entry, fixed_mac, learnt_mac, mac_at, IsLearnable, HasRoom};
 
 use frames::{Ip, Mac, Prefix};

@@ -1,5 +1,5 @@
 // ARP packets, read from Ethernet bodies and written as whole frames.
-ghost use Rattle.std.specs.Prelude.{◌≡◌, ◌≤◌, ◌↔◌, ◌++◌, ◌∷◌, [], drop, length, take, IfOk, IsOk};
+ghost use Rattle.std.specs.Prelude.{◌≡◌, ◌≤◌, ◌↔◌, ◌∷◌, [], length, take, IfOk, IsOk};
 ghost use Rattle.std.specs.Result.{result_err};
 ghost use Rattle.arp.specs.Packet.{operation_number, packet_bytes, is_ethernet_ipv4, arp_refusal, IsArp, packet_of, frame_bytes};
 ghost use Rattle.arp.specs.declared.packets.Operation.TheVariants.{Request, Reply};

@@ -1,4 +1,4 @@
-ghost use Rattle.std.specs.Prelude.{◌≡◌, ◌<◌, ◌++◌, ◌∷◌, [], IfOk, ◌≤◌, vec_len, vec_capacity};
+ghost use Rattle.std.specs.Prelude.{◌≡◌, ◌<◌, IfOk};
 ghost use Rattle.std.specs.List.Sorted.{IsPermutation, IsNonDecreasingBy};
 ghost use Rattle.bindings.specs.Entries.{is_pair, translates, has_key, serves, slot_of, entry_of, refusal_of, pairs_in, place_of};
 
@@ -94,17 +94,6 @@ pub(crate) fn refusal(entries: &[Entry], capacity: usize, entry: Entry) -> Optio
         return Some(TableFault::EndpointTaken);
     }
     None
-}
-
-pub(crate) fn put_reserved(entries: &mut Vec<Entry>, entry: Entry)
-    requires { vec_len entries.old < vec_capacity entries.old }
-    ensures items { entries.new.items ≡ entries.old.items ++ entry ∷ [] }
-    ensures capacity { vec_capacity entries.old ≤ vec_capacity entries.new }
-{
-    match entries.push(entry) {
-        Ok(()) => {}
-        Err(_full) => unreachable!(),
-    }
 }
 
 fn place(pair: Pair) -> u32

@@ -1,4 +1,4 @@
-ghost use Rattle.std.specs.Prelude.{◌≡◌, ◌<◌, ◌++◌, ◌∷◌, [], None, Some, IfOk, IfErr, OnOk, OnErr};
+ghost use Rattle.std.specs.Prelude.{◌≡◌, ◌<◌, [], None, Some, IfOk, IfErr, OnOk, OnErr};
 ghost use Rattle.std.specs.List.Sorted.{IsPermutation, IsNonDecreasingBy};
 ghost use Rattle.nat_types.specs.declared.pairs.Key.{Key as OutsidePort};
 ghost use Rattle.bindings.specs.Entries.{IsTable, is_pair, translates, slot_of, entry_of, set_at, refusal_of, entry_in, with_entry, pairs_in, place_of};
@@ -6,10 +6,11 @@ ghost use Rattle.bindings.specs.Ports.{chosen_port};
 
 use crate::chosen::choose_port;
 use crate::entries::{
-    find_endpoint, find_key, pairs_of, put_reserved, refusal, sort_pairs, translating_pairs_of,
+    find_endpoint, find_key, pairs_of, refusal, sort_pairs, translating_pairs_of,
 };
 use crate::{Entry, PortBounds, TableFault};
 use nat_types::{Endpoint, EntryState, Key, Pair, Parity, Port, Protocol};
+use reserved::put_reserved;
 use std::alloc::{AllocError, Global};
 use std::marker::Model;
 

@@ -1,5 +1,5 @@
 // A disk in memory, which stops, tears writes and fails as it is told.
-ghost use Rattle.std.specs.Prelude.{◌≡◌, ◌≤◌, ◌+◌, [], length};
+ghost use Rattle.std.specs.Prelude.{◌≡◌, ◌+◌};
 ghost use Rattle.boot_store.specs.Moment.{MayLeave, bytes_of, left_by_crash};
 
 use crate::cells::{read_cells, sync_cells, tear_cells, write_cells};

@@ -13,7 +13,6 @@ pub struct Past {
 
 impl Model for Past {
     ghost use Rattle.std.specs.Prelude.{List, length};
-    ghost use Rattle.std.specs.Coded.{coded_list};
     ghost use Rattle.boot_store.specs.Moment.{Moment};
 
     ghost Value = { List Moment };

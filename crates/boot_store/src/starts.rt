@@ -1,5 +1,5 @@
 // A start reads the boot file and writes the next number, so that a crash at any moment leaves one.
-ghost use Rattle.std.specs.Prelude.{◌≡◌, ◌≤◌, ◌<◌, ◌+◌, ◌↔◌, ◌-◌, ◌++◌, ◌⊎◌, length, take, Option, Some, None, Result, OnOk, OnErr, IfOk, IfSome, IfNone, IsErrOf};
+ghost use Rattle.std.specs.Prelude.{◌≡◌, ◌≤◌, ◌<◌, ◌+◌, ◌↔◌, ◌-◌, ◌++◌, Option, Some, None, Result, OnOk, OnErr, IfOk, IsErrOf};
 ghost use Rattle.boot_store.specs.Moment.{bytes_of, written, synced};
 ghost use Rattle.boot_store.specs.BootFile.{number_of, boot_answer, with_number, slot_bytes};
 ghost use Rattle.boot_store.specs.Crash.{LeavesNumber, Since, Keeps, Rises, IsReady, WholeFile};

@@ -19,30 +19,17 @@ use Rattle.pair_machine.specs.World as world
 use Rattle.pair_machine.specs.Mapped.{slot_in}
 use Rattle.gateway.specs.Machine.{machine_slot, slots_of}
 use Rattle.gateway.specs.Shown.{Shown}
+use Rattle.gateway.proofs.Slots.{in-held, in-translates}
 use Rattle.frame_sim.specs.Seen.{Seen, entries_of, Holds, Translates}
 use Rattle.frame_sim.specs.Scene.{box_at, scene_of, HasTable}
 
--- the states in which the machine has the pair, and in which it translates
-held-state : (s : EntryState) (e x : Endpoint) → machine.held (slot_in s e) ≡ Some x → (is_pair s ≡ true) × (e ≡ x)
-held-state state.Pending e x h = (refl, cc)
-held-state state.Doomed e x h = cc
-held-state state.Live e x h = (refl, cc)
-held-state state.Closing e x h = (refl, cc)
-held-state state.Held e x h = (refl, cc)
-
+-- a state in which the machine translates
 translated-state : (s : EntryState) (e x : Endpoint) → machine.translated (slot_in s e) ≡ Some x → (translates s ≡ true) × (e ≡ x)
 translated-state state.Pending e x h = cc
 translated-state state.Doomed e x h = cc
 translated-state state.Live e x h = (refl, cc)
 translated-state state.Closing e x h = cc
 translated-state state.Held e x h = (refl, cc)
-
-translates-slot : (s : EntryState) (e : Endpoint) → translates s ≡ true → machine.translated (slot_in s e) ≡ Some e
-translates-slot state.Pending e h = cc
-translates-slot state.Doomed e h = cc
-translates-slot state.Live e h = refl
-translates-slot state.Closing e h = cc
-translates-slot state.Held e h = refl
 
 -- an entry is its pair in its state
 whole : (es : List Entry) (p : Pair) (x : Entry) → slot_of es p.key ≡ Some x → x.pair.endpoint ≡ p.endpoint → slot_of es p.key ≡ Some (entry_in x.state p)
@@ -57,7 +44,7 @@ held-listed es p h = at (slot_of es p.key) refl h
     at : (o : Option Entry) → slot_of es p.key ≡ o → machine.held (machine_slot o) ≡ Some p.endpoint → Contains (pairs_in is_pair es) p
     at None found h = cc
     at (Some x) found h =
-        let parts = held-state x.state x.pair.endpoint p.endpoint h in
+        let parts = in-held x.state x.pair.endpoint p.endpoint h in
         listed-slot is_pair es p x.state (whole es p x found parts.1) parts.0
 
 translated-listed : (es : List Entry) (p : Pair) → machine.translated (slots_of es p.key) ≡ Some p.endpoint → Contains (pairs_in translates es) p
@@ -72,7 +59,7 @@ translated-listed es p h = at (slot_of es p.key) refl h
 listed-translated : (es : List Entry) (p : Pair) → HasDistinctKeys es → Contains (pairs_in translates es) p → machine.translated (slots_of es p.key) ≡ Some p.endpoint
 listed-translated es p keys h =
     let found = slot-listed translates es p keys h in
-    ap (λ (o : Option Entry). machine.translated (machine_slot o)) found.1 ∙ translates-slot found.0 p.endpoint found.2
+    ap (λ (o : Option Entry). machine.translated (machine_slot o)) found.1 ∙ in-translates found.0 p.endpoint found.2
 
 -- of one gateway
 at-held : (g : Option Shown) (p : Pair) → machine.held ((box_at g).table p.key) ≡ Some p.endpoint → Contains (pairs_in is_pair (entries_of g)) p

@@ -1,4 +1,4 @@
-ghost use Rattle.std.specs.Prelude.{◌≡◌, ◌+◌, ◌<◌, ◌≤◌, [], ◌∷◌, ◌++◌, drop, length, vec_len, vec_capacity, is_some, Some, IfOk, IfErr, OnOk, OnErr};
+ghost use Rattle.std.specs.Prelude.{◌≡◌, ◌+◌, ◌<◌, ◌≤◌, ◌++◌, drop, length, vec_len, vec_capacity, is_some, Some, IfOk, IfErr, OnOk, OnErr};
 ghost use Rattle.std.specs.List.Sorted.{IsPermutation, IsNonDecreasingBy};
 ghost use Rattle.nat_types.specs.declared.gateways.GatewayId.TheVariants as ids;
 ghost use Rattle.bindings.specs.Entries.{pairs_in, is_pair, translates, place_of};
@@ -14,6 +14,7 @@ use crate::{Step, WorldEvent, WorldFault};
 use gateway::{Event, Gateway, NoMemory, Out, Outcome};
 use nat_types::{GatewayId, Note, Pair};
 use pair_machine::{begins, one_steps, promises_in_order, steps_anywhere, zero_steps};
+use reserved::put_reserved;
 use settings::{PortRanges, Settings};
 use std::alloc::Global;
 use std::marker::Model;
@@ -133,18 +134,6 @@ fn is_synced(gateway: &Option<Gateway>) -> bool
     match gateway {
         Some(gateway) => gateway.synced(),
         None => false,
-    }
-}
-
-fn put_reserved(steps: &mut Vec<Step>, step: Step)
-    requires { vec_len steps.old < vec_capacity steps.old }
-    ensures items { steps.new.items ≡ steps.old.items ++ step ∷ [] }
-    ensures len { vec_len steps.new ≡ vec_len steps.old + 1 }
-    ensures capacity { vec_capacity steps.old ≤ vec_capacity steps.new }
-{
-    match steps.push(step) {
-        Ok(()) => {}
-        Err(_full) => unreachable!(),
     }
 }
 

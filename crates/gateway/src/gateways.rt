@@ -9,7 +9,7 @@ ghost use Rattle.nat_types.specs.declared.pairs.EntryState.TheVariants.{Live};
 ghost use Rattle.std.specs.List.Sorted.{IsPermutation, IsNonDecreasingBy};
 ghost use Rattle.gateway.specs.Shown.{started, IsLone, size_of, bounds_of, networks_of, empty_table};
 ghost use Rattle.gateway.specs.Deeds.{Acts};
-ghost use Rattle.gateway.specs.Effects.{outcome_on, shown_on, told_on, shown_by, told_by, notes_of, clock_after};
+ghost use Rattle.gateway.specs.Effects.{outcome_on, shown_on, told_on, shown_by, told_by, clock_after};
 ghost use Rattle.gateway.specs.Truly.{TellsTruly};
 ghost use Rattle.gateway.specs.Machine.{IsMachineStep};
 ghost use Rattle.gateway.specs.Verdict.{plan_of, verdict};

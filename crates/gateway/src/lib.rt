@@ -13,10 +13,14 @@ mod reasons;
 mod steps;
 mod translations;
 
+pub use choices::Choice;
 pub use events::Event;
 pub use gateways::Gateway;
 pub use memory::NoMemory;
+pub use networks::{Direction, Network, Networks};
 pub use outs::{Frame, Out};
+pub use packets::Packet;
+pub use plans::Plan;
 pub use reasons::{Outcome, Reason};
 
 #[cfg(test)]

@@ -1,8 +1,9 @@
-ghost use Rattle.std.specs.Prelude.{◌≡◌, ◌<◌, ◌+◌, ◌≤◌, [], ◌∷◌, ◌++◌, OnOk, OnErr, vec_len, vec_capacity};
+ghost use Rattle.std.specs.Prelude.{◌≡◌, ◌<◌, OnOk, OnErr};
 ghost use Rattle.gateway.specs.Told.{with_sent, none_told, sent_of};
 
 use crate::NoMemory;
 use nat_types::{Note, Side};
+use reserved::put_reserved;
 use std::alloc::{AllocError, Global};
 use std::marker::Model;
 
@@ -26,16 +27,6 @@ impl Model for Out {
     ghost Value = { Told };
 
     ghost view = { λ o. record { frames = sent_of o.frames.items; notes = o.notes.items } };
-}
-
-fn put_reserved<T>(list: &mut Vec<T>, item: T)
-    requires { vec_len list.old < vec_capacity list.old }
-    ensures { list.new.items ≡ list.old.items ++ item ∷ [] }
-{
-    match list.push(item) {
-        Ok(()) => {}
-        Err(_full) => unreachable!(),
-    }
 }
 
 impl Out {

@@ -285,6 +285,7 @@ impl Link {
     /// pushed records begins anew.
     pub fn take(&mut self, bytes: &[u8], now: u64) -> Result<Taken, LinkFault>
         ensures exact { result ≡ taking self.old (reading bytes.now) }
+        ensures heard { (d : Sent) → IsDatagram bytes.now d → result ≡ answered (refusal_of self.old d) (taken_by self.old d) }
         ensures err { OnErr result (self.new ≡ self.old) }
         ensures after { (d : Sent) → IsDatagram bytes.now d → OnOk result (self.new ≡ after_take self.old d now) }
         ensures restarts { (d : Sent) → IsDatagram bytes.now d

@@ -1,6 +1,6 @@
 //! Reads a script: a list of world events, a line each.
 
-ghost use Rattle.std.specs.Prelude.{◌≡◌, map, option_map, IfOk, IfErr, OnOk, vec_len};
+ghost use Rattle.std.specs.Prelude.{◌≡◌, map, option_map, IfOk, IfErr, OnOk};
 ghost use Rattle.std.specs.Str.Lines.{lines};
 ghost use Rattle.natpair.specs.Script.{said, words, is_comment, is_blank, is_silent, is_decimal, number_named, side_named, bytes_named, tick_named, frame_named, words_event, events_of, first_bad_from, first_bad_line, most_events};
 ghost use Rattle.natpair.specs.Faults.{IsTold};

@@ -1,4 +1,4 @@
-ghost use Rattle.std.specs.Prelude.{◌≡◌, ◌+◌};
+ghost use Rattle.std.specs.Prelude.{◌≡◌};
 ghost use Rattle.sums.specs.Sum.{IsUpdate};
 ghost use Rattle.ipv4.specs.Header.{IsIpv4};
 ghost use Rattle.ipv4.specs.Datagram.{IsUdp};

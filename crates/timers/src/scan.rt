@@ -1,6 +1,7 @@
-ghost use Rattle.std.specs.Prelude.{◌≡◌, ◌+◌, ◌<◌, ◌≤◌, ◌++◌, [], ◌∷◌, None, length, map, replicate, slice_set, count_by, vec_len, vec_capacity, IfOk};
+ghost use Rattle.std.specs.Prelude.{◌≡◌, ◌+◌, ◌<◌, ◌≤◌, ◌++◌, None, length, map, replicate, slice_set, count_by, vec_len, vec_capacity, IfOk};
 ghost use Rattle.timers.specs.Due.{is_due, due_slots, cleared};
 
+use reserved::put_reserved;
 use std::alloc::{AllocError, Global};
 
 pub(crate) fn unset(alloc: Global, count: usize) -> Result<Vec<Option<u64>>, AllocError>
@@ -29,17 +30,6 @@ pub(crate) fn count_due(slots: &[Option<u64>], now: u64) -> usize
     ensures { result ≡ count_by (is_due now) slots.now }
 {
     slots.iter().filter(|slot| is_slot_due(**slot, now)).count()
-}
-
-fn put_reserved(list: &mut Vec<usize>, slot: usize)
-    requires { vec_len list.old < vec_capacity list.old }
-    ensures items { list.new.items ≡ list.old.items ++ slot ∷ [] }
-    ensures capacity { vec_capacity list.old ≤ vec_capacity list.new }
-{
-    match list.push(slot) {
-        Ok(()) => {}
-        Err(_full) => unreachable!(),
-    }
 }
 
 pub(crate) fn list_due(slots: &[Option<u64>], now: u64, out: &mut Vec<usize>)

@@ -1,7 +1,7 @@
 //! VRRP advertisements (RFC 9568, section 5.2), read from IPv4 packets and written.
 #![tactic(auto)]
 
-ghost use Rattle.std.specs.Prelude.{◌≡◌, ◌≤◌, ◌<◌, ◌^◌, ◌↔◌, ◌++◌, ◌&&◌, not, length, IsOk, IfOk, None, List, ℕ};
+ghost use Rattle.std.specs.Prelude.{◌≡◌, ◌<◌, ◌^◌, ◌↔◌, ◌++◌, ◌&&◌, length, IsOk, IfOk, None, List, ℕ};
 ghost use Rattle.std.specs.Result.{result_err};
 ghost use Rattle.sums.specs.Sum.{IsRight};
 ghost use Rattle.ipv4.specs.Header.{header_of, payload_of, has_wrong_sum};

@@ -1,0 +1,3 @@
+pub mod Formed
+pub mod Moving
+pub mod Worlds
