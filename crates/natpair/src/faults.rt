@@ -4,7 +4,8 @@ use crate::printing::Stop;
 use crate::scripts::ScriptFault;
 use gateway::NoMemory;
 use std::alloc::AllocError;
-use std::{fmt, io};
+use std::fmt;
+use std::io::{self, ErrorKind};
 
 /// Why the program ends without its work done. Each is printed behind `natpair: `.
 #[derive(Clone, Copy, Debug, PartialEq, Eq)]
@@ -23,7 +24,10 @@ pub enum Fault {
 }
 
 impl Fault {
+    ghost use Rattle.std.specs.Prelude.{◌≡◌, ◌≢◌};
+    ghost use Rattle.std.specs.IoError.{error_kind};
     ghost use Rattle.natpair.specs.Faults.{status_of};
+    ghost use Rattle.natpair.specs.declared.faults.Fault.TheVariants as faults;
 
     /// The exit status that the fault leads to.
     pub fn status(self) -> u8
@@ -34,28 +38,27 @@ impl Fault {
             _ => 1,
         }
     }
-}
-
-impl Fault {
-    ghost use Rattle.std.specs.Prelude.{◌≡◌};
-    ghost use Rattle.natpair.specs.Faults.{status_of};
 
     /// The fault of words that couldn't be read.
-    pub fn of_starting(error: io::Error) -> Fault {
+    pub fn of_starting(error: io::Error) -> Fault
+        ensures memory { error_kind error ≡ ErrorKind.OutOfMemory → result ≡ faults.NoMemory }
+        ensures words { error_kind error ≢ ErrorKind.OutOfMemory → result ≡ faults.Usage }
+    {
         match error.kind() {
-            io::ErrorKind::OutOfMemory => Fault::NoMemory,
+            ErrorKind::OutOfMemory => Fault::NoMemory,
             _ => Fault::Usage,
         }
     }
 
     /// The fault of a file that couldn't be read.
     pub fn of_reading(error: io::Error) -> Fault
-        ensures { status_of result ≡ 1 }
+        ensures memory { error_kind error ≡ ErrorKind.OutOfMemory → result ≡ faults.NoMemory }
+        ensures file { error_kind error ≢ ErrorKind.OutOfMemory → result ≡ faults.NoFile }
+        ensures status { status_of result ≡ 1 }
     {
-        if error.kind() == io::ErrorKind::OutOfMemory {
-            Fault::NoMemory
-        } else {
-            Fault::NoFile
+        match error.kind() {
+            ErrorKind::OutOfMemory => Fault::NoMemory,
+            _ => Fault::NoFile,
         }
     }
 }

@@ -67,7 +67,7 @@ fn simulated<O: Write>(
 fn played<O: Write>(alloc: Global, events: &[WorldEvent], output: &mut O) -> Result<u8, Fault>
     ensures run { IfOk result (IsRun events.now) }
     ensures status { IfOk result (λ status. (status ≡ 0) ⊎ (status ≡ 3)) }
-    ensures fault { IfErr result (λ fault. status_of fault ≡ 1) }
+    ensures fault { IfErr result (λ fault. (fault ≡ faults.NotWritten) ⊎ (fault ≡ faults.NoMemory)) }
 {
     let settings = Settings::sample(alloc)?;
     let mut world = World::new(alloc, &settings)?;

@@ -13,12 +13,22 @@ pub enum Stop {
 }
 
 impl From<io::Error> for Stop {
+    ghost use Rattle.std.specs.Prelude.{◌≡◌};
+    ghost use Rattle.natpair.specs.declared.printing.Stop.TheVariants as stops;
+
+    ghost from_gives = { λ _ stop. stop ≡ stops.NotWritten };
+
     fn from(_: io::Error) -> Stop {
         Stop::NotWritten
     }
 }
 
 impl From<NoMemory> for Stop {
+    ghost use Rattle.std.specs.Prelude.{◌≡◌};
+    ghost use Rattle.natpair.specs.declared.printing.Stop.TheVariants as stops;
+
+    ghost from_gives = { λ _ stop. stop ≡ stops.NoMemory };
+
     fn from(_: NoMemory) -> Stop {
         Stop::NoMemory
     }
