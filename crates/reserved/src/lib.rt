@@ -26,7 +26,7 @@ mod tests {
         let mut list = Vec::with_capacity(rt.alloc(), 2)?;
         put_reserved(&mut list, 4u16);
         put_reserved(&mut list, 6);
-        assert_eq!(rt; list.as_slice(), &[4, 6]);
+        assert_eq!(rt; list.as_slice(), [4, 6].as_slice());
         Ok(())
     }
 }
