@@ -50,7 +50,7 @@ impl Ends {
         })
     }
 
-    /// What the command does, as the link's schedules have it.
+    /// What the command does, as the link's schedules have it. An `Err` is want of memory, and nothing happened.
     pub fn apply(&mut self, command: &Command) -> Result<(), AllocError>
         ensures ok { OnOk result (world_of self.new ≡ run_of (events_of command.now) (world_of self.old)) }
         ensures err { OnErr result (world_of self.new ≡ world_of self.old) }
@@ -73,7 +73,7 @@ impl Ends {
         }
     }
 
-    /// Takes the commands in order. Want of memory ends it where it stands.
+    /// Takes the commands in order. An `Err` is want of memory at one of them: those before it were taken, it and the rest weren't.
     pub fn run(&mut self, commands: &[Command]) -> Result<(), AllocError>
         // Whatever was lost, repeated or reordered: the records taken in a session are a beginning of those pushed in it.
         ensures prefixes { HasPrefixes (world_of self.new) }

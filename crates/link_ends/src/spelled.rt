@@ -1,4 +1,4 @@
-ghost use Rattle.std.specs.Prelude.{◌≡◌, IsTrue};
+ghost use Rattle.std.specs.Prelude.{◌≡◌, ◌↔◌, IsTrue};
 ghost use Rattle.link.specs.Grammar.{IsWellFormedKey, IsWellFormedPair, IsWellFormedRecord};
 ghost use Rattle.link_ends.specs.Schedules.{has_port, is_spelled_pair, is_spelled as is_spelled_record};
 
@@ -6,14 +6,14 @@ use nat_types::{Key, Pair, Record};
 
 fn is_port(key: Key) -> bool
     ensures exact { result ≡ has_port key.port.0 }
-    ensures formed { IsTrue result → IsWellFormedKey key }
+    ensures formed { IsTrue result ↔ IsWellFormedKey key }
 {
     key.port.0 != 0
 }
 
 fn is_spelled_whole(pair: Pair) -> bool
     ensures exact { result ≡ is_spelled_pair pair }
-    ensures formed { IsTrue result → IsWellFormedPair pair }
+    ensures formed { IsTrue result ↔ IsWellFormedPair pair }
 {
     is_port(pair.key) && pair.endpoint.port.0 != 0 && pair.endpoint.protocol == pair.key.protocol
 }
@@ -21,7 +21,7 @@ fn is_spelled_whole(pair: Pair) -> bool
 /// Whether bytes stand for the record: no port is 0, and a pair's key and endpoint are of one protocol.
 pub(crate) fn is_spelled(entry: Record) -> bool
     ensures exact { result ≡ is_spelled_record entry }
-    ensures formed { IsTrue result → IsWellFormedRecord entry }
+    ensures formed { IsTrue result ↔ IsWellFormedRecord entry }
 {
     match entry {
         Record::Install(pair) => is_spelled_whole(pair),
