@@ -1,8 +1,8 @@
 -- Whom an interface knows: fixed neighbours and learnt ones.
 use Rattle.std.specs.Prelude.{◌≡◌, ◌≢◌, ◌≤◌, ℕ, ◌-◌, ◌%◌, ◌==◌, ◌&&◌, not, nat_lt, List, [], ◌∷◌, ◌++◌, length, drop, replicate, slice_index, Option, Some, None, if◌then◌else◌}
 use Rattle.std.specs.List.{filter}
-use Rattle.nat_types.specs.declared.addresses.Mac.{Mac}
-use Rattle.nat_types.specs.Address.{IsIn}
+use Rattle.addresses.specs.declared.ethernet.Mac.{Mac}
+use Rattle.addresses.specs.Address.{IsIn}
 use Rattle.arp.specs.declared.caches.Neighbour.{Neighbour}
 use Rattle.arp.specs.declared.caches.Entry.{Entry}
 

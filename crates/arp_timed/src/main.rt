@@ -2,7 +2,7 @@
 #![tactic(auto)]
 
 use arp::Cache;
-use nat_types::{Ip, Mac};
+use addresses::{Ip, Mac};
 use std::rt::{Clock, Env};
 use std::time::Instant;
 use std::{env, io};

@@ -6,7 +6,8 @@ use Rattle.nat_types.specs.declared.pairs.EntryState.TheVariants.{Pending, Doome
 use Rattle.nat_types.specs.declared.pairs.Endpoint.{Endpoint}
 use Rattle.nat_types.specs.declared.pairs.Key.{Key}
 use Rattle.nat_types.specs.declared.pairs.Pair.{Pair}
-use Rattle.nat_types.specs.Same.{same_key, same_endpoint, protocol_number}
+use Rattle.addresses.specs.Transport.{protocol_number}
+use Rattle.nat_types.specs.Same.{same_key, same_endpoint}
 use Rattle.bindings.specs.declared.entries.Entry.{Entry}
 use Rattle.bindings.specs.declared.entries.TableFault.{TableFault}
 use Rattle.bindings.specs.declared.entries.TableFault.TheVariants.{Full, PortTaken, EndpointTaken}

@@ -1,11 +1,11 @@
 -- Which port of a range is chosen.
 use Rattle.std.specs.Prelude.{ℕ, zero, suc, ◌+◌, ◌-◌, Bool, true, false, ◌&&◌, Option, Some, None, is_none, List, if◌then◌else◌}
-use Rattle.nat_types.specs.declared.pairs.Protocol.{Protocol}
-use Rattle.nat_types.specs.declared.pairs.Parity.{Parity}
-use Rattle.nat_types.specs.declared.pairs.Parity.TheVariants.{Even, Odd}
-use Rattle.nat_types.specs.declared.pairs.Port.{Port}
+use Rattle.addresses.specs.declared.transport.Protocol.{Protocol}
+use Rattle.addresses.specs.declared.transport.Parity.{Parity}
+use Rattle.addresses.specs.declared.transport.Parity.TheVariants.{Even, Odd}
+use Rattle.addresses.specs.declared.transport.Port.{Port}
 use Rattle.nat_types.specs.declared.pairs.Key.{Key}
-use Rattle.nat_types.specs.Same.{parity_of}
+use Rattle.addresses.specs.Transport.{parity_of}
 use Rattle.bindings.specs.declared.entries.Entry.{Entry}
 use Rattle.bindings.specs.declared.entries.PortBounds.{PortBounds}
 use Rattle.bindings.specs.Entries.{slot_of}

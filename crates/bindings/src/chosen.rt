@@ -1,10 +1,11 @@
 ghost use Rattle.std.specs.Prelude.{◌≡◌};
-ghost use Rattle.nat_types.specs.Same.{parity_of};
+ghost use Rattle.addresses.specs.Transport.{parity_of};
 ghost use Rattle.bindings.specs.Ports.{same_parity, fits, is_free, is_open, lowest_free, chosen_port};
 
 use crate::entries::find_key;
 use crate::{Entry, PortBounds};
-use nat_types::{Key, Parity, Port, Protocol};
+use addresses::{Parity, Port, Protocol};
+use nat_types::Key;
 
 fn is_that_parity(port: Port, parity: Parity) -> bool
     ensures { result ≡ same_parity (parity_of port.0) parity }

@@ -2,7 +2,8 @@ ghost use Rattle.std.specs.Prelude.{◌≡◌, ◌<◌, IfOk};
 ghost use Rattle.std.specs.List.Sorted.{IsPermutation, IsNonDecreasingBy};
 ghost use Rattle.bindings.specs.Entries.{is_pair, translates, has_key, serves, slot_of, entry_of, refusal_of, pairs_in, place_of};
 
-use nat_types::{Endpoint, EntryState, Key, Pair, Port};
+use addresses::Port;
+use nat_types::{Endpoint, EntryState, Key, Pair};
 use std::alloc::{AllocError, Global};
 use thiserror::Error;
 

@@ -9,7 +9,8 @@ use crate::entries::{
     find_endpoint, find_key, pairs_of, refusal, sort_pairs, translating_pairs_of,
 };
 use crate::{Entry, PortBounds, TableFault};
-use nat_types::{Endpoint, EntryState, Key, Pair, Parity, Port, Protocol};
+use addresses::{Parity, Port, Protocol};
+use nat_types::{Endpoint, EntryState, Key, Pair};
 use reserved::put_reserved;
 use std::alloc::{AllocError, Global};
 use std::marker::Model;
@@ -82,7 +83,7 @@ impl Table {
         if let Some(fault) = refusal(&self.entries, self.capacity, entry) {
             return Err(fault);
         }
-        put_reserved(&mut self.entries, entry);
+        put_reserved(&mut self.entries, Entry { pair, state });
         Ok(())
     }
 

@@ -1,5 +1,6 @@
 use crate::{Entry, PortBounds, Table, TableFault};
-use nat_types::{Endpoint, EntryState, Ip, Key, Pair, Parity, Port, Protocol};
+use addresses::{Ip, Parity, Port, Protocol};
+use nat_types::{Endpoint, EntryState, Key, Pair};
 use std::test::Fail;
 
 const OWN: PortBounds = PortBounds {

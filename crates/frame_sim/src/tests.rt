@@ -1,6 +1,7 @@
 use crate::{Step, World, WorldEvent, audit};
 use gateway::{Outcome, Reason};
-use nat_types::{Endpoint, GatewayId, Ip, Key, Pair, Port, Protocol, Side};
+use addresses::{Ip, Port, Protocol};
+use nat_types::{Endpoint, GatewayId, Key, Pair, Side};
 use settings::Settings;
 use std::alloc::{AllocError, Global};
 use std::test::Fail;

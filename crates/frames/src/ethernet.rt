@@ -6,7 +6,7 @@ ghost use Rattle.frames.specs.Lending.{LendsParts};
 ghost use Rattle.frames.specs.Frame.{IsFrame, frame_of, header_bytes};
 
 use byteorder::{BigEndian, ByteOrder};
-use nat_types::Mac;
+use addresses::Mac;
 use thiserror::Error;
 
 /// Where the header's fields lie.

@@ -4,7 +4,7 @@
 mod ethernet;
 
 pub use ethernet::{EthView, EthViewMut, EtherType, FrameFault, split_mut, write_header};
-pub use nat_types::{Ip, Mac, Prefix};
+pub use addresses::{Ip, Mac, Prefix};
 
 #[cfg(test)]
 mod tests;

@@ -5,10 +5,10 @@ use Rattle.nat_types.specs.declared.gateways.Side.{Side}
 use Rattle.nat_types.specs.declared.gateways.Side.TheVariants.{Inside, Outside}
 use Rattle.nat_types.specs.declared.pairs.Key.{Key}
 use Rattle.nat_types.specs.declared.pairs.Pair.{Pair}
-use Rattle.nat_types.specs.declared.pairs.Port.{Port}
-use Rattle.nat_types.specs.declared.pairs.Protocol.TheVariants.{Udp}
+use Rattle.addresses.specs.declared.transport.Port.{Port}
+use Rattle.addresses.specs.declared.transport.Protocol.TheVariants.{Udp}
 use Rattle.nat_types.specs.declared.pairs.EntryState.TheVariants.{Live}
-use Rattle.nat_types.specs.Same.{parity_of}
+use Rattle.addresses.specs.Transport.{parity_of}
 use Rattle.bindings.specs.Ports.{chosen_port}
 use Rattle.gateway.specs.declared.packets.Packet.{Packet}
 use Rattle.bindings.specs.Entries.{Bindings, IsTable, slot_of, entry_of, entry_in, serves, has_key, is_pair}

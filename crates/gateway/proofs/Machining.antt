@@ -1,7 +1,7 @@
 -- What a gateway does with an event is what a lone gateway of the pair machine may do: a use, a new pair and its use, or nothing.
 use Rattle.std.proofs.Common.{◌≡◌, ℕ, Bool, true, false, cond, List, [], ◌∷◌, ◌++◌, Option, Some, None, Result, Ok, Err, IsTrue, refl, sym, ap, ◌∙◌, subst, reverse, not, nat_lt, ◌≤◌}
 use Rattle.std.proofs.lemmas.Bool.{and_from, le-ltb}
-use Rattle.nat_types.specs.Same.{parity_of}
+use Rattle.addresses.specs.Transport.{parity_of}
 use Rattle.nat_types.specs.declared.gateways.Side.{Side}
 use Rattle.nat_types.specs.declared.pairs.Key.{Key}
 use Rattle.nat_types.specs.declared.pairs.Endpoint.{Endpoint}
@@ -21,8 +21,8 @@ use Rattle.gateway.specs.declared.reasons.Reason.TheVariants.{CannotWait, NoBind
 use Rattle.gateway.specs.declared.networks.Direction.{Direction}
 use Rattle.gateway.specs.declared.networks.Direction.TheVariants.{Outward, Inward}
 use Rattle.gateway.specs.declared.packets.Packet.{Packet}
-use Rattle.nat_types.specs.declared.addresses.Mac.{Mac}
-use Rattle.nat_types.specs.declared.pairs.Port.{Port}
+use Rattle.addresses.specs.declared.ethernet.Mac.{Mac}
+use Rattle.addresses.specs.declared.transport.Port.{Port}
 use Rattle.bindings.specs.declared.entries.PortBounds.{PortBounds}
 use Rattle.gateway.specs.declared.choices.Choice.{Choice}
 use Rattle.gateway.specs.declared.choices.Choice.TheVariants.{Known, New}

@@ -1,11 +1,11 @@
 -- Which pair a packet takes.
 use Rattle.std.specs.Prelude.{◌≡◌, Option, Some, None, Result, Ok, Err, if◌then◌else◌}
-use Rattle.nat_types.specs.Same.{parity_of}
+use Rattle.addresses.specs.Transport.{parity_of}
 use Rattle.nat_types.specs.declared.pairs.Endpoint.{Endpoint}
 use Rattle.nat_types.specs.declared.pairs.Key.{Key}
 use Rattle.nat_types.specs.declared.pairs.Pair.{Pair}
-use Rattle.nat_types.specs.declared.pairs.Port.{Port}
-use Rattle.nat_types.specs.declared.pairs.Protocol.TheVariants.{Udp}
+use Rattle.addresses.specs.declared.transport.Port.{Port}
+use Rattle.addresses.specs.declared.transport.Protocol.TheVariants.{Udp}
 use Rattle.nat_types.specs.declared.pairs.EntryState.TheVariants.{Live}
 use Rattle.bindings.specs.Entries.{Bindings, slot_of, entry_of, entry_in, with_entry, is_pair, translates}
 use Rattle.bindings.specs.Ports.{chosen_port}

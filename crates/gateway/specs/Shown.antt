@@ -2,7 +2,7 @@
 use Rattle.std.specs.Prelude.{◌≡◌, ℕ, ◌+◌, ◌-◌, ◌*◌, ◌<◌, ◌≤◌, Bool, List, [], ◌∷◌}
 use Rattle.nat_types.specs.declared.gateways.GatewayId.{GatewayId}
 use Rattle.nat_types.specs.declared.pairs.EntryState.TheVariants.{Live}
-use Rattle.nat_types.specs.declared.pairs.Protocol.TheVariants.{Udp}
+use Rattle.addresses.specs.declared.transport.Protocol.TheVariants.{Udp}
 use Rattle.settings.specs.declared.interfaces.Neighbour.{Neighbour}
 use Rattle.settings.specs.declared.ranges.PortRange.{PortRange}
 use Rattle.settings.specs.declared.whole.Settings.{Settings}

@@ -1,6 +1,6 @@
 -- What is told truly: the frames that a step sends are translations of the packet at hand by the pairs that it notes.
 use Rattle.std.specs.Prelude.{◌≡◌, ℕ, List, [], ◌∷◌, ◌++◌, take, Some}
-use Rattle.nat_types.specs.declared.addresses.Mac.{Mac}
+use Rattle.addresses.specs.declared.ethernet.Mac.{Mac}
 use Rattle.nat_types.specs.declared.gateways.Side.{Side}
 use Rattle.nat_types.specs.declared.gateways.Side.TheVariants.{Inside, Outside}
 use Rattle.nat_types.specs.declared.notes.Note.{Note}

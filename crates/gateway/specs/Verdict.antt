@@ -1,6 +1,6 @@
 -- The one right outcome for a frame.
 use Rattle.std.specs.Prelude.{ℕ, Option, Some, None, Result, Ok, Err, List}
-use Rattle.nat_types.specs.declared.addresses.Mac.{Mac}
+use Rattle.addresses.specs.declared.ethernet.Mac.{Mac}
 use Rattle.nat_types.specs.declared.gateways.Side.{Side}
 use Rattle.nat_types.specs.declared.gateways.Side.TheVariants.{Inside, Outside}
 use Rattle.settings.specs.declared.interfaces.Neighbour.{Neighbour}

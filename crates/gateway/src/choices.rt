@@ -1,6 +1,6 @@
 ghost use Rattle.std.specs.Prelude.{◌≡◌, IfOk, None};
-ghost use Rattle.nat_types.specs.declared.pairs.Protocol.TheVariants.{Udp};
-ghost use Rattle.nat_types.specs.Same.{parity_of};
+ghost use Rattle.addresses.specs.declared.transport.Protocol.TheVariants.{Udp};
+ghost use Rattle.addresses.specs.Transport.{parity_of};
 ghost use Rattle.bindings.specs.Entries.{Bindings, translates as translates_in, entry_of};
 ghost use Rattle.bindings.specs.Ports.{chosen_port};
 ghost use Rattle.gateway.specs.Choices.{chosen_pair, known_choice, new_choice, outward_choice, inward_choice, IsAllowed};

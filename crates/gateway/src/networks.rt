@@ -2,7 +2,8 @@ ghost use Rattle.std.specs.Prelude.{◌≡◌};
 ghost use Rattle.gateway.specs.Networks.{network_of, is_virtual, is_addressed, lies_in, is_special, inside_direction, outside_direction, direction_of, outside_hop, is_at, mac_of};
 
 use crate::Reason;
-use nat_types::{Ip, Mac, Side};
+use addresses::{Ip, Mac};
+use nat_types::Side;
 use settings::{Interface, Neighbour};
 
 /// One of a gateway's two networks.

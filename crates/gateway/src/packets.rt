@@ -1,7 +1,8 @@
 ghost use Rattle.std.specs.Prelude.{◌≡◌};
 ghost use Rattle.gateway.specs.Choices.{source_of, target_of};
 
-use nat_types::{Endpoint, Ip, Key, Port, Protocol};
+use addresses::{Ip, Port, Protocol};
+use nat_types::{Endpoint, Key};
 
 /// The addresses and ports of a UDP packet.
 #[derive(Clone, Copy, Debug, PartialEq, Eq)]

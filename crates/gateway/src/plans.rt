@@ -7,7 +7,8 @@ use crate::choices::{Choice, choose_inward, choose_outward};
 use crate::networks::{Direction, Networks, neighbour_mac, next_hop_outside};
 use crate::packets::Packet;
 use bindings::Table;
-use nat_types::{Mac, Side};
+use addresses::Mac;
+use nat_types::Side;
 use settings::Neighbour;
 
 /// What is done with a packet that is translated.

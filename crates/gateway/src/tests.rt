@@ -1,5 +1,6 @@
 use crate::{Event, Gateway, Out, Outcome, Reason};
-use nat_types::{Endpoint, GatewayId, Happening, Ip, Key, Mac, Pair, Port, Protocol, Side};
+use addresses::{Ip, Mac, Port, Protocol};
+use nat_types::{Endpoint, GatewayId, Happening, Key, Pair, Side};
 use settings::{Neighbour, Settings};
 use std::alloc::Global;
 use std::process::Abort;

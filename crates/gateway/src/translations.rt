@@ -9,7 +9,8 @@ use crate::networks::{Direction, Networks};
 use crate::plans::Plan;
 use frames::{EthView, EtherType, write_header};
 use ipv4::Ipv4View;
-use nat_types::{Mac, Pair, Side};
+use addresses::Mac;
+use nat_types::{Pair, Side};
 use std::alloc::Global;
 
 impl Direction {

@@ -1,14 +1,14 @@
 ghost use Rattle.std.specs.Prelude.{◌≡◌, ◌≤◌, ◌↔◌, length, ◌∷◌, [], IsOk, IfOk, None, List, ℕ};
 ghost use Rattle.std.specs.Result.{result_err};
 ghost use Rattle.byteorder.specs.Endian.{big_bytes};
-ghost use Rattle.nat_types.specs.Same.{protocol_numbered};
+ghost use Rattle.addresses.specs.Transport.{protocol_numbered};
 ghost use Rattle.frames.specs.Bytes.{Puts};
 ghost use Rattle.ipv4.specs.Header.{header_of, options_of, payload_of, IsIpv4, is_fragment, ipv4_refusal};
 
 use crate::Ipv4Fault;
 use byteorder::{BigEndian, ByteOrder};
 use frames::Ip;
-use nat_types::Protocol;
+use addresses::Protocol;
 use sums::is_right;
 
 /// Where the header's fields lie.

@@ -7,7 +7,7 @@ ghost use Rattle.ipv4.specs.Datagram.{datagram_of, data_of, IsDatagram, IsUdp, h
 
 use crate::{Ipv4Fault, Ipv4View};
 use byteorder::{BigEndian, ByteOrder};
-use nat_types::{Port, Protocol};
+use addresses::{Port, Protocol};
 
 /// Where the header's fields lie.
 mod field {

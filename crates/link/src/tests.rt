@@ -1,6 +1,7 @@
 use crate::{Datagram, Link, LinkFault, parse, write};
 use arrayvec::ArrayVec;
-use nat_types::{Endpoint, GatewayId, Ip, Key, Pair, Port, Protocol, Record};
+use addresses::{Ip, Port, Protocol};
+use nat_types::{Endpoint, GatewayId, Key, Pair, Record};
 use std::alloc::Global;
 use std::process::Abort;
 use std::test::Fail;

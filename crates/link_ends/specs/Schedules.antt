@@ -1,7 +1,7 @@
 -- Lists of commands as schedules of the link.
 use Rattle.std.specs.Prelude.{◌≡◌, ℕ, Bool, true, not, ◌&&◌, ◌==◌, if◌then◌else◌, List, [], ◌∷◌, take}
 use Rattle.std.specs.List.{flat_map}
-use Rattle.nat_types.specs.Same.{same_protocol}
+use Rattle.addresses.specs.Transport.{same_protocol}
 use Rattle.nat_types.specs.declared.gateways.GatewayId.{GatewayId}
 use Rattle.nat_types.specs.declared.pairs.Pair.{Pair}
 use Rattle.nat_types.specs.declared.records.Record.{Record}

@@ -1,5 +1,6 @@
 use crate::{Act, Boot, Command, Ends};
-use nat_types::{Endpoint, GatewayId, Ip, Key, Pair, Port, Protocol, Record};
+use addresses::{Ip, Port, Protocol};
+use nat_types::{Endpoint, GatewayId, Key, Pair, Record};
 use std::process::Abort;
 use std::test::Fail;
 

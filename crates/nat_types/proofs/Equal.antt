@@ -3,12 +3,13 @@ use Rattle.std.proofs.Common.{◌≡◌, ℕ, true, false, ◌&&◌, refl, ap, �
 use Rattle.std.proofs.lemmas.Bool.{eqb-true, and_parts, and_from, false_from_ne_true}
 use Rattle.nat_types.specs.declared.gateways.GatewayId.{GatewayId}
 use Rattle.nat_types.specs.declared.gateways.GatewayId.TheVariants.{Zero, One}
-use Rattle.nat_types.specs.declared.pairs.Protocol.{Protocol}
-use Rattle.nat_types.specs.declared.pairs.Protocol.TheVariants.{Tcp, Udp}
+use Rattle.addresses.specs.declared.transport.Protocol.{Protocol}
 use Rattle.nat_types.specs.declared.pairs.Endpoint.{Endpoint}
 use Rattle.nat_types.specs.declared.pairs.Key.{Key}
 use Rattle.nat_types.specs.declared.pairs.Pair.{Pair}
-use Rattle.nat_types.specs.Same.{same, other, same_protocol, same_key, same_endpoint, same_pair}
+use Rattle.addresses.specs.Transport.{same_protocol}
+use Rattle.addresses.proofs.Equal.{protocol-self, protocol-eq}
+use Rattle.nat_types.specs.Same.{same, other, same_key, same_endpoint, same_pair}
 
 pub same-self : (i : GatewayId) → same i i ≡ true
 same-self Zero = refl
@@ -33,16 +34,6 @@ differs-other Zero Zero e = cc
 differs-other Zero One e = refl
 differs-other One Zero e = refl
 differs-other One One e = cc
-
-protocol-self : (a : Protocol) → same_protocol a a ≡ true
-protocol-self Tcp = refl
-protocol-self Udp = refl
-
-protocol-eq : (a b : Protocol) → same_protocol a b ≡ true → a ≡ b
-protocol-eq Tcp Tcp e = refl
-protocol-eq Tcp Udp e = cc
-protocol-eq Udp Tcp e = cc
-protocol-eq Udp Udp e = refl
 
 pub key-self : (a : Key) → same_key a a ≡ true
 unfolding same_key

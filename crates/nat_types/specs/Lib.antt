@@ -1,2 +1,2 @@
-pub mod Address
+pub mod Pair
 pub mod Same

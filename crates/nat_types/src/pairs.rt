@@ -1,78 +1,9 @@
-ghost use Rattle.std.specs.Prelude.{◌≡◌, ◌%◌, ◌==◌};
-ghost use Rattle.nat_types.specs.Same.{protocol_number, protocol_numbered, parity_of};
+//! Pairs: an outside port, the inside endpoint that it serves, and where a table's entry stands.
+ghost use Rattle.std.specs.Prelude.{◌≡◌};
 
-use crate::Ip;
+use addresses::{Ip, Port, Protocol};
 use std::fmt;
-
-/// A transport protocol that is translated. Tcp comes first, as its number does.
-#[derive(Clone, Copy, Debug, PartialEq, Eq, PartialOrd, Ord, Hash)]
-pub enum Protocol {
-    Tcp,
-    Udp,
-}
-
-impl Protocol {
-    /// The protocol's number in an IPv4 header (RFC 790): 6 or 17.
-    pub fn number(self) -> u8
-        ensures { result ≡ protocol_number self }
-    {
-        match self {
-            Protocol::Tcp => 6,
-            Protocol::Udp => 17,
-        }
-    }
-
-    /// The protocol of that number, where it is one that is translated.
-    pub fn from_number(number: u8) -> Option<Protocol>
-        ensures { result ≡ protocol_numbered number }
-    {
-        match number {
-            6 => Some(Protocol::Tcp),
-            17 => Some(Protocol::Udp),
-            _ => None,
-        }
-    }
-}
-
-/// `tcp` or `udp`.
-impl fmt::Display for Protocol {
-    fn fmt<W: fmt::Write>(&self, f: &mut fmt::Formatter<W>) -> fmt::Result {
-        match self {
-            Protocol::Tcp => f.write_str("tcp"),
-            Protocol::Udp => f.write_str("udp"),
-        }
-    }
-}
-
-/// Whether a port is even or odd (RFC 4787, section 4.2.2).
-#[derive(Clone, Copy, Debug, PartialEq, Eq)]
-pub enum Parity {
-    Even,
-    Odd,
-}
-
-/// A UDP or TCP port.
-#[derive(Clone, Copy, Debug, PartialEq, Eq, PartialOrd, Ord, Hash)]
-pub struct Port(pub u16);
-
-impl Port {
-    pub fn parity(self) -> Parity
-        ensures { result ≡ parity_of self.0 }
-    {
-        if self.0 % 2 == 0 {
-            Parity::Even
-        } else {
-            Parity::Odd
-        }
-    }
-}
-
-impl fmt::Display for Port {
-    fn fmt<W: fmt::Write>(&self, f: &mut fmt::Formatter<W>) -> fmt::Result {
-        let Port(number) = *self;
-        write!(f, "{number}")
-    }
-}
+use std::marker::Model;
 
 /// An inside host's address and port.
 #[derive(Clone, Copy, Debug, PartialEq, Eq, PartialOrd, Ord, Hash)]
@@ -94,6 +25,44 @@ pub struct Key {
 pub struct Pair {
     pub key: Key,
     pub endpoint: Endpoint,
+}
+
+impl Model for Pair {
+    ghost use Rattle.std.specs.Prelude.{◌≡◌};
+    ghost use Rattle.nat_types.specs.Pair.{Pair as Mapping};
+
+    ghost Value = { Mapping };
+
+    ghost view = { λ p. record { key = p.key; endpoint = p.endpoint } };
+
+    ghost invariant = { λ p. p.endpoint.protocol ≡ p.key.protocol };
+
+    ghost inverse = { λ v. record { key = v.key; endpoint = v.endpoint } };
+}
+
+impl Pair {
+    /// The key serves this inside address and port.
+    pub fn new(key: Key, address: Ip, port: Port) -> Pair
+        ensures key { result.key ≡ key }
+        ensures protocol { result.endpoint.protocol ≡ key.protocol }
+        ensures address { result.endpoint.address ≡ address }
+        ensures port { result.endpoint.port ≡ port }
+    {
+        let protocol = key.protocol;
+        let endpoint = Endpoint {
+            protocol,
+            address,
+            port,
+        };
+        Pair { key, endpoint }
+    }
+
+    /// Reminds the prover of what each pair keeps; it does nothing when it runs.
+    pub fn recall(&self)
+        ensures one_protocol { self.now.endpoint.protocol ≡ self.now.key.protocol }
+    {
+        let _ = &self.key;
+    }
 }
 
 /// Protocol, outside port, inside address and inside port, as `udp 20000 192.168.1.10 5000`.

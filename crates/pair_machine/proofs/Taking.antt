@@ -4,8 +4,8 @@ use Rattle.std.proofs.lemmas.Bool.{cases_Bool, both_ways, and_from, and_parts, e
 use Rattle.nat_types.specs.declared.gateways.GatewayId.{GatewayId}
 use Rattle.nat_types.specs.declared.pairs.Endpoint.{Endpoint}
 use Rattle.nat_types.specs.declared.pairs.Key.{Key}
-use Rattle.nat_types.specs.declared.pairs.Protocol.{Protocol}
-use Rattle.nat_types.specs.declared.pairs.Protocol.TheVariants.{Tcp, Udp}
+use Rattle.addresses.specs.declared.transport.Protocol.{Protocol}
+use Rattle.addresses.specs.declared.transport.Protocol.TheVariants.{Tcp, Udp}
 use Rattle.pair_machine.specs.Acts.{LosePorts, LoadOwner, GrantPorts, IsMisplaced, LoadSkip, Take, LoadDone, LoadPut, AreGot, LoadBegin, TakePorts}
 use Rattle.pair_machine.specs.Box.{Box, IsNext, Letter}
 use Rattle.pair_machine.specs.Ports.{has, Ranges, keyed}

@@ -7,7 +7,7 @@ use Rattle.nat_types.specs.declared.notes.Note.{Note}
 use Rattle.nat_types.specs.declared.pairs.Endpoint.{Endpoint}
 use Rattle.nat_types.specs.declared.pairs.Key.{Key}
 use Rattle.nat_types.specs.declared.pairs.Pair.{Pair}
-use Rattle.nat_types.specs.declared.pairs.Protocol.TheVariants.{Udp}
+use Rattle.addresses.specs.declared.transport.Protocol.TheVariants.{Udp}
 use Rattle.pair_machine.specs.Acts.{Act, LoadOwner, HandIn, Send, WantPorts, Take, TakePorts, LoadBegin, LoadPut, PeerOff, Hear, HearAnew, LoneUse, Do, Crash, GrantPorts, Boot, LoadDone}
 use Rattle.pair_machine.specs.Box.{Letter, empty}
 use Rattle.pair_machine.specs.Ports.{Ranges, moving, in_run, Run, fixed}

@@ -1,8 +1,8 @@
 -- The port that is chosen.
 use Rattle.std.proofs.Common.{◌≡◌, ℕ, zero, suc, ◌+◌, ◌-◌, ◌<◌, ◌≤◌, Bool, true, false, cond, Option, Some, None, ◌⊎◌, inl, inr, nat_le, IfSome, IfNone, refl, ap, ◌∙◌, sym, arith}
 use Rattle.std.proofs.lemmas.Bool.{and_parts, and_from, both_ways, cases_eq, cond-true, cond-false, false_from_ne_true, leb-true}
-use Rattle.nat_types.specs.declared.pairs.Parity.{Parity}
-use Rattle.nat_types.specs.declared.pairs.Port.{Port}
+use Rattle.addresses.specs.declared.transport.Parity.{Parity}
+use Rattle.addresses.specs.declared.transport.Port.{Port}
 use Rattle.port_range.specs.Ports.{FreePorts, fits, is_listed, is_free, is_open, first_where, lowest_free, or_else, chosen_port, IsRange}
 
 -- a choice of something is nothing only where the other is chosen

@@ -2,7 +2,7 @@
 use Rattle.std.proofs.Common.{◌≡◌, ℕ, zero, suc, ◌+◌, ◌-◌, ◌<◌, ◌≤◌, ◌==◌, nat_le, Bool, true, false, cond, Option, ◌&&◌, ◌||◌, inl, inr, List, [], ◌∷◌, length, set, get_or, replicate, refl, ap, ◌∙◌, sym, arith}
 use Rattle.std.proofs.lemmas.Bool.{both_ways, cases_eq, cases_lt, eq-eqb, ne_eqb, or_left, or_from, and_from, and_left, and_right, le-leb, lt-leb, cond-true, cond-false, leb-true, and_parts}
 use Rattle.std.proofs.lemmas.List.{get_or-set_same, get_or-set_other, get_or_past, get_or-replicate, length-replicate}
-use Rattle.nat_types.specs.declared.pairs.Parity.{Parity}
+use Rattle.addresses.specs.declared.transport.Parity.{Parity}
 use Rattle.port_range.specs.Ports.{is_listed, is_within, is_open, fits, IsRange}
 use Rattle.port_range.specs.Flags.{ports_from, free_ports, HasFlags}
 

@@ -1,10 +1,10 @@
 -- The free ports of a range, and which of them is chosen.
 use Rattle.std.specs.Prelude.{◌≡◌, ℕ, zero, suc, ◌+◌, ◌-◌, ◌≤◌, ◌==◌, nat_le, nat_lt, Bool, true, false, ◌&&◌, ◌||◌, Option, Some, None, List, if◌then◌else◌}
 use Rattle.std.specs.List.{list_any}
-use Rattle.nat_types.specs.declared.pairs.Parity.{Parity}
-use Rattle.nat_types.specs.declared.pairs.Parity.TheVariants.{Even, Odd}
-use Rattle.nat_types.specs.declared.pairs.Port.{Port}
-use Rattle.nat_types.specs.Same.{parity_of}
+use Rattle.addresses.specs.declared.transport.Parity.{Parity}
+use Rattle.addresses.specs.declared.transport.Parity.TheVariants.{Even, Odd}
+use Rattle.addresses.specs.declared.transport.Port.{Port}
+use Rattle.addresses.specs.Transport.{parity_of}
 use Rattle.port_range.specs.declared.RangeFault.{RangeFault}
 use Rattle.port_range.specs.declared.RangeFault.TheVariants.{BadRange, NoMemory}
 

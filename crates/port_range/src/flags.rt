@@ -1,9 +1,9 @@
 ghost use Rattle.std.specs.Prelude.{◌≡◌, ◌+◌, ◌-◌, ◌<◌, ◌≤◌, ◌&&◌, true, length, IfOk, slice_set, replicate};
-ghost use Rattle.nat_types.specs.Same.{parity_of};
+ghost use Rattle.addresses.specs.Transport.{parity_of};
 ghost use Rattle.port_range.specs.Ports.{same_parity, fits, lowest_free, chosen_port};
 ghost use Rattle.port_range.specs.Flags.{free_ports, HasFlags};
 
-use nat_types::{Parity, Port};
+use addresses::{Parity, Port};
 use std::alloc::{AllocError, Global};
 
 pub(crate) fn all_set(alloc: Global, count: usize) -> Result<Vec<bool>, AllocError>

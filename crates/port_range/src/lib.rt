@@ -7,7 +7,7 @@ ghost use Rattle.port_range.specs.Ports.{is_free, is_within, is_bad, IsReason, I
 mod flags;
 
 use crate::flags::{all_set, choose_port, put_flag};
-use nat_types::{Parity, Port};
+use addresses::{Parity, Port};
 use std::alloc::{AllocError, Global};
 use std::marker::Model;
 use thiserror::Error;

@@ -1,5 +1,5 @@
 use crate::{Range, RangeFault};
-use nat_types::{Parity, Port};
+use addresses::{Parity, Port};
 use std::process::Abort;
 use std::test::Fail;
 

@@ -4,8 +4,8 @@ use Rattle.byteorder.specs.Endian.{big_bytes}
 use Rattle.sums.specs.Sum.{word_sum, checksum_of}
 use Rattle.ipv4.specs.Header.{word_at, header_of, payload_of}
 use Rattle.ipv4.specs.Datagram.{datagram_of}
-use Rattle.nat_types.specs.declared.addresses.Ip.{Ip}
-use Rattle.nat_types.specs.declared.pairs.Port.{Port}
+use Rattle.addresses.specs.declared.internet.Ip.{Ip}
+use Rattle.addresses.specs.declared.transport.Port.{Port}
 use Rattle.rewrite.specs.declared.flows.Flow.{Flow}
 
 -- bytes with another 16-bit number at a place

@@ -6,7 +6,7 @@ ghost use Rattle.rewrite.specs.Sums.{address_sum, flow_sum};
 ghost use Rattle.rewrite.specs.Translated.{flow_of};
 
 use ipv4::{Ipv4View, UdpView};
-use nat_types::{Ip, Port};
+use addresses::{Ip, Port};
 use sums::update;
 
 /// From where to where a packet goes.

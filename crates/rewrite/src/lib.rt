@@ -17,7 +17,7 @@ use crate::datagrams::rewrite_udp;
 use crate::flows::{Flow, flow_of};
 use crate::headers::rewrite_header;
 use ipv4::{Ipv4View, UdpView};
-use nat_types::{Ip, Port};
+use addresses::{Ip, Port};
 use thiserror::Error;
 
 /// Why a packet isn't translated.

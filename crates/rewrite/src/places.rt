@@ -3,7 +3,7 @@ ghost use Rattle.byteorder.specs.Endian.{big_number};
 ghost use Rattle.ipv4.specs.Header.{word_at};
 
 use byteorder::{BigEndian, ByteOrder};
-use nat_types::Ip;
+use addresses::Ip;
 
 /// The 16-bit number at a place.
 pub fn read_word(bytes: &[u8], at: usize) -> u16

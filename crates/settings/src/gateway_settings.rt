@@ -1,6 +1,6 @@
 ghost use Rattle.std.specs.Prelude.{◌≤◌, ◌<◌};
 
-use nat_types::{Ip, Mac};
+use addresses::{Ip, Mac};
 
 /// What one of the two gateways is set up with.
 #[derive(Debug, Drop)]

@@ -1,6 +1,7 @@
 ghost use Rattle.std.specs.Prelude.{◌≡◌, ◌≤◌, ◌<◌};
 
-use nat_types::{Ip, Mac, Prefix, Side};
+use addresses::{Ip, Mac, Prefix};
+use nat_types::Side;
 
 /// One of the two networks, and the virtual router on it (RFC 9568).
 #[derive(Clone, Copy, Debug, PartialEq, Eq)]

@@ -1,7 +1,8 @@
 ghost use Rattle.std.specs.Prelude.{◌≡◌, ◌≤◌};
 ghost use Rattle.settings.specs.Ranges.{of_gateway, Overlap};
 
-use nat_types::{GatewayId, Port};
+use addresses::Port;
+use nat_types::GatewayId;
 
 /// Outside ports that one gateway gives to inside endpoints, from the lowest to the highest, both included.
 #[derive(Clone, Copy, Debug, PartialEq, Eq)]

@@ -3,7 +3,8 @@ ghost use Rattle.nat_types.specs.declared.gateways.Side.TheVariants.{Inside};
 ghost use Rattle.settings.specs.Sample.{address, Spans, IsNetwork, IsGateway, IsSample, neighbour_of, sample_neighbours};
 
 use crate::{GatewaySettings, Interface, Neighbour, PortRange, PortRanges, Settings};
-use nat_types::{Ip, Mac, Port, Side};
+use addresses::{Ip, Mac, Port};
+use nat_types::Side;
 use std::alloc::{AllocError, Global};
 
 fn ranges() -> PortRanges

@@ -1,5 +1,6 @@
 use crate::Settings;
-use nat_types::{GatewayId, Ip, Mac, Port, Side};
+use addresses::{Ip, Mac, Port};
+use nat_types::{GatewayId, Side};
 use std::test::Fail;
 
 #[test]

@@ -1,7 +1,8 @@
 ghost use Rattle.std.specs.Prelude.{◌≤◌, vec_len};
 
 use crate::{GatewaySettings, Interface, Neighbour, PortRanges};
-use nat_types::{GatewayId, Ip, Side};
+use addresses::Ip;
+use nat_types::{GatewayId, Side};
 
 /// What a pair of gateways is set up with.
 #[derive(Debug, Drop)]

@@ -2,7 +2,7 @@
 use Rattle.std.proofs.Common.{◌≡◌, ℕ, ◌+◌, ◌≤◌, true, false, cond, [], ◌∷◌, Some, refl, subst, inl, inr, arith}
 use Rattle.nat_types.specs.declared.gateways.GatewayId.{GatewayId}
 use Rattle.nat_types.specs.declared.gateways.GatewayId.TheVariants.{Zero, One}
-use Rattle.nat_types.specs.declared.pairs.Protocol.TheVariants.{Tcp, Udp}
+use Rattle.addresses.specs.declared.transport.Protocol.TheVariants.{Tcp, Udp}
 use Rattle.nat_types.specs.declared.pairs.Pair.{Pair}
 use Rattle.nat_types.specs.declared.notes.Happening.{Happening}
 use Rattle.nat_types.specs.declared.notes.Happening.TheVariants.{Used, Released, Retaken, Synced, Crashed, Booted}

@@ -76,8 +76,8 @@ fn synced_after(synced: bool, gateway: GatewayId, note: Note) -> bool
 }
 
 /// Whether a gateway has let a pair go after a note, if it had or not before.
-fn let_go_after(gone: bool, gateway: GatewayId, pair: Pair, note: Note) -> bool
-    ensures { result ≡ past.let_go_after gateway pair note.by note.what gone }
+fn let_go_after(gone: bool, gateway: GatewayId, pair: Pair, note: &Note) -> bool
+    ensures { result ≡ past.let_go_after gateway pair note.now.by note.now.what gone }
 {
     match note.what {
         Happening::Used(noted) | Happening::Retaken(noted) => {
@@ -93,7 +93,7 @@ fn has_let_go(trace: &[Note], gateway: GatewayId, pair: Pair) -> bool
 {
     let mut gone = false;
     for note in trace {
-        gone = let_go_after(gone, gateway, pair, *note);
+        gone = let_go_after(gone, gateway, pair, note);
     }
     gone
 }
@@ -146,9 +146,9 @@ fn of_gateway(gateway: GatewayId, zero: bool, one: bool) -> bool
 }
 
 /// Judges one note after the others.
-fn judge(opens: &[Pair], synced: bool, note: Note, position: usize) -> Result<(), AuditFault>
-    ensures ok { OnOk result ((t : List Noted) → AreOpen opens.now t → synced ≡ past.is_synced note.by t → past.FitsAt note.what t × past.SilentAt note.by note.what t) }
-    ensures err { IfErr result (λ f. (t : List Noted) → AreOpen opens.now t → synced ≡ past.is_synced note.by t → Judged t note position f) }
+fn judge(opens: &[Pair], synced: bool, note: &Note, position: usize) -> Result<(), AuditFault>
+    ensures ok { OnOk result ((t : List Noted) → AreOpen opens.now t → synced ≡ past.is_synced note.now.by t → past.FitsAt note.now.what t × past.SilentAt note.now.by note.now.what t) }
+    ensures err { IfErr result (λ f. (t : List Noted) → AreOpen opens.now t → synced ≡ past.is_synced note.now.by t → Judged t note.now position f) }
 {
     match note.what {
         Happening::Used(pair) => {
@@ -165,10 +165,10 @@ fn judge(opens: &[Pair], synced: bool, note: Note, position: usize) -> Result<()
 }
 
 /// The open pairs after a note. `alone` says that the other gateway isn't synced.
-fn follow(opens: &mut Vec<Pair>, before: &[Note], alone: bool, note: Note) -> Result<(), AuditFault>
+fn follow(opens: &mut Vec<Pair>, before: &[Note], alone: bool, note: &Note) -> Result<(), AuditFault>
     requires pairs { AreOpen opens.old.items (reverse before.now) }
-    requires alone { alone ≡ not (past.is_synced (other note.by) (reverse before.now)) }
-    ensures ok { OnOk result (AreOpen opens.new.items (note ∷ reverse before.now)) }
+    requires alone { alone ≡ not (past.is_synced (other note.now.by) (reverse before.now)) }
+    ensures ok { OnOk result (AreOpen opens.new.items (note.now ∷ reverse before.now)) }
     ensures err { IfErr result (λ f. f ≡ faults.NoMemory) }
 {
     match note.what {
@@ -202,8 +202,8 @@ pub fn audit(alloc: Global, trace: &[Note], zero: &[Pair], one: &[Pair]) -> Resu
     for (i, note) in trace.iter().enumerate() {
         let synced = of_gateway(note.by, zero_synced, one_synced);
         let alone = !of_gateway(note.by.other(), zero_synced, one_synced);
-        judge(&opens, synced, *note, i + 1)?;
-        follow(&mut opens, &trace[..i], alone, *note)?;
+        judge(&opens, synced, note, i + 1)?;
+        follow(&mut opens, &trace[..i], alone, note)?;
         zero_synced = synced_after(zero_synced, GatewayId::Zero, *note);
         one_synced = synced_after(one_synced, GatewayId::One, *note);
     }

@@ -1,5 +1,6 @@
 use crate::{AuditFault, audit};
-use nat_types::{Endpoint, GatewayId, Happening, Ip, Key, Note, Pair, Port, Protocol};
+use addresses::{Ip, Port, Protocol};
+use nat_types::{Endpoint, GatewayId, Happening, Key, Note, Pair};
 use std::test::Fail;
 
 /// Port 20000 for an inside host.

@@ -5,7 +5,7 @@ ghost use Rattle.vrrp_states.specs.Table.{IsPriority, IsInterval, IsMoment, skew
 ghost use Rattle.vrrp_states.specs.Fields.{router_of};
 
 use crate::{Action, State};
-use nat_types::Ip;
+use addresses::Ip;
 use std::marker::Model;
 use vrrp_packet::Advert;
 

@@ -1,7 +1,7 @@
 ghost use Rattle.std.specs.Prelude.{◌≤◌};
 
 use crate::{Action, Router, State};
-use nat_types::Ip;
+use addresses::Ip;
 use vrrp_packet::Advert;
 
 const OWN: Ip = Ip(0xc000_0202);
