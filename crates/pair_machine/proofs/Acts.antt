@@ -9,7 +9,7 @@ use Rattle.nat_types.specs.declared.pairs.Key.{Key}
 use Rattle.nat_types.specs.declared.pairs.Pair.{Pair}
 use Rattle.trace_words.specs.Past.{Fits, Silent, is_synced}
 use Rattle.pair_machine.specs.Acts.{Do, Take}
-use Rattle.pair_machine.specs.Box.{Box, Letter, In, nth, StandsNext, box_with}
+use Rattle.pair_machine.specs.Box.{Box, Letter, In, nth, StandsNext}
 use Rattle.pair_machine.proofs.Invariant.{is_proper, Within, Fresh, Naming, Part, Whereabouts, Loads, Real, View, Awaits, Side, Inv}
 use Rattle.pair_machine.proofs.Phase.{owns, MayDoOwned, Phase, Proposed, Asked, Talks, phase_after, closing}
 use Rattle.pair_machine.specs.Ownership.{Ranges, Run, keyed}

@@ -2,7 +2,6 @@
 use Rattle.std.specs.Prelude.{◌≡◌, ℕ, suc, Bool, true, false, not, cond, List, [], ◌∷◌, ◌++◌, ◌==◌, length, ◌<◌, ◌≤◌, ◌+◌, IsTrue, Some, None, ◌⊎◌}
 use Rattle.nat_types.specs.Same.{other}
 use Rattle.nat_types.specs.declared.gateways.GatewayId.{GatewayId}
-use Rattle.nat_types.specs.declared.gateways.GatewayId.TheVariants.{Zero}
 use Rattle.nat_types.specs.declared.notes.Note.{Note}
 use Rattle.nat_types.specs.declared.pairs.Endpoint.{Endpoint}
 use Rattle.nat_types.specs.declared.pairs.Key.{Key}

@@ -11,7 +11,7 @@ use Rattle.nat_types.specs.declared.pairs.Key.{Key}
 use Rattle.nat_types.specs.declared.pairs.Pair.{Pair}
 use Rattle.trace_words.specs.Past.{is_synced, Fits, Silent}
 use Rattle.pair_machine.specs.Acts.{LoadOwner, LoadBegin, LoadPut, LoadDone, LoadSkip, IsMisplaced}
-use Rattle.pair_machine.specs.Box.{owners, takes_owner, Box, Letter, nth, empty, load, loaded_slot, puts, batch, takes_begin, takes_put, takes_done, In, StandsNext, AreLoadable, box_with}
+use Rattle.pair_machine.specs.Box.{owners, takes_owner, Box, Letter, nth, empty, load, loaded_slot, puts, batch, takes_begin, takes_put, takes_done, In, StandsNext, AreLoadable}
 use Rattle.pair_machine.proofs.Invariant.{Within, Fresh, Naming, Part, Loads, Real, View, Awaits, Side, Inv}
 use Rattle.pair_machine.proofs.Phase.{owns, Phase, closing}
 use Rattle.pair_machine.specs.Ownership.{Ranges, Run, keyed, left_to, cut, cuts, in_run, last_named, AreRising, IsRisingRun}

@@ -11,7 +11,7 @@ use Rattle.nat_types.specs.declared.pairs.Key.{Key}
 use Rattle.nat_types.specs.declared.pairs.Pair.{Pair}
 use Rattle.trace_words.specs.Past.{is_synced, is_open, has_let_go, is_agreed, Fits, Silent}
 use Rattle.pair_machine.specs.Acts.{LoneNew, LoneUse, LoneDrop}
-use Rattle.pair_machine.specs.Box.{with_table, box_with}
+use Rattle.pair_machine.specs.Box.{with_table}
 use Rattle.pair_machine.proofs.Invariant.{Alone, Awaits, Side, Inv, is_proper}
 use Rattle.pair_machine.specs.Ownership.{Ranges, keyed}
 use Rattle.pair_machine.specs.Talk.{Slot, Free, Pending, Doomed, Live, Closing, Held, held, translated, set_at, pair_of, note}

@@ -13,7 +13,7 @@ use Rattle.pair_machine.specs.Ownership.{keyed, Ranges, has, in_run, left_to}
 use Rattle.pair_machine.specs.Rows.{pair_p, crossing, peer_off, using, wanting, asked_yes_notes, LeavesPorts, granting, loading_notes, granted, udp, revival_notes, asked_no_notes, pair_q, range_of, asked_no, loading, sharing, in_six, six_ports, slot_on, two_ranges, revival, losing_notes, host, peer_off_notes, LeadsTo, crossing_notes, losing, using_notes, asked_yes, doomed_notes, doomed}
 use Rattle.pair_machine.specs.Talk.{Slot, Live, Closing, Free, Doomed, held, Held, pair_of, Pending}
 use Rattle.pair_machine.proofs.Worlds.{allowed_join}
-use Rattle.pair_machine.specs.World.{MachineEvent, Scene, after_event, AreAllowed, founding, after_events}
+use Rattle.pair_machine.specs.World.{MachineEvent, Scene, AreAllowed, founding, after_events}
 use Rattle.pair_machine.proofs.Batches.{fixed_leaves, batch_new, batch_mirrored}
 use Rattle.pair_machine.proofs.Set.{cases_key}
 

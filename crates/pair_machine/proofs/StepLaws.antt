@@ -1,17 +1,12 @@
 -- Steps of a gateway: joined, set behind others, and of one act or none.
 use Rattle.std.proofs.Common.{append_assoc, append-nil, ◌≡◌, ℕ, List, [], ◌∷◌, ◌++◌, refl, sym, ap, subst, ◌∙◌}
-use Rattle.std.proofs.Math.Logic.{∥∥₁_elim}
 use Rattle.nat_types.specs.declared.gateways.GatewayId.{GatewayId}
-use Rattle.nat_types.specs.declared.gateways.GatewayId.TheVariants.{Zero, One}
 use Rattle.nat_types.specs.declared.notes.Note.{Note}
 use Rattle.pair_machine.specs.Acts.{Boot, Act, PeerOff, Crash, MayAct, box_after, letters_by, act_notes}
 use Rattle.pair_machine.specs.Box.{AreSame, Box, Letter, In}
 use Rattle.pair_machine.specs.Ownership.{Ranges}
-use Rattle.pair_machine.specs.Step.{IsGiven, ReadsOnly, Follows, boxes_after, notes_after, mail_after, IsStep, WasSent, IsOff}
-use Rattle.pair_machine.specs.World.{Scene, Outside, Can, after_act, seen_by}
+use Rattle.pair_machine.specs.Step.{IsGiven, ReadsOnly, Follows, boxes_after, notes_after, mail_after, IsStep, WasSent}
 use Rattle.pair_machine.proofs.Boxes.{same_boxes}
-use Rattle.pair_machine.proofs.Kept.{inv_act}
-use Rattle.pair_machine.proofs.Mirror.{inv_flip}
 
 module _ (r : Ranges) where
   follows_join : (i : GatewayId) (a : Box) (ls : List Letter) (ws : List ℕ) (xs ys : List Act) → Follows r i a ls ws xs → Follows r i (boxes_after r i a xs) ls ws ys → Follows r i a ls ws (xs ++ ys)

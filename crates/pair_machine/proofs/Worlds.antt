@@ -5,7 +5,7 @@ use Rattle.nat_types.specs.Same.{other}
 use Rattle.nat_types.specs.declared.gateways.GatewayId.{GatewayId}
 use Rattle.nat_types.specs.declared.gateways.GatewayId.TheVariants.{Zero, One}
 use Rattle.nat_types.specs.declared.notes.Note.{Note}
-use Rattle.pair_machine.specs.Acts.{Act, PeerOff, Crash, MayAct, box_after}
+use Rattle.pair_machine.specs.Acts.{Act, PeerOff, Crash, MayAct}
 use Rattle.pair_machine.specs.Box.{Box, Letter}
 use Rattle.pair_machine.specs.Ownership.{Ranges}
 use Rattle.pair_machine.specs.Step.{IsGiven, ReadsOnly, Follows, boxes_after, notes_after, mail_after, IsStep, WasSent, IsOff}
