@@ -56,14 +56,3 @@ module _ (r : Ranges) where
     pub box_is : new ≡ boxes_after i old acts
     pub trace_is : t2 ≡ notes_after i moment acts t
     pub mail_is : mail2 ≡ mail_after i old acts mail
-
--- the next record of the letter is taken by some act
-abbrev pub CanTake : Ranges → GatewayId → Box → Letter → Type 0
-CanTake r i a l = (x : Act) × MayAct r i a x × (read_by x ≡ l ∷ []) × ((box_after r i a x).taken ≡ suc a.taken)
-
--- What a gateway finds out of its own table before it takes a record of a batch: whether a pair has the endpoint,
--- whether there is any, and whether an Owner names a run.
-pub record IsDecided (r : Ranges) (a : Box) : Type 0 where
-  pub is_new : (e : Endpoint) → IsUnbound a.table e ⊎ (IsUnbound a.table e → ⊥)
-  pub is_empty : ((k : Key) → a.table k ≡ Free) ⊎ (((k : Key) → a.table k ≡ Free) → ⊥)
-  pub is_run : (first last : ℕ) → IsRisingRun r.in_ranges a.named first last ⊎ (IsRisingRun r.in_ranges a.named first last → ⊥)

@@ -1,18 +1,19 @@
 //! What holds of every pair. Each law is the contract of a function that does nothing.
 
-ghost use Rattle.std.specs.Prelude.{◌≡◌, ℕ, Bool, false, ◌&&◌, ◌++◌, List, [], ◌∷◌, Some, IsTrue, reverse};
+ghost use Rattle.std.specs.Prelude.{◌≡◌, ℕ, Bool, false, ◌&&◌, ◌++◌, List, [], ◌∷◌, Some, IsTrue, filter, true, reverse};
 ghost use Rattle.nat_types.specs.Same.{other, same};
 ghost use Rattle.nat_types.specs.declared.gateways.GatewayId.{GatewayId};
 ghost use Rattle.nat_types.specs.declared.notes.Note.{Note};
 ghost use Rattle.nat_types.specs.declared.pairs.Key.{Key};
 ghost use Rattle.nat_types.specs.declared.pairs.Pair.{Pair};
 ghost use Rattle.trace_words.specs.Trace.{Fits, GoesOn, Kept, Silent};
-ghost use Rattle.pair_machine.specs.Acts.{Act, MayAct, box_after, letters_by, act_notes};
+ghost use Rattle.pair_machine.specs.Acts.{Act, AreGot, MayAct, box_after, letters_by, act_notes};
 ghost use Rattle.pair_machine.specs.Batch.{AreApart, AreThose, LieWithin};
 ghost use Rattle.pair_machine.specs.Box.{AreMirrored, AreLoadable, AreSame, Box, In, StandsNext, Letter, empty, nth};
 ghost use Rattle.pair_machine.specs.Ownership.{LeaveRest, Ranges, Run, fixed, in_runs, moving};
 ghost use Rattle.pair_machine.specs.Rows.{LeadsTo, LeavesPorts, asked_no, asked_no_notes, asked_yes, asked_yes_notes, crossing, crossing_notes, doomed, doomed_notes, granting, host, loading, loading_notes, losing, losing_notes, peer_off, peer_off_notes, slot_on, revival, revival_notes, sharing, two_ranges, using, using_notes, wanting};
-ghost use Rattle.pair_machine.specs.Step.{CanTake, IsDecided, IsOff, IsStep, ReadsOnly, WasSent};
+ghost use Rattle.pair_machine.specs.RecordTable.{AreFacts, DoesTake, Facts, act_by_table, becomes_owned};
+ghost use Rattle.pair_machine.specs.Step.{IsOff, IsStep, ReadsOnly, WasSent};
 ghost use Rattle.pair_machine.specs.Talk.{Free, Held, Live, MachineRecord, Slot};
 ghost use Rattle.pair_machine.specs.World.{AreAllowed, Can, MachineEvent, HasOwners, TableHolds, IsKept, IsWorld, Scene, TableTranslates, box_in, after_event, mail_in, after_events, seen_by, founding, tables_of, with_step};
 
@@ -91,11 +92,11 @@ pub fn steps_anywhere()
     ensures { (r : Ranges) (i : GatewayId) (moment : ℕ) (a b : Box) (ls : List Letter) (ws : List ℕ) (ns : List Note) (ms : List Letter) → IsStep r i moment a b ls ws [] ns [] ms → (t : List Note) (mail : List Letter) → IsStep r i moment a b ls ws t (ns ++ t) mail (ms ++ mail) }
 {}
 
-/// Any bytes: whatever record stands at the next number of a letter, some act takes it, at a gateway that is synced and
-/// not lone, and at one that isn't synced.
+/// Any bytes: whatever record stands at the next number of a letter, the record table names the act that takes it, at a
+/// gateway that isn't lone; of granted ports those become owned that lie in the ranges, aren't owned and have no entry.
 pub fn any_record_is_taken()
-    ensures synced { (r : Ranges) (i : GatewayId) (a : Box) (l : Letter) (offset : ℕ) (q : MachineRecord) → IsTrue a.synced → a.lone ≡ false → StandsNext a l offset q → CanTake r i a l }
-    ensures unsynced { (r : Ranges) (i : GatewayId) (a : Box) (l : Letter) (offset : ℕ) (q : MachineRecord) → a.synced ≡ false → IsDecided r a → StandsNext a l offset q → CanTake r i a l }
+    ensures taken { (r : Ranges) (i : GatewayId) (a : Box) (l : Letter) (offset : ℕ) (f : Facts) (q : MachineRecord) → (a.synced ≡ true → a.lone ≡ false) → StandsNext a l offset q → AreFacts r a q f → DoesTake r i a l (act_by_table r i a l offset f q) }
+    ensures granted { (r : Ranges) (a : Box) (ports : List ℕ) → AreGot r a ports (filter (becomes_owned r a) ports) }
 {}
 
 /// A list of the pairs of a table, each once and on ports of the ranges, may be put into a batch: each pair is new
