@@ -8,7 +8,7 @@ use Rattle.nat_types.specs.declared.pairs.Endpoint.{Endpoint}
 use Rattle.nat_types.specs.declared.pairs.Key.{Key}
 use Rattle.nat_types.specs.declared.pairs.Pair.{Pair}
 use Rattle.addresses.specs.declared.transport.Protocol.TheVariants.{Udp}
-use Rattle.pair_machine.specs.Acts.{Act, LoadOwner, HandIn, Send, WantPorts, Take, TakePorts, LoadBegin, LoadPut, PeerOff, Hear, HearAnew, LoneUse, Do, Crash, GrantPorts, Boot, LoadDone}
+use Rattle.pair_machine.specs.Acts.{Act, LoneNew, LoneDrop, LoadOwner, HandIn, Send, WantPorts, Take, TakePorts, LoadBegin, LoadPut, PeerOff, Hear, HearAnew, LoneUse, Do, Crash, GrantPorts, Boot, LoadDone}
 use Rattle.pair_machine.specs.Box.{Letter, empty}
 use Rattle.pair_machine.specs.Ownership.{Ranges, moving, in_run, Run, fixed}
 use Rattle.pair_machine.specs.Talk.{Owner, Agree, Begin, note, Stayed, set_at, Ask, Yield, MachineRecord, Accept, Propose, Reject, Grant, Done, Stay, Want, No, Left, Rejected, Use, Agreed, Yes, pair_of, Slot, Refuse, Install, Close, Put, Leave}
@@ -204,6 +204,80 @@ peer_off = zero_at 30 (Do (Propose pair_q.key pair_q.endpoint)) ∷ one_at 30 Cr
 abbrev pub peer_off_notes : List Note
 peer_off_notes = note One 30 Crashed ∷ note Zero 40 (Retaken pair_q) ∷ note Zero 40 (Used pair_q) ∷ []
 
+-- Gateway 0 alone: it makes two pairs and uses them, and drops the second when that has rested.
+abbrev pub alone : List MachineEvent
+alone =
+    zero_at 10 (LoneNew pair_p.key pair_p.endpoint)
+    ∷ zero_at 10 (LoneUse pair_p.key pair_p.endpoint)
+    ∷ zero_at 20 (LoneNew pair_q.key pair_q.endpoint)
+    ∷ zero_at 20 (LoneUse pair_q.key pair_q.endpoint)
+    ∷ zero_at 30020 (LoneDrop pair_q.key pair_q.endpoint)
+    ∷ []
+
+-- its notes
+abbrev pub alone_notes : List Note
+alone_notes =
+    note Zero 10 (Retaken pair_p)
+    ∷ note Zero 10 (Used pair_p)
+    ∷ note Zero 20 (Retaken pair_q)
+    ∷ note Zero 20 (Used pair_q)
+    ∷ note Zero 30020 (Released pair_q)
+    ∷ []
+
+-- the first part of a batch with the other pair, and what was promised
+abbrev pub first_part : Letter
+first_part = letter_of 1 1 0 (Begin ∷ Put pair_p.key pair_p.endpoint ∷ [])
+
+abbrev pub last_part : Letter
+last_part = letter_of 1 1 2 (Done ∷ [])
+
+-- Then gateway 1 boots. The batch is promised: Done is sent only when all of it is handed in.
+abbrev pub promising : List MachineEvent
+promising =
+    one_at 0 (Boot 1)
+    ∷ one_at 0 (Send 0 0)
+    ∷ zero_at 30030 (Hear hello [] [] (pair_p ∷ []) true)
+    ∷ zero_at 30030 (Send 0 2)
+    ∷ one_at 1 (HearAnew first_part)
+    ∷ one_at 1 (LoadBegin first_part 0)
+    ∷ one_at 1 (LoadPut first_part 1 pair_p)
+    ∷ zero_at 30040 HandIn
+    ∷ zero_at 30040 (Send 2 1)
+    ∷ one_at 2 (LoadDone last_part 0)
+    ∷ []
+
+-- its notes
+abbrev pub promising_notes : List Note
+promising_notes = note One 0 (Booted 1) ∷ note One 1 (Retaken pair_p) ∷ note One 2 Synced ∷ []
+
+-- the table with both pairs
+abbrev pub batch_3 : Letter
+batch_3 =
+    letter_of 1 2 0 (Begin ∷ Put pair_p.key pair_p.endpoint ∷ Put pair_q.key pair_q.endpoint ∷ Done ∷ [])
+
+-- The peer that the operator called off boots again, and is loaded.
+abbrev pub returning : List MachineEvent
+returning =
+    one_at 0 (Boot 2)
+    ∷ one_at 0 (Send 0 0)
+    ∷ zero_at 50 (Hear hello_2 [] [] (pair_p ∷ pair_q ∷ []) false)
+    ∷ zero_at 50 (Send 0 4)
+    ∷ one_at 1 (HearAnew batch_3)
+    ∷ one_at 1 (LoadBegin batch_3 0)
+    ∷ one_at 1 (LoadPut batch_3 1 pair_p)
+    ∷ one_at 1 (LoadPut batch_3 2 pair_q)
+    ∷ one_at 1 (LoadDone batch_3 3)
+    ∷ []
+
+-- its notes
+abbrev pub returning_notes : List Note
+returning_notes =
+    note One 0 (Booted 2)
+    ∷ note One 1 (Retaken pair_p)
+    ∷ note One 1 (Retaken pair_q)
+    ∷ note One 1 Synced
+    ∷ []
+
 -- six ports, of which gateway 0 is founded with two
 abbrev pub in_six : ℕ → Bool
 in_six n = in_run 20000 20001 n || in_run 40000 40003 n
@@ -235,6 +309,37 @@ named_batch = letter_of 1 1 0 (Begin ∷ Owner 20000 20001 ∷ Done ∷ [])
 abbrev pub sharing : List MachineEvent
 sharing = one_at 0 (Boot 1) ∷ one_at 0 (Send 0 0) ∷ zero_at 10 (Hear hello [] (run_of 20000 20001 ∷ []) [] true) ∷ zero_at 10 (Send 0 2) ∷ zero_at 20 HandIn ∷ zero_at 20 (Send 0 3)
     ∷ one_at 1 (HearAnew named_batch) ∷ one_at 1 (LoadBegin named_batch 0) ∷ one_at 1 (LoadOwner named_batch 1 20000 20001) ∷ one_at 1 (LoadDone named_batch 2) ∷ []
+
+-- a pair of gateway 0, and its ports
+abbrev pub whole_batch : Letter
+whole_batch =
+    letter_of 1 1 0 (Begin ∷ Owner 20000 20001 ∷ Put pair_p.key pair_p.endpoint ∷ Done ∷ [])
+
+-- Or gateway 0 has a pair by then: the batch has both an Owner and a Put.
+abbrev pub naming : List MachineEvent
+naming =
+    zero_at 10 (LoneNew pair_p.key pair_p.endpoint)
+    ∷ zero_at 10 (LoneUse pair_p.key pair_p.endpoint)
+    ∷ one_at 0 (Boot 1)
+    ∷ one_at 0 (Send 0 0)
+    ∷ zero_at 20 (Hear hello [] (run_of 20000 20001 ∷ []) (pair_p ∷ []) false)
+    ∷ zero_at 20 (Send 0 4)
+    ∷ one_at 1 (HearAnew whole_batch)
+    ∷ one_at 1 (LoadBegin whole_batch 0)
+    ∷ one_at 1 (LoadOwner whole_batch 1 20000 20001)
+    ∷ one_at 1 (LoadPut whole_batch 2 pair_p)
+    ∷ one_at 1 (LoadDone whole_batch 3)
+    ∷ []
+
+-- its notes
+abbrev pub naming_notes : List Note
+naming_notes =
+    note Zero 10 (Retaken pair_p)
+    ∷ note Zero 10 (Used pair_p)
+    ∷ note One 0 (Booted 1)
+    ∷ note One 1 (Retaken pair_p)
+    ∷ note One 1 Synced
+    ∷ []
 
 -- the ports that are granted
 abbrev pub granted : List ℕ

@@ -11,7 +11,7 @@ ghost use Rattle.pair_machine.specs.Acts.{Act, AreGot, MayAct, box_after, letter
 ghost use Rattle.pair_machine.specs.Batch.{AreApart, AreThose, LieWithin};
 ghost use Rattle.pair_machine.specs.Box.{AreMirrored, AreLoadable, AreSame, Box, In, StandsNext, Letter, empty, nth};
 ghost use Rattle.pair_machine.specs.Ownership.{LeaveRest, Ranges, Run, fixed, in_runs, moving};
-ghost use Rattle.pair_machine.specs.Rows.{LeadsTo, LeavesPorts, asked_no, asked_no_notes, asked_yes, asked_yes_notes, crossing, crossing_notes, doomed, doomed_notes, granting, host, loading, loading_notes, losing, losing_notes, peer_off, peer_off_notes, slot_on, revival, revival_notes, sharing, two_ranges, using, using_notes, wanting};
+ghost use Rattle.pair_machine.specs.Rows.{LeadsTo, LeavesPorts, alone, alone_notes, promising, promising_notes, naming, naming_notes, returning, returning_notes, six_ports,  asked_no, asked_no_notes, asked_yes, asked_yes_notes, crossing, crossing_notes, doomed, doomed_notes, granting, host, loading, loading_notes, losing, losing_notes, peer_off, peer_off_notes, slot_on, revival, revival_notes, sharing, two_ranges, using, using_notes, wanting};
 ghost use Rattle.pair_machine.specs.RecordTable.{AreFacts, DoesTake, Facts, act_by_table, becomes_owned};
 ghost use Rattle.pair_machine.specs.Step.{IsOff, IsStep, ReadsOnly, WasSent};
 ghost use Rattle.pair_machine.specs.Talk.{Free, Held, Live, MachineRecord, Slot};
@@ -126,6 +126,10 @@ pub fn rows_lead()
     ensures asked_no { LeadsTo two_ranges (loading ++ using ++ asked_no) (loading_notes ++ using_notes ++ asked_no_notes) (slot_on 20000 (Live (host 5000)) ∷ []) (slot_on 20000 (Held (host 5000)) ∷ []) }
     ensures revived { LeadsTo two_ranges (loading ++ using ++ revival) (loading_notes ++ using_notes ++ revival_notes) (slot_on 20000 (Live (host 5000)) ∷ []) (slot_on 20000 (Held (host 5000)) ∷ []) }
     ensures doomed { LeadsTo two_ranges (loading ++ doomed) (loading_notes ++ doomed_notes) (slot_on 20000 (Live (host 5000)) ∷ []) (slot_on 20000 (Held (host 5000)) ∷ []) }
+    ensures alone { LeadsTo two_ranges alone alone_notes (slot_on 20001 Free ∷ slot_on 20000 (Live (host 5000)) ∷ []) [] }
+    ensures promised { LeadsTo two_ranges (alone ++ promising) (alone_notes ++ promising_notes) (slot_on 20001 Free ∷ slot_on 20000 (Live (host 5000)) ∷ []) (slot_on 20000 (Held (host 5000)) ∷ []) }
+    ensures named { LeadsTo six_ports naming naming_notes (slot_on 20000 (Live (host 5000)) ∷ []) (slot_on 20000 (Held (host 5000)) ∷ []) }
+    ensures returned { LeadsTo two_ranges (loading ++ using ++ peer_off ++ returning) (loading_notes ++ using_notes ++ peer_off_notes ++ returning_notes) (slot_on 20001 (Live (host 5001)) ∷ slot_on 20000 (Live (host 5000)) ∷ []) (slot_on 20001 (Held (host 5001)) ∷ slot_on 20000 (Held (host 5000)) ∷ []) }
     ensures peer_off { LeadsTo two_ranges (loading ++ using ++ peer_off) (loading_notes ++ using_notes ++ peer_off_notes) (slot_on 20001 (Live (host 5001)) ∷ slot_on 20000 (Live (host 5000)) ∷ []) [] }
 {}
 
@@ -134,5 +138,6 @@ pub fn rows_lead()
 pub fn ports_move()
     ensures granted { LeavesPorts (sharing ++ wanting) loading_notes (20000 ∷ 20001 ∷ []) (40000 ∷ 40001 ∷ []) }
     ensures taken { LeavesPorts (sharing ++ wanting ++ granting) loading_notes (20000 ∷ 20001 ∷ 40002 ∷ 40003 ∷ []) (40000 ∷ 40001 ∷ []) }
+    ensures named { LeavesPorts naming naming_notes (20000 ∷ 20001 ∷ []) (40000 ∷ 40001 ∷ 40002 ∷ 40003 ∷ []) }
     ensures lost { LeavesPorts (sharing ++ wanting ++ losing) (loading_notes ++ losing_notes) (20000 ∷ 20001 ∷ 40002 ∷ 40003 ∷ []) (40000 ∷ 40001 ∷ []) }
 {}
