@@ -9,7 +9,7 @@ use Rattle.nat_types.specs.declared.pairs.Pair.{Pair}
 use Rattle.pair_machine.specs.Batch.{AreThose, AreApart, LieWithin}
 use Rattle.pair_machine.specs.Box.{AreBack, is_back, revived}
 use Rattle.pair_machine.specs.Ownership.{keyed, Ranges, in_run, left_to}
-use Rattle.pair_machine.specs.Rows.{LeadsTo, LeavesPorts, alone, alone_notes, promising, promising_notes, returning, returning_notes, naming, naming_notes, loading, loading_notes, using, using_notes, peer_off, peer_off_notes, pair_p, pair_q, udp, host, slot_on, two_ranges, range_of, in_six, six_ports, run_of}
+use Rattle.pair_machine.specs.Rows.{live_first, held_first, LeadsTo, LeavesPorts, alone, alone_notes, promising, promising_notes, returning, returning_notes, naming, naming_notes, loading, loading_notes, using, using_notes, peer_off, peer_off_notes, pair_p, pair_q, udp, host, slot_on, two_ranges, range_of, in_six, six_ports, run_of}
 use Rattle.pair_machine.specs.Talk.{Slot, Live, Free, held, Held, Pending, pair_of}
 use Rattle.pair_machine.specs.World.{MachineEvent, Scene, AreAllowed, founding, after_events}
 use Rattle.pair_machine.proofs.Batches.{fixed_leaves, batch_new, batch_mirrored}
@@ -51,7 +51,7 @@ alone-allowed = (
   ),
 )
 
-pub alone_leads : LeadsTo two_ranges alone alone_notes (slot_on 20001 Free ∷ slot_on 20000 (Live (host 5000)) ∷ []) []
+pub alone_leads : LeadsTo two_ranges alone alone_notes (slot_on 20001 Free ∷ live_first) []
 alone_leads = record {
   allowed = alone-allowed;
   trace_is = refl;
@@ -130,7 +130,7 @@ parted_is true c = refl
 parted_is false true = refl
 parted_is false false = refl
 
-pub promising_leads : LeadsTo two_ranges (alone ++ promising) (alone_notes ++ promising_notes) (slot_on 20001 Free ∷ slot_on 20000 (Live (host 5000)) ∷ []) (slot_on 20000 (Held (host 5000)) ∷ [])
+pub promising_leads : LeadsTo two_ranges (alone ++ promising) (alone_notes ++ promising_notes) (slot_on 20001 Free ∷ live_first) held_first
 promising_leads = record {
   allowed = allowed_join two_ranges alone promising (founding two_ranges) alone-allowed promising-allowed;
   trace_is = refl;
@@ -241,7 +241,7 @@ both_are true c = refl
 both_are false true = refl
 both_are false false = refl
 
-pub returning_leads : LeadsTo two_ranges (loading ++ using ++ peer_off ++ returning) (loading_notes ++ using_notes ++ peer_off_notes ++ returning_notes) (slot_on 20001 (Live (host 5001)) ∷ slot_on 20000 (Live (host 5000)) ∷ []) (slot_on 20001 (Held (host 5001)) ∷ slot_on 20000 (Held (host 5000)) ∷ [])
+pub returning_leads : LeadsTo two_ranges (loading ++ using ++ peer_off ++ returning) (loading_notes ++ using_notes ++ peer_off_notes ++ returning_notes) (slot_on 20001 (Live (host 5001)) ∷ live_first) (slot_on 20001 (Held (host 5001)) ∷ held_first)
 returning_leads = record {
   allowed = paired-allowed (peer_off ++ returning) (allowed_join two_ranges peer_off returning Paired off-allowed returning-allowed);
   trace_is = refl;
@@ -311,7 +311,7 @@ live_one : (b : Bool) → revived (cond b (Live (host 5000)) Free) ≡ cond b (L
 live_one true = refl
 live_one false = refl
 
-pub naming_leads : LeadsTo six_ports naming naming_notes (slot_on 20000 (Live (host 5000)) ∷ []) (slot_on 20000 (Held (host 5000)) ∷ [])
+pub naming_leads : LeadsTo six_ports naming naming_notes live_first held_first
 naming_leads = record {
   allowed = naming-allowed;
   trace_is = refl;

@@ -10,7 +10,7 @@ use Rattle.nat_types.specs.declared.pairs.Pair.{Pair}
 use Rattle.pair_machine.specs.Batch.{AreThose, AreApart, LieWithin}
 use Rattle.pair_machine.specs.Box.{AreBack, is_back, revived}
 use Rattle.pair_machine.specs.Ownership.{keyed, Ranges, has, in_run, left_to}
-use Rattle.pair_machine.specs.Rows.{pair_p, crossing, peer_off, using, wanting, asked_yes_notes, LeavesPorts, granting, loading_notes, granted, udp, revival_notes, asked_no_notes, pair_q, range_of, asked_no, loading, sharing, in_six, six_ports, slot_on, two_ranges, revival, losing_notes, host, peer_off_notes, LeadsTo, crossing_notes, losing, using_notes, asked_yes, doomed_notes, doomed}
+use Rattle.pair_machine.specs.Rows.{live_first, held_first, pair_p, crossing, peer_off, using, wanting, asked_yes_notes, LeavesPorts, granting, loading_notes, granted, udp, revival_notes, asked_no_notes, pair_q, range_of, asked_no, loading, sharing, in_six, six_ports, slot_on, two_ranges, revival, losing_notes, host, peer_off_notes, LeadsTo, crossing_notes, losing, using_notes, asked_yes, doomed_notes, doomed}
 use Rattle.pair_machine.specs.Talk.{Slot, Live, Closing, Free, Doomed, held, Held, pair_of, Pending}
 use Rattle.pair_machine.proofs.Worlds.{allowed_join}
 use Rattle.pair_machine.specs.World.{MachineEvent, Scene, AreAllowed, founding, after_events}
@@ -135,7 +135,7 @@ Paired = after_events two_ranges using Loaded
 pub paired-allowed : (xs : List MachineEvent) → AreAllowed two_ranges xs Paired → AreAllowed two_ranges (loading ++ using ++ xs) (founding two_ranges)
 paired-allowed xs a = allowed_join two_ranges loading (using ++ xs) (founding two_ranges) loading-allowed (allowed_join two_ranges using xs Loaded using-allowed a)
 
-pub using_leads : LeadsTo two_ranges (loading ++ using) (loading_notes ++ using_notes) (slot_on 20000 (Live (host 5000)) ∷ []) (slot_on 20000 (Held (host 5000)) ∷ [])
+pub using_leads : LeadsTo two_ranges (loading ++ using) (loading_notes ++ using_notes) live_first held_first
 using_leads = record {
   allowed = allowed_join two_ranges loading using (founding two_ranges) loading-allowed using-allowed;
   trace_is = refl;
@@ -180,7 +180,7 @@ crossing-allowed = (
   ),
 )
 
-pub crossing_leads : LeadsTo two_ranges (loading ++ crossing) (loading_notes ++ crossing_notes) (slot_on 20000 (Live (host 5000)) ∷ []) (slot_on 40000 Free ∷ slot_on 20000 (Held (host 5000)) ∷ [])
+pub crossing_leads : LeadsTo two_ranges (loading ++ crossing) (loading_notes ++ crossing_notes) live_first (slot_on 40000 Free ∷ held_first)
 crossing_leads = record {
   allowed = allowed_join two_ranges loading crossing (founding two_ranges) loading-allowed crossing-allowed;
   trace_is = refl;
@@ -237,7 +237,7 @@ no-allowed = (
   ),
 )
 
-pub no_leads : LeadsTo two_ranges (loading ++ using ++ asked_no) (loading_notes ++ using_notes ++ asked_no_notes) (slot_on 20000 (Live (host 5000)) ∷ []) (slot_on 20000 (Held (host 5000)) ∷ [])
+pub no_leads : LeadsTo two_ranges (loading ++ using ++ asked_no) (loading_notes ++ using_notes ++ asked_no_notes) live_first held_first
 no_leads = record {
   allowed = paired-allowed asked_no no-allowed;
   trace_is = refl;
@@ -303,7 +303,7 @@ revival-allowed = (
   ),
 )
 
-pub revival_leads : LeadsTo two_ranges (loading ++ using ++ revival) (loading_notes ++ using_notes ++ revival_notes) (slot_on 20000 (Live (host 5000)) ∷ []) (slot_on 20000 (Held (host 5000)) ∷ [])
+pub revival_leads : LeadsTo two_ranges (loading ++ using ++ revival) (loading_notes ++ using_notes ++ revival_notes) live_first held_first
 revival_leads = record {
   allowed = paired-allowed revival revival-allowed;
   trace_is = refl;
@@ -394,7 +394,7 @@ doomed-allowed = (
   ),
 )
 
-pub doomed_leads : LeadsTo two_ranges (loading ++ doomed) (loading_notes ++ doomed_notes) (slot_on 20000 (Live (host 5000)) ∷ []) (slot_on 20000 (Held (host 5000)) ∷ [])
+pub doomed_leads : LeadsTo two_ranges (loading ++ doomed) (loading_notes ++ doomed_notes) live_first held_first
 doomed_leads = record {
   allowed = allowed_join two_ranges loading doomed (founding two_ranges) loading-allowed doomed-allowed;
   trace_is = refl;
@@ -437,7 +437,7 @@ off-allowed = (
   ),
 )
 
-pub off_leads : LeadsTo two_ranges (loading ++ using ++ peer_off) (loading_notes ++ using_notes ++ peer_off_notes) (slot_on 20001 (Live (host 5001)) ∷ slot_on 20000 (Live (host 5000)) ∷ []) []
+pub off_leads : LeadsTo two_ranges (loading ++ using ++ peer_off) (loading_notes ++ using_notes ++ peer_off_notes) (slot_on 20001 (Live (host 5001)) ∷ live_first) []
 off_leads = record {
   allowed = paired-allowed peer_off off-allowed;
   trace_is = refl;

@@ -134,10 +134,14 @@ module _ (r : Ranges) where
     abbrev pub act_at_unsynced : MachineRecord → Act
     act_at_unsynced Begin = LoadBegin l n
     act_at_unsynced (Put k e) =
-        cond (a.loading && (keyed r.in_ranges k && is_free (a.table k))) (put_in k e f.found) (LoadSkip l n (Put k e))
+        cond (a.loading && (keyed r.in_ranges k && is_free (a.table k)))
+        (put_in k e f.found)
+        (LoadSkip l n (Put k e))
     act_at_unsynced Done = cond a.loading (LoadDone l n) (LoadSkip l n Done)
     act_at_unsynced (Owner first last) =
-        cond (a.loading && (f.is_empty && f.rises)) (LoadOwner l n first last) (LoadSkip l n (Owner first last))
+        cond (a.loading && (f.is_empty && f.rises))
+        (LoadOwner l n first last)
+        (LoadSkip l n (Owner first last))
     act_at_unsynced q = LoadSkip l n q
 
     -- while records are promised, what comes changes nothing

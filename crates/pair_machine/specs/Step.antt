@@ -32,7 +32,8 @@ module _ (r : Ranges) where
   -- what a step of gateway i at a, which was handed these letters and words, does: these acts in order
   abbrev pub Follows : GatewayId → Box → List Letter → List ℕ → List Act → Type 0
   Follows i a ls ws [] = Unit {0}
-  Follows i a ls ws (x ∷ xs) = MayAct r i a x × ReadsOnly ls ws x × Follows i (box_after r i a x) ls ws xs
+  Follows i a ls ws (x ∷ xs) =
+      MayAct r i a x × ReadsOnly ls ws x × Follows i (box_after r i a x) ls ws xs
 
   -- the box after these acts
   abbrev pub boxes_after : GatewayId → Box → List Act → Box
