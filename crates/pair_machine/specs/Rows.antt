@@ -68,7 +68,8 @@ abbrev pub held_first : List Placed
 held_first = slot_on 20000 (Held (host 5000)) ∷ []
 
 -- The events are allowed, one after another from the founding, and lead to these notes, the oldest first, and these tables.
-pub record LeadsTo (r : Ranges) (events : List MachineEvent) (trace : List Note) (zero one : List Placed) : Type 0 where
+pub record LeadsTo (r : Ranges) (events : List MachineEvent)
+    (trace : List Note) (zero one : List Placed) : Type 0 where
   pub allowed : AreAllowed r events (founding r)
   pub trace_is : reverse (after_events r events (founding r)).trace ≡ trace
   pub zero_is : (k : Key) → (after_events r events (founding r)).mine.table k ≡ with zero k
@@ -402,7 +403,8 @@ abbrev pub run_of : ℕ → ℕ → Run
 run_of first last = record { first = first; last = last }
 
 -- the events are allowed, and lead to these notes and to these owned ports of the two
-pub record LeavesPorts (events : List MachineEvent) (trace : List Note) (zero one : List ℕ) : Type 0 where
+pub record LeavesPorts (events : List MachineEvent)
+    (trace : List Note) (zero one : List ℕ) : Type 0 where
   pub allowed : AreAllowed six_ports events (founding six_ports)
   pub trace_is : reverse (after_events six_ports events (founding six_ports)).trace ≡ trace
   pub zero_is : filter (after_events six_ports events (founding six_ports)).mine.owned six ≡ zero

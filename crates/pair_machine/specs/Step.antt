@@ -51,7 +51,9 @@ module _ (r : Ranges) where
   mail_after i a (x ∷ xs) mail = mail_after i (box_after r i a x) xs (letters_by a x ++ mail)
 
   -- A step of gateway i at this moment: from the box old to the box new, with these notes and letters more.
-  pub record IsStep (i : GatewayId) (moment : ℕ) (old new : Box) (handed : List Letter) (words : List ℕ) (t t2 : List Note) (mail mail2 : List Letter) : Type 0 where
+  pub record IsStep (i : GatewayId) (moment : ℕ) (old new : Box)
+      (handed : List Letter) (words : List ℕ)
+      (t t2 : List Note) (mail mail2 : List Letter) : Type 0 where
     pub acts : List Act
     pub follows : Follows i old handed words acts
     pub box_is : new ≡ boxes_after i old acts

@@ -47,22 +47,21 @@ pub fn promises()
 
 /// The same of a trace in the order in which its notes were made.
 pub fn promises_in_order()
-    ensures fits { (r : Ranges) (s : Scene) (trace : List Note) → IsWorld r s → s.trace ≡ reverse trace →
-        Fits trace }
-    ensures kept { (r : Ranges) (s : Scene) (trace : List Note) → IsWorld r s → s.trace ≡ reverse trace →
-        Kept (TableHolds (tables_of s)) trace }
-    ensures silent { (r : Ranges) (s : Scene) (trace : List Note) → IsWorld r s → s.trace ≡ reverse trace →
-        Silent trace }
-    ensures goes_on { (r : Ranges) (s : Scene) (trace : List Note) → IsWorld r s → s.trace ≡ reverse trace →
-        GoesOn (TableTranslates (tables_of s)) trace }
+    ensures fits { (r : Ranges) (s : Scene) (trace : List Note) → IsWorld r s →
+        s.trace ≡ reverse trace → Fits trace }
+    ensures kept { (r : Ranges) (s : Scene) (trace : List Note) → IsWorld r s →
+        s.trace ≡ reverse trace → Kept (TableHolds (tables_of s)) trace }
+    ensures silent { (r : Ranges) (s : Scene) (trace : List Note) → IsWorld r s →
+        s.trace ≡ reverse trace → Silent trace }
+    ensures goes_on { (r : Ranges) (s : Scene) (trace : List Note) → IsWorld r s →
+        s.trace ≡ reverse trace → GoesOn (TableTranslates (tables_of s)) trace }
 {}
 
 /// Where the other gateway is synced, the record that gateway i may take next is the one that the other pushed at that
 /// place of the session: what is taken is a beginning of what was pushed.
 pub fn takes_in_order()
-    ensures { (r : Ranges) (s : Scene) (i : GatewayId) (l : Letter) (offset : ℕ) (q : MachineRecord) →
-        IsWorld r s → let v = seen_by i s in
-        IsTrue v.theirs.synced → In l v.their_mail →
+    ensures { (r : Ranges) (s : Scene) (i : GatewayId) (l : Letter) (offset : ℕ) (q : MachineRecord)
+        → IsWorld r s → let v = seen_by i s in IsTrue v.theirs.synced → In l v.their_mail →
         StandsNext v.mine l offset q → nth v.theirs.sent v.mine.taken ≡ Some q }
 {}
 
@@ -86,8 +85,8 @@ pub fn rests()
 /// A step of one act.
 pub fn one_act()
     ensures { (r : Ranges) (i : GatewayId) (moment : ℕ) (a b : Box) (x : Act) (ls : List Letter)
-        (ws : List ℕ) (t : List Note) (mail : List Letter) → MayAct r i a x →
-        ReadsOnly ls ws x → AreSame b (box_after r i a x) →
+        (ws : List ℕ) (t : List Note) (mail : List Letter) → MayAct r i a x → ReadsOnly ls ws x →
+        AreSame b (box_after r i a x) →
         IsStep r i moment a b ls ws t (act_notes i moment x ++ t) mail (letters_by a x ++ mail) }
 {}
 
@@ -98,8 +97,8 @@ pub fn same_boxes()
 
 /// Two parts of a step make one.
 pub fn steps_join()
-    ensures { (r : Ranges) (i : GatewayId) (moment : ℕ) (a b c : Box) (ls : List Letter) (ws : List ℕ)
-        (t t2 t3 : List Note) (m m2 m3 : List Letter) →
+    ensures { (r : Ranges) (i : GatewayId) (moment : ℕ) (a b c : Box) (ls : List Letter)
+        (ws : List ℕ) (t t2 t3 : List Note) (m m2 m3 : List Letter) →
         IsStep r i moment a b ls ws t t2 m m2 → IsStep r i moment b c ls ws t2 t3 m2 m3 →
         IsStep r i moment a c ls ws t t3 m m3 }
 {}
@@ -133,10 +132,10 @@ pub fn any_record_is_taken()
 /// A list of the pairs of a table, each once and on ports of the ranges, may be put into a batch: each pair is new
 /// where it is loaded, and a gateway that owns the ports `own` has the mirrored table in the end.
 pub fn batch_loads()
-    ensures loads { (r : Ranges) (own : Key → Bool) (table : Key → Slot) (ps : List Pair) → LieWithin r table →
-        AreThose table ps → AreApart ps → AreLoadable r own empty ps }
-    ensures mirrors { (r : Ranges) (own : Key → Bool) (table : Key → Slot) (ps : List Pair) → LieWithin r table →
-        AreThose table ps → AreApart ps → AreMirrored own table ps }
+    ensures loads { (r : Ranges) (own : Key → Bool) (table : Key → Slot) (ps : List Pair) →
+        LieWithin r table → AreThose table ps → AreApart ps → AreLoadable r own empty ps }
+    ensures mirrors { (r : Ranges) (own : Key → Bool) (table : Key → Slot) (ps : List Pair) →
+        LieWithin r table → AreThose table ps → AreApart ps → AreMirrored own table ps }
 {}
 
 /// Where ports move and the runs are the owned ports, they leave the rest of the ranges.
@@ -151,20 +150,22 @@ pub fn fixed_leaves()
         LeaveRest (fixed in_ranges owner) i (λ p. in_ranges p && same i (owner p)) [] }
 {}
 
-/// Whole runs from the founding, with fixed ranges: the guards of the acts can be met, and the notes and the tables of
-/// gateway 0 and of gateway 1 come out as the protocol says.
+/// Whole runs from the founding: the guards of the acts can be met, and the notes and the tables of gateway 0 and of
+/// gateway 1 come out as the protocol says. All but `named` have fixed ranges.
 pub fn rows_lead()
     ensures loaded { LeadsTo two_ranges loading loading_notes [] [] }
-    ensures used { LeadsTo two_ranges (loading ++ using) (loading_notes ++ using_notes) live_first held_first }
-    ensures crossed { LeadsTo two_ranges (loading ++ crossing) (loading_notes ++ crossing_notes) live_first
-        (slot_on 40000 Free ∷ held_first) }
+    ensures used { LeadsTo two_ranges (loading ++ using) (loading_notes ++ using_notes) live_first
+        held_first }
+    ensures crossed { LeadsTo two_ranges (loading ++ crossing) (loading_notes ++ crossing_notes)
+        live_first (slot_on 40000 Free ∷ held_first) }
     ensures asked_yes { LeadsTo two_ranges (loading ++ using ++ asked_yes)
         (loading_notes ++ using_notes ++ asked_yes_notes) [] [] }
     ensures asked_no { LeadsTo two_ranges (loading ++ using ++ asked_no)
         (loading_notes ++ using_notes ++ asked_no_notes) live_first held_first }
     ensures revived { LeadsTo two_ranges (loading ++ using ++ revival)
         (loading_notes ++ using_notes ++ revival_notes) live_first held_first }
-    ensures doomed { LeadsTo two_ranges (loading ++ doomed) (loading_notes ++ doomed_notes) live_first held_first }
+    ensures doomed { LeadsTo two_ranges (loading ++ doomed) (loading_notes ++ doomed_notes)
+        live_first held_first }
     ensures alone { LeadsTo two_ranges alone alone_notes (slot_on 20001 Free ∷ live_first) [] }
     ensures promised { LeadsTo two_ranges (alone ++ promising) (alone_notes ++ promising_notes)
         (slot_on 20001 Free ∷ live_first) held_first }
@@ -179,12 +180,14 @@ pub fn rows_lead()
 {}
 
 /// Whole runs with six ports that move: while a Grant is on its way its ports are nobody's; then they are the asker's;
-/// and if it is lost in a crash, the asker has them once it is loaded again.
+/// if it is lost in a crash, the asker has them once it is loaded again. Owners stand beside Puts in one batch too.
 pub fn ports_move()
-    ensures granted { LeavesPorts (sharing ++ wanting) loading_notes (20000 ∷ 20001 ∷ []) (40000 ∷ 40001 ∷ []) }
+    ensures granted { LeavesPorts (sharing ++ wanting) loading_notes (20000 ∷ 20001 ∷ [])
+        (40000 ∷ 40001 ∷ []) }
     ensures taken { LeavesPorts (sharing ++ wanting ++ granting) loading_notes
         (20000 ∷ 20001 ∷ 40002 ∷ 40003 ∷ []) (40000 ∷ 40001 ∷ []) }
-    ensures named { LeavesPorts naming naming_notes (20000 ∷ 20001 ∷ []) (40000 ∷ 40001 ∷ 40002 ∷ 40003 ∷ []) }
+    ensures named { LeavesPorts naming naming_notes (20000 ∷ 20001 ∷ [])
+        (40000 ∷ 40001 ∷ 40002 ∷ 40003 ∷ []) }
     ensures lost { LeavesPorts (sharing ++ wanting ++ losing) (loading_notes ++ losing_notes)
         (20000 ∷ 20001 ∷ 40002 ∷ 40003 ∷ []) (40000 ∷ 40001 ∷ []) }
 {}
