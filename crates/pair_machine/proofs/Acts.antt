@@ -10,6 +10,7 @@ use Rattle.nat_types.specs.declared.pairs.Pair.{Pair}
 use Rattle.trace_words.specs.Past.{Fits, Silent, is_synced}
 use Rattle.pair_machine.specs.Acts.{Do, Take}
 use Rattle.pair_machine.specs.Box.{Box, Letter, In, nth, StandsNext}
+use Rattle.pair_machine.proofs.Beside.{side_beside}
 use Rattle.pair_machine.proofs.Invariant.{is_proper, Within, Fresh, Naming, Part, Whereabouts, Loads, Real, View, Awaits, Side, Inv}
 use Rattle.pair_machine.proofs.Phase.{owns, MayDoOwned, Phase, Proposed, Asked, Talks, phase_after, closing}
 use Rattle.pair_machine.specs.Ownership.{Ranges, Run, keyed}
@@ -145,20 +146,11 @@ module _ (r : Ranges) where
           state = λ s. inr view;
           awaits = λ s up. let bad : true ≡ false = sym sa ∙ s in absurd (cc);
         };
-        there = record {
-          synced_is = same_synced (other i) ∙ there.synced_is;
-          up_synced = there.up_synced;
-          goes = λ up. goes_there (there.goes up);
-          letters = there.letters;
-          barred = there.barred;
-          boots = there.boots;
-          known = there.known;
-          peer_at = there.peer_at;
-          later = there.later;
-          quiet = there.quiet;
-          state = λ sb. inr (mirror r i (with_next a table2 sent2 taken2 owned2 wants2) b ma mb t2 view sa sb letters (λ m p. elim (there.state sb) [ inl y ↦ let bad : true ≡ false = sym sa ∙ y.other_out in cc | inr y ↦ let bad : true ≡ false = sym sa ∙ (y.owes m p).1 in cc ]));
-          awaits = λ sb up. let x : Awaits b a ma = there.awaits sb up in record { letters = x.letters; fresh = x.fresh };
-        };
+        there = side_beside r (other i) b a _ mb ma t _ there refl
+            (same_synced (other i) ∙ there.synced_is)
+            (λ up. goes_there (there.goes up))
+            (λ sb. inr (mirror r i (with_next a table2 sent2 taken2 owned2 wants2) b ma mb t2 view sa sb letters (λ m p. elim (there.state sb) [ inl y ↦ let bad : true ≡ false = sym sa ∙ y.other_out in cc | inr y ↦ let bad : true ≡ false = sym sa ∙ (y.owes m p).1 in cc ])))
+            (λ sb up. let x : Awaits b a ma = there.awaits sb up in record { letters = x.letters; fresh = x.fresh });
       }
 
   inv_deed : (moment : ℕ) (i : GatewayId) (a b : Box) (ma mb : List Letter) (t : List Note) (d : Deed) (taken2 : ℕ) → Inv r i (record { mine = a; theirs = b; my_mail = ma; their_mail = mb; trace = t }) → a.synced ≡ true

@@ -1,6 +1,7 @@
 pub mod Phase
 pub mod Traced
 pub mod Invariant
+pub mod Beside
 pub mod Set
 pub mod Boxes
 pub mod Inversions

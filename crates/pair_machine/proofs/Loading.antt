@@ -12,6 +12,7 @@ use Rattle.nat_types.specs.declared.pairs.Pair.{Pair}
 use Rattle.trace_words.specs.Past.{is_synced, Fits, Silent}
 use Rattle.pair_machine.specs.Acts.{LoadOwner, LoadBegin, LoadPut, LoadDone, LoadSkip, IsMisplaced}
 use Rattle.pair_machine.specs.Box.{owners, takes_owner, Box, Letter, nth, empty, load, loaded_slot, puts, batch, takes_begin, takes_put, takes_done, In, StandsNext, AreLoadable}
+use Rattle.pair_machine.proofs.Beside.{side_beside, view_beside}
 use Rattle.pair_machine.proofs.Invariant.{Within, Fresh, Naming, Part, Loads, Real, View, Awaits, Side, Inv}
 use Rattle.pair_machine.proofs.Phase.{owns, Phase, closing}
 use Rattle.pair_machine.specs.Ownership.{Ranges, Run, keyed, left_to, cut, cuts, in_run, last_named, AreRising, IsRisingRun}
@@ -176,28 +177,13 @@ module _ (r : Ranges) where
           peer_at = (let o : s.theirs.peer ≤ s.mine.boot = there.peer_at in omega arith);
           later = there.later;
           quiet = there.quiet;
-          state = λ h. inr record {
-            lone = x.view.lone;
-            phase = x.view.phase;
-            table = x.view.table;
-            owner = x.view.owner;
-            their_owned = x.view.their_owned;
-            their_want = x.view.their_want;
-            ports = x.view.ports;
-            gone = x.view.gone;
-            out = x.view.out;
-            heard = x.view.heard;
-            inn = x.view.inn;
-            sent = x.view.sent;
-            taken = x.view.taken;
-            talks = x.view.talks;
-            letters = x.view.letters;
-            covers = covers x.view.phase x.view.covers;
-            lets = λ g. lets x.view.owner g x.view.phase (x.view.lets g);
-            real = λ z. flag a2.synced z sa2;
-            owes = λ m p. ((x.view.owes m p).0, sa2);
-            loads = λ z u p. record { os = x.loads.os; ps = x.loads.ps; rising = x.loads.rising; owned_is = x.loads.owned_is; want_is = x.loads.want_is; batch_is = x.loads.batch_is; heard_is = x.loads.heard_is; inn_is = x.loads.inn_is; are_new = x.loads.are_new; bar = x.loads.bar; table_is = x.loads.table_is; none_closing = x.loads.none_closing; progress = inr (part x) };
-          };
+          state = λ h. inr (view_beside r (other i) s.theirs s.mine _ s.my_mail _ s.trace _ x.view
+              x.view.letters
+              (covers x.view.phase x.view.covers)
+              (λ g. lets x.view.owner g x.view.phase (x.view.lets g))
+              (λ z. flag a2.synced z sa2)
+              (λ m p. ((x.view.owes m p).0, sa2))
+              (λ z u p. record { os = x.loads.os; ps = x.loads.ps; rising = x.loads.rising; owned_is = x.loads.owned_is; want_is = x.loads.want_is; batch_is = x.loads.batch_is; heard_is = x.loads.heard_is; inn_is = x.loads.inn_is; are_new = x.loads.are_new; bar = x.loads.bar; table_is = x.loads.table_is; none_closing = x.loads.none_closing; progress = inr (part x) }));
           awaits = λ h u. flag s.theirs.synced sb h;
         };
       }
@@ -407,20 +393,11 @@ module _ (r : Ranges) where
           state = λ h. inr (subst (λ (j : GatewayId). View r j a2 s.theirs s.their_mail t2) (other-other i) my_view);
           awaits = λ h u. absurd (cc);
         };
-        there = record {
-          synced_is = ap (λ b. cond b true (is_synced (other i) s.trace)) (same-not i) ∙ there.synced_is;
-          up_synced = there.up_synced;
-          goes = there.goes;
-          letters = there.letters;
-          barred = there.barred;
-          boots = there.boots;
-          known = there.known;
-          peer_at = there.peer_at;
-          later = there.later;
-          quiet = there.quiet;
-          state = λ h. inr theirs_view;
-          awaits = λ h u. flag s.theirs.synced sb h;
-        };
+        there = side_beside r (other i) s.theirs s.mine _ s.their_mail s.my_mail s.trace _ there refl
+            (ap (λ b. cond b true (is_synced (other i) s.trace)) (same-not i) ∙ there.synced_is)
+            there.goes
+            (λ h. inr theirs_view)
+            (λ h u. flag s.theirs.synced sb h);
       }
 
   -- what is next in the batch is new

@@ -12,6 +12,7 @@ use Rattle.nat_types.specs.declared.pairs.Pair.{Pair}
 use Rattle.trace_words.specs.Past.{is_synced, is_open, has_let_go, is_agreed, Fits, Silent}
 use Rattle.pair_machine.specs.Acts.{LoneNew, LoneUse, LoneDrop}
 use Rattle.pair_machine.specs.Box.{with_table}
+use Rattle.pair_machine.proofs.Beside.{side_beside}
 use Rattle.pair_machine.proofs.Invariant.{Alone, Awaits, Side, Inv, is_proper}
 use Rattle.pair_machine.specs.Ownership.{Ranges, keyed}
 use Rattle.pair_machine.specs.Talk.{Slot, Free, Pending, Doomed, Live, Closing, Held, held, translated, set_at, pair_of, note}
@@ -66,20 +67,11 @@ module _ (r : Ranges) where
           state = λ z. inl record { lone = x.lone; other_out = x.other_out; proper = proper; within = x.within; nowhere = nowhere; one_each = one_each; covers = covers; sent = x.sent; unheard = x.unheard };
           awaits = λ z u. flag s.mine.synced sa z;
         };
-        there = record {
-          synced_is = same_synced (other i) ∙ there.synced_is;
-          up_synced = there.up_synced;
-          goes = λ u. goes_there (there.goes u);
-          letters = there.letters;
-          barred = there.barred;
-          boots = there.boots;
-          known = there.known;
-          peer_at = there.peer_at;
-          later = there.later;
-          quiet = there.quiet;
-          state = λ z. flag s.theirs.synced z x.other_out;
-          awaits = λ z u. let w : Awaits s.theirs s.mine s.my_mail = there.awaits z u in record { letters = w.letters; fresh = w.fresh };
-        };
+        there = side_beside r (other i) s.theirs s.mine _ s.their_mail s.my_mail s.trace _ there refl
+            (same_synced (other i) ∙ there.synced_is)
+            (λ u. goes_there (there.goes u))
+            (λ z. flag s.theirs.synced z x.other_out)
+            (λ z u. let w : Awaits s.theirs s.mine s.my_mail = there.awaits z u in record { letters = w.letters; fresh = w.fresh });
       }
 
   pub inv_lone_new : (moment : ℕ) (i : GatewayId) (s : Scene) (k : Key) (e : Endpoint) → Inv r i s → Can r i s (LoneNew k e) → Inv r i (after_act r i moment s (LoneNew k e))

@@ -50,7 +50,8 @@ module _ (r : Ranges) where
   mail_after i a [] mail = mail
   mail_after i a (x ∷ xs) mail = mail_after i (box_after r i a x) xs (letters_by a x ++ mail)
 
-  -- A step of gateway i at this moment: from the box old to the box new, with these notes and letters more.
+  -- A step of gateway i, from the box old to the box new, with these notes and letters more. All its notes bear one
+  -- moment, that of its clock after the step.
   pub record IsStep (i : GatewayId) (moment : ℕ) (old new : Box)
       (handed : List Letter) (words : List ℕ)
       (t t2 : List Note) (mail mail2 : List Letter) : Type 0 where

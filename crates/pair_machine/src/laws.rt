@@ -33,7 +33,7 @@ pub fn begins()
     ensures { (r : Ranges) → IsWorld r (founding r) }
 {}
 
-/// What an allowed event leads to can come about.
+/// An execution with one more allowed event is one: what the event leads to can come about.
 pub fn goes_to()
     ensures { (r : Ranges) (s : Scene) (e : MachineEvent) → IsWorld r s →
         Can r e.by (seen_by e.by s) e.act → IsWorld r (after_event r s e) }
