@@ -217,11 +217,11 @@ asked_no_notes =
     ∷ note Zero 30022 (Retaken pair_p)
     ∷ []
 
--- the first datagram of gateway 1's second boot
+-- the first datagram of a second boot
 abbrev pub hello_2 : Letter
 hello_2 = letter_of 2 0 0 []
 
--- the table with the pair
+-- the table with the pair, for that boot
 abbrev pub batch_2 : Letter
 batch_2 = letter_of 1 2 0 (Begin ∷ Put pair_p.key pair_p.endpoint ∷ Done ∷ [])
 
@@ -251,14 +251,6 @@ revival_notes =
     ∷ note One 1 Synced
     ∷ []
 
--- the first datagram of gateway 0's second boot
-abbrev pub hello_0 : Letter
-hello_0 = letter_of 2 0 0 []
-
--- the table with the pair, from gateway 1
-abbrev pub batch_0 : Letter
-batch_0 = letter_of 1 2 0 (Begin ∷ Put pair_p.key pair_p.endpoint ∷ Done ∷ [])
-
 -- Gateway 0 crashes while gateway 1's own proposal is given up. Its next boot is heard: that proposal is freed, and not revived.
 abbrev pub doomed : List MachineEvent
 doomed =
@@ -271,12 +263,12 @@ doomed =
     ∷ zero_at 22 Crash
     ∷ zero_at 0 (Boot 2)
     ∷ zero_at 0 (Send 0 0)
-    ∷ one_at 13 (Hear hello_0 [] [] (pair_p ∷ []) false)
+    ∷ one_at 13 (Hear hello_2 [] [] (pair_p ∷ []) false)
     ∷ one_at 13 (Send 0 3)
-    ∷ zero_at 1 (HearAnew batch_0)
-    ∷ zero_at 1 (LoadBegin batch_0 0)
-    ∷ zero_at 1 (LoadPut batch_0 1 pair_p)
-    ∷ zero_at 1 (LoadDone batch_0 2)
+    ∷ zero_at 1 (HearAnew batch_2)
+    ∷ zero_at 1 (LoadBegin batch_2 0)
+    ∷ zero_at 1 (LoadPut batch_2 1 pair_p)
+    ∷ zero_at 1 (LoadDone batch_2 2)
     ∷ []
 
 -- its notes
@@ -498,7 +490,7 @@ losing =
     zero_at 31 Crash
     ∷ zero_at 0 (Boot 2)
     ∷ zero_at 0 (Send 0 0)
-    ∷ one_at 40 (Hear hello_0 [] (run_of 40000 40001 ∷ []) [] false)
+    ∷ one_at 40 (Hear hello_2 [] (run_of 40000 40001 ∷ []) [] false)
     ∷ one_at 40 (Send 0 3)
     ∷ zero_at 1 (HearAnew rest_batch)
     ∷ zero_at 1 (LoadBegin rest_batch 0)
