@@ -53,7 +53,7 @@ module _ (r : Ranges) (i : GatewayId) (a b b2 : Box) where
       → (b2.synced ≡ true → Real a b2 x.table x.their_owned x.their_want x.gone x.heard x.inn)
       → ((m : ℕ) → a.promised ≡ Some m → (x.inn ≡ []) × (b2.synced ≡ false))
       → (b2.synced ≡ false → b2.up ≡ true → a.peer ≡ b2.boot
-          → Loads r i a b2 x.phase x.owner x.table x.their_owned x.their_want x.gone x.heard x.inn)
+      → Loads r i a b2 x.phase x.owner x.table x.their_owned x.their_want x.gone x.heard x.inn)
       → View r i a b2 mb2 t2
   view_beside mb mb2 t t2 x letters covers lets real owes loads = record {
     lone = x.lone;

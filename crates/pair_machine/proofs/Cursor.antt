@@ -84,14 +84,14 @@ module _ (r : Ranges) where
             there.synced_is
             there.goes
             (λ z. elim (there.state z) [
-            | inl y ↦ inl (alone_beside r (other i) s.theirs s.mine _ s.trace _ y y.other_out (λ p o. o) y.unheard)
-            | inr y ↦ inr (view_beside r (other i) s.theirs s.mine _ s.my_mail _ s.trace _ y
-                y.letters
-                y.covers
-                y.lets
-                (λ q. let n : Real s.theirs s.mine y.table y.their_owned y.their_want y.gone y.heard y.inn = y.real q in record { table_is = n.table_is; owned_is = n.owned_is; want_is = n.want_is; sent = n.sent; taken = n.taken; peer = n.peer; back = n.back; lone = n.lone })
-                y.owes
-                (λ q. let bad : true ≡ false = sym can.0 ∙ q in absurd (cc)))
-          ])
+              | inl y ↦ inl (alone_beside r (other i) s.theirs s.mine _ s.trace _ y y.other_out (λ p o. o) y.unheard)
+              | inr y ↦ inr (view_beside r (other i) s.theirs s.mine _ s.my_mail _ s.trace _ y
+                  y.letters
+                  y.covers
+                  y.lets
+                  (λ q. let n : Real s.theirs s.mine y.table y.their_owned y.their_want y.gone y.heard y.inn = y.real q in record { table_is = n.table_is; owned_is = n.owned_is; want_is = n.want_is; sent = n.sent; taken = n.taken; peer = n.peer; back = n.back; lone = n.lone })
+                  y.owes
+                  (λ q. let bad : true ≡ false = sym can.0 ∙ q in absurd (cc)))
+            ])
             (λ z u. let w : Awaits s.theirs s.mine s.my_mail = there.awaits z u in record { letters = w.letters; fresh = w.fresh });
       }

@@ -360,9 +360,9 @@ module _ (r : Ranges) where
             (λ u. goes_other-retakes moment (other i) i s.theirs.table back s.trace (same-not i) (there.goes u))
             (λ z. flag s.theirs.synced z sb)
             (λ z u. let w : Awaits s.theirs s.mine s.my_mail = there.awaits z u in record {
-            letters = λ m n q inside to h. let o : (m.boot ≡ s.mine.boot) × (s.mine.peer ≡ s.theirs.boot) = w.letters m n q inside to h in let p : s.mine.peer ≡ s.theirs.boot = o.1 in absurd (omega arith);
-            fresh = λ q. w.fresh (λ p. omega arith);
-          });
+              letters = λ m n q inside to h. let o : (m.boot ≡ s.mine.boot) × (s.mine.peer ≡ s.theirs.boot) = w.letters m n q inside to h in let p : s.mine.peer ≡ s.theirs.boot = o.1 in absurd (omega arith);
+              fresh = λ q. w.fresh (λ p. omega arith);
+            });
       }
 
   off_now : (moment : ℕ) (i : GatewayId) (s : Scene) (back : List Pair) → Inv r i s → s.mine.synced ≡ true → s.theirs.up ≡ false

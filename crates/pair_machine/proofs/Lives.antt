@@ -62,15 +62,15 @@ module _ (r : Ranges) where
             (ap (λ b. cond b false (is_synced (other i) s.trace)) (same-not i) ∙ there.synced_is)
             there.goes
             (λ x. elim (there.state x) [
-            | inl y ↦ inl (alone_beside r (other i) s.theirs s.mine _ s.trace _ y refl (λ p o. o) (λ u. absurd (cc)))
-            | inr y ↦ inr (view_beside r (other i) s.theirs s.mine _ s.my_mail _ s.trace _ y
-                y.letters
-                y.covers
-                (λ g. lets_crash y.owner moment g i y.phase s.trace (y.lets g))
-                (λ z. absurd (cc))
-                (λ m p. ((y.owes m p).0, refl))
-                (λ z u. absurd (cc)))
-          ])
+              | inl y ↦ inl (alone_beside r (other i) s.theirs s.mine _ s.trace _ y refl (λ p o. o) (λ u. absurd (cc)))
+              | inr y ↦ inr (view_beside r (other i) s.theirs s.mine _ s.my_mail _ s.trace _ y
+                  y.letters
+                  y.covers
+                  (λ g. lets_crash y.owner moment g i y.phase s.trace (y.lets g))
+                  (λ z. absurd (cc))
+                  (λ m p. ((y.owes m p).0, refl))
+                  (λ z u. absurd (cc)))
+            ])
             (λ x u. absurd_flag s.theirs.synced sb x);
       }
 
@@ -171,15 +171,15 @@ module _ (r : Ranges) where
             there.synced_is
             there.goes
             (λ x. elim (there.state x) [
-            | inl y ↦ inl (alone_beside r (other i) s.theirs s.mine _ s.trace _ y y.other_out (λ p o. o) y.unheard)
-            | inr y ↦ inr (view_beside r (other i) s.theirs s.mine _ s.my_mail _ s.trace _ y
-                y.letters
-                y.covers
-                y.lets
-                (λ z. absurd_flag s.mine.synced z sa)
-                (λ m p. ((y.owes m p).0, sa))
-                (λ z u p. let x : Loads r (other i) s.theirs s.mine y.phase y.owner y.table y.their_owned y.their_want y.gone y.heard y.inn = y.loads z u p in
+              | inl y ↦ inl (alone_beside r (other i) s.theirs s.mine _ s.trace _ y y.other_out (λ p o. o) y.unheard)
+              | inr y ↦ inr (view_beside r (other i) s.theirs s.mine _ s.my_mail _ s.trace _ y
+                  y.letters
+                  y.covers
+                  y.lets
+                  (λ z. absurd_flag s.mine.synced z sa)
+                  (λ m p. ((y.owes m p).0, sa))
+                  (λ z u p. let x : Loads r (other i) s.theirs s.mine y.phase y.owner y.table y.their_owned y.their_want y.gone y.heard y.inn = y.loads z u p in
                   record { os = x.os; ps = x.ps; rising = x.rising; owned_is = x.owned_is; want_is = x.want_is; batch_is = x.batch_is; heard_is = x.heard_is; inn_is = x.inn_is; are_new = x.are_new; bar = x.bar; table_is = x.table_is; none_closing = x.none_closing; progress = inl now }))
-          ])
+            ])
             (λ x u. absurd_flag s.theirs.synced sb x);
       }

@@ -1,19 +1,18 @@
 -- Runs of a lone gateway, of batches with pairs, and of a peer that comes back.
-use Rattle.std.proofs.Common.{◌≡◌, ℕ, Bool, true, false, ◌&&◌, ◌||◌, cond, List, [], ◌∷◌, ◌++◌, Some, None, refl, sym, ap, subst, ◌∙◌, ◌==◌, inl, inr, lit<, ◌≤◌, ◌<◌, IsTrue, arith}
+use Rattle.std.proofs.Common.{◌≡◌, Bool, true, false, cond, [], ◌∷◌, ◌++◌, Some, None, refl, sym, ap, subst, ◌∙◌, ◌==◌, inl, inr, lit<, IsTrue, arith}
 use Rattle.nat_types.proofs.Equal.{key-false}
 use Rattle.nat_types.specs.Same.{same_key}
 use Rattle.nat_types.specs.declared.gateways.GatewayId.TheVariants.{Zero, One}
-use Rattle.nat_types.specs.declared.pairs.Endpoint.{Endpoint}
 use Rattle.nat_types.specs.declared.pairs.Key.{Key}
 use Rattle.nat_types.specs.declared.pairs.Pair.{Pair}
 use Rattle.pair_machine.specs.Batch.{AreThose, AreApart, LieWithin}
 use Rattle.pair_machine.specs.Box.{AreBack, is_back, revived}
 use Rattle.pair_machine.specs.Ownership.{keyed, Ranges, in_run, left_to}
-use Rattle.pair_machine.specs.Rows.{live_first, held_first, LeadsTo, LeavesPorts, alone, alone_notes, promising, promising_notes, returning, returning_notes, naming, naming_notes, loading, loading_notes, using, using_notes, peer_off, peer_off_notes, pair_p, pair_q, udp, host, slot_on, two_ranges, range_of, in_six, six_ports, run_of}
-use Rattle.pair_machine.specs.Talk.{Slot, Live, Free, held, Held, Pending, pair_of}
-use Rattle.pair_machine.specs.World.{MachineEvent, Scene, AreAllowed, founding, after_events}
+use Rattle.pair_machine.specs.Rows.{live_first, held_first, LeadsTo, LeavesPorts, alone, alone_notes, promising, promising_notes, returning, returning_notes, naming, naming_notes, loading, loading_notes, using, using_notes, peer_off, peer_off_notes, pair_p, pair_q, udp, host, slot_on, two_ranges, range_of, six_ports, run_of}
+use Rattle.pair_machine.specs.Talk.{Slot, Live, Free, held, Held, Pending}
+use Rattle.pair_machine.specs.World.{Scene, AreAllowed, founding, after_events}
 use Rattle.pair_machine.proofs.Batches.{fixed_leaves, batch_new, batch_mirrored}
-use Rattle.pair_machine.proofs.Runs.{at_will, promised_is, some_pair, those_one, within_one, apart_one, two_hosts, rest_of, six_low, off-allowed, paired-allowed, loading-allowed, using-allowed, Loaded, Paired}
+use Rattle.pair_machine.proofs.Runs.{at_will, promised_is, some_pair, those_one, within_one, apart_one, two_hosts, rest_of, six_low, off-allowed, paired-allowed, Paired}
 use Rattle.pair_machine.proofs.Set.{cases_key}
 use Rattle.pair_machine.proofs.Worlds.{allowed_join}
 

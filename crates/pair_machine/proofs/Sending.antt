@@ -77,12 +77,12 @@ module _ (r : Ranges) where
             | inl x ↦ inl x
             | inr x ↦ inr (view_beside r (other i) s.theirs s.mine _ s.my_mail _ s.trace _ x
                 (λ l inside boot to. elim inside [
-                | inl e ↦ subst (λ (y : Letter). Within y (x.heard ++ x.inn)) (sym e) (elim (cases_Bool s.mine.synced) [
-                  | inl sa ↦ subst (Within (letter s.mine first count)) (x.real sa).sent (letter_within s.mine first count)
-                  | inr sa ↦ empty_within (letter s.mine first count) (x.heard ++ x.inn) (letter_empty s.mine first count (here.quiet sa))
+                  | inl e ↦ subst (λ (y : Letter). Within y (x.heard ++ x.inn)) (sym e) (elim (cases_Bool s.mine.synced) [
+                    | inl sa ↦ subst (Within (letter s.mine first count)) (x.real sa).sent (letter_within s.mine first count)
+                    | inr sa ↦ empty_within (letter s.mine first count) (x.heard ++ x.inn) (letter_empty s.mine first count (here.quiet sa))
+                  ])
+                  | inr old ↦ x.letters l old boot to
                 ])
-                | inr old ↦ x.letters l old boot to
-              ])
                 x.covers
                 x.lets
                 x.real

@@ -1,5 +1,5 @@
 -- Whatever record stands at the next number, the act that the record table names takes it.
-use Rattle.std.proofs.Common.{◌≡◌, ◌==◌, ℕ, Bool, true, false, not, ◌&&◌, List, [], ◌∷◌, None, Some, Option, cond, filter, refl, sym, ap, ◌∙◌, subst, inl, inr, IsTrue}
+use Rattle.std.proofs.Common.{◌≡◌, ◌==◌, ℕ, Bool, true, false, not, ◌&&◌, List, [], ◌∷◌, None, Some, Option, cond, filter, refl, sym, ap, ◌∙◌, inl, inr}
 use Rattle.std.proofs.lemmas.Bool.{cases_Bool, both_ways, and_from, and_parts, eqb-true}
 use Rattle.nat_types.specs.Same.{same}
 use Rattle.nat_types.specs.declared.gateways.GatewayId.{GatewayId}
@@ -7,11 +7,11 @@ use Rattle.nat_types.specs.declared.gateways.GatewayId.TheVariants.{Zero, One}
 use Rattle.nat_types.specs.declared.pairs.Endpoint.{Endpoint}
 use Rattle.nat_types.specs.declared.pairs.Key.{Key}
 use Rattle.addresses.specs.declared.transport.Protocol.TheVariants.{Tcp, Udp}
-use Rattle.pair_machine.specs.Acts.{Act, IsMisplaced, AreGot, Take, LoadOwner, LoadPut, LoadDone, LoadSkip, TakePorts, LosePorts}
+use Rattle.pair_machine.specs.Acts.{IsMisplaced, AreGot, Take, LoadOwner, LoadDone, LoadSkip, TakePorts, LosePorts}
 use Rattle.pair_machine.specs.Box.{Box, StandsNext, Letter}
-use Rattle.pair_machine.specs.Ownership.{has, Ranges, keyed, IsRisingRun}
+use Rattle.pair_machine.specs.Ownership.{has, Ranges, keyed}
 use Rattle.pair_machine.specs.RecordTable.{Absent, Proposed, Bound, Finding, Finds, Facts, AreFacts, is_free, key_of, accepted, refused, asked, agreed_to, denied, proposed, installed, is_senders, becomes_owned, act_at_synced, act_at_unsynced, act_unless_promised, act_by_table, put_in, DoesTake}
-use Rattle.pair_machine.specs.Talk.{Slot, Free, Pending, Doomed, Live, Closing, Held, MachineRecord, Install, Accept, Refuse, Ask, Yes, No, Begin, Put, Done, Want, Grant, Owner, Deed, Skip, Yield, Reject, held, MayDo, IsUnbound, taken_by}
+use Rattle.pair_machine.specs.Talk.{Slot, Free, Pending, Doomed, Live, Closing, Held, MachineRecord, Install, Accept, Refuse, Ask, Yes, No, Begin, Put, Done, Want, Grant, Owner, Deed, Skip, Yield, Reject, held, MayDo, taken_by}
 
 free_is : (s : Slot) → is_free s ≡ true → s ≡ Free
 free_is Free h = refl

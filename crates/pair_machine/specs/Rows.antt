@@ -11,7 +11,7 @@ use Rattle.addresses.specs.declared.transport.Protocol.TheVariants.{Udp}
 use Rattle.pair_machine.specs.Acts.{Act, LoneNew, LoneDrop, LoadOwner, HandIn, Send, WantPorts, Take, TakePorts, LoadBegin, LoadPut, PeerOff, Hear, HearAnew, LoneUse, Do, Crash, GrantPorts, Boot, LoadDone}
 use Rattle.pair_machine.specs.Box.{Letter, empty}
 use Rattle.pair_machine.specs.Ownership.{Ranges, moving, in_run, Run, fixed}
-use Rattle.pair_machine.specs.Talk.{Free, Live, Held, Owner, Agree, Begin, note, Stayed, set_at, Ask, Yield, MachineRecord, Accept, Propose, Reject, Grant, Done, Stay, Want, No, Left, Rejected, Use, Agreed, Yes, pair_of, Slot, Refuse, Install, Close, Put, Leave}
+use Rattle.pair_machine.specs.Talk.{Live, Held, Owner, Agree, Begin, note, Stayed, set_at, Ask, Yield, MachineRecord, Accept, Propose, Reject, Grant, Done, Stay, Want, No, Left, Rejected, Use, Agreed, Yes, pair_of, Slot, Refuse, Install, Close, Put, Leave}
 use Rattle.pair_machine.specs.World.{MachineEvent, after_events, AreAllowed, founding}
 
 -- gateway 0's range is 20000 to 39999, gateway 1's 40000 to 59999

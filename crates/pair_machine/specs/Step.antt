@@ -1,13 +1,10 @@
 -- A step of one gateway, as its own contract says it: acts on its box alone, with the letters and the operator's words that it was handed.
-use Rattle.std.specs.Prelude.{suc, ◌⊎◌, ◌≡◌, ℕ, List, [], ◌∷◌, ◌++◌, false}
+use Rattle.std.specs.Prelude.{◌≡◌, ℕ, List, [], ◌∷◌, ◌++◌, false}
 use Rattle.nat_types.specs.declared.gateways.GatewayId.{GatewayId}
 use Rattle.nat_types.specs.declared.notes.Note.{Note}
-use Rattle.nat_types.specs.declared.pairs.Endpoint.{Endpoint}
-use Rattle.nat_types.specs.declared.pairs.Key.{Key}
 use Rattle.pair_machine.specs.Acts.{Act, PeerOff, Crash, Boot, read_by, letters_by, act_notes, MayAct, box_after}
 use Rattle.pair_machine.specs.Box.{Box, Letter, In}
-use Rattle.pair_machine.specs.Ownership.{Ranges, IsRisingRun}
-use Rattle.pair_machine.specs.Talk.{IsUnbound, Free}
+use Rattle.pair_machine.specs.Ownership.{Ranges}
 
 -- the act is no crash and no boot, and the word is one of those that the operator said
 abbrev pub IsGiven : List ℕ → Act → Type 0
