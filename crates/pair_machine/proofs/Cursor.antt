@@ -4,21 +4,22 @@ use Rattle.nat_types.specs.Same.{other}
 use Rattle.nat_types.specs.declared.gateways.GatewayId.{GatewayId}
 use Rattle.pair_machine.specs.Acts.{HandIn, Ignore}
 use Rattle.pair_machine.specs.Box.{Letter, hands_in}
-use Rattle.pair_machine.specs.Invariant.{Loads, Real, View, Awaits, Side, Inv}
-use Rattle.pair_machine.specs.Ports.{Ranges}
+use Rattle.pair_machine.proofs.Beside.{side_beside, alone_beside, view_beside}
+use Rattle.pair_machine.proofs.Invariant.{Loads, Real, View, Awaits, Side, Inv}
+use Rattle.pair_machine.specs.Ownership.{Ranges}
 use Rattle.pair_machine.specs.Talk.{MachineRecord}
-use Rattle.pair_machine.specs.World.{Scene, Can, after}
+use Rattle.pair_machine.specs.World.{Scene, Can, after_act}
 use Rattle.pair_machine.proofs.Acts.{view_of, next_is, progress_as}
 
 module _ (r : Ranges) where
   -- nothing comes while records are promised
-  pub inv_ignore : (moment : ℕ) (i : GatewayId) (s : Scene) (l : Letter) (n : ℕ) (q : MachineRecord) → Inv r i s → Can r i s (Ignore l n q) → Inv r i (after r i moment s (Ignore l n q))
+  pub inv_ignore : (moment : ℕ) (i : GatewayId) (s : Scene) (l : Letter) (n : ℕ) (q : MachineRecord) → Inv r i s → Can r i s (Ignore l n q) → Inv r i (after_act r i moment s (Ignore l n q))
   inv_ignore moment i s l n q v can =
       let view : View r i s.mine s.theirs s.their_mail s.trace = view_of r i s.mine s.theirs s.my_mail s.their_mail s.trace v.here can.0.0 can.0.1 in
       let next : (rest : List MachineRecord) × (view.inn ≡ q ∷ rest) = next_is r i s.mine s.theirs s.their_mail s.trace view l n q (can.1 l (inl refl)) can.0.3 in
       let bad : [] ≡ q ∷ next.0 = sym (view.owes can.0.2.0 can.0.2.1).0 ∙ next.1 in absurd (cc)
 
-  pub inv_hand_in : (moment : ℕ) (i : GatewayId) (s : Scene) → Inv r i s → Can r i s HandIn → Inv r i (after r i moment s HandIn)
+  pub inv_hand_in : (moment : ℕ) (i : GatewayId) (s : Scene) → Inv r i s → Can r i s HandIn → Inv r i (after_act r i moment s HandIn)
   inv_hand_in moment i s v can =
       let here : Side r i s.mine s.theirs s.my_mail s.their_mail s.trace = v.here in
       let there : Side r (other i) s.theirs s.mine s.their_mail s.my_mail s.trace = v.there in
@@ -79,42 +80,18 @@ module _ (r : Ranges) where
           ];
           awaits = λ z u. let w : Awaits s.mine s.theirs s.their_mail = here.awaits z u in record { letters = w.letters; fresh = λ q. let f = w.fresh q in record { table = f.table; taken = f.taken; loading = f.loading; wants = f.wants } };
         };
-        there = record {
-          synced_is = there.synced_is;
-          up_synced = there.up_synced;
-          goes = there.goes;
-          letters = there.letters;
-          boots = there.boots;
-          barred = there.barred;
-          known = there.known;
-          peer_at = there.peer_at;
-          later = there.later;
-          quiet = there.quiet;
-          state = λ z. elim (there.state z) [
-            | inl y ↦ inl record { lone = y.lone; other_out = y.other_out; proper = y.proper; within = y.within; nowhere = y.nowhere; one_each = y.one_each; covers = y.covers; sent = y.sent; unheard = y.unheard }
-            | inr y ↦ inr record {
-              lone = y.lone;
-              phase = y.phase;
-              table = y.table;
-              owner = y.owner;
-              their_owned = y.their_owned;
-              their_want = y.their_want;
-              ports = y.ports;
-              gone = y.gone;
-              out = y.out;
-              heard = y.heard;
-              inn = y.inn;
-              sent = y.sent;
-              taken = y.taken;
-              talks = y.talks;
-              letters = y.letters;
-              covers = y.covers;
-              lets = y.lets;
-              real = λ q. let n : Real s.theirs s.mine y.table y.their_owned y.their_want y.gone y.heard y.inn = y.real q in record { table_is = n.table_is; owned_is = n.owned_is; want_is = n.want_is; sent = n.sent; taken = n.taken; peer = n.peer; back = n.back; lone = n.lone };
-              owes = y.owes;
-              loads = λ q. let bad : true ≡ false = sym can.0 ∙ q in absurd (cc);
-            }
-          ];
-          awaits = λ z u. let w : Awaits s.theirs s.mine s.my_mail = there.awaits z u in record { letters = w.letters; fresh = w.fresh };
-        };
+        there = side_beside r (other i) s.theirs s.mine _ s.their_mail s.my_mail s.trace _ there refl
+            there.synced_is
+            there.goes
+            (λ z. elim (there.state z) [
+              | inl y ↦ inl (alone_beside r (other i) s.theirs s.mine _ s.trace _ y y.other_out (λ p o. o) y.unheard)
+              | inr y ↦ inr (view_beside r (other i) s.theirs s.mine _ s.my_mail _ s.trace _ y
+                  y.letters
+                  y.covers
+                  y.lets
+                  (λ q. let n : Real s.theirs s.mine y.table y.their_owned y.their_want y.gone y.heard y.inn = y.real q in record { table_is = n.table_is; owned_is = n.owned_is; want_is = n.want_is; sent = n.sent; taken = n.taken; peer = n.peer; back = n.back; lone = n.lone })
+                  y.owes
+                  (λ q. let bad : true ≡ false = sym can.0 ∙ q in absurd (cc)))
+            ])
+            (λ z u. let w : Awaits s.theirs s.mine s.my_mail = there.awaits z u in record { letters = w.letters; fresh = w.fresh });
       }

@@ -10,12 +10,13 @@ use Rattle.nat_types.specs.declared.pairs.Key.{Key}
 use Rattle.trace_words.specs.Past.{is_synced, goes_on}
 use Rattle.pair_machine.specs.Acts.{Crash, Boot, HearAnew}
 use Rattle.pair_machine.specs.Box.{Letter, empty, hears_anew}
-use Rattle.pair_machine.specs.Invariant.{Fresh, Loads, Side, Inv}
-use Rattle.pair_machine.specs.Phase.{Phase}
-use Rattle.pair_machine.specs.Ports.{Ranges}
+use Rattle.pair_machine.proofs.Beside.{side_beside, alone_beside, view_beside}
+use Rattle.pair_machine.proofs.Invariant.{Fresh, Loads, Side, Inv}
+use Rattle.pair_machine.proofs.Phase.{Phase}
+use Rattle.pair_machine.specs.Ownership.{Ranges}
 use Rattle.pair_machine.specs.Talk.{translated, note}
-use Rattle.pair_machine.specs.Told.{LetsGo}
-use Rattle.pair_machine.specs.World.{Scene, Can, after}
+use Rattle.pair_machine.proofs.Traced.{LetsGo}
+use Rattle.pair_machine.specs.World.{Scene, Can, after_act}
 use Rattle.pair_machine.proofs.Acts.{same-not}
 use Rattle.pair_machine.proofs.Covers.{still, goes_quiet}
 
@@ -34,7 +35,7 @@ module _ (r : Ranges) where
   absurd_flag : {A : Type 0} (b : Bool) → b ≡ true → b ≡ false → A
   absurd_flag b h g = absurd (both_ways b g h)
 
-  pub inv_crash : (moment : ℕ) (i : GatewayId) (s : Scene) → Inv r i s → Can r i s Crash → Inv r i (after r i moment s Crash)
+  pub inv_crash : (moment : ℕ) (i : GatewayId) (s : Scene) → Inv r i s → Can r i s Crash → Inv r i (after_act r i moment s Crash)
   inv_crash moment i s v can =
       let here : Side r i s.mine s.theirs s.my_mail s.their_mail s.trace = v.here in
       let there : Side r (other i) s.theirs s.mine s.their_mail s.my_mail s.trace = v.there in
@@ -57,47 +58,23 @@ module _ (r : Ranges) where
           state = λ x. absurd (cc);
           awaits = λ x y. absurd (cc);
         };
-        there = record {
-          synced_is = ap (λ b. cond b false (is_synced (other i) s.trace)) (same-not i) ∙ there.synced_is;
-          up_synced = there.up_synced;
-          goes = there.goes;
-          letters = there.letters;
-          barred = there.barred;
-          boots = there.boots;
-          known = there.known;
-          peer_at = there.peer_at;
-          later = there.later;
-          quiet = there.quiet;
-          state = λ x. elim (there.state x) [
-            | inl y ↦ inl record { lone = y.lone; other_out = refl; proper = y.proper; within = y.within; nowhere = y.nowhere; one_each = y.one_each; covers = y.covers; sent = y.sent; unheard = λ u. absurd (cc) }
-            | inr y ↦ inr record {
-              lone = y.lone;
-              phase = y.phase;
-              table = y.table;
-              owner = y.owner;
-              their_owned = y.their_owned;
-              their_want = y.their_want;
-              ports = y.ports;
-              gone = y.gone;
-              out = y.out;
-              heard = y.heard;
-              inn = y.inn;
-              sent = y.sent;
-              taken = y.taken;
-              talks = y.talks;
-              letters = y.letters;
-              covers = y.covers;
-              lets = λ g. lets_crash y.owner moment g i y.phase s.trace (y.lets g);
-              real = λ z. absurd (cc);
-              owes = λ m p. ((y.owes m p).0, refl);
-              loads = λ z u. absurd (cc);
-            }
-          ];
-          awaits = λ x u. absurd_flag s.theirs.synced sb x;
-        };
+        there = side_beside r (other i) s.theirs s.mine _ s.their_mail s.my_mail s.trace _ there refl
+            (ap (λ b. cond b false (is_synced (other i) s.trace)) (same-not i) ∙ there.synced_is)
+            there.goes
+            (λ x. elim (there.state x) [
+              | inl y ↦ inl (alone_beside r (other i) s.theirs s.mine _ s.trace _ y refl (λ p o. o) (λ u. absurd (cc)))
+              | inr y ↦ inr (view_beside r (other i) s.theirs s.mine _ s.my_mail _ s.trace _ y
+                  y.letters
+                  y.covers
+                  (λ g. lets_crash y.owner moment g i y.phase s.trace (y.lets g))
+                  (λ z. absurd (cc))
+                  (λ m p. ((y.owes m p).0, refl))
+                  (λ z u. absurd (cc)))
+            ])
+            (λ x u. absurd_flag s.theirs.synced sb x);
       }
 
-  pub inv_boot : (moment : ℕ) (i : GatewayId) (s : Scene) (n : ℕ) → Inv r i s → Can r i s (Boot n) → Inv r i (after r i moment s (Boot n))
+  pub inv_boot : (moment : ℕ) (i : GatewayId) (s : Scene) (n : ℕ) → Inv r i s → Can r i s (Boot n) → Inv r i (after_act r i moment s (Boot n))
   inv_boot moment i s n v can =
       let here : Side r i s.mine s.theirs s.my_mail s.their_mail s.trace = v.here in
       let there : Side r (other i) s.theirs s.mine s.their_mail s.my_mail s.trace = v.there in
@@ -137,29 +114,14 @@ module _ (r : Ranges) where
           later = there.later;
           quiet = there.quiet;
           state = λ x. elim (there.state x) [
-            | inl y ↦ inl record { lone = y.lone; other_out = refl; proper = y.proper; within = y.within; nowhere = y.nowhere; one_each = y.one_each; covers = y.covers; sent = y.sent; unheard = λ u p. let le : s.theirs.peer ≤ s.mine.boot = there.peer_at in omega arith }
-            | inr y ↦ inr record {
-              lone = y.lone;
-              phase = y.phase;
-              table = y.table;
-              owner = y.owner;
-              their_owned = y.their_owned;
-              their_want = y.their_want;
-              ports = y.ports;
-              gone = y.gone;
-              out = y.out;
-              heard = y.heard;
-              inn = y.inn;
-              sent = y.sent;
-              taken = y.taken;
-              talks = y.talks;
-              letters = y.letters;
-              covers = y.covers;
-              lets = λ g. lets_boot y.owner moment g i n y.phase s.trace (y.lets g);
-              real = λ z. absurd (cc);
-              owes = λ m p. ((y.owes m p).0, refl);
-              loads = λ z u p. let le : s.theirs.peer ≤ s.mine.boot = there.peer_at in absurd (omega arith);
-            }
+            | inl y ↦ inl (alone_beside r (other i) s.theirs s.mine _ s.trace _ y refl (λ p o. o) (λ u p. let le : s.theirs.peer ≤ s.mine.boot = there.peer_at in omega arith))
+            | inr y ↦ inr (view_beside r (other i) s.theirs s.mine _ s.my_mail _ s.trace _ y
+                y.letters
+                y.covers
+                (λ g. lets_boot y.owner moment g i n y.phase s.trace (y.lets g))
+                (λ z. absurd (cc))
+                (λ m p. ((y.owes m p).0, refl))
+                (λ z u p. let le : s.theirs.peer ≤ s.mine.boot = there.peer_at in absurd (omega arith)))
           ];
           awaits = λ x u. absurd_flag s.theirs.synced sb x;
         };
@@ -177,7 +139,7 @@ module _ (r : Ranges) where
         | inr p ↦ (v.here.awaits sa up).fresh p
       ]
 
-  pub inv_hear_anew : (moment : ℕ) (i : GatewayId) (s : Scene) (l : Letter) → Inv r i s → Can r i s (HearAnew l) → Inv r i (after r i moment s (HearAnew l))
+  pub inv_hear_anew : (moment : ℕ) (i : GatewayId) (s : Scene) (l : Letter) → Inv r i s → Can r i s (HearAnew l) → Inv r i (after_act r i moment s (HearAnew l))
   inv_hear_anew moment i s l v can =
       let here : Side r i s.mine s.theirs s.my_mail s.their_mail s.trace = v.here in
       let there : Side r (other i) s.theirs s.mine s.their_mail s.my_mail s.trace = v.there in
@@ -205,43 +167,19 @@ module _ (r : Ranges) where
           state = λ x. absurd_flag s.mine.synced x sa;
           awaits = λ x u. record { letters = (here.awaits sa u).letters; fresh = λ z. now };
         };
-        there = record {
-          synced_is = there.synced_is;
-          up_synced = there.up_synced;
-          goes = there.goes;
-          letters = there.letters;
-          barred = there.barred;
-          boots = there.boots;
-          known = there.known;
-          peer_at = there.peer_at;
-          later = there.later;
-          quiet = there.quiet;
-          state = λ x. elim (there.state x) [
-            | inl y ↦ inl record { lone = y.lone; other_out = y.other_out; proper = y.proper; within = y.within; nowhere = y.nowhere; one_each = y.one_each; covers = y.covers; sent = y.sent; unheard = y.unheard }
-            | inr y ↦ inr record {
-              lone = y.lone;
-              phase = y.phase;
-              table = y.table;
-              owner = y.owner;
-              their_owned = y.their_owned;
-              their_want = y.their_want;
-              ports = y.ports;
-              gone = y.gone;
-              out = y.out;
-              heard = y.heard;
-              inn = y.inn;
-              sent = y.sent;
-              taken = y.taken;
-              talks = y.talks;
-              letters = y.letters;
-              covers = y.covers;
-              lets = y.lets;
-              real = λ z. absurd_flag s.mine.synced z sa;
-              owes = λ m p. ((y.owes m p).0, sa);
-              loads = λ z u p. let x : Loads r (other i) s.theirs s.mine y.phase y.owner y.table y.their_owned y.their_want y.gone y.heard y.inn = y.loads z u p in
-                  record { os = x.os; ps = x.ps; rising = x.rising; owned_is = x.owned_is; want_is = x.want_is; batch_is = x.batch_is; heard_is = x.heard_is; inn_is = x.inn_is; are_new = x.are_new; bar = x.bar; table_is = x.table_is; none_closing = x.none_closing; progress = inl now };
-            }
-          ];
-          awaits = λ x u. absurd_flag s.theirs.synced sb x;
-        };
+        there = side_beside r (other i) s.theirs s.mine _ s.their_mail s.my_mail s.trace _ there refl
+            there.synced_is
+            there.goes
+            (λ x. elim (there.state x) [
+              | inl y ↦ inl (alone_beside r (other i) s.theirs s.mine _ s.trace _ y y.other_out (λ p o. o) y.unheard)
+              | inr y ↦ inr (view_beside r (other i) s.theirs s.mine _ s.my_mail _ s.trace _ y
+                  y.letters
+                  y.covers
+                  y.lets
+                  (λ z. absurd_flag s.mine.synced z sa)
+                  (λ m p. ((y.owes m p).0, sa))
+                  (λ z u p. let x : Loads r (other i) s.theirs s.mine y.phase y.owner y.table y.their_owned y.their_want y.gone y.heard y.inn = y.loads z u p in
+                  record { os = x.os; ps = x.ps; rising = x.rising; owned_is = x.owned_is; want_is = x.want_is; batch_is = x.batch_is; heard_is = x.heard_is; inn_is = x.inn_is; are_new = x.are_new; bar = x.bar; table_is = x.table_is; none_closing = x.none_closing; progress = inl now }))
+            ])
+            (λ x u. absurd_flag s.theirs.synced sb x);
       }

@@ -5,10 +5,11 @@ use Rattle.nat_types.specs.Same.{other}
 use Rattle.nat_types.specs.declared.gateways.GatewayId.{GatewayId}
 use Rattle.pair_machine.specs.Acts.{Send}
 use Rattle.pair_machine.specs.Box.{Box, Letter, nth, letter}
-use Rattle.pair_machine.specs.Invariant.{Within, Awaits, Side, Inv}
-use Rattle.pair_machine.specs.Ports.{Ranges}
+use Rattle.pair_machine.proofs.Beside.{view_beside}
+use Rattle.pair_machine.proofs.Invariant.{Within, Awaits, Side, Inv}
+use Rattle.pair_machine.specs.Ownership.{Ranges}
 use Rattle.pair_machine.specs.Talk.{MachineRecord}
-use Rattle.pair_machine.specs.World.{Scene, Can, after}
+use Rattle.pair_machine.specs.World.{Scene, Can, after_act}
 use Rattle.pair_machine.proofs.Lists.{nth_take, nth_drop, nil_part}
 
 module _ (r : Ranges) where
@@ -27,7 +28,7 @@ module _ (r : Ranges) where
   nth_less (suc c) (x ∷ xs) zero r h = omega arith
   nth_less (suc c) (x ∷ xs) (suc n) r h = let less : n < c = nth_less c xs n r h in omega arith
 
-  pub inv_send : (moment : ℕ) (i : GatewayId) (s : Scene) (first count : ℕ) → Inv r i s → Can r i s (Send first count) → Inv r i (after r i moment s (Send first count))
+  pub inv_send : (moment : ℕ) (i : GatewayId) (s : Scene) (first count : ℕ) → Inv r i s → Can r i s (Send first count) → Inv r i (after_act r i moment s (Send first count))
   inv_send moment i s first count v can =
       let a : Box = s.mine in
       let b : Box = s.theirs in
@@ -74,34 +75,19 @@ module _ (r : Ranges) where
           quiet = there.quiet;
           state = λ sb. elim (there.state sb) [
             | inl x ↦ inl x
-            | inr x ↦ inr record {
-              lone = x.lone;
-              phase = x.phase;
-              table = x.table;
-              owner = x.owner;
-              their_owned = x.their_owned;
-              their_want = x.their_want;
-              ports = x.ports;
-              gone = x.gone;
-              out = x.out;
-              heard = x.heard;
-              inn = x.inn;
-              sent = x.sent;
-              taken = x.taken;
-              talks = x.talks;
-              letters = λ l inside boot to. elim inside [
-                | inl e ↦ subst (λ (y : Letter). Within y (x.heard ++ x.inn)) (sym e) (elim (cases_Bool s.mine.synced) [
-                  | inl sa ↦ subst (Within (letter s.mine first count)) (x.real sa).sent (letter_within s.mine first count)
-                  | inr sa ↦ empty_within (letter s.mine first count) (x.heard ++ x.inn) (letter_empty s.mine first count (here.quiet sa))
+            | inr x ↦ inr (view_beside r (other i) s.theirs s.mine _ s.my_mail _ s.trace _ x
+                (λ l inside boot to. elim inside [
+                  | inl e ↦ subst (λ (y : Letter). Within y (x.heard ++ x.inn)) (sym e) (elim (cases_Bool s.mine.synced) [
+                    | inl sa ↦ subst (Within (letter s.mine first count)) (x.real sa).sent (letter_within s.mine first count)
+                    | inr sa ↦ empty_within (letter s.mine first count) (x.heard ++ x.inn) (letter_empty s.mine first count (here.quiet sa))
+                  ])
+                  | inr old ↦ x.letters l old boot to
                 ])
-                | inr old ↦ x.letters l old boot to
-              ];
-              covers = x.covers;
-              lets = x.lets;
-              real = x.real;
-              owes = x.owes;
-              loads = x.loads;
-            }
+                x.covers
+                x.lets
+                x.real
+                x.owes
+                x.loads)
           ];
           awaits = λ sb u. let x : Awaits s.theirs s.mine s.my_mail = there.awaits sb u in record {
             letters = λ l n q inside to h. elim inside [

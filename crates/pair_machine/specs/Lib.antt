@@ -1,12 +1,10 @@
 pub mod Talk
-pub mod Phase
-pub mod Told
-pub mod Ports
+pub mod Ownership
 pub mod Box
 pub mod Acts
 pub mod World
-pub mod Invariant
 pub mod Step
+pub mod RecordTable
 pub mod Batch
 pub mod Rows
 pub mod Mapped
