@@ -9,12 +9,17 @@ use Rattle.nat_types.specs.declared.gateways.Side.{Side}
 use Rattle.nat_types.specs.declared.gateways.Side.TheVariants.{Inside, Outside}
 use Rattle.settings.specs.declared.interfaces.Interface.{Interface}
 use Rattle.settings.specs.declared.interfaces.Neighbour.{Neighbour}
-use Rattle.gateway.specs.declared.reasons.Reason.{Reason}
-use Rattle.gateway.specs.declared.reasons.Reason.TheVariants.{NoBinding}
-use Rattle.gateway.specs.declared.networks.Network.{Network}
-use Rattle.gateway.specs.declared.networks.Networks.{Networks}
-use Rattle.gateway.specs.declared.networks.Direction.{Direction}
-use Rattle.gateway.specs.declared.networks.Direction.TheVariants.{Outward, Inward}
+use Rattle.packet_path.specs.declared.reasons.Reason.{Reason}
+use Rattle.packet_path.specs.declared.reasons.Reason.TheVariants.{NoBinding}
+use Rattle.packet_path.specs.declared.networks.Network.{Network}
+use Rattle.packet_path.specs.declared.networks.Networks.{Networks}
+use Rattle.packet_path.specs.declared.networks.Direction.{Direction}
+use Rattle.packet_path.specs.declared.networks.Direction.TheVariants.{Outward, Inward}
+
+-- the side at which a packet leaves
+abbrev pub exit_of : Direction → Side
+exit_of Outward = Outside
+exit_of Inward = Inside
 
 -- the network on a side
 abbrev pub network_of : Networks → Side → Network

@@ -1,5 +1,6 @@
+//! Why a frame is dropped.
 ghost use Rattle.std.specs.Prelude.{◌≡◌};
-ghost use Rattle.gateway.specs.Reasons.{number_of};
+ghost use Rattle.packet_path.specs.Reasons.{number_of};
 
 use thiserror::Error;
 
@@ -47,17 +48,4 @@ impl Reason {
     {
         self as u8 + 1
     }
-}
-
-/// What became of an event.
-#[derive(Clone, Copy, Debug, PartialEq, Eq)]
-pub enum Outcome {
-    /// The frame's packet was translated and sent.
-    Sent,
-    /// The frame's packet is kept until its pair or its next hop is known.
-    Waiting,
-    /// The event was taken.
-    Done,
-    /// The frame was dropped.
-    Dropped(Reason),
 }

@@ -1,16 +1,18 @@
 -- Which of the first steps of the packet path refuses a frame, and what the frame's packet says.
-use Rattle.std.specs.Prelude.{ℕ, Bool, ◌==◌, ◌&&◌, nat_le, Option, Some, None, List, [], ◌∷◌, length, if◌then◌else◌}
+use Rattle.std.specs.Prelude.{ℕ, Bool, ◌==◌, ◌&&◌, nat_le, Option, Some, None, is_none, Result, Ok, Err, List, [], ◌∷◌, length, if◌then◌else◌}
 use Rattle.std.specs.Option.{option_map}
 use Rattle.frames.specs.Frame.{Frame, frame_of}
-use Rattle.ipv4.specs.Header.{header_of, payload_of, ipv4_refusal}
-use Rattle.ipv4.specs.Datagram.{datagram_of, udp_refusal}
+use Rattle.ipv4.specs.Header.{header_of, ipv4_refusal}
+use Rattle.ipv4.specs.Datagram.{udp_refusal}
 use Rattle.ipv4.specs.declared.faults.Ipv4Fault as fault
 use Rattle.ipv4.specs.declared.faults.Ipv4Fault.{Ipv4Fault}
-use Rattle.gateway.specs.declared.reasons.Reason.{Reason}
-use Rattle.gateway.specs.declared.reasons.Reason.TheVariants.{ShortFrame, NotMine, BadHeader, BadLength, BadHeaderSum, Fragment, TtlOver, NotUdpTcp, BadTransport, NotUp}
-use Rattle.gateway.specs.declared.networks.Network.{Network}
-use Rattle.gateway.specs.declared.packets.Packet.{Packet}
-use Rattle.gateway.specs.Networks.{is_addressed, is_virtual}
+use Rattle.packet_path.specs.declared.reasons.Reason.{Reason}
+use Rattle.packet_path.specs.declared.reasons.Reason.TheVariants.{ShortFrame, NotMine, BadHeader, BadLength, BadHeaderSum, Fragment, TtlOver, NotUdpTcp, BadTransport, BadArp, NotUp}
+use Rattle.packet_path.specs.declared.networks.Network.{Network}
+use Rattle.packet_path.specs.declared.steps.TheConstants.{LONGEST_FRAME}
+use Rattle.arp.specs.declared.packets.ArpPacket.{ArpPacket}
+use Rattle.arp.specs.Packet.{arp_refusal, packet_of}
+use Rattle.packet_path.specs.Networks.{is_addressed, is_virtual}
 
 -- the reason for a fault of the packet
 abbrev pub reason_of : Ipv4Fault → Reason
@@ -24,7 +26,7 @@ reason_of fault.TheVariants.BadTransport = BadTransport
 
 -- 1. a frame has 14 to 1,514 bytes
 unfoldable pub size_refusal : List ℕ → Option Reason
-size_refusal bytes = (if nat_le 14 (length bytes) && nat_le (length bytes) 1514 then None else Some ShortFrame)
+size_refusal bytes = (if nat_le 14 (length bytes) && nat_le (length bytes) LONGEST_FRAME then None else Some ShortFrame)
 
 -- 1. the gateway is synced
 unfoldable pub up_refusal : Bool → Option Reason
@@ -56,7 +58,7 @@ first_reason [] = None
 first_reason (Some reason ∷ others) = Some reason
 first_reason (None ∷ others) = first_reason others
 
--- the steps that look at a frame alone, in their order (3. ARP isn't taken yet, and VRRP neither)
+-- the steps that look at a frame alone, in their order (VRRP isn't taken yet)
 abbrev pub frame_refusal : Network → Bool → List ℕ → Option Reason
 frame_refusal network synced bytes =
     let frame = frame_of bytes in
@@ -70,14 +72,25 @@ frame_refusal network synced bytes =
     ∷ ttl_refusal frame.body
     ∷ [])
 
--- the addresses and ports of a frame's packet
-unfoldable pub packet_in : List ℕ → Packet
-packet_in bytes =
-    let packet = (frame_of bytes).body in
-    let datagram = datagram_of (payload_of packet) in
-    record {
-      source = record { 0 = (header_of packet).source };
-      source_port = record { 0 = datagram.source_port };
-      destination = record { 0 = (header_of packet).destination };
-      destination_port = record { 0 = datagram.destination_port };
-    }
+-- 3. the frame is for the gateway, and carries ARP
+unfoldable pub is_arp : Network → Frame → Bool
+is_arp network frame = is_addressed network frame.dst && (frame.ethertype == 2054)
+
+-- an ARP packet, or that its bytes are none
+abbrev pub arp_reading : List ℕ → Result ArpPacket Reason
+arp_reading body = (if is_none (arp_refusal body) then Ok (packet_of body) else Err BadArp)
+
+-- 3. what goes to ARP: None of any frame that an earlier step refuses, or that carries something else
+unfoldable pub arp_in : Network → Bool → List ℕ → Option (Result ArpPacket Reason)
+arp_in network synced bytes =
+    (if is_none (size_refusal bytes) && (synced && is_arp network (frame_of bytes)) then Some (arp_reading (frame_of bytes).body) else None)
+
+-- the next step, where this one doesn't refuse
+abbrev pub and_then : {X Y : Type 0} → Result X Reason → (X → Result Y Reason) → Result Y Reason
+and_then (Ok x) next = next x
+and_then (Err reason) next = Err reason
+
+-- a step, where those before it don't refuse
+abbrev pub unless : {X : Type 0} → Option Reason → Result X Reason → Result X Reason
+unless None step = step
+unless (Some reason) step = Err reason

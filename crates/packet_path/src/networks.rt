@@ -1,5 +1,6 @@
+//! The two networks: whom a frame addresses, which way its packet goes, and to whom next.
 ghost use Rattle.std.specs.Prelude.{◌≡◌};
-ghost use Rattle.gateway.specs.Networks.{network_of, is_virtual, is_addressed, lies_in, is_special, inside_direction, outside_direction, direction_of, outside_hop, is_at, mac_of};
+ghost use Rattle.packet_path.specs.Networks.{network_of, is_virtual, is_addressed, lies_in, is_special, inside_direction, outside_direction, direction_of, outside_hop, exit_of, is_at, mac_of};
 
 use crate::Reason;
 use addresses::{Ip, Mac};
@@ -12,6 +13,8 @@ pub struct Network {
     pub interface: Interface,
     /// The gateway's own Ethernet address there.
     pub own_mac: Mac,
+    /// The gateway's own (primary) address there.
+    pub own_ip: Ip,
 }
 
 /// A gateway's two networks, and the router on the outside one.
@@ -29,6 +32,18 @@ pub enum Direction {
     Outward,
     /// From the outside to an inside host.
     Inward,
+}
+
+impl Direction {
+    /// The side at which a packet leaves.
+    pub fn exit(self) -> Side
+        ensures { result ≡ exit_of self }
+    {
+        match self {
+            Direction::Outward => Side::Outside,
+            Direction::Inward => Side::Inside,
+        }
+    }
 }
 
 impl Networks {
@@ -62,7 +77,7 @@ pub(crate) fn is_for_gateway(network: &Network, mac: Mac) -> bool
 }
 
 #[tactic(auto, unfolding(crate::specs::Networks::lies_in))]
-fn contains(interface: &Interface, address: Ip) -> bool
+pub(crate) fn contains(interface: &Interface, address: Ip) -> bool
     ensures { result ≡ lies_in address.0 interface.now }
 {
     interface.network().contains(address)
@@ -117,7 +132,7 @@ fn direction_from_outside(
 }
 
 /// Which way a packet goes that came in on this side.
-pub(crate) fn direction_taken(
+pub fn direction_taken(
     networks: &Networks,
     side: Side,
     source: Ip,
@@ -133,7 +148,7 @@ pub(crate) fn direction_taken(
 
 /// The address to which a packet that leaves goes next.
 #[tactic(auto, unfolding(crate::specs::Networks::outside_hop))]
-pub(crate) fn next_hop_outside(networks: &Networks, destination: Ip) -> Ip
+pub fn next_hop_outside(networks: &Networks, destination: Ip) -> Ip
     ensures { result.0 ≡ outside_hop networks.now destination.0 }
 {
     if contains(&networks.outside.interface, destination) {
@@ -152,7 +167,7 @@ fn is_host(neighbour: &Neighbour, side: Side, ip: Ip) -> bool
 
 /// The Ethernet address of a static neighbour: of two with one side and address the first counts.
 #[tactic(auto, unfolding(crate::specs::Networks::mac_of))]
-pub(crate) fn neighbour_mac(neighbours: &[Neighbour], side: Side, ip: Ip) -> Option<Mac>
+pub fn neighbour_mac(neighbours: &[Neighbour], side: Side, ip: Ip) -> Option<Mac>
     ensures { result ≡ mac_of neighbours.now side ip.0 }
 {
     let neighbour = neighbours

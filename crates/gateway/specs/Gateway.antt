@@ -11,10 +11,10 @@ use Rattle.settings.specs.Parts.{gateway_of}
 use Rattle.bindings.specs.Entries.{Bindings}
 use Rattle.bindings.specs.declared.entries.Entry.{Entry}
 use Rattle.bindings.specs.declared.entries.PortBounds.{PortBounds}
-use Rattle.gateway.specs.declared.networks.Networks.{Networks}
+use Rattle.packet_path.specs.declared.networks.Networks.{Networks}
 
 -- who it is and in which life, what it is set up with, whether it is synced, its clock's moment, its table
-pub record Shown : Type 0 where
+pub record Gateway : Type 0 where
   pub id : GatewayId
   pub boot : ℕ
   pub networks : Networks
@@ -59,13 +59,13 @@ empty_table settings id = record {
 -- the networks as one gateway stands in them
 abbrev pub networks_of : Settings → GatewayId → Networks
 networks_of settings id = record {
-  inside = record { interface = settings.inside; own_mac = (gateway_of settings id).inside_mac };
-  outside = record { interface = settings.outside; own_mac = (gateway_of settings id).outside_mac };
+  inside = record { interface = settings.inside; own_mac = (gateway_of settings id).inside_mac; own_ip = (gateway_of settings id).inside_ip };
+  outside = record { interface = settings.outside; own_mac = (gateway_of settings id).outside_mac; own_ip = (gateway_of settings id).outside_ip };
   router = settings.router;
 }
 
 -- a gateway that starts
-unfoldable pub started : Settings → GatewayId → ℕ → Bool → Shown
+unfoldable pub started : Settings → GatewayId → ℕ → Bool → Gateway
 started settings id boot found = record {
   id = id;
   boot = boot;
