@@ -10,7 +10,7 @@ use Rattle.nat_types.specs.declared.pairs.Pair.{Pair}
 use Rattle.trace_words.specs.Past.{Fits, Silent, is_synced}
 use Rattle.pair_machine.specs.Acts.{Do, Take}
 use Rattle.pair_machine.specs.Box.{Box, Letter, In, nth, IsNext, goes}
-use Rattle.pair_machine.specs.Invariant.{is_proper, Within, Fresh, Naming, Part, Ports, Loads, Real, View, Awaits, Side, Inv}
+use Rattle.pair_machine.proofs.Invariant.{is_proper, Within, Fresh, Naming, Part, Ports, Loads, Real, View, Awaits, Side, Inv}
 use Rattle.pair_machine.specs.Phase.{owns, MayBy, Phase, Proposed, Asked, Talks, phase_after, closing}
 use Rattle.pair_machine.specs.Ports.{Ranges, Run, keyed}
 use Rattle.pair_machine.specs.Talk.{Slot, MachineRecord, Deed, Propose, Close, Use, Agree, Yield, Reject, Agreed, Rejected, Leave, Stay, Left, Stayed, Pass, Skip, May, taken_by, pushed_by, table_after, notes_by}

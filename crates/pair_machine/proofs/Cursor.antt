@@ -4,7 +4,7 @@ use Rattle.nat_types.specs.Same.{other}
 use Rattle.nat_types.specs.declared.gateways.GatewayId.{GatewayId}
 use Rattle.pair_machine.specs.Acts.{HandIn, Ignore}
 use Rattle.pair_machine.specs.Box.{Letter, hands_in}
-use Rattle.pair_machine.specs.Invariant.{Loads, Real, View, Awaits, Side, Inv}
+use Rattle.pair_machine.proofs.Invariant.{Loads, Real, View, Awaits, Side, Inv}
 use Rattle.pair_machine.specs.Ports.{Ranges}
 use Rattle.pair_machine.specs.Talk.{MachineRecord}
 use Rattle.pair_machine.specs.World.{Scene, Can, after}

@@ -4,7 +4,7 @@ use Rattle.std.proofs.lemmas.Bool.{both_ways, cases_Bool}
 use Rattle.nat_types.specs.Same.{other}
 use Rattle.nat_types.specs.declared.gateways.GatewayId.{GatewayId}
 use Rattle.nat_types.specs.declared.pairs.Key.{Key}
-use Rattle.pair_machine.specs.Invariant.{is_proper, bit, gifts, wants_in, grants_in, Ports}
+use Rattle.pair_machine.proofs.Invariant.{is_proper, bit, gifts, wants_in, grants_in, Ports}
 use Rattle.pair_machine.specs.Phase.{owns, MayBy, Phase, Nothing, Proposed, Accepted, Refused, GivenUp, GivenUpRefused, Asked, Shared, Leaving, Staying, refuse, give_up, slot_at, flight_at, Matches, Talks, phase_after}
 use Rattle.pair_machine.specs.Ports.{Ranges, keyed}
 use Rattle.pair_machine.specs.Talk.{Slot, Free, Pending, Doomed, Live, Closing, MachineRecord, Install, Accept, Refuse, Ask, Yes, No, Begin, Put, Done, Want, Grant, Owner, is_on, on, set_at, Deed, Propose, Close, Use, Agree, Yield, Reject, Agreed, Rejected, Leave, Stay, Left, Stayed, Pass, Skip, May, IsLost, taken_by, pushed_by}

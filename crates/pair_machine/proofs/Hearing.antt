@@ -12,7 +12,7 @@ use Rattle.nat_types.specs.declared.pairs.Pair.{Pair}
 use Rattle.trace_words.specs.Past.{is_synced, is_open, goes_on, Fits, Silent}
 use Rattle.pair_machine.specs.Acts.{Hear, PeerOff}
 use Rattle.pair_machine.specs.Box.{Box, Letter, In, nth, empty, load, mirrored, revived, is_back, retakes, hears, put_off, batch}
-use Rattle.pair_machine.specs.Invariant.{bit, gifts, View, Awaits, Side, Inv, is_proper}
+use Rattle.pair_machine.proofs.Invariant.{bit, gifts, View, Awaits, Side, Inv, is_proper}
 use Rattle.pair_machine.specs.Phase.{owns, Phase, Nothing, Shared, shared, closing, is_given_up, slot_at, flight_at}
 use Rattle.pair_machine.specs.Ports.{Ranges, Run, keyed, left_to}
 use Rattle.pair_machine.specs.Talk.{Slot, Free, Pending, Doomed, Live, Closing, Held, held, translated}

@@ -8,7 +8,7 @@ use Rattle.nat_types.specs.declared.pairs.Pair.{Pair}
 use Rattle.trace_words.specs.Past.{is_synced, is_open, goes_on}
 use Rattle.pair_machine.specs.Acts.{Act, Do, Take, Hear, HandIn, Ignore, HearAnew, PeerOff, LoadBegin, LoadOwner, LoadPut, LoadDone, LoadSkip, WantPorts, GrantPorts, TakePorts, LosePorts, Send, LoneNew, LoneUse, LoneDrop, Crash, Boot}
 use Rattle.pair_machine.specs.Box.{Box, Letter}
-use Rattle.pair_machine.specs.Invariant.{bit, gifts, Real, View, Side, Inv}
+use Rattle.pair_machine.proofs.Invariant.{bit, gifts, Real, View, Side, Inv}
 use Rattle.pair_machine.specs.Ports.{Ranges}
 use Rattle.pair_machine.specs.Talk.{held, MachineRecord}
 use Rattle.pair_machine.specs.Told.{GoesAt}

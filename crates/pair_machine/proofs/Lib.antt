@@ -1,3 +1,4 @@
+pub mod Invariant
 pub mod Set
 pub mod Boxes
 pub mod Phases
@@ -20,6 +21,7 @@ pub mod Lone
 pub mod Cursor
 pub mod Kept
 pub mod Props
+pub mod Worlds
 pub mod Stepping
 pub mod Batches
 pub mod Runs

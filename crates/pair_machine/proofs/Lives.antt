@@ -10,7 +10,7 @@ use Rattle.nat_types.specs.declared.pairs.Key.{Key}
 use Rattle.trace_words.specs.Past.{is_synced, goes_on}
 use Rattle.pair_machine.specs.Acts.{Crash, Boot, HearAnew}
 use Rattle.pair_machine.specs.Box.{Letter, empty, hears_anew}
-use Rattle.pair_machine.specs.Invariant.{Fresh, Loads, Side, Inv}
+use Rattle.pair_machine.proofs.Invariant.{Fresh, Loads, Side, Inv}
 use Rattle.pair_machine.specs.Phase.{Phase}
 use Rattle.pair_machine.specs.Ports.{Ranges}
 use Rattle.pair_machine.specs.Talk.{translated, note}

@@ -12,7 +12,7 @@ use Rattle.nat_types.specs.declared.pairs.Pair.{Pair}
 use Rattle.trace_words.specs.Past.{is_synced, Fits, Silent}
 use Rattle.pair_machine.specs.Acts.{LoadOwner, LoadBegin, LoadPut, LoadDone, LoadSkip, IsMisplaced}
 use Rattle.pair_machine.specs.Box.{owners, names, Box, Letter, nth, empty, load, loaded_slot, puts, batch, begins, loads_one, is_done, In, IsNext, AreNew, goes}
-use Rattle.pair_machine.specs.Invariant.{Within, Fresh, Naming, Part, Loads, Real, View, Awaits, Side, Inv}
+use Rattle.pair_machine.proofs.Invariant.{Within, Fresh, Naming, Part, Loads, Real, View, Awaits, Side, Inv}
 use Rattle.pair_machine.specs.Phase.{owns, Phase, closing}
 use Rattle.pair_machine.specs.Ports.{Ranges, Run, keyed, left_to, cut, cuts, in_run, last_named, AreRising, IsRun}
 use Rattle.pair_machine.specs.Talk.{Slot, Free, Live, Held, held, translated, MachineRecord, Put, Owner, set_at, pair_of, note, Done, Begin}

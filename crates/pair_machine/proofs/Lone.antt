@@ -12,7 +12,7 @@ use Rattle.nat_types.specs.declared.pairs.Pair.{Pair}
 use Rattle.trace_words.specs.Past.{is_synced, is_open, has_let_go, is_agreed, Fits, Silent}
 use Rattle.pair_machine.specs.Acts.{LoneNew, LoneUse, LoneDrop}
 use Rattle.pair_machine.specs.Box.{holds_table, goes}
-use Rattle.pair_machine.specs.Invariant.{Alone, Awaits, Side, Inv, is_proper}
+use Rattle.pair_machine.proofs.Invariant.{Alone, Awaits, Side, Inv, is_proper}
 use Rattle.pair_machine.specs.Ports.{Ranges, keyed}
 use Rattle.pair_machine.specs.Talk.{Slot, Free, Pending, Doomed, Live, Closing, Held, held, translated, set_at, pair_of, note}
 use Rattle.pair_machine.specs.Told.{GoesAt}

@@ -8,7 +8,7 @@ use Rattle.nat_types.specs.declared.notes.Note.{Note}
 use Rattle.nat_types.specs.declared.pairs.Key.{Key}
 use Rattle.pair_machine.specs.Acts.{WantPorts, GrantPorts, TakePorts, LosePorts}
 use Rattle.pair_machine.specs.Box.{IsVacant, Box, Letter, wants_ports, grants_ports, takes_ports}
-use Rattle.pair_machine.specs.Invariant.{bit, times, gifts, wants_in, grants_in, Within, Loads, Real, View, Inv}
+use Rattle.pair_machine.proofs.Invariant.{bit, times, gifts, wants_in, grants_in, Within, Loads, Real, View, Inv}
 use Rattle.pair_machine.specs.Phase.{owns, Phase, Nothing, Talks, Excused, closing, is_given_up, slot_at}
 use Rattle.pair_machine.specs.Ports.{Ranges, has, AreDistinct}
 use Rattle.pair_machine.specs.Talk.{Slot, Free, MachineRecord, Want, Grant, is_on, on}

@@ -10,11 +10,11 @@ use Rattle.nat_types.specs.declared.notes.Happening.TheVariants.{Used, Released,
 use Rattle.nat_types.specs.declared.notes.Note.{Note}
 use Rattle.trace_words.specs.Past.{FitsAt, Fits, SilentAt, Silent, Kept, GoesOn}
 use Rattle.pair_machine.specs.Box.{Letter, In, IsNext, nth}
-use Rattle.pair_machine.specs.Invariant.{IsWorld, Inv, View}
+use Rattle.pair_machine.proofs.Invariant.{Inv, View}
 use Rattle.pair_machine.specs.Ports.{Ranges}
 use Rattle.pair_machine.specs.Talk.{MachineRecord}
-use Rattle.pair_machine.specs.World.{HasOwners, Scene, Can, Event, seen_by, flip, happens, IsKept, tables_of, start, Holds, Translates}
-use Rattle.pair_machine.proofs.Kept.{is_kept, has_owners, inv_by, inv_start}
+use Rattle.pair_machine.specs.World.{HasOwners, IsWorld, Scene, seen_by, flip, IsKept, tables_of, start, Holds, Translates}
+use Rattle.pair_machine.proofs.Kept.{is_kept, has_owners, inv_run, inv_start}
 use Rattle.pair_machine.proofs.Loading.{Reading, reading}
 use Rattle.pair_machine.proofs.Mirror.{inv_flip}
 use Rattle.trace_words.specs.Trace as TheTrace
@@ -47,20 +47,18 @@ module _ (r : Ranges) where
   kept_prop : (s : Scene) → IsProp (IsKept s.trace (tables_of s))
   kept_prop s = hlevel (fits_prop s.trace, silent_prop s.trace, props)
 
+  -- the invariant holds of each
+  inv_world : (s : Scene) → IsWorld r s → ∥ Inv r Zero s ∥₁
+  inv_world s w = ∥∥₁_elim w (hlevel) (λ v. ∣ subst (λ (x : Scene). Inv r Zero x) v.ends (inv_run r v.events (start r) (inv_start r) v.allowed) ∣₁)
+
   pub promises : (s : Scene) → IsWorld r s → IsKept s.trace (tables_of s)
-  promises s w = ∥∥₁_elim w (kept_prop s) (is_kept r s)
+  promises s w = ∥∥₁_elim (inv_world s w) (kept_prop s) (is_kept r s)
 
   owners_prop : (s : Scene) → IsProp (HasOwners r s)
   owners_prop s = hlevel (props)
 
   pub promises_ports : (s : Scene) → IsWorld r s → HasOwners r s
-  promises_ports s w = ∥∥₁_elim w (owners_prop s) (has_owners r s)
-
-  pub goes_to : (s : Scene) (e : Event) → IsWorld r s → Can r e.by (seen_by e.by s) e.act → IsWorld r (happens r s e)
-  goes_to s e w can = ∥∥₁_elim w (hlevel) (λ v. ∣ inv_by r e.moment e.by e.act s v can ∣₁)
-
-  pub begins_so : IsWorld r (start r)
-  begins_so = ∣ inv_start r ∣₁
+  promises_ports s w = ∥∥₁_elim (inv_world s w) (owners_prop s) (has_owners r s)
 
   -- the trace in the order in which its notes were made
   module _ (s : Scene) (trace : List Note) (w : IsWorld r s) (order : s.trace ≡ reverse trace) where
@@ -93,4 +91,4 @@ module _ (r : Ranges) where
   pushed_by_other One s l n q v sb sent reads = next_pushed One (flip s) l n q (inv_flip r Zero s v) sb sent reads
 
   pub takes_in_order : (s : Scene) (i : GatewayId) (l : Letter) (n : ℕ) (q : MachineRecord) → IsWorld r s → (seen_by i s).theirs.synced ≡ true → In l (seen_by i s).their_mail → IsNext (seen_by i s).mine l n q → nth (seen_by i s).theirs.sent (seen_by i s).mine.taken ≡ Some q
-  takes_in_order s i l n q w sb sent reads = ∥∥₁_elim w (hlevel (props)) (λ v. pushed_by_other i s l n q v sb sent reads)
+  takes_in_order s i l n q w sb sent reads = ∥∥₁_elim (inv_world s w) (hlevel (props)) (λ v. pushed_by_other i s l n q v sb sent reads)

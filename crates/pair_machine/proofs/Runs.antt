@@ -12,15 +12,10 @@ use Rattle.pair_machine.specs.Box.{AreBack, is_back, revived}
 use Rattle.pair_machine.specs.Ports.{keyed, Ranges, has, in_run, left_to}
 use Rattle.pair_machine.specs.Rows.{pair_p, crossing, peer_off, using, wanting, asked_yes_notes, LeavesPorts, granting, loading_notes, granted, udp, revival_notes, asked_no_notes, pair_q, range_of, asked_no, loading, sharing, in_six, six_ports, place, two_ranges, revival, losing_notes, host, peer_off_notes, LeadsTo, crossing_notes, losing, using_notes, asked_yes, doomed_notes, doomed}
 use Rattle.pair_machine.specs.Talk.{Slot, Live, Closing, Free, Doomed, held, Held, pair_of, Pending}
+use Rattle.pair_machine.proofs.Worlds.{allowed_join}
 use Rattle.pair_machine.specs.World.{Event, Scene, happens, AreAllowed, start, run}
 use Rattle.pair_machine.proofs.Batches.{fixed_leaves, batch_new, batch_mirrored}
 use Rattle.pair_machine.proofs.Set.{cases_key}
-
-module _ (r : Ranges) where
-  -- one list of events behind another
-  allowed_join : (xs ys : List Event) (s : Scene) → AreAllowed r xs s → AreAllowed r ys (run r xs s) → AreAllowed r (xs ++ ys) s
-  allowed_join [] ys s a b = b
-  allowed_join (e ∷ xs) ys s a b = (a.0, allowed_join xs ys (happens r s e) a.1 b)
 
 -- a gateway that is up, with nothing promised, may send what it likes
 at_will : {n : ℕ} → (true ≡ true) × ((m : ℕ) → None ≡ Some m → n ≤ m)

@@ -5,7 +5,7 @@ use Rattle.nat_types.specs.Same.{other}
 use Rattle.nat_types.specs.declared.gateways.GatewayId.{GatewayId}
 use Rattle.pair_machine.specs.Acts.{Send}
 use Rattle.pair_machine.specs.Box.{Box, Letter, nth, letter}
-use Rattle.pair_machine.specs.Invariant.{Within, Awaits, Side, Inv}
+use Rattle.pair_machine.proofs.Invariant.{Within, Awaits, Side, Inv}
 use Rattle.pair_machine.specs.Ports.{Ranges}
 use Rattle.pair_machine.specs.Talk.{MachineRecord}
 use Rattle.pair_machine.specs.World.{Scene, Can, after}

@@ -1,4 +1,4 @@
--- A gateway's step, by its own contract, leads from world to world.
+-- Steps of a gateway: joined, set behind others, and of one act or none.
 use Rattle.std.proofs.Common.{append_assoc, append-nil, ◌≡◌, ℕ, List, [], ◌∷◌, ◌++◌, refl, sym, ap, subst, ◌∙◌}
 use Rattle.std.proofs.Math.Logic.{∥∥₁_elim}
 use Rattle.nat_types.specs.declared.gateways.GatewayId.{GatewayId}
@@ -6,7 +6,6 @@ use Rattle.nat_types.specs.declared.gateways.GatewayId.TheVariants.{Zero, One}
 use Rattle.nat_types.specs.declared.notes.Note.{Note}
 use Rattle.pair_machine.specs.Acts.{Boot, Act, PeerOff, Crash, MayAct, box_after, letters_by, notes_of}
 use Rattle.pair_machine.specs.Box.{AreSame, Box, Letter, In}
-use Rattle.pair_machine.specs.Invariant.{Inv, IsWorld}
 use Rattle.pair_machine.specs.Ports.{Ranges}
 use Rattle.pair_machine.specs.Step.{IsGiven, ReadsOnly, Follows, boxes_after, noted, mailed, IsStep, WasSent, IsOff}
 use Rattle.pair_machine.specs.World.{Scene, Outside, Can, after, seen_by}
@@ -15,37 +14,6 @@ use Rattle.pair_machine.proofs.Kept.{inv_act}
 use Rattle.pair_machine.proofs.Mirror.{inv_flip}
 
 module _ (r : Ranges) where
-  outside : (s : Scene) (ws : List ℕ) (x : Act) → IsOff ws s.theirs → IsGiven ws x → Outside s x
-  outside s ws (PeerOff number back) off given = off number given
-  outside s ws Crash off given = absurd given
-  outside s ws x off given = tt
-
-  can : (i : GatewayId) (s : Scene) (ls : List Letter) (ws : List ℕ) (x : Act) → WasSent ls s.their_mail → IsOff ws s.theirs → MayAct r i s.mine x → ReadsOnly ls ws x → Can r i s x
-  can i s ls ws x from off may only = (may, λ l h. from l (only.0 l h), outside s ws x off only.1)
-
-  inv_acts : (moment : ℕ) (i : GatewayId) (s : Scene) (ls : List Letter) (ws : List ℕ) (xs : List Act) → Inv r i s → WasSent ls s.their_mail → IsOff ws s.theirs → Follows r i s.mine ls ws xs
-      → Inv r i (record { mine = boxes_after r i s.mine xs; theirs = s.theirs; my_mail = mailed r i s.mine xs s.my_mail; their_mail = s.their_mail; trace = noted r i moment xs s.trace })
-  inv_acts moment i s ls ws [] v from off f = v
-  inv_acts moment i s ls ws (x ∷ xs) v from off f =
-      inv_acts moment i (after r i moment s x) ls ws xs (inv_act r moment i s x v (can i s ls ws x from off f.0 f.1)) from off f.2
-
-  -- the scene after a step of gateway i
-  inv_step : (moment : ℕ) (i : GatewayId) (s : Scene) (ls : List Letter) (ws : List ℕ) (new : Box) (t2 : List Note) (mail2 : List Letter) → Inv r i s → WasSent ls s.their_mail → IsOff ws s.theirs → IsStep r i moment s.mine new ls ws s.trace t2 s.my_mail mail2
-      → Inv r i (record { mine = new; theirs = s.theirs; my_mail = mail2; their_mail = s.their_mail; trace = t2 })
-  inv_step moment i s ls ws new t2 mail2 v from off st =
-      let w : Inv r i (record { mine = boxes_after r i s.mine st.acts; theirs = s.theirs; my_mail = mailed r i s.mine st.acts s.my_mail; their_mail = s.their_mail; trace = noted r i moment st.acts s.trace }) = inv_acts moment i s ls ws st.acts v from off st.follows in
-      subst (λ (b : Box). Inv r i (record { mine = b; theirs = s.theirs; my_mail = mail2; their_mail = s.their_mail; trace = t2 })) (sym st.box_is)
-      (subst (λ (t : List Note). Inv r i (record { mine = boxes_after r i s.mine st.acts; theirs = s.theirs; my_mail = mail2; their_mail = s.their_mail; trace = t })) (sym st.trace_is)
-      (subst (λ (m : List Letter). Inv r i (record { mine = boxes_after r i s.mine st.acts; theirs = s.theirs; my_mail = m; their_mail = s.their_mail; trace = noted r i moment st.acts s.trace })) (sym st.mail_is) w))
-
-  pub zero_steps : (moment : ℕ) (s : Scene) (ls : List Letter) (ws : List ℕ) (new : Box) (t2 : List Note) (mail2 : List Letter) → IsWorld r s → WasSent ls s.their_mail → IsOff ws s.theirs → IsStep r Zero moment s.mine new ls ws s.trace t2 s.my_mail mail2
-      → IsWorld r (record { mine = new; theirs = s.theirs; my_mail = mail2; their_mail = s.their_mail; trace = t2 })
-  zero_steps moment s ls ws new t2 mail2 w from off st = ∥∥₁_elim w (hlevel) (λ v. ∣ inv_step moment Zero s ls ws new t2 mail2 v from off st ∣₁)
-
-  pub one_steps : (moment : ℕ) (s : Scene) (ls : List Letter) (ws : List ℕ) (new : Box) (t2 : List Note) (mail2 : List Letter) → IsWorld r s → WasSent ls s.my_mail → IsOff ws s.mine → IsStep r One moment s.theirs new ls ws s.trace t2 s.their_mail mail2
-      → IsWorld r (record { mine = s.mine; theirs = new; my_mail = s.my_mail; their_mail = mail2; trace = t2 })
-  one_steps moment s ls ws new t2 mail2 w from off st = ∥∥₁_elim w (hlevel) (λ v. ∣ inv_flip r One (record { mine = new; theirs = s.mine; my_mail = mail2; their_mail = s.my_mail; trace = t2 }) (inv_step moment One (seen_by One s) ls ws new t2 mail2 (inv_flip r Zero s v) from off st) ∣₁)
-
   follows_join : (i : GatewayId) (a : Box) (ls : List Letter) (ws : List ℕ) (xs ys : List Act) → Follows r i a ls ws xs → Follows r i (boxes_after r i a xs) ls ws ys → Follows r i a ls ws (xs ++ ys)
   follows_join i a ls ws [] ys f g = g
   follows_join i a ls ws (x ∷ xs) ys f g = (f.0, f.1, follows_join i (box_after r i a x) ls ws xs ys f.2 g)

@@ -5,7 +5,6 @@ pub mod Ports
 pub mod Box
 pub mod Acts
 pub mod World
-pub mod Invariant
 pub mod Step
 pub mod Batch
 pub mod Rows

@@ -45,22 +45,26 @@ seen_by One s = flip s
 abbrev pub start : Ranges → Scene
 start r = record { mine = founder (λ p. r.in_ranges p && r.at_start p); theirs = never; my_mail = []; their_mail = []; trace = [] }
 
--- the scene with gateway 0 as it is now, all notes and all its letters
-abbrev pub with_zero : Scene → Box → List Note → List Letter → Scene
-with_zero s now notes letters = record { mine = now; theirs = s.theirs; my_mail = letters; their_mail = s.their_mail; trace = notes }
-
--- the same of gateway 1
-abbrev pub with_one : Scene → Box → List Note → List Letter → Scene
-with_one s now notes letters = record { mine = s.mine; theirs = now; my_mail = s.my_mail; their_mail = letters; trace = notes }
-
 -- what belongs to gateway 0, and what to gateway 1
 abbrev pub both : {A : Type 0} → A → A → GatewayId → A
 both a b Zero = a
 both a b One = b
 
+-- the box of this gateway, and all the letters that it ever sent
+abbrev pub box_in : Scene → GatewayId → Box
+box_in s = both s.mine s.theirs
+
+abbrev pub mail_in : Scene → GatewayId → List Letter
+mail_in s = both s.my_mail s.their_mail
+
+-- the scene with this box of the gateway, these notes in all and these letters of it in all
+abbrev pub with_step : Scene → GatewayId → Box → List Note → List Letter → Scene
+with_step s Zero new notes letters = record s { mine = new; my_mail = letters; trace = notes }
+with_step s One new notes letters = record s { theirs = new; their_mail = letters; trace = notes }
+
 -- the two tables
 abbrev pub tables_of : Scene → GatewayId → Key → Slot
-tables_of s = both s.mine.table s.theirs.table
+tables_of s i = (box_in s i).table
 
 -- the pair is in the table
 abbrev pub Holds : (GatewayId → Key → Slot) → GatewayId → Pair → Type 0
@@ -85,7 +89,7 @@ pub record HasOwners (r : Ranges) (s : Scene) : Type 0 where
   pub whole : s.mine.synced ≡ true → s.theirs.synced ≡ true → s.mine.taken ≡ length s.theirs.sent → s.theirs.taken ≡ length s.mine.sent
       → (p : ℕ) → IsTrue (r.in_ranges p) → IsTrue (s.mine.owned p || s.theirs.owned p)
   -- and no other port is owned
-  pub within : (i : GatewayId) → (both s.mine s.theirs i).synced ≡ true → (p : ℕ) → IsTrue ((both s.mine s.theirs i).owned p) → IsTrue (r.in_ranges p)
+  pub within : (i : GatewayId) → (box_in s i).synced ≡ true → (p : ℕ) → IsTrue ((box_in s i).owned p) → IsTrue (r.in_ranges p)
 
 module _ (r : Ranges) where
   -- An act is allowed where the gateway may do it, what it reads was sent, and the outside is so.
@@ -109,3 +113,13 @@ module _ (r : Ranges) where
   abbrev pub AreAllowed : List Event → Scene → Type 0
   AreAllowed [] s = Unit {0}
   AreAllowed (e ∷ es) s = Can e.by (seen_by e.by s) e.act × AreAllowed es (happens s e)
+
+  -- an execution that ends in this scene: events from the founding, each allowed where it comes
+  pub record Execution (s : Scene) : Type 0 where
+    pub events : List Event
+    pub allowed : AreAllowed events (start r)
+    pub ends : run events (start r) ≡ s
+
+  -- a scene that can come about: some list of allowed events leads here from the founding
+  abbrev pub IsWorld : Scene → Type 0
+  IsWorld s = ∥ Execution s ∥₁
