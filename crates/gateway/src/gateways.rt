@@ -197,12 +197,7 @@ impl Gateway {
     {
         let flow = read_packet(&self.networks.of(side), self.synced, bytes)?;
         match direction_taken(&self.networks, side, flow.source, flow.destination)? {
-            Direction::Outward => plan_outward(
-                &self.networks,
-                &self.neighbours,
-                &self.table,
-                flow,
-            ),
+            Direction::Outward => plan_outward(&self.networks, &self.neighbours, &self.table, flow),
             Direction::Inward => plan_inward(&self.neighbours, &self.table, flow),
         }
     }
