@@ -2,17 +2,16 @@
 use Rattle.std.specs.Prelude.{◌≡◌, ℕ, suc, Bool, true, false, not, cond, List, [], ◌∷◌, ◌++◌, ◌==◌, length, ◌<◌, ◌≤◌, ◌+◌, IsTrue, Some, None, ◌⊎◌}
 use Rattle.nat_types.specs.Same.{other}
 use Rattle.nat_types.specs.declared.gateways.GatewayId.{GatewayId}
-use Rattle.nat_types.specs.declared.gateways.GatewayId.TheVariants.{Zero}
 use Rattle.nat_types.specs.declared.notes.Note.{Note}
 use Rattle.nat_types.specs.declared.pairs.Endpoint.{Endpoint}
 use Rattle.nat_types.specs.declared.pairs.Key.{Key}
 use Rattle.nat_types.specs.declared.pairs.Pair.{Pair}
 use Rattle.trace_words.specs.Past.{is_synced, is_open, Fits, Silent}
-use Rattle.pair_machine.specs.Box.{Box, Letter, In, nth, empty, load, AreNew, batch}
-use Rattle.pair_machine.specs.Phase.{owns, Phase, Nothing, closing, Talks}
-use Rattle.pair_machine.specs.Ports.{Ranges, Run, keyed, left_to, last_named, AreRising}
+use Rattle.pair_machine.specs.Box.{Box, Letter, In, nth, empty, load, AreLoadable, batch}
+use Rattle.pair_machine.proofs.Phase.{owns, Phase, Nothing, closing, Talks}
+use Rattle.pair_machine.specs.Ownership.{Ranges, Run, keyed, left_to, last_named, AreRising}
 use Rattle.pair_machine.specs.Talk.{Slot, Free, Pending, Doomed, Live, Closing, Held, held, MachineRecord, Install, Accept, Refuse, Ask, Yes, No, Begin, Put, Done, Want, Grant, Owner}
-use Rattle.pair_machine.specs.Told.{Covers, LetsGo, GoesAt}
+use Rattle.pair_machine.proofs.Traced.{Covers, LetsGo, GoesAt}
 use Rattle.pair_machine.specs.World.{Scene}
 
 -- the letter's records stand in the history at their numbers
@@ -122,7 +121,7 @@ pub record Awaits (a b : Box) (their_mail : List Letter) : Type 0 where
 
 module _ (r : Ranges) where
   -- Where the ports are. The ghost says of each key whose it is, also where its port is on its way or lost: there nothing stands at it.
-  pub record Ports (i : GatewayId) (phase : Key → Phase) (owner : Key → GatewayId) (mine theirs : ℕ → Bool) (want their_want : Bool) (out inn : List MachineRecord) : Type 0 where
+  pub record Whereabouts (i : GatewayId) (phase : Key → Phase) (owner : Key → GatewayId) (mine theirs : ℕ → Bool) (want their_want : Bool) (out inn : List MachineRecord) : Type 0 where
     pub mine_is : (k : Key) → keyed mine k ≡ true → owns owner i k ≡ true
     pub theirs_is : (k : Key) → keyed theirs k ≡ true → owns owner i k ≡ false
     pub nobody : (k : Key) → keyed mine k ≡ false → keyed theirs k ≡ false → phase k ≡ Nothing
@@ -167,7 +166,7 @@ module _ (r : Ranges) where
     pub rising : AreRising r.in_ranges 0 os
     pub owned_is : (p : ℕ) → owned p ≡ left_to r (other i) os p
     pub want_is : want ≡ false
-    pub are_new : AreNew r (keyed (left_to r (other i) os)) empty ps
+    pub are_new : AreLoadable r (keyed (left_to r (other i) os)) empty ps
     pub table_is : (q : Key) → table q ≡ load (keyed (left_to r (other i) os)) empty ps q
     pub bar : (m : ℕ) → a.promised ≡ Some m → m ≡ suc (length os + length ps)
     pub none_closing : (k : Key) → IsTrue (owns owner (other i) k) → closing (phase k) ≡ None
@@ -192,7 +191,7 @@ module _ (r : Ranges) where
     pub sent : a.sent ≡ gone ++ out
     pub taken : a.taken ≡ length heard
     pub talks : Talks owner i a.table out table inn phase
-    pub ports : Ports i phase owner a.owned their_owned a.wants their_want out inn
+    pub ports : Whereabouts i phase owner a.owned their_owned a.wants their_want out inn
     pub letters : (l : Letter) → In l their_mail → l.boot ≡ a.peer → l.to ≡ a.boot → Within l (heard ++ inn)
     pub covers : Covers phase t
     pub lets : (g : GatewayId) → LetsGo owner g phase t

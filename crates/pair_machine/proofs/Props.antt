@@ -9,11 +9,11 @@ use Rattle.nat_types.specs.declared.notes.Happening.{Happening}
 use Rattle.nat_types.specs.declared.notes.Happening.TheVariants.{Used, Released, Retaken, Synced, Crashed, Booted}
 use Rattle.nat_types.specs.declared.notes.Note.{Note}
 use Rattle.trace_words.specs.Past.{FitsAt, Fits, SilentAt, Silent, Kept, GoesOn}
-use Rattle.pair_machine.specs.Box.{Letter, In, IsNext, nth}
+use Rattle.pair_machine.specs.Box.{Letter, In, StandsNext, nth}
 use Rattle.pair_machine.proofs.Invariant.{Inv, View}
-use Rattle.pair_machine.specs.Ports.{Ranges}
+use Rattle.pair_machine.specs.Ownership.{Ranges}
 use Rattle.pair_machine.specs.Talk.{MachineRecord}
-use Rattle.pair_machine.specs.World.{HasOwners, IsWorld, Scene, seen_by, flip, IsKept, tables_of, start, Holds, Translates}
+use Rattle.pair_machine.specs.World.{HasOwners, IsWorld, Scene, seen_by, flip, IsKept, tables_of, founding, TableHolds, TableTranslates}
 use Rattle.pair_machine.proofs.Kept.{is_kept, has_owners, inv_run, inv_start}
 use Rattle.pair_machine.proofs.Loading.{Reading, reading}
 use Rattle.pair_machine.proofs.Mirror.{inv_flip}
@@ -49,7 +49,7 @@ module _ (r : Ranges) where
 
   -- the invariant holds of each
   inv_world : (s : Scene) → IsWorld r s → ∥ Inv r Zero s ∥₁
-  inv_world s w = ∥∥₁_elim w (hlevel) (λ v. ∣ subst (λ (x : Scene). Inv r Zero x) v.ends (inv_run r v.events (start r) (inv_start r) v.allowed) ∣₁)
+  inv_world s w = ∥∥₁_elim w (hlevel) (λ v. ∣ subst (λ (x : Scene). Inv r Zero x) v.ends (inv_run r v.events (founding r) (inv_start r) v.allowed) ∣₁)
 
   pub promises : (s : Scene) → IsWorld r s → IsKept s.trace (tables_of s)
   promises s w = ∥∥₁_elim (inv_world s w) (kept_prop s) (is_kept r s)
@@ -65,17 +65,17 @@ module _ (r : Ranges) where
     pub fits_in_order : TheTrace.Fits trace
     fits_in_order = subst (λ (t : List Note). Fits t) order (promises s w).fits
 
-    pub kept_in_order : TheTrace.Kept (Holds (tables_of s)) trace
-    kept_in_order = subst (λ (t : List Note). Kept (Holds (tables_of s)) t) order (promises s w).kept
+    pub kept_in_order : TheTrace.Kept (TableHolds (tables_of s)) trace
+    kept_in_order = subst (λ (t : List Note). Kept (TableHolds (tables_of s)) t) order (promises s w).kept
 
     pub silent_in_order : TheTrace.Silent trace
     silent_in_order = subst (λ (t : List Note). Silent t) order (promises s w).silent
 
-    pub goes_on_in_order : TheTrace.GoesOn (Translates (tables_of s)) trace
-    goes_on_in_order = subst (λ (t : List Note). GoesOn (Translates (tables_of s)) t) order (promises s w).goes_on
+    pub goes_on_in_order : TheTrace.GoesOn (TableTranslates (tables_of s)) trace
+    goes_on_in_order = subst (λ (t : List Note). GoesOn (TableTranslates (tables_of s)) t) order (promises s w).goes_on
 
   -- what may be taken next is what the other pushed at that place
-  next_pushed : (i : GatewayId) (s : Scene) (l : Letter) (n : ℕ) (q : MachineRecord) → Inv r i s → s.theirs.synced ≡ true → In l s.their_mail → IsNext s.mine l n q → nth s.theirs.sent s.mine.taken ≡ Some q
+  next_pushed : (i : GatewayId) (s : Scene) (l : Letter) (n : ℕ) (q : MachineRecord) → Inv r i s → s.theirs.synced ≡ true → In l s.their_mail → StandsNext s.mine l n q → nth s.theirs.sent s.mine.taken ≡ Some q
   next_pushed i s l n q v sb sent reads = elim (cases_Bool s.mine.synced) [
     | inl sa ↦
         let x : View r i s.mine s.theirs s.their_mail s.trace = elim (v.here.state sa) [ inl y ↦ absurd (both_ways s.theirs.synced y.other_out sb) | inr y ↦ y ] in
@@ -86,9 +86,9 @@ module _ (r : Ranges) where
         ap (λ z. nth z s.mine.taken) (x.view.sent ∙ ap (λ g. g ++ x.view.out) x.loads.batch_is) ∙ x.stands
   ]
 
-  pushed_by_other : (i : GatewayId) (s : Scene) (l : Letter) (n : ℕ) (q : MachineRecord) → Inv r Zero s → (seen_by i s).theirs.synced ≡ true → In l (seen_by i s).their_mail → IsNext (seen_by i s).mine l n q → nth (seen_by i s).theirs.sent (seen_by i s).mine.taken ≡ Some q
+  pushed_by_other : (i : GatewayId) (s : Scene) (l : Letter) (n : ℕ) (q : MachineRecord) → Inv r Zero s → (seen_by i s).theirs.synced ≡ true → In l (seen_by i s).their_mail → StandsNext (seen_by i s).mine l n q → nth (seen_by i s).theirs.sent (seen_by i s).mine.taken ≡ Some q
   pushed_by_other Zero s l n q v sb sent reads = next_pushed Zero s l n q v sb sent reads
   pushed_by_other One s l n q v sb sent reads = next_pushed One (flip s) l n q (inv_flip r Zero s v) sb sent reads
 
-  pub takes_in_order : (s : Scene) (i : GatewayId) (l : Letter) (n : ℕ) (q : MachineRecord) → IsWorld r s → (seen_by i s).theirs.synced ≡ true → In l (seen_by i s).their_mail → IsNext (seen_by i s).mine l n q → nth (seen_by i s).theirs.sent (seen_by i s).mine.taken ≡ Some q
+  pub takes_in_order : (s : Scene) (i : GatewayId) (l : Letter) (n : ℕ) (q : MachineRecord) → IsWorld r s → (seen_by i s).theirs.synced ≡ true → In l (seen_by i s).their_mail → StandsNext (seen_by i s).mine l n q → nth (seen_by i s).theirs.sent (seen_by i s).mine.taken ≡ Some q
   takes_in_order s i l n q w sb sent reads = ∥∥₁_elim (inv_world s w) (hlevel (props)) (λ v. pushed_by_other i s l n q v sb sent reads)

@@ -1,7 +1,5 @@
 pub mod Talk
-pub mod Phase
-pub mod Told
-pub mod Ports
+pub mod Ownership
 pub mod Box
 pub mod Acts
 pub mod World

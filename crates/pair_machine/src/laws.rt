@@ -7,32 +7,32 @@ ghost use Rattle.nat_types.specs.declared.notes.Note.{Note};
 ghost use Rattle.nat_types.specs.declared.pairs.Key.{Key};
 ghost use Rattle.nat_types.specs.declared.pairs.Pair.{Pair};
 ghost use Rattle.trace_words.specs.Trace.{Fits, GoesOn, Kept, Silent};
-ghost use Rattle.pair_machine.specs.Acts.{Act, MayAct, box_after, letters_by, notes_of};
+ghost use Rattle.pair_machine.specs.Acts.{Act, MayAct, box_after, letters_by, act_notes};
 ghost use Rattle.pair_machine.specs.Batch.{AreApart, AreThose, LieWithin};
-ghost use Rattle.pair_machine.specs.Box.{AreMirrored, AreNew, AreSame, Box, In, IsNext, Letter, empty, nth};
-ghost use Rattle.pair_machine.specs.Ports.{LeaveRest, Ranges, Run, fixed, in_runs, moving};
-ghost use Rattle.pair_machine.specs.Rows.{LeadsTo, LeavesPorts, asked_no, asked_no_notes, asked_yes, asked_yes_notes, crossing, crossing_notes, doomed, doomed_notes, granting, host, loading, loading_notes, losing, losing_notes, peer_off, peer_off_notes, place, revival, revival_notes, sharing, two_ranges, using, using_notes, wanting};
+ghost use Rattle.pair_machine.specs.Box.{AreMirrored, AreLoadable, AreSame, Box, In, StandsNext, Letter, empty, nth};
+ghost use Rattle.pair_machine.specs.Ownership.{LeaveRest, Ranges, Run, fixed, in_runs, moving};
+ghost use Rattle.pair_machine.specs.Rows.{LeadsTo, LeavesPorts, asked_no, asked_no_notes, asked_yes, asked_yes_notes, crossing, crossing_notes, doomed, doomed_notes, granting, host, loading, loading_notes, losing, losing_notes, peer_off, peer_off_notes, slot_on, revival, revival_notes, sharing, two_ranges, using, using_notes, wanting};
 ghost use Rattle.pair_machine.specs.Step.{CanTake, IsDecided, IsOff, IsStep, ReadsOnly, WasSent};
 ghost use Rattle.pair_machine.specs.Talk.{Free, Held, Live, MachineRecord, Slot};
-ghost use Rattle.pair_machine.specs.World.{AreAllowed, Can, Event, HasOwners, Holds, IsKept, IsWorld, Scene, Translates, box_in, happens, mail_in, run, seen_by, start, tables_of, with_step};
+ghost use Rattle.pair_machine.specs.World.{AreAllowed, Can, MachineEvent, HasOwners, TableHolds, IsKept, IsWorld, Scene, TableTranslates, box_in, after_event, mail_in, after_events, seen_by, founding, tables_of, with_step};
 
 /// The headline. Whatever is lost, repeated or reordered, and whenever a gateway crashes and boots: no outside port of
 /// an open pair serves another endpoint, no endpoint gets another port, every open pair is held by each synced gateway,
 /// no unsynced gateway uses a pair, and each synced gateway translates with what it used or took over. No port is owned
 /// by two synced gateways, and once both have taken all that was pushed each port of the ranges has an owner.
 pub fn the_pair_keeps()
-    ensures kept { (r : Ranges) (events : List Event) → AreAllowed r events (start r) → let s = run r events (start r) in IsKept s.trace (tables_of s) }
-    ensures owners { (r : Ranges) (events : List Event) → AreAllowed r events (start r) → HasOwners r (run r events (start r)) }
+    ensures kept { (r : Ranges) (events : List MachineEvent) → AreAllowed r events (founding r) → let s = after_events r events (founding r) in IsKept s.trace (tables_of s) }
+    ensures owners { (r : Ranges) (events : List MachineEvent) → AreAllowed r events (founding r) → HasOwners r (after_events r events (founding r)) }
 {}
 
 /// The founding can come about.
 pub fn begins()
-    ensures { (r : Ranges) → IsWorld r (start r) }
+    ensures { (r : Ranges) → IsWorld r (founding r) }
 {}
 
 /// What an allowed event leads to can come about.
 pub fn goes_to()
-    ensures { (r : Ranges) (s : Scene) (e : Event) → IsWorld r s → Can r e.by (seen_by e.by s) e.act → IsWorld r (happens r s e) }
+    ensures { (r : Ranges) (s : Scene) (e : MachineEvent) → IsWorld r s → Can r e.by (seen_by e.by s) e.act → IsWorld r (after_event r s e) }
 {}
 
 /// A scene that can come about keeps what is promised; its trace has the newest note first.
@@ -44,15 +44,15 @@ pub fn promises()
 /// The same of a trace in the order in which its notes were made.
 pub fn promises_in_order()
     ensures fits { (r : Ranges) (s : Scene) (trace : List Note) → IsWorld r s → s.trace ≡ reverse trace → Fits trace }
-    ensures kept { (r : Ranges) (s : Scene) (trace : List Note) → IsWorld r s → s.trace ≡ reverse trace → Kept (Holds (tables_of s)) trace }
+    ensures kept { (r : Ranges) (s : Scene) (trace : List Note) → IsWorld r s → s.trace ≡ reverse trace → Kept (TableHolds (tables_of s)) trace }
     ensures silent { (r : Ranges) (s : Scene) (trace : List Note) → IsWorld r s → s.trace ≡ reverse trace → Silent trace }
-    ensures goes_on { (r : Ranges) (s : Scene) (trace : List Note) → IsWorld r s → s.trace ≡ reverse trace → GoesOn (Translates (tables_of s)) trace }
+    ensures goes_on { (r : Ranges) (s : Scene) (trace : List Note) → IsWorld r s → s.trace ≡ reverse trace → GoesOn (TableTranslates (tables_of s)) trace }
 {}
 
 /// Where the other gateway is synced, the record that gateway i may take next is the one that the other pushed at that
 /// place of the session: what is taken is a beginning of what was pushed.
 pub fn takes_in_order()
-    ensures { (r : Ranges) (s : Scene) (i : GatewayId) (l : Letter) (offset : ℕ) (q : MachineRecord) → IsWorld r s → let v = seen_by i s in IsTrue v.theirs.synced → In l v.their_mail → IsNext v.mine l offset q → nth v.theirs.sent v.mine.taken ≡ Some q }
+    ensures { (r : Ranges) (s : Scene) (i : GatewayId) (l : Letter) (offset : ℕ) (q : MachineRecord) → IsWorld r s → let v = seen_by i s in IsTrue v.theirs.synced → In l v.their_mail → StandsNext v.mine l offset q → nth v.theirs.sent v.mine.taken ≡ Some q }
 {}
 
 /// A step of gateway i, as its own contract tells of it, leads from a scene that can come about to one that can, where
@@ -68,7 +68,7 @@ pub fn rests()
 
 /// A step of one act.
 pub fn one_act()
-    ensures { (r : Ranges) (i : GatewayId) (moment : ℕ) (a b : Box) (x : Act) (ls : List Letter) (ws : List ℕ) (t : List Note) (mail : List Letter) → MayAct r i a x → ReadsOnly ls ws x → AreSame b (box_after r i a x) → IsStep r i moment a b ls ws t (notes_of i moment x ++ t) mail (letters_by a x ++ mail) }
+    ensures { (r : Ranges) (i : GatewayId) (moment : ℕ) (a b : Box) (x : Act) (ls : List Letter) (ws : List ℕ) (t : List Note) (mail : List Letter) → MayAct r i a x → ReadsOnly ls ws x → AreSame b (box_after r i a x) → IsStep r i moment a b ls ws t (act_notes i moment x ++ t) mail (letters_by a x ++ mail) }
 {}
 
 /// Boxes that tell the same, table and ports included, are one box.
@@ -94,14 +94,14 @@ pub fn steps_anywhere()
 /// Any bytes: whatever record stands at the next number of a letter, some act takes it, at a gateway that is synced and
 /// not lone, and at one that isn't synced.
 pub fn any_record_is_taken()
-    ensures synced { (r : Ranges) (i : GatewayId) (a : Box) (l : Letter) (offset : ℕ) (q : MachineRecord) → IsTrue a.synced → a.lone ≡ false → IsNext a l offset q → CanTake r i a l }
-    ensures unsynced { (r : Ranges) (i : GatewayId) (a : Box) (l : Letter) (offset : ℕ) (q : MachineRecord) → a.synced ≡ false → IsDecided r a → IsNext a l offset q → CanTake r i a l }
+    ensures synced { (r : Ranges) (i : GatewayId) (a : Box) (l : Letter) (offset : ℕ) (q : MachineRecord) → IsTrue a.synced → a.lone ≡ false → StandsNext a l offset q → CanTake r i a l }
+    ensures unsynced { (r : Ranges) (i : GatewayId) (a : Box) (l : Letter) (offset : ℕ) (q : MachineRecord) → a.synced ≡ false → IsDecided r a → StandsNext a l offset q → CanTake r i a l }
 {}
 
 /// A list of the pairs of a table, each once and on ports of the ranges, may be put into a batch: each pair is new
 /// where it is loaded, and a gateway that owns the ports `own` has the mirrored table in the end.
 pub fn batch_loads()
-    ensures loads { (r : Ranges) (own : Key → Bool) (table : Key → Slot) (ps : List Pair) → LieWithin r table → AreThose table ps → AreApart ps → AreNew r own empty ps }
+    ensures loads { (r : Ranges) (own : Key → Bool) (table : Key → Slot) (ps : List Pair) → LieWithin r table → AreThose table ps → AreApart ps → AreLoadable r own empty ps }
     ensures mirrors { (r : Ranges) (own : Key → Bool) (table : Key → Slot) (ps : List Pair) → LieWithin r table → AreThose table ps → AreApart ps → AreMirrored own table ps }
 {}
 
@@ -117,15 +117,15 @@ pub fn fixed_leaves()
 
 /// Whole runs from the founding, with fixed ranges: the guards of the acts can be met, and the notes and the tables of
 /// gateway 0 and of gateway 1 come out as the protocol says.
-pub fn runs_lead()
+pub fn rows_lead()
     ensures loaded { LeadsTo two_ranges loading loading_notes [] [] }
-    ensures used { LeadsTo two_ranges (loading ++ using) (loading_notes ++ using_notes) (place 20000 (Live (host 5000)) ∷ []) (place 20000 (Held (host 5000)) ∷ []) }
-    ensures crossed { LeadsTo two_ranges (loading ++ crossing) (loading_notes ++ crossing_notes) (place 20000 (Live (host 5000)) ∷ []) (place 40000 Free ∷ place 20000 (Held (host 5000)) ∷ []) }
+    ensures used { LeadsTo two_ranges (loading ++ using) (loading_notes ++ using_notes) (slot_on 20000 (Live (host 5000)) ∷ []) (slot_on 20000 (Held (host 5000)) ∷ []) }
+    ensures crossed { LeadsTo two_ranges (loading ++ crossing) (loading_notes ++ crossing_notes) (slot_on 20000 (Live (host 5000)) ∷ []) (slot_on 40000 Free ∷ slot_on 20000 (Held (host 5000)) ∷ []) }
     ensures asked_yes { LeadsTo two_ranges (loading ++ using ++ asked_yes) (loading_notes ++ using_notes ++ asked_yes_notes) [] [] }
-    ensures asked_no { LeadsTo two_ranges (loading ++ using ++ asked_no) (loading_notes ++ using_notes ++ asked_no_notes) (place 20000 (Live (host 5000)) ∷ []) (place 20000 (Held (host 5000)) ∷ []) }
-    ensures revived { LeadsTo two_ranges (loading ++ using ++ revival) (loading_notes ++ using_notes ++ revival_notes) (place 20000 (Live (host 5000)) ∷ []) (place 20000 (Held (host 5000)) ∷ []) }
-    ensures doomed { LeadsTo two_ranges (loading ++ doomed) (loading_notes ++ doomed_notes) (place 20000 (Live (host 5000)) ∷ []) (place 20000 (Held (host 5000)) ∷ []) }
-    ensures peer_off { LeadsTo two_ranges (loading ++ using ++ peer_off) (loading_notes ++ using_notes ++ peer_off_notes) (place 20001 (Live (host 5001)) ∷ place 20000 (Live (host 5000)) ∷ []) [] }
+    ensures asked_no { LeadsTo two_ranges (loading ++ using ++ asked_no) (loading_notes ++ using_notes ++ asked_no_notes) (slot_on 20000 (Live (host 5000)) ∷ []) (slot_on 20000 (Held (host 5000)) ∷ []) }
+    ensures revived { LeadsTo two_ranges (loading ++ using ++ revival) (loading_notes ++ using_notes ++ revival_notes) (slot_on 20000 (Live (host 5000)) ∷ []) (slot_on 20000 (Held (host 5000)) ∷ []) }
+    ensures doomed { LeadsTo two_ranges (loading ++ doomed) (loading_notes ++ doomed_notes) (slot_on 20000 (Live (host 5000)) ∷ []) (slot_on 20000 (Held (host 5000)) ∷ []) }
+    ensures peer_off { LeadsTo two_ranges (loading ++ using ++ peer_off) (loading_notes ++ using_notes ++ peer_off_notes) (slot_on 20001 (Live (host 5001)) ∷ slot_on 20000 (Live (host 5000)) ∷ []) [] }
 {}
 
 /// Whole runs with six ports that move: while a Grant is on its way its ports are nobody's; then they are the asker's;

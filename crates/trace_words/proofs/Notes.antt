@@ -15,7 +15,7 @@ use Rattle.nat_types.proofs.Equal.{pair-eq}
 use Rattle.trace_words.specs.declared.checker.AuditFault.{AuditFault}
 use Rattle.trace_words.specs.declared.checker.AuditFault.TheVariants.{NoMemory, NotFits, NotKept, NotSilent}
 use Rattle.trace_words.specs.Past.{is_open, synced_after, is_synced, has_let_go, is_agreed, open_after, DoFit, FitsAt, SilentAt, Fits, Silent, Kept}
-use Rattle.trace_words.specs.Audit.{Holds, FirstNotFits, FirstNotSilent, FaultSays, AreOpen, Judged, Going, by_gateway}
+use Rattle.trace_words.specs.Audit.{ListsHold, FirstNotFits, FirstNotSilent, FaultSays, AreOpen, Judged, Going, by_gateway}
 use Rattle.trace_words.proofs.Lists.{push_iff, has_iff, without_iff, reverse_take}
 
 pub fits_open : (i : GatewayId) (w : Happening) (p : Pair) (xs : List Pair) (s : Bool) → w ≡ Used p → All (λ q. DoFit q p) xs → s ≡ true → (t : List Note) → AreOpen xs t → s ≡ is_synced i t → FitsAt w t × SilentAt i w t
@@ -52,11 +52,11 @@ released_stays p xs t i w opens e agreed q =
     subst (λ (x : Happening). Contains xs q ↔ IsTrue (open_after q x (is_agreed i q t) (is_open q t))) (sym e) (subst (λ b. Contains xs q ↔ IsTrue b) stays (opens q))
 
 -- the tables at the end
-pub is_kept : (opens zero one : List Pair) (z o : Bool) (t : List Note) → Going opens z o t → (IsTrue z → All (Contains zero) opens) × (IsTrue o → All (Contains one) opens) → Kept (Holds zero one) t
+pub is_kept : (opens zero one : List Pair) (z o : Bool) (t : List Note) → Going opens z o t → (IsTrue z → All (Contains zero) opens) × (IsTrue o → All (Contains one) opens) → Kept (ListsHold zero one) t
 is_kept opens zero one z o t g have p open_ Zero s = All-contains (Contains zero) opens p (have.0 (g.zero_is ∙ s)) ((g.pairs p).1 open_)
 is_kept opens zero one z o t g have p open_ One s = All-contains (Contains one) opens p (have.1 (g.one_is ∙ s)) ((g.pairs p).1 open_)
 
-pub isnt_kept : (opens zero one : List Pair) (z o : Bool) (t : List Note) → Going opens z o t → ((IsTrue z → All (Contains zero) opens) × (IsTrue o → All (Contains one) opens) → ⊥) → Kept (Holds zero one) t → ⊥
+pub isnt_kept : (opens zero one : List Pair) (z o : Bool) (t : List Note) → Going opens z o t → ((IsTrue z → All (Contains zero) opens) × (IsTrue o → All (Contains one) opens) → ⊥) → Kept (ListsHold zero one) t → ⊥
 isnt_kept opens zero one z o t g bad kept = bad (
   λ up j d lt. kept (get_or opens j d) ((g.pairs (get_or opens j d)).0 (Contains-get_or opens j d lt)) Zero (sym g.zero_is ∙ up),
   λ up j d lt. kept (get_or opens j d) ((g.pairs (get_or opens j d)).0 (Contains-get_or opens j d lt)) One (sym g.one_is ∙ up),

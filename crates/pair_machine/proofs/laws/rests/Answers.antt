@@ -1,4 +1,4 @@
-use Rattle.pair_machine.proofs.Stepping as laws
+use Rattle.pair_machine.proofs.StepLaws as laws
 use Rattle.pair_machine.proofs.laws.rests.Goals as goal
 
 pub returns : goal.returns

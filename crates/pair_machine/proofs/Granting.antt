@@ -9,18 +9,18 @@ use Rattle.nat_types.specs.declared.pairs.Key.{Key}
 use Rattle.pair_machine.specs.Acts.{WantPorts, GrantPorts, TakePorts, LosePorts}
 use Rattle.pair_machine.specs.Box.{IsVacant, Box, Letter, wants_ports, grants_ports, takes_ports}
 use Rattle.pair_machine.proofs.Invariant.{bit, times, gifts, wants_in, grants_in, Within, Loads, Real, View, Inv}
-use Rattle.pair_machine.specs.Phase.{owns, Phase, Nothing, Talks, Excused, closing, is_given_up, slot_at}
-use Rattle.pair_machine.specs.Ports.{Ranges, has, AreDistinct}
+use Rattle.pair_machine.proofs.Phase.{owns, Phase, Nothing, Talks, Excused, closing, is_given_up, slot_at}
+use Rattle.pair_machine.specs.Ownership.{Ranges, has, AreDistinct}
 use Rattle.pair_machine.specs.Talk.{Slot, Free, MachineRecord, Want, Grant, is_on, on}
-use Rattle.pair_machine.specs.Told.{LetsGo}
-use Rattle.pair_machine.specs.World.{Scene, Can, after}
+use Rattle.pair_machine.proofs.Traced.{LetsGo}
+use Rattle.pair_machine.specs.World.{Scene, Can, after_act}
 use Rattle.pair_machine.proofs.Acts.{progress_as, inv_next, view_of, next_is, with_next}
 use Rattle.pair_machine.proofs.Excuses.{excused_push}
 use Rattle.pair_machine.proofs.Grants.{gifts-append, wants-append, grants-append}
 use Rattle.pair_machine.proofs.Lists.{length_last, within_more}
-use Rattle.pair_machine.proofs.Phases.{when_free}
-use Rattle.pair_machine.proofs.Ports.{changes_hands, free_at}
-use Rattle.pair_machine.proofs.Steps.{push_else, slot_is}
+use Rattle.pair_machine.proofs.Inversions.{when_free}
+use Rattle.pair_machine.proofs.HandOver.{changes_hands, free_at}
+use Rattle.pair_machine.proofs.Turned.{push_else, slot_is}
 
 pub times_out : (p : ℕ) (qs : List ℕ) → has p qs ≡ false → times p qs ≡ 0
 times_out p [] h = refl
@@ -109,7 +109,7 @@ module _ (r : Ranges) where
   real_as : (a a2 b : Box) (table : Key → Slot) (owned : ℕ → Bool) (want : Bool) (gone heard inn : List MachineRecord) → a.peer ≡ a2.peer → a.boot ≡ a2.boot → Real a b table owned want gone heard inn → Real a2 b table owned want gone heard inn
   real_as a a2 b table owned want gone heard inn peer boot n = record { table_is = n.table_is; owned_is = n.owned_is; want_is = n.want_is; sent = n.sent; taken = n.taken; peer = sym peer ∙ n.peer; back = n.back ∙ boot; lone = n.lone }
 
-  pub inv_want : (moment : ℕ) (i : GatewayId) (s : Scene) → Inv r i s → Can r i s WantPorts → Inv r i (after r i moment s WantPorts)
+  pub inv_want : (moment : ℕ) (i : GatewayId) (s : Scene) → Inv r i s → Can r i s WantPorts → Inv r i (after_act r i moment s WantPorts)
   inv_want moment i s v can =
       let w : View r i s.mine s.theirs s.their_mail s.trace = view_of r i s.mine s.theirs s.my_mail s.their_mail s.trace v.here can.0.0 can.0.1 in
       let none : bit s.mine.wants ≡ 0 = ap bit can.0.2 in
@@ -179,7 +179,7 @@ module _ (r : Ranges) where
   real_on : (a b : Box) (table : Key → Slot) (owned : ℕ → Bool) (want : Bool) (gone heard inn rest : List MachineRecord) (x : MachineRecord) → inn ≡ x ∷ rest → Real a b table owned want gone heard inn → Real a b table owned want gone (heard ++ x ∷ []) rest
   real_on a b table owned want gone heard inn rest x e n = record { table_is = n.table_is; owned_is = n.owned_is; want_is = n.want_is; sent = n.sent ∙ whole_of heard inn rest x e; taken = n.taken; peer = n.peer; back = n.back; lone = n.lone }
 
-  pub inv_grant : (moment : ℕ) (i : GatewayId) (s : Scene) (l : Letter) (n : ℕ) (ports : List ℕ) → Inv r i s → Can r i s (GrantPorts l n ports) → Inv r i (after r i moment s (GrantPorts l n ports))
+  pub inv_grant : (moment : ℕ) (i : GatewayId) (s : Scene) (l : Letter) (n : ℕ) (ports : List ℕ) → Inv r i s → Can r i s (GrantPorts l n ports) → Inv r i (after_act r i moment s (GrantPorts l n ports))
   inv_grant moment i s l n ports v can =
       let w : View r i s.mine s.theirs s.their_mail s.trace = view_of r i s.mine s.theirs s.my_mail s.their_mail s.trace v.here can.0.0 can.0.1 in
       let next : (rest : List MachineRecord) × (w.inn ≡ Want ∷ rest) = next_is r i s.mine s.theirs s.their_mail s.trace w l n Want (can.1 l (inl refl)) can.0.4 in
@@ -263,7 +263,7 @@ module _ (r : Ranges) where
         omega arith,
       )
 
-  pub inv_take_ports : (moment : ℕ) (i : GatewayId) (s : Scene) (l : Letter) (n : ℕ) (ports got : List ℕ) → Inv r i s → Can r i s (TakePorts l n ports got) → Inv r i (after r i moment s (TakePorts l n ports got))
+  pub inv_take_ports : (moment : ℕ) (i : GatewayId) (s : Scene) (l : Letter) (n : ℕ) (ports got : List ℕ) → Inv r i s → Can r i s (TakePorts l n ports got) → Inv r i (after_act r i moment s (TakePorts l n ports got))
   inv_take_ports moment i s l n ports got v can =
       let w : View r i s.mine s.theirs s.their_mail s.trace = view_of r i s.mine s.theirs s.my_mail s.their_mail s.trace v.here can.0.0 can.0.1 in
       let next : (rest : List MachineRecord) × (w.inn ≡ Grant ports ∷ rest) = next_is r i s.mine s.theirs s.their_mail s.trace w l n (Grant ports) (can.1 l (inl refl)) can.0.4 in
@@ -337,7 +337,7 @@ module _ (r : Ranges) where
       (λ m x. x)
 
   -- no Grant comes where no Want is open
-  pub inv_lose_ports : (moment : ℕ) (i : GatewayId) (s : Scene) (l : Letter) (n : ℕ) (ports : List ℕ) → Inv r i s → Can r i s (LosePorts l n ports) → Inv r i (after r i moment s (LosePorts l n ports))
+  pub inv_lose_ports : (moment : ℕ) (i : GatewayId) (s : Scene) (l : Letter) (n : ℕ) (ports : List ℕ) → Inv r i s → Can r i s (LosePorts l n ports) → Inv r i (after_act r i moment s (LosePorts l n ports))
   inv_lose_ports moment i s l n ports v can =
       let w : View r i s.mine s.theirs s.their_mail s.trace = view_of r i s.mine s.theirs s.my_mail s.their_mail s.trace v.here can.0.0 can.0.1 in
       let next : (rest : List MachineRecord) × (w.inn ≡ Grant ports ∷ rest) = next_is r i s.mine s.theirs s.their_mail s.trace w l n (Grant ports) (can.1 l (inl refl)) can.0.3 in

@@ -6,7 +6,7 @@ use Rattle.nat_types.specs.declared.pairs.Endpoint.{Endpoint}
 use Rattle.nat_types.specs.declared.pairs.Key.{Key}
 use Rattle.nat_types.specs.declared.pairs.Pair.{Pair}
 use Rattle.trace_words.specs.Past.{is_synced, has_let_go, is_open, goes_on}
-use Rattle.pair_machine.specs.Phase.{owns, Phase, shared, closing}
+use Rattle.pair_machine.proofs.Phase.{owns, Phase, shared, closing}
 use Rattle.pair_machine.specs.Talk.{Slot, translated, pair_of}
 
 -- each open pair is held by both

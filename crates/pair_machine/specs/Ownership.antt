@@ -52,13 +52,13 @@ last_named low [] = low
 last_named low (o ∷ os) = last_named o.last os
 
 -- a run that rises, lies in the ranges, and begins above this port
-abbrev pub IsRun : (ℕ → Bool) → ℕ → ℕ → ℕ → Type 0
-IsRun ranges low first last = (low < first) × (first ≤ last) × ((p : ℕ) → first ≤ p → p ≤ last → IsTrue (ranges p))
+abbrev pub IsRisingRun : (ℕ → Bool) → ℕ → ℕ → ℕ → Type 0
+IsRisingRun ranges low first last = (low < first) × (first ≤ last) × ((p : ℕ) → first ≤ p → p ≤ last → IsTrue (ranges p))
 
 -- each run is such, above the one before
 abbrev pub AreRising : (ℕ → Bool) → ℕ → List Run → Type 0
 AreRising ranges low [] = Unit {0}
-AreRising ranges low (o ∷ os) = IsRun ranges low o.first o.last × AreRising ranges o.last os
+AreRising ranges low (o ∷ os) = IsRisingRun ranges low o.first o.last × AreRising ranges o.last os
 
 -- a port is among these
 abbrev pub has : ℕ → List ℕ → Bool

@@ -3,7 +3,7 @@ use Rattle.std.proofs.Common.{◌≡◌, Bool, true, false, List, [], refl, sym,
 use Rattle.nat_types.specs.Same.{same}
 use Rattle.nat_types.specs.declared.gateways.GatewayId.{GatewayId}
 use Rattle.nat_types.specs.declared.pairs.Key.{Key}
-use Rattle.pair_machine.specs.Phase.{owns, Phase, Nothing, slot_at, flight_at, Matches}
+use Rattle.pair_machine.proofs.Phase.{owns, Phase, Nothing, slot_at, flight_at, Matches}
 use Rattle.pair_machine.specs.Talk.{Slot, Free, MachineRecord}
 
 pub free_at : (b : Bool) → slot_at b Nothing ≡ Free

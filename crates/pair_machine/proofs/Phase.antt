@@ -5,7 +5,7 @@ use Rattle.nat_types.specs.declared.gateways.GatewayId.{GatewayId}
 use Rattle.nat_types.specs.declared.gateways.GatewayId.TheVariants.{Zero, One}
 use Rattle.nat_types.specs.declared.pairs.Endpoint.{Endpoint}
 use Rattle.nat_types.specs.declared.pairs.Key.{Key}
-use Rattle.pair_machine.specs.Talk.{Slot, Free, Pending, Doomed, Live, Closing, Held, MachineRecord, Install, Accept, Refuse, Ask, Yes, No, Begin, Put, Done, Want, Grant, Owner, on, held, set_at, Deed, Propose, Close, Use, Agree, Yield, Reject, Agreed, Rejected, Leave, Stay, Left, Stayed, Pass, Skip, IsLost, IsNew, translated}
+use Rattle.pair_machine.specs.Talk.{Slot, Free, Pending, Doomed, Live, Closing, Held, MachineRecord, Install, Accept, Refuse, Ask, Yes, No, Begin, Put, Done, Want, Grant, Owner, on, held, set_at, Deed, Propose, Close, Use, Agree, Yield, Reject, Agreed, Rejected, Leave, Stay, Left, Stayed, Pass, Skip, IsLost, IsUnbound, translated}
 
 -- Where a port stands between the two. Proposed, Accepted, Refused: an Install, its Accept or its Refuse is under way; GivenUp, GivenUpRefused: so is one of a proposal given up.
 -- Shared: agreed, nothing under way; Asked, Staying, Leaving: an Ask, its No or its Yes is under way.
@@ -201,21 +201,21 @@ owns owner i k = same i (owner k)
 
 module _ (owned : Key → Bool) where
   -- the same, where it is known whose each key is
-  abbrev pub MayBy : GatewayId → (Key → Slot) → Deed → Type 0
-  MayBy i table (Propose k e) = IsTrue (owned k) × (table k ≡ Free) × IsNew table e
-  MayBy i table (Close k e) = IsTrue (owned k) × (table k ≡ Live e)
-  MayBy i table (Use k e) = translated (table k) ≡ Some e
-  MayBy i table (Agree k e) = (table k ≡ Free) × IsNew table e
-  MayBy i table (Yield k e q) = (i ≡ One) × (table k ≡ Free) × IsTrue (owned q) × (table q ≡ Pending e)
-  MayBy i table (Reject k e) = Unit {0}
-  MayBy i table (Agreed k e) = IsTrue (owned k) × (table k ≡ Pending e)
-  MayBy i table (Rejected k) = IsTrue (owned k)
-  MayBy i table (Leave k e) = table k ≡ Held e
-  MayBy i table (Stay k e) = table k ≡ Held e
-  MayBy i table (Left k e) = IsTrue (owned k) × (table k ≡ Closing e)
-  MayBy i table (Stayed k e) = IsTrue (owned k) × (table k ≡ Closing e)
-  MayBy i table (Pass k) = (e : Endpoint) → table k ≡ Held e → ⊥
-  MayBy i table (Skip r) = IsLost owned table r
+  abbrev pub MayDoOwned : GatewayId → (Key → Slot) → Deed → Type 0
+  MayDoOwned i table (Propose k e) = IsTrue (owned k) × (table k ≡ Free) × IsUnbound table e
+  MayDoOwned i table (Close k e) = IsTrue (owned k) × (table k ≡ Live e)
+  MayDoOwned i table (Use k e) = translated (table k) ≡ Some e
+  MayDoOwned i table (Agree k e) = (table k ≡ Free) × IsUnbound table e
+  MayDoOwned i table (Yield k e q) = (i ≡ One) × (table k ≡ Free) × IsTrue (owned q) × (table q ≡ Pending e)
+  MayDoOwned i table (Reject k e) = Unit {0}
+  MayDoOwned i table (Agreed k e) = IsTrue (owned k) × (table k ≡ Pending e)
+  MayDoOwned i table (Rejected k) = IsTrue (owned k)
+  MayDoOwned i table (Leave k e) = table k ≡ Held e
+  MayDoOwned i table (Stay k e) = table k ≡ Held e
+  MayDoOwned i table (Left k e) = IsTrue (owned k) × (table k ≡ Closing e)
+  MayDoOwned i table (Stayed k e) = IsTrue (owned k) × (table k ≡ Closing e)
+  MayDoOwned i table (Pass k) = (e : Endpoint) → table k ≡ Held e → ⊥
+  MayDoOwned i table (Skip r) = IsLost owned table r
 
 module _ (owner : Key → GatewayId) where
   -- one gateway's table, and what is under way from it, are as the ports' phases say

@@ -6,9 +6,9 @@ use Rattle.nat_types.specs.declared.gateways.GatewayId.{GatewayId}
 use Rattle.nat_types.specs.declared.gateways.GatewayId.TheVariants.{Zero, One}
 use Rattle.nat_types.specs.declared.pairs.Endpoint.{Endpoint}
 use Rattle.nat_types.specs.declared.pairs.Key.{Key}
-use Rattle.pair_machine.specs.Phase.{owns, Phase, Accepted, GivenUp, is_given_up, slot_at, flight_at, has_accept, Excused, Matches, Talks}
+use Rattle.pair_machine.proofs.Phase.{owns, Phase, Accepted, GivenUp, is_given_up, slot_at, flight_at, has_accept, Excused, Matches, Talks}
 use Rattle.pair_machine.specs.Talk.{Slot, held, MachineRecord, is_on, on, set_at}
-use Rattle.pair_machine.specs.World.{after}
+use Rattle.pair_machine.specs.World.{after_act}
 use Rattle.pair_machine.proofs.Excuses.{excused_set, excused_push, has_accept-more, calm, is_accepted}
 use Rattle.pair_machine.proofs.Set.{set_same, set_other, moved, on-append, on_here, on_elsewhere, other-owns, cases_key}
 
@@ -62,36 +62,36 @@ module _ (owner : Key → GatewayId) where
   flight_is ph i table fl k b p m e h = m.flights k ∙ ap (λ c. flight_at c k (ph k)) e ∙ ap (flight_at b k) h
 
   -- At one port, whose b says whether it is the actor's, the phase goes from one to another: what has to be seen.
-  pub record Turn (b : Bool) (k : Key) (before after : Phase) (mine mine2 : Key → Slot) (ts ps : List MachineRecord) (inn : List MachineRecord) : Type 0 where
-    pub slot : mine2 k ≡ slot_at b after
+  pub record Turn (b : Bool) (k : Key) (before after_act : Phase) (mine mine2 : Key → Slot) (ts ps : List MachineRecord) (inn : List MachineRecord) : Type 0 where
+    pub slot : mine2 k ≡ slot_at b after_act
     pub slots : (q : Key) → (k ≡ q → ⊥) → mine2 q ≡ mine q
-    pub theirs : slot_at (not b) before ≡ slot_at (not b) after
-    pub pushed : flight_at b k before ++ on k ps ≡ flight_at b k after
+    pub theirs : slot_at (not b) before ≡ slot_at (not b) after_act
+    pub pushed : flight_at b k before ++ on k ps ≡ flight_at b k after_act
     pub pushed_else : (q : Key) → (k ≡ q → ⊥) → on q ps ≡ []
-    pub left : on k inn ≡ flight_at (not b) k after
+    pub left : on k inn ≡ flight_at (not b) k after_act
     pub taken_else : (q : Key) → (k ≡ q → ⊥) → on q (ts ++ inn) ≡ on q inn
     pub fresh : (q : Key) (e : Endpoint) → (k ≡ q → ⊥) → held (mine2 k) ≡ Some e → held (mine q) ≡ Some e → ⊥
-    pub alive : (e : Endpoint) → after ≡ GivenUp e → ⊥
-    pub heard : (e : Endpoint) → before ≡ Accepted e → is_accepted after ≡ false
+    pub alive : (e : Endpoint) → after_act ≡ GivenUp e → ⊥
+    pub heard : (e : Endpoint) → before ≡ Accepted e → is_accepted after_act ≡ false
 
   module _ (i : GatewayId) (mine : Key → Slot) (out : List MachineRecord) (theirs : Key → Slot) (inn : List MachineRecord) (ph : Key → Phase) where
-    pub turned : (b : Bool) (k : Key) (before after : Phase) (mine2 : Key → Slot) (ts ps : List MachineRecord) → Talks owner i mine out theirs (ts ++ inn) ph → owns owner i k ≡ b → ph k ≡ before → Turn b k before after mine mine2 ts ps inn → (i ≡ One → Excused (set_at ph k after) ps) → (i ≡ Zero → Excused ph inn) → (owner k ≡ Zero → is_given_up after ≡ false) → Talks owner i mine2 (out ++ ps) theirs inn (set_at ph k after)
-    turned b k before after mine2 ts ps t own now u xp xi z =
+    pub turned : (b : Bool) (k : Key) (before after_act : Phase) (mine2 : Key → Slot) (ts ps : List MachineRecord) → Talks owner i mine out theirs (ts ++ inn) ph → owns owner i k ≡ b → ph k ≡ before → Turn b k before after_act mine mine2 ts ps inn → (i ≡ One → Excused (set_at ph k after_act) ps) → (i ≡ Zero → Excused ph inn) → (owner k ≡ Zero → is_given_up after_act ≡ false) → Talks owner i mine2 (out ++ ps) theirs inn (set_at ph k after_act)
+    turned b k before after_act mine2 ts ps t own now u xp xi z =
         let their : owns owner (other i) k ≡ not b = other-owns owner i k ∙ ap not own in
-        let out_is : on k (out ++ ps) ≡ flight_at b k after = on-append k out ps ∙ ap (λ z. z ++ on k ps) (flight_is ph i mine out k b before t.here own now) ∙ u.pushed in
-        let quiet : (n : Endpoint) (rs : List MachineRecord) (c : Bool) → on k rs ≡ flight_at c k after → ph k ≡ Accepted n → has_accept k rs ≡ true → after ≡ Accepted n =
-        λ n rs c e a h. absurd (calm c k after rs e (u.heard n (sym now ∙ a)) h) in
-        let old_quiet : (n : Endpoint) → ph k ≡ Accepted n → has_accept k out ≡ true → after ≡ Accepted n =
+        let out_is : on k (out ++ ps) ≡ flight_at b k after_act = on-append k out ps ∙ ap (λ z. z ++ on k ps) (flight_is ph i mine out k b before t.here own now) ∙ u.pushed in
+        let quiet : (n : Endpoint) (rs : List MachineRecord) (c : Bool) → on k rs ≡ flight_at c k after_act → ph k ≡ Accepted n → has_accept k rs ≡ true → after_act ≡ Accepted n =
+        λ n rs c e a h. absurd (calm c k after_act rs e (u.heard n (sym now ∙ a)) h) in
+        let old_quiet : (n : Endpoint) → ph k ≡ Accepted n → has_accept k out ≡ true → after_act ≡ Accepted n =
         λ n a h. quiet n (out ++ ps) b out_is a (has_accept-more k out ps h) in
         record {
-          here = side_set ph i mine mine2 out (out ++ ps) k after t.here
-              (u.slot ∙ ap (λ c. slot_at c after) (sym own)) u.slots
-              (out_is ∙ ap (λ c. flight_at c k after) (sym own)) (λ q ne. on-append q out ps ∙ ap (λ z. on q out ++ z) (u.pushed_else q ne) ∙ append-nil (on q out))
+          here = side_set ph i mine mine2 out (out ++ ps) k after_act t.here
+              (u.slot ∙ ap (λ c. slot_at c after_act) (sym own)) u.slots
+              (out_is ∙ ap (λ c. flight_at c k after_act) (sym own)) (λ q ne. on-append q out ps ∙ ap (λ z. on q out ++ z) (u.pushed_else q ne) ∙ append-nil (on q out))
               u.fresh;
-          there = side_stay ph (other i) theirs (ts ++ inn) inn k after t.there
-              (slot_is ph (other i) theirs (ts ++ inn) k (not b) before t.there their now ∙ u.theirs ∙ ap (λ c. slot_at c after) (sym their))
-              (u.left ∙ ap (λ c. flight_at c k after) (sym their)) (λ q ne. sym (u.taken_else q ne));
-          excused_out = λ one. excused_push (set_at ph k after) out ps (excused_set ph k after out (t.excused_out one) u.alive old_quiet) (xp one);
-          excused_in = λ zero. excused_set ph k after inn (xi zero) u.alive (λ n a h. quiet n inn (not b) u.left a h);
-          steady = λ q zero. elim (cases_key k q) [ inl e ↦ ap is_given_up (set_same ph k after q e) ∙ z (ap owner e ∙ zero) | inr ne ↦ ap is_given_up (set_other ph k after q ne) ∙ t.steady q zero ];
+          there = side_stay ph (other i) theirs (ts ++ inn) inn k after_act t.there
+              (slot_is ph (other i) theirs (ts ++ inn) k (not b) before t.there their now ∙ u.theirs ∙ ap (λ c. slot_at c after_act) (sym their))
+              (u.left ∙ ap (λ c. flight_at c k after_act) (sym their)) (λ q ne. sym (u.taken_else q ne));
+          excused_out = λ one. excused_push (set_at ph k after_act) out ps (excused_set ph k after_act out (t.excused_out one) u.alive old_quiet) (xp one);
+          excused_in = λ zero. excused_set ph k after_act inn (xi zero) u.alive (λ n a h. quiet n inn (not b) u.left a h);
+          steady = λ q zero. elim (cases_key k q) [ inl e ↦ ap is_given_up (set_same ph k after_act q e) ∙ z (ap owner e ∙ zero) | inr ne ↦ ap is_given_up (set_other ph k after_act q ne) ∙ t.steady q zero ];
         }

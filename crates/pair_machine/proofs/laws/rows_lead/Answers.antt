@@ -1,5 +1,5 @@
 use Rattle.pair_machine.proofs.Runs as laws
-use Rattle.pair_machine.proofs.laws.runs_lead.Goals as goal
+use Rattle.pair_machine.proofs.laws.rows_lead.Goals as goal
 
 pub returns-clause-loaded : goal.returns-clause-loaded
 returns-clause-loaded c = laws.loading_leads

@@ -2,7 +2,7 @@
 use Rattle.std.proofs.Common.{◌≡◌, Bool, true, false, List, [], ◌∷◌, Some, None, refl, inl, inr, ◌⊎◌}
 use Rattle.nat_types.specs.declared.pairs.Endpoint.{Endpoint}
 use Rattle.nat_types.specs.declared.pairs.Key.{Key}
-use Rattle.pair_machine.specs.Phase.{Phase, Nothing, Proposed, Accepted, Refused, GivenUp, GivenUpRefused, Shared, Asked, Staying, Leaving, owner_slot, other_slot, shared, closing, slot_at, flight_at, refuse, give_up}
+use Rattle.pair_machine.proofs.Phase.{Phase, Nothing, Proposed, Accepted, Refused, GivenUp, GivenUpRefused, Shared, Asked, Staying, Leaving, owner_slot, other_slot, shared, closing, slot_at, flight_at, refuse, give_up}
 use Rattle.pair_machine.specs.Talk.{Free, Pending, Live, Closing, Held, MachineRecord, Install, Accept, Refuse, Ask, Yes, No, held, translated}
 
 pub when_free : (p : Phase) → owner_slot p ≡ Free → p ≡ Nothing
