@@ -23,7 +23,7 @@ use Rattle.pair_machine.specs.Mapped.{slot_in}
 use Rattle.gateway.specs.Machine.{machine_slot, slots_of}
 use Rattle.gateway.specs.Gateway.{Gateway}
 use Rattle.gateway.proofs.Slots.{in-held, in-translates}
-use Rattle.frame_sim.specs.World.{World, gateway_at, entries_of, synced_at, ShowsSynced, IsInTable, IsTranslating}
+use Rattle.frame_sim.specs.World.{World, gateway_at, entries_of, synced_at, ShowsSynced, Holds, Translates}
 use Rattle.frame_sim.specs.Scene.{box_at, scene_of, HasTable}
 
 -- a state in which the machine translates
@@ -73,20 +73,20 @@ at-translated : (g : Option Gateway) (p : Pair) → HasTable g → (machine.tran
 at-translated None p table = (λ h. cc, λ h. listed-translated [] p tt h)
 at-translated (Some g) p table = (translated-listed g.table.entries p, listed-translated g.table.entries p table.keys)
 
-pub in_table-kept : (w : World) (t : List Note) → Kept (machine_world.Holds (machine_world.tables_of (scene_of w))) t → Kept (IsInTable w) t
-in_table-kept w t kept p opened i synced = at i (kept p opened i synced)
+pub holds-kept : (w : World) (t : List Note) → Kept (machine_world.TableHolds (machine_world.tables_of (scene_of w))) t → Kept (Holds w) t
+holds-kept w t kept p opened i synced = at i (kept p opened i synced)
   where
-    at : (i : GatewayId) → machine_world.Holds (machine_world.tables_of (scene_of w)) i p → IsInTable w i p
+    at : (i : GatewayId) → machine_world.TableHolds (machine_world.tables_of (scene_of w)) i p → Holds w i p
     at Zero h = at-held w.zero p h
     at One h = at-held w.one p h
 
-pub translating-on : (w : World) (t : List Note) → HasTable w.zero → HasTable w.one → GoesOn (machine_world.Translates (machine_world.tables_of (scene_of w))) t → GoesOn (IsTranslating w) t
-translating-on w t zero one goes i synced p = at i (goes i synced p)
+pub translates-on : (w : World) (t : List Note) → HasTable w.zero → HasTable w.one → GoesOn (machine_world.TableTranslates (machine_world.tables_of (scene_of w))) t → GoesOn (Translates w) t
+translates-on w t zero one goes i synced p = at i (goes i synced p)
   where
     over : {A B C : Type 0} → (A ↔ B) → (B ↔ C) → (A ↔ C)
     over f g = (λ a. g.0 (f.0 a), λ c. f.1 (g.1 c))
 
-    at : {A : Type 0} (j : GatewayId) → (A ↔ machine_world.Translates (machine_world.tables_of (scene_of w)) j p) → (A ↔ IsTranslating w j p)
+    at : {A : Type 0} (j : GatewayId) → (A ↔ machine_world.TableTranslates (machine_world.tables_of (scene_of w)) j p) → (A ↔ Translates w j p)
     at Zero h = over h (at-translated w.zero p zero)
     at One h = over h (at-translated w.one p one)
 

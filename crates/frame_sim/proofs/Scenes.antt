@@ -7,7 +7,7 @@ use Rattle.nat_types.specs.declared.notes.Note.{Note}
 use Rattle.settings.specs.Ranges.{of_gateway}
 use Rattle.packet_path.specs.declared.reasons.Reason.{Reason}
 use Rattle.pair_machine.specs.Box.{Box}
-use Rattle.pair_machine.specs.Ports.{Ranges}
+use Rattle.pair_machine.specs.Ownership.{Ranges}
 use Rattle.pair_machine.specs.Step.{IsStep}
 use Rattle.pair_machine.specs.World.{IsWorld, box_in, with_step}
 use Rattle.gateway.specs.declared.plans.Plan.{Plan}

@@ -6,7 +6,7 @@ use Rattle.settings.specs.declared.ranges.PortRange.{PortRange}
 use Rattle.settings.specs.declared.ranges.PortRanges.{PortRanges}
 use Rattle.bindings.specs.Entries.{IsTable}
 use Rattle.pair_machine.specs.Box.{Box, never}
-use Rattle.pair_machine.specs.Ports.{Ranges, fixed, in_run}
+use Rattle.pair_machine.specs.Ownership.{Ranges, fixed, in_run}
 use Rattle.pair_machine.specs.World.{Scene, IsWorld}
 use Rattle.gateway.specs.Gateway.{Gateway}
 use Rattle.gateway.specs.Machine.{box_of}

@@ -44,12 +44,12 @@ synced_at None = false
 synced_at (Some g) = g.synced
 
 -- a gateway holds the pair; a proposal given up is none
-abbrev pub IsInTable : World → GatewayId → Pair → Type 0
-IsInTable w i p = Contains (pairs_in is_pair (entries_of (gateway_at w i))) p
+abbrev pub Holds : World → GatewayId → Pair → Type 0
+Holds w i p = Contains (pairs_in is_pair (entries_of (gateway_at w i))) p
 
 -- a gateway translates with the pair
-abbrev pub IsTranslating : World → GatewayId → Pair → Type 0
-IsTranslating w i p = Contains (pairs_in translates (entries_of (gateway_at w i))) p
+abbrev pub Translates : World → GatewayId → Pair → Type 0
+Translates w i p = Contains (pairs_in translates (entries_of (gateway_at w i))) p
 
 -- a gateway is synced exactly where the trace says so
 abbrev pub ShowsSynced : World → Type 0

@@ -6,7 +6,7 @@ ghost use Rattle.settings.specs.Ranges.{of_gateway};
 ghost use Rattle.trace_words.specs.Trace.{Fits, Silent, Kept, GoesOn};
 ghost use Rattle.gateway.specs.Machine.{IsMachineStep};
 ghost use Rattle.frame_sim.specs.declared.events.WorldFault.TheVariants as faults;
-ghost use Rattle.frame_sim.specs.World.{IsInTable, IsTranslating, ShowsSynced, by_of, effect_at, effect_in, effect_up, entries_of, founded, gateway_at, synced_at, world_after};
+ghost use Rattle.frame_sim.specs.World.{Holds, Translates, ShowsSynced, by_of, effect_at, effect_in, effect_up, entries_of, founded, gateway_at, synced_at, world_after};
 ghost use Rattle.frame_sim.specs.Scene.{HasTable};
 ghost use Rattle.frame_sim.specs.Truly.{StepsAsMachine, TellsTruly};
 ghost use Rattle.frame_sim.specs.Runs.{AreSteps, AreToldTruly, IsStepOf};
@@ -235,9 +235,9 @@ impl World {
     /// Takes the events in order, and gives a step for each. An `Err` applies none.
     pub fn run(&mut self, events: &[WorldEvent]) -> Result<Vec<Step>, NoMemory>
         ensures fits { Fits self.new.trace }
-        ensures kept { Kept (IsInTable self.new) self.new.trace }
+        ensures kept { Kept (Holds self.new) self.new.trace }
         ensures silent { Silent self.new.trace }
-        ensures goes_on { GoesOn (IsTranslating self.new) self.new.trace }
+        ensures goes_on { GoesOn (Translates self.new) self.new.trace }
         ensures synced { ShowsSynced self.new }
 
         ensures steps { IfOk result (λ ss. AreSteps self.old events.now ss.items self.new) }
@@ -257,9 +257,9 @@ impl World {
     /// Reminds the prover of what each world keeps; it does nothing when it runs.
     pub fn recall(&self)
         ensures fits { Fits self.now.trace }
-        ensures kept { Kept (IsInTable self.now) self.now.trace }
+        ensures kept { Kept (Holds self.now) self.now.trace }
         ensures silent { Silent self.now.trace }
-        ensures goes_on { GoesOn (IsTranslating self.now) self.now.trace }
+        ensures goes_on { GoesOn (Translates self.now) self.now.trace }
         ensures synced { ShowsSynced self.now }
     {
         promises_in_order();

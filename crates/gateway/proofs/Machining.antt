@@ -12,7 +12,7 @@ use Rattle.bindings.specs.Ports.{chosen_port}
 use Rattle.bindings.proofs.Slots.{slot-key, found-slot}
 use Rattle.bindings.proofs.Choice.{chosen-free, chosen-within}
 use Rattle.pair_machine.specs.Talk as machine
-use Rattle.pair_machine.specs.Ports.{Ranges, no_port}
+use Rattle.pair_machine.specs.Ownership.{Ranges, no_port}
 use Rattle.nat_types.proofs.Equal.{key-self}
 use Rattle.pair_machine.specs.Acts.{Act, LoneNew, LoneUse}
 use Rattle.pair_machine.specs.Step.{IsStep}
@@ -41,7 +41,7 @@ use Rattle.gateway.proofs.Slots.{key-translates, endpoint-is_new, table-push_liv
 -- a choice that a lone gateway of the machine may make: a pair that translates, or a new one
 abbrev pub MayChoose : Bindings → Choice → Type 0
 MayChoose table (Known pair) = machine.translated (slots_of table.entries pair.key) ≡ Some pair.endpoint
-MayChoose table (New pair) = (IsTrue (ports_of table.own pair.key.port.0)) × (slot_of table.entries pair.key ≡ None) × machine.IsNew (slots_of table.entries) pair.endpoint
+MayChoose table (New pair) = (IsTrue (ports_of table.own pair.key.port.0)) × (slot_of table.entries pair.key ≡ None) × machine.IsUnbound (slots_of table.entries) pair.endpoint
 
 -- an entry that a packet takes translates
 known-passes : (entry : Entry) (choice : Choice) → known_choice entry ≡ Ok choice → (translates entry.state ≡ true) × (Known entry.pair ≡ choice)
@@ -69,7 +69,7 @@ new-may table e choice is none h = at (port_for table e) refl h
         let within = chosen-within table.entries table.own e.protocol (parity_of e.port.0) port found in
         let inside : IsTrue (ports_of table.own port.0) = in-range table.own port.0 within.0 within.1 in
         let free : slot_of table.entries pair.key ≡ None = chosen-free table.entries table.own e.protocol (parity_of e.port.0) port found in
-        let new : machine.IsNew (slots_of table.entries) e = endpoint-is_new table.entries e is.endpoints none in
+        let new : machine.IsUnbound (slots_of table.entries) e = endpoint-is_new table.entries e is.endpoints none in
         subst (MayChoose table) same (inside, free, new)
 
 known-may : (table : Bindings) (k : Key) (entry : Entry) (choice : Choice) → slot_of table.entries k ≡ Some entry → entry.pair.key ≡ k → known_choice entry ≡ Ok choice → MayChoose table choice

@@ -7,7 +7,7 @@ use Rattle.bindings.specs.Entries.{slot_of}
 use Rattle.pair_machine.specs.Talk as machine
 use Rattle.pair_machine.specs.Mapped.{slot_in}
 use Rattle.pair_machine.specs.Box.{Box}
-use Rattle.pair_machine.specs.Ports.{Ranges, in_run, no_port}
+use Rattle.pair_machine.specs.Ownership.{Ranges, in_run, no_port}
 use Rattle.pair_machine.specs.Step.{IsStep}
 use Rattle.nat_types.specs.declared.notes.Note.{Note}
 use Rattle.gateway.specs.Gateway.{Gateway}

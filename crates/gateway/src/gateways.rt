@@ -7,9 +7,11 @@ ghost use Rattle.frames.specs.Frame.{frame_of};
 ghost use Rattle.ipv4.specs.Header.{IsIpv4, header_of};
 ghost use Rattle.ipv4.specs.Datagram.{IsUdp};
 ghost use Rattle.bindings.specs.Entries.{IsTable, is_pair, translates, pairs_in, place_of, entry_in, with_entry};
-ghost use Rattle.gateway.specs.Choices.{CanAllot, IsAllowed};
+ghost use Rattle.packet_path.specs.Networks.{exit_of};
+ghost use Rattle.gateway.specs.Choices.{CanAllot, IsAllowed, table_after};
 ghost use Rattle.gateway.specs.Gateway.{started, IsLone, size_of, bounds_of, networks_of, empty_table};
-ghost use Rattle.gateway.specs.Effects.{effect_on, frame_effect, clock_after};
+ghost use Rattle.gateway.specs.Effects.{effect_on, frame_effect, clock_after, notes_of};
+ghost use Rattle.gateway.specs.Out.{with_sent};
 ghost use Rattle.gateway.specs.Truly.{TellsTruly};
 ghost use Rattle.gateway.specs.Machine.{IsMachineStep};
 ghost use Rattle.gateway.specs.Verdict.{plan_of};
@@ -214,19 +216,39 @@ impl Gateway {
             Err(reason) => return Ok(Outcome::Dropped(reason)),
         };
         let frame = plan.frame(self.alloc, &self.networks, bytes)?;
+        self.tell(&plan, frame, out)?;
+        self.keep(&plan);
+        Ok(Outcome::Sent)
+    }
+
+    /// Tells of a translation: its frame and its notes.
+    fn tell(&self, plan: &Plan, frame: Vec<u8>, out: &mut Out) -> Result<(), NoMemory>
+        ensures ok { OnOk result (out.new ≡ with_sent out.old (exit_of plan.now.direction) frame.items
+            (notes_of self.now.id self.now.moment plan.now.choice)) }
+        ensures err { OnErr result (out.new ≡ out.old) }
+    {
         let exit = plan.direction.exit();
-        match plan.choice {
-            Choice::Known(pair) => out.send(exit, frame, &[self.note(Happening::Used(pair))])?,
+        match &plan.choice {
+            Choice::Known(pair) => {
+                let used = self.note(Happening::Used(*pair));
+                out.send(exit, frame, &[used])
+            }
             Choice::New(pair) => {
-                let notes = [
-                    self.note(Happening::Retaken(pair)),
-                    self.note(Happening::Used(pair)),
-                ];
-                out.send(exit, frame, &notes)?;
-                self.add_live(pair);
+                let retaken = self.note(Happening::Retaken(*pair));
+                let used = self.note(Happening::Used(*pair));
+                out.send(exit, frame, &[retaken, used])
             }
         }
-        Ok(Outcome::Sent)
+    }
+
+    /// A packet's new pair comes into the table.
+    fn keep(&mut self, plan: &Plan)
+        requires { IsAllowed self.old.table plan.now.choice }
+        ensures { self.new ≡ record self.old { table = table_after self.old.table plan.now.choice } }
+    {
+        if let Choice::New(pair) = &plan.choice {
+            self.add_live(*pair);
+        }
     }
 
     fn add_live(&mut self, pair: Pair)

@@ -17,6 +17,3 @@ pub use outcomes::Outcome;
 pub use outs::{Out, SentFrame};
 pub use packet_path::{Direction, Network, Networks, Reason};
 pub use plans::Plan;
-
-#[cfg(test)]
-mod tests;
