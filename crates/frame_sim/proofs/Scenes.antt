@@ -13,7 +13,7 @@ use Rattle.pair_machine.specs.World.{IsWorld, box_in, mail_in, with_step}
 use Rattle.gateway.specs.declared.plans.Plan.{Plan}
 use Rattle.gateway.specs.declared.choices.Choice.{Choice}
 use Rattle.gateway.specs.declared.choices.Choice.TheVariants.{Known, New}
-use Rattle.gateway.specs.Effects.{gateway_by, out_by, notes_by, notes_of}
+use Rattle.gateway.specs.Effects.{gateway_by, notes_by, notes_of}
 use Rattle.gateway.specs.Gateway.{Gateway}
 use Rattle.gateway.specs.Machine.{box_of, IsMachineStep}
 use Rattle.gateway.specs.Out.{Out, empty_out}

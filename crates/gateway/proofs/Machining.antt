@@ -5,10 +5,8 @@ use Rattle.addresses.specs.Transport.{parity_of}
 use Rattle.nat_types.specs.declared.gateways.Side.{Side}
 use Rattle.nat_types.specs.declared.pairs.Key.{Key}
 use Rattle.nat_types.specs.declared.pairs.Endpoint.{Endpoint}
-use Rattle.nat_types.specs.declared.pairs.Pair.{Pair}
 use Rattle.bindings.specs.declared.entries.Entry.{Entry}
 use Rattle.bindings.specs.Entries.{Bindings, IsTable, slot_of, entry_of, translates, is_pair}
-use Rattle.bindings.specs.Ports.{chosen_port}
 use Rattle.bindings.proofs.Slots.{slot-key, found-slot}
 use Rattle.bindings.proofs.Choice.{chosen-free, chosen-within}
 use Rattle.pair_machine.specs.Talk as machine
@@ -21,7 +19,6 @@ use Rattle.packet_path.specs.declared.reasons.Reason.TheVariants.{CannotWait, No
 use Rattle.packet_path.specs.declared.networks.Direction.{Direction}
 use Rattle.packet_path.specs.declared.networks.Direction.TheVariants.{Outward, Inward}
 use Rattle.ipv4.specs.declared.flows.Flow.{Flow}
-use Rattle.addresses.specs.declared.ethernet.Mac.{Mac}
 use Rattle.addresses.specs.declared.transport.Port.{Port}
 use Rattle.bindings.specs.declared.entries.PortBounds.{PortBounds}
 use Rattle.gateway.specs.declared.choices.Choice.{Choice}
@@ -36,7 +33,7 @@ use Rattle.gateway.specs.Out.{Out}
 use Rattle.std.proofs.lemmas.List.{append-nil}
 use Rattle.gateway.specs.Gateway.{Gateway}
 use Rattle.gateway.specs.Machine.{slots_of, machine_slot, box_of, ports_of, IsMachineStep}
-use Rattle.gateway.proofs.Slots.{key-translates, endpoint-is_new, table-push_live}
+use Rattle.gateway.proofs.Slots.{key-translates, endpoint-is_new, table-more}
 
 -- a choice that a lone gateway of the machine may make: a pair that translates, or a new one
 abbrev pub MayChoose : Bindings → Choice → Type 0
@@ -143,7 +140,7 @@ choice-steps r g (New pair) synced may =
     record {
       acts = acts_of (New pair);
       follows = ((synced, synced, owned, free, may.2), (λ l h. absurd h, tt), ((synced, synced, then), (λ l h. absurd h, tt), tt));
-      box_is = ap (λ table. record (box_of g) { table = table }) (table-push_live g.table.entries pair may.1);
+      box_is = ap (λ table. record (box_of g) { table = table }) (table-more g.table pair may.1);
       trace_is = refl;
       mail_is = refl;
     }

@@ -1,8 +1,7 @@
 -- What stands behind a plan: no step refused, and each gave what the next one took.
-use Rattle.std.proofs.Common.{◌≡◌, ℕ, Bool, true, false, cond, not, ◌||◌, ◌==◌, Option, Some, None, Result, Ok, Err, List, [], ◌∷◌, refl}
+use Rattle.std.proofs.Common.{◌≡◌, ℕ, Bool, true, false, cond, not, ◌||◌, ◌==◌, Option, Some, None, Result, Ok, Err, List, ◌∷◌, refl}
 use Rattle.addresses.specs.declared.ethernet.Mac.{Mac}
 use Rattle.nat_types.specs.declared.gateways.Side.{Side}
-use Rattle.ipv4.specs.declared.flows.Flow.{Flow}
 use Rattle.packet_path.specs.declared.reasons.Reason.{Reason}
 use Rattle.packet_path.specs.declared.reasons.Reason.TheVariants.{NoBinding}
 use Rattle.packet_path.specs.declared.networks.Networks.{Networks}

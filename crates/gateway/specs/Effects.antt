@@ -17,7 +17,7 @@ use Rattle.gateway.specs.declared.gateways.TheConstants.{LAST_MOMENT}
 use Rattle.gateway.specs.Choices.{table_after}
 use Rattle.gateway.specs.Gateway.{Gateway}
 use Rattle.gateway.specs.Out.{Out, with_sent}
-use Rattle.gateway.specs.Verdict.{plan_of, planned_frame, outcome_by}
+use Rattle.gateway.specs.Verdict.{plan_of, planned_frame, verdict}
 
 -- the outcome of an event, the gateway after it, and what is told by then
 pub record Effect (G : Type 0) : Type 0 where
@@ -53,7 +53,7 @@ gateway_by g (Err reason) = g
 -- what a frame that comes in on this side does
 abbrev pub frame_effect : Gateway → Side → List ℕ → Out → Effect Gateway
 frame_effect g side bytes out = record {
-  outcome = outcome_by (plan_of g side bytes);
+  outcome = verdict g side bytes;
   gateway = gateway_by g (plan_of g side bytes);
   out = out_by g bytes out (plan_of g side bytes);
 }

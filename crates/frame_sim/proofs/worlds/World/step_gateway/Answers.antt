@@ -1,4 +1,4 @@
-use Rattle.std.proofs.Common.{◌≡◌, ◌++◌, [], List, sym, ap, ◌∙◌, subst, reverse, drop, length, arith}
+use Rattle.std.proofs.Common.{◌≡◌, ◌++◌, [], List, sym, subst, reverse, arith}
 use Rattle.pair_machine.specs.Box.{Letter}
 use Rattle.pair_machine.specs.Step.{IsStep}
 use Rattle.pair_machine.specs.World.{box_in}

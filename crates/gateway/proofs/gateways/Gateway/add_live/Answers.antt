@@ -1,6 +1,6 @@
 use Rattle.std.proofs.Common.{ap}
 use Rattle.gateway.specs.Choices.{CanAllot}
-use Rattle.gateway.proofs.Rooms.{takes-new, new-own, own-push}
+use Rattle.gateway.proofs.Rooms.{takes-new, new-own, lone-more}
 use Rattle.gateway.proofs.gateways.Gateway.add_live.Goals as goal
 
 pub unreachable-requires : goal.unreachable-requires
@@ -14,7 +14,4 @@ pub invariant_of-self : goal.invariant_of-self
 invariant_of-self c =
     let table = ap (λ v. v.table) c.self.view_is in
     let new : CanAllot c.self.inside.table c.args.pair = rw table c.requires in
-    rw c.in-Ok.ensures.added (record {
-      entries = own-push _ _ _ c.self.invariant.entries (new-own _ _ new);
-      room = c.self.invariant.room;
-    })
+    rw c.in-Ok.ensures.added (lone-more c.self.inside.table _ c.self.invariant (new-own _ _ new))
