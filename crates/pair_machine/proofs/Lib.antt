@@ -27,4 +27,5 @@ pub mod Worlds
 pub mod StepLaws
 pub mod Batches
 pub mod Runs
+pub mod MoreRuns
 pub mod Taking

@@ -7,8 +7,9 @@ use Rattle.nat_types.specs.declared.pairs.Endpoint.{Endpoint}
 use Rattle.nat_types.specs.declared.pairs.Key.{Key}
 use Rattle.pair_machine.specs.Talk.{Slot, Free, Pending, Doomed, Live, Closing, Held, MachineRecord, Install, Accept, Refuse, Ask, Yes, No, Begin, Put, Done, Want, Grant, Owner, on, held, set_at, Deed, Propose, Close, Use, Agree, Yield, Reject, Agreed, Rejected, Leave, Stay, Left, Stayed, Pass, Skip, IsLost, IsUnbound, translated}
 
--- Where a port stands between the two. Proposed, Accepted, Refused: an Install, its Accept or its Refuse is under way; GivenUp, GivenUpRefused: so is one of a proposal given up.
--- Shared: agreed, nothing under way; Asked, Staying, Leaving: an Ask, its No or its Yes is under way.
+-- Where a port stands between the two. Proposed, Accepted, Refused: an Install, its Accept or its Refuse is under way;
+-- GivenUp, GivenUpRefused: so is one of a proposal given up. Shared: agreed, nothing under way; Asked, Staying, Leaving:
+-- an Ask, its No or its Yes is under way.
 pub data Phase : Type 0 where
   Nothing : Phase
   Proposed : (endpoint : Endpoint) → Phase
@@ -21,96 +22,68 @@ pub data Phase : Type 0 where
   Staying : (endpoint : Endpoint) → Phase
   Leaving : (endpoint : Endpoint) → Phase
 
--- the owner's slot
+-- what follows from a state
+pub record State : Type 0 where
+  pub owner : Slot
+  pub other : Slot
+  -- under way on the port: from the owner, and to it
+  pub out : Key → List MachineRecord
+  pub back : Key → List MachineRecord
+  -- the endpoint, where both hold the pair; and where the owner has released it
+  pub shared : Option Endpoint
+  pub closing : Option Endpoint
+  -- the proposal was given up
+  pub given_up : Bool
+
+abbrev pub state : Slot → Slot → (Key → List MachineRecord) → (Key → List MachineRecord) → Option Endpoint → Option Endpoint → Bool → State
+state owner other out back shared closing given_up = record {
+  owner = owner;
+  other = other;
+  out = out;
+  back = back;
+  shared = shared;
+  closing = closing;
+  given_up = given_up;
+}
+
+-- nothing is under way
+abbrev pub none : Key → List MachineRecord
+none k = []
+
+-- The table of states: owner's slot, other's slot, out, back, shared, closing, given up.
+abbrev pub state_of : Phase → State
+state_of Nothing = state Free Free none none None None false
+state_of (Proposed e) = state (Pending e) Free (λ k. Install k e ∷ []) none None None false
+state_of (Accepted e) = state (Pending e) (Held e) none (λ k. Accept k ∷ []) (Some e) None false
+state_of (Refused e) = state (Pending e) Free none (λ k. Refuse k ∷ []) None None false
+state_of (GivenUp e) = state (Doomed e) Free (λ k. Install k e ∷ []) none None None true
+state_of (GivenUpRefused e) = state (Doomed e) Free none (λ k. Refuse k ∷ []) None None true
+state_of (Shared e) = state (Live e) (Held e) none none (Some e) None false
+state_of (Asked e) = state (Closing e) (Held e) (λ k. Ask k ∷ []) none (Some e) (Some e) false
+state_of (Staying e) = state (Closing e) (Held e) none (λ k. No k ∷ []) (Some e) (Some e) false
+state_of (Leaving e) = state (Closing e) Free none (λ k. Yes k ∷ []) None (Some e) false
+
+-- its columns
 abbrev pub owner_slot : Phase → Slot
-owner_slot Nothing = Free
-owner_slot (Proposed e) = Pending e
-owner_slot (Accepted e) = Pending e
-owner_slot (Refused e) = Pending e
-owner_slot (GivenUp e) = Doomed e
-owner_slot (GivenUpRefused e) = Doomed e
-owner_slot (Shared e) = Live e
-owner_slot (Asked e) = Closing e
-owner_slot (Staying e) = Closing e
-owner_slot (Leaving e) = Closing e
+owner_slot p = (state_of p).owner
 
--- the other gateway's slot
 abbrev pub other_slot : Phase → Slot
-other_slot Nothing = Free
-other_slot (Proposed e) = Free
-other_slot (Accepted e) = Held e
-other_slot (Refused e) = Free
-other_slot (GivenUp e) = Free
-other_slot (GivenUpRefused e) = Free
-other_slot (Shared e) = Held e
-other_slot (Asked e) = Held e
-other_slot (Staying e) = Held e
-other_slot (Leaving e) = Free
+other_slot p = (state_of p).other
 
--- under way from the owner
 abbrev pub from_owner : Key → Phase → List MachineRecord
-from_owner k Nothing = []
-from_owner k (Proposed e) = Install k e ∷ []
-from_owner k (Accepted e) = []
-from_owner k (Refused e) = []
-from_owner k (GivenUp e) = Install k e ∷ []
-from_owner k (GivenUpRefused e) = []
-from_owner k (Shared e) = []
-from_owner k (Asked e) = Ask k ∷ []
-from_owner k (Staying e) = []
-from_owner k (Leaving e) = []
+from_owner k p = (state_of p).out k
 
--- under way to the owner
 abbrev pub to_owner : Key → Phase → List MachineRecord
-to_owner k Nothing = []
-to_owner k (Proposed e) = []
-to_owner k (Accepted e) = Accept k ∷ []
-to_owner k (Refused e) = Refuse k ∷ []
-to_owner k (GivenUp e) = []
-to_owner k (GivenUpRefused e) = Refuse k ∷ []
-to_owner k (Shared e) = []
-to_owner k (Asked e) = []
-to_owner k (Staying e) = No k ∷ []
-to_owner k (Leaving e) = Yes k ∷ []
+to_owner k p = (state_of p).back k
 
--- the endpoint, where both hold the pair
 abbrev pub shared : Phase → Option Endpoint
-shared Nothing = None
-shared (Proposed e) = None
-shared (Accepted e) = Some e
-shared (Refused e) = None
-shared (GivenUp e) = None
-shared (GivenUpRefused e) = None
-shared (Shared e) = Some e
-shared (Asked e) = Some e
-shared (Staying e) = Some e
-shared (Leaving e) = None
+shared p = (state_of p).shared
 
--- the endpoint, where the owner has released the pair
 abbrev pub closing : Phase → Option Endpoint
-closing Nothing = None
-closing (Proposed e) = None
-closing (Accepted e) = None
-closing (Refused e) = None
-closing (GivenUp e) = None
-closing (GivenUpRefused e) = None
-closing (Shared e) = None
-closing (Asked e) = Some e
-closing (Staying e) = Some e
-closing (Leaving e) = Some e
+closing p = (state_of p).closing
 
--- a proposal was given up
 abbrev pub is_given_up : Phase → Bool
-is_given_up Nothing = false
-is_given_up (Proposed e) = false
-is_given_up (Accepted e) = false
-is_given_up (Refused e) = false
-is_given_up (GivenUp e) = true
-is_given_up (GivenUpRefused e) = true
-is_given_up (Shared e) = false
-is_given_up (Asked e) = false
-is_given_up (Staying e) = false
-is_given_up (Leaving e) = false
+is_given_up p = (state_of p).given_up
 
 -- the slot of a gateway, by whether the port is its own
 abbrev pub slot_at : Bool → Phase → Slot

@@ -10,7 +10,7 @@ use Rattle.nat_types.specs.declared.pairs.Pair.{Pair}
 use Rattle.pair_machine.specs.Batch.{AreThose, AreApart, LieWithin}
 use Rattle.pair_machine.specs.Box.{AreBack, is_back, revived}
 use Rattle.pair_machine.specs.Ownership.{keyed, Ranges, has, in_run, left_to}
-use Rattle.pair_machine.specs.Rows.{pair_p, crossing, peer_off, using, wanting, asked_yes_notes, LeavesPorts, granting, loading_notes, granted, udp, revival_notes, asked_no_notes, pair_q, range_of, asked_no, loading, sharing, in_six, six_ports, slot_on, two_ranges, revival, losing_notes, host, peer_off_notes, LeadsTo, crossing_notes, losing, using_notes, asked_yes, doomed_notes, doomed}
+use Rattle.pair_machine.specs.Rows.{live_first, held_first, pair_p, crossing, peer_off, using, wanting, asked_yes_notes, LeavesPorts, granting, loading_notes, granted, udp, revival_notes, asked_no_notes, pair_q, range_of, asked_no, loading, sharing, in_six, six_ports, slot_on, two_ranges, revival, losing_notes, host, peer_off_notes, LeadsTo, crossing_notes, losing, using_notes, asked_yes, doomed_notes, doomed}
 use Rattle.pair_machine.specs.Talk.{Slot, Live, Closing, Free, Doomed, held, Held, pair_of, Pending}
 use Rattle.pair_machine.proofs.Worlds.{allowed_join}
 use Rattle.pair_machine.specs.World.{MachineEvent, Scene, AreAllowed, founding, after_events}
@@ -18,32 +18,32 @@ use Rattle.pair_machine.proofs.Batches.{fixed_leaves, batch_new, batch_mirrored}
 use Rattle.pair_machine.proofs.Set.{cases_key}
 
 -- a gateway that is up, with nothing promised, may send what it likes
-at_will : {n : ℕ} → (true ≡ true) × ((m : ℕ) → None ≡ Some m → n ≤ m)
+pub at_will : {n : ℕ} → (true ≡ true) × ((m : ℕ) → None ≡ Some m → n ≤ m)
 at_will = (refl, λ m h. absurd (cc))
 
-promised_is : (n m : ℕ) → Some n ≡ Some m → n ≡ m
+pub promised_is : (n m : ℕ) → Some n ≡ Some m → n ≡ m
 promised_is n m h = cc
 
-some_pair : (k : Key) (e : Endpoint) (x : Pair) → k ≡ x.key → Some e ≡ Some x.endpoint → x ≡ pair_of k e
+pub some_pair : (k : Key) (e : Endpoint) (x : Pair) → k ≡ x.key → Some e ≡ Some x.endpoint → x ≡ pair_of k e
 some_pair k e x at h = let same_e : x.endpoint ≡ e = cc in pair-parts x (pair_of k e) (sym at) same_e
 
 -- where one pair comes back, or is all of the table
-back_one : (table : Key → Slot) (p : Pair) → is_back (table p.key) ≡ Some p.endpoint → ((k : Key) → (p.key ≡ k → ⊥) → is_back (table k) ≡ None) → AreBack table (p ∷ [])
+pub back_one : (table : Key → Slot) (p : Pair) → is_back (table p.key) ≡ Some p.endpoint → ((k : Key) → (p.key ≡ k → ⊥) → is_back (table k) ≡ None) → AreBack table (p ∷ [])
 back_one table p here none x = (
   λ h. elim h [ inl e ↦ subst (λ (y : Pair). is_back (table y.key) ≡ Some y.endpoint) (sym e) here | inr b ↦ absurd b ],
   λ h. elim (cases_key p.key x.key) [ inl e ↦ inl (some_pair p.key p.endpoint x e (sym here ∙ ap (λ k. is_back (table k)) e ∙ h)) | inr ne ↦ let bad : None ≡ Some x.endpoint = sym (none x.key ne) ∙ h in absurd (cc) ],
 )
 
-those_one : (table : Key → Slot) (p : Pair) → held (table p.key) ≡ Some p.endpoint → ((k : Key) → (p.key ≡ k → ⊥) → held (table k) ≡ None) → AreThose table (p ∷ [])
+pub those_one : (table : Key → Slot) (p : Pair) → held (table p.key) ≡ Some p.endpoint → ((k : Key) → (p.key ≡ k → ⊥) → held (table k) ≡ None) → AreThose table (p ∷ [])
 those_one table p here none x = (
   λ h. elim h [ inl e ↦ subst (λ (y : Pair). held (table y.key) ≡ Some y.endpoint) (sym e) here | inr b ↦ absurd b ],
   λ h. elim (cases_key p.key x.key) [ inl e ↦ inl (some_pair p.key p.endpoint x e (sym here ∙ ap (λ k. held (table k)) e ∙ h)) | inr ne ↦ let bad : None ≡ Some x.endpoint = sym (none x.key ne) ∙ h in absurd (cc) ],
 )
 
-within_one : (r : Ranges) (table : Key → Slot) (p : Pair) → IsTrue (keyed r.in_ranges p.key) → ((k : Key) → (p.key ≡ k → ⊥) → held (table k) ≡ None) → LieWithin r table
+pub within_one : (r : Ranges) (table : Key → Slot) (p : Pair) → IsTrue (keyed r.in_ranges p.key) → ((k : Key) → (p.key ≡ k → ⊥) → held (table k) ≡ None) → LieWithin r table
 within_one r table p inside none k e h = elim (cases_key p.key k) [ inl at ↦ ap (keyed r.in_ranges) (sym at) ∙ inside | inr ne ↦ let bad : None ≡ Some e = sym (none k ne) ∙ h in absurd (cc) ]
 
-apart_one : (p : Pair) → AreApart (p ∷ [])
+pub apart_one : (p : Pair) → AreApart (p ∷ [])
 apart_one p = ((λ q h. absurd h), tt)
 
 -- a slot that was written over
@@ -71,7 +71,7 @@ revived_one : (b : Bool) (e : Endpoint) → revived (cond b (Closing e) (cond b 
 revived_one true e = refl
 revived_one false e = refl
 
-revived_two : (b c : Bool) (e f : Endpoint) → revived (cond b (Pending e) (cond c (Live f) (cond c (Pending f) Free))) ≡ cond b (Live e) (cond c (Live f) Free)
+pub revived_two : (b c : Bool) (e f : Endpoint) → revived (cond b (Pending e) (cond c (Live f) (cond c (Pending f) Free))) ≡ cond b (Live e) (cond c (Live f) Free)
 revived_two true c e f = refl
 revived_two false true e f = refl
 revived_two false false e f = refl
@@ -79,7 +79,7 @@ revived_two false false e f = refl
 abbrev pub Loaded : Scene
 Loaded = after_events two_ranges loading (founding two_ranges)
 
-loading-allowed : AreAllowed two_ranges loading (founding two_ranges)
+pub loading-allowed : AreAllowed two_ranges loading (founding two_ranges)
 unfolding same_key
 loading-allowed = (
   ((refl, lit< tt), λ l h. absurd h, tt),
@@ -107,7 +107,7 @@ loading-allowed = (
 pub loading_leads : LeadsTo two_ranges loading loading_notes [] []
 loading_leads = record { allowed = loading-allowed; trace_is = refl; zero_is = λ k. refl; one_is = λ k. refl }
 
-using-allowed : AreAllowed two_ranges using Loaded
+pub using-allowed : AreAllowed two_ranges using Loaded
 unfolding same_key
 using-allowed = (
   ((refl, refl, (refl, refl, λ x h. cc), refl), λ l h. absurd h, tt),
@@ -132,10 +132,10 @@ using-allowed = (
 abbrev pub Paired : Scene
 Paired = after_events two_ranges using Loaded
 
-paired-allowed : (xs : List MachineEvent) → AreAllowed two_ranges xs Paired → AreAllowed two_ranges (loading ++ using ++ xs) (founding two_ranges)
+pub paired-allowed : (xs : List MachineEvent) → AreAllowed two_ranges xs Paired → AreAllowed two_ranges (loading ++ using ++ xs) (founding two_ranges)
 paired-allowed xs a = allowed_join two_ranges loading (using ++ xs) (founding two_ranges) loading-allowed (allowed_join two_ranges using xs Loaded using-allowed a)
 
-pub using_leads : LeadsTo two_ranges (loading ++ using) (loading_notes ++ using_notes) (slot_on 20000 (Live (host 5000)) ∷ []) (slot_on 20000 (Held (host 5000)) ∷ [])
+pub using_leads : LeadsTo two_ranges (loading ++ using) (loading_notes ++ using_notes) live_first held_first
 using_leads = record {
   allowed = allowed_join two_ranges loading using (founding two_ranges) loading-allowed using-allowed;
   trace_is = refl;
@@ -180,7 +180,7 @@ crossing-allowed = (
   ),
 )
 
-pub crossing_leads : LeadsTo two_ranges (loading ++ crossing) (loading_notes ++ crossing_notes) (slot_on 20000 (Live (host 5000)) ∷ []) (slot_on 40000 Free ∷ slot_on 20000 (Held (host 5000)) ∷ [])
+pub crossing_leads : LeadsTo two_ranges (loading ++ crossing) (loading_notes ++ crossing_notes) live_first (slot_on 40000 Free ∷ held_first)
 crossing_leads = record {
   allowed = allowed_join two_ranges loading crossing (founding two_ranges) loading-allowed crossing-allowed;
   trace_is = refl;
@@ -237,7 +237,7 @@ no-allowed = (
   ),
 )
 
-pub no_leads : LeadsTo two_ranges (loading ++ using ++ asked_no) (loading_notes ++ using_notes ++ asked_no_notes) (slot_on 20000 (Live (host 5000)) ∷ []) (slot_on 20000 (Held (host 5000)) ∷ [])
+pub no_leads : LeadsTo two_ranges (loading ++ using ++ asked_no) (loading_notes ++ using_notes ++ asked_no_notes) live_first held_first
 no_leads = record {
   allowed = paired-allowed asked_no no-allowed;
   trace_is = refl;
@@ -249,7 +249,7 @@ no_leads = record {
 abbrev pub closing_table : Key → Slot
 closing_table k = cond (same_key (udp 20000) k) (Closing (host 5000)) (cond (same_key (udp 20000) k) (Live (host 5000)) (cond (same_key (udp 20000) k) (Pending (host 5000)) Free))
 
-not_closing : (k : Key) → (udp 20000 ≡ k → ⊥) → closing_table k ≡ Free
+pub not_closing : (k : Key) → (udp 20000 ≡ k → ⊥) → closing_table k ≡ Free
 not_closing k ne = ap (λ b. cond b (Closing (host 5000)) (cond b (Live (host 5000)) (cond b (Pending (host 5000)) Free))) (key-false (udp 20000) k ne)
 
 closing_back : AreBack closing_table (pair_p ∷ [])
@@ -303,7 +303,7 @@ revival-allowed = (
   ),
 )
 
-pub revival_leads : LeadsTo two_ranges (loading ++ using ++ revival) (loading_notes ++ using_notes ++ revival_notes) (slot_on 20000 (Live (host 5000)) ∷ []) (slot_on 20000 (Held (host 5000)) ∷ [])
+pub revival_leads : LeadsTo two_ranges (loading ++ using ++ revival) (loading_notes ++ using_notes ++ revival_notes) live_first held_first
 revival_leads = record {
   allowed = paired-allowed revival revival-allowed;
   trace_is = refl;
@@ -394,7 +394,7 @@ doomed-allowed = (
   ),
 )
 
-pub doomed_leads : LeadsTo two_ranges (loading ++ doomed) (loading_notes ++ doomed_notes) (slot_on 20000 (Live (host 5000)) ∷ []) (slot_on 20000 (Held (host 5000)) ∷ [])
+pub doomed_leads : LeadsTo two_ranges (loading ++ doomed) (loading_notes ++ doomed_notes) live_first held_first
 doomed_leads = record {
   allowed = allowed_join two_ranges loading doomed (founding two_ranges) loading-allowed doomed-allowed;
   trace_is = refl;
@@ -402,14 +402,14 @@ doomed_leads = record {
   one_is = λ k. freed_both (same_key (udp 20000) k) (same_key (udp 40000) k) (host 5000);
 }
 
-two_hosts : host 5000 ≡ host 5001 → ⊥
+pub two_hosts : host 5000 ≡ host 5001 → ⊥
 two_hosts e = let bad : true ≡ false = ap (λ (x : Endpoint). nat_lt x.port.0 5001) e in cc
 
 new_host : (b : Bool) → held (cond b (Live (host 5000)) (cond b (Pending (host 5000)) Free)) ≡ Some (host 5001) → ⊥
 new_host true h = two_hosts (cc)
 new_host false h = cc
 
-old_kept : (b : Bool) → is_back (cond b (Live (host 5000)) (cond b (Pending (host 5000)) Free)) ≡ None
+pub old_kept : (b : Bool) → is_back (cond b (Live (host 5000)) (cond b (Pending (host 5000)) Free)) ≡ None
 old_kept true = refl
 old_kept false = refl
 
@@ -421,7 +421,7 @@ waiting_back : AreBack waiting_table (pair_q ∷ [])
 unfolding same_key
 waiting_back = back_one waiting_table pair_q refl (λ k ne. ap (λ b. is_back (cond b (Pending (host 5001)) (cond (same_key (udp 20000) k) (Live (host 5000)) (cond (same_key (udp 20000) k) (Pending (host 5000)) Free)))) (key-false (udp 20001) k ne) ∙ old_kept (same_key (udp 20000) k))
 
-off-allowed : AreAllowed two_ranges peer_off Paired
+pub off-allowed : AreAllowed two_ranges peer_off Paired
 unfolding same_key
 off-allowed = (
   ((refl, refl, (refl, refl, λ x h. new_host (same_key (udp 20000) x) h), refl), λ l h. absurd h, tt),
@@ -437,7 +437,7 @@ off-allowed = (
   ),
 )
 
-pub off_leads : LeadsTo two_ranges (loading ++ using ++ peer_off) (loading_notes ++ using_notes ++ peer_off_notes) (slot_on 20001 (Live (host 5001)) ∷ slot_on 20000 (Live (host 5000)) ∷ []) []
+pub off_leads : LeadsTo two_ranges (loading ++ using ++ peer_off) (loading_notes ++ using_notes ++ peer_off_notes) (slot_on 20001 (Live (host 5001)) ∷ live_first) []
 off_leads = record {
   allowed = paired-allowed peer_off off-allowed;
   trace_is = refl;
@@ -449,12 +449,12 @@ off_leads = record {
 in_run_is : (a b p : ℕ) → a ≤ p → p ≤ b → in_run a b p ≡ true
 in_run_is a b p h g = ap (λ x. not x && not (nat_lt b p)) (le-ltb p a h) ∙ ap (λ x. not x) (le-ltb b p g)
 
-rest_of : (a b : Bool) → cond a false (a || b) ≡ ((a || b) && not ((a || b) && a))
+pub rest_of : (a b : Bool) → cond a false (a || b) ≡ ((a || b) && not ((a || b) && a))
 rest_of true b = refl
 rest_of false true = refl
 rest_of false false = refl
 
-six_low : (p : ℕ) → 20000 ≤ p → p ≤ 20001 → IsTrue (in_six p)
+pub six_low : (p : ℕ) → 20000 ≤ p → p ≤ 20001 → IsTrue (in_six p)
 six_low p h g = or_left (in_run 20000 20001 p) (in_run 40000 40003 p) (in_run_is 20000 20001 p h g)
 
 sharing-allowed : AreAllowed six_ports sharing (founding six_ports)

@@ -89,7 +89,10 @@ AreSpare a ports = (p : ℕ) → IsTrue (has p ports) → IsTrue (a.owned p) × 
 module _ (r : Ranges) where
   -- of the granted ports these become owned, and no port is left out that lies in the ranges, isn't owned and has nothing at it
   abbrev pub AreGot : Box → List ℕ → List ℕ → Type 0
-  AreGot a ports got = (p : ℕ) → (IsTrue (has p got) → IsTrue (has p ports)) × (IsTrue (has p ports) → IsTrue (r.in_ranges p) → a.owned p ≡ false → IsVacant a.table p → IsTrue (has p got))
+  AreGot a ports got =
+      (p : ℕ) → (IsTrue (has p got) → IsTrue (has p ports))
+      × (IsTrue (has p ports) → IsTrue (r.in_ranges p) → a.owned p ≡ false
+      → IsVacant a.table p → IsTrue (has p got))
 
   -- a record out of place for an unsynced gateway: not of a batch, or not new
   abbrev pub IsMisplaced : Box → MachineRecord → Type 0
@@ -100,36 +103,58 @@ module _ (r : Ranges) where
   IsMisplaced a (Yes k) = Unit {0}
   IsMisplaced a (No k) = Unit {0}
   IsMisplaced a Begin = ⊥
-  IsMisplaced a (Put k e) = a.loading ≡ true → IsTrue (keyed r.in_ranges k) → a.table k ≡ Free → IsUnbound a.table e → ⊥
+  IsMisplaced a (Put k e) =
+      a.loading ≡ true → IsTrue (keyed r.in_ranges k) → a.table k ≡ Free → IsUnbound a.table e → ⊥
   IsMisplaced a Done = a.loading ≡ true → ⊥
   IsMisplaced a Want = Unit {0}
   IsMisplaced a (Grant ports) = Unit {0}
-  IsMisplaced a (Owner first last) = a.loading ≡ true → ((k : Key) → a.table k ≡ Free) → IsRisingRun r.in_ranges a.named first last → ⊥
+  IsMisplaced a (Owner first last) =
+      a.loading ≡ true → ((k : Key) → a.table k ≡ Free) →
+      IsRisingRun r.in_ranges a.named first last → ⊥
 
   -- when gateway i, at a, may do it, by what it knows itself
   abbrev pub MayAct : GatewayId → Box → Act → Type 0
-  MayAct i a (Do d) = (a.synced ≡ true) × (a.lone ≡ false) × MayDo (keyed a.owned) i a.table d × (taken_by d ≡ [])
-  MayAct i a (Take l n q d) = (a.synced ≡ true) × (a.lone ≡ false) × MayDo (keyed a.owned) i a.table d × (taken_by d ≡ q ∷ []) × StandsNext a l n q
+  MayAct i a (Do d) =
+      (a.synced ≡ true) × (a.lone ≡ false) × MayDo (keyed a.owned) i a.table d × (taken_by d ≡ [])
+  MayAct i a (Take l n q d) =
+      (a.synced ≡ true) × (a.lone ≡ false) × MayDo (keyed a.owned) i a.table d
+      × (taken_by d ≡ q ∷ []) × StandsNext a l n q
   MayAct i a (Hear l back os ps part) = (a.synced ≡ true) × (a.peer < l.boot) × AreBack a.table back
       × AreRising r.in_ranges 0 os × LeaveRest r i a.owned os
-      × AreLoadable r (keyed (left_to r (other i) os)) empty ps × AreMirrored (keyed (left_to r (other i) os)) (λ k. revived (a.table k)) ps
+      × AreLoadable r (keyed (left_to r (other i) os)) empty ps
+      × AreMirrored (keyed (left_to r (other i) os)) (λ k. revived (a.table k)) ps
   MayAct i a (HearAnew l) = (a.up ≡ true) × (a.synced ≡ false) × (a.peer < l.boot)
   MayAct i a (PeerOff number back) = (a.synced ≡ true) × AreBack a.table back
   MayAct i a (LoadBegin l n) = (a.synced ≡ false) × StandsNext a l n Begin
-  MayAct i a (LoadOwner l n first last) = (a.synced ≡ false) × (a.loading ≡ true) × ((k : Key) → a.table k ≡ Free) × IsRisingRun r.in_ranges a.named first last × StandsNext a l n (Owner first last)
-  MayAct i a (LoadPut l n p) = (a.synced ≡ false) × (a.loading ≡ true) × (a.table p.key ≡ Free) × IsUnbound a.table p.endpoint × StandsNext a l n (Put p.key p.endpoint) × IsTrue (keyed r.in_ranges p.key)
+  MayAct i a (LoadOwner l n first last) =
+      (a.synced ≡ false) × (a.loading ≡ true) × ((k : Key) → a.table k ≡ Free)
+      × IsRisingRun r.in_ranges a.named first last × StandsNext a l n (Owner first last)
+  MayAct i a (LoadPut l n p) =
+      (a.synced ≡ false) × (a.loading ≡ true) × (a.table p.key ≡ Free)
+      × IsUnbound a.table p.endpoint × StandsNext a l n (Put p.key p.endpoint)
+      × IsTrue (keyed r.in_ranges p.key)
   MayAct i a (LoadDone l n) = (a.synced ≡ false) × (a.loading ≡ true) × StandsNext a l n Done
   MayAct i a (LoadSkip l n q) = (a.synced ≡ false) × StandsNext a l n q × IsMisplaced a q
   MayAct i a WantPorts = (a.synced ≡ true) × (a.lone ≡ false) × (a.wants ≡ false)
-  MayAct i a (GrantPorts l n ports) = (a.synced ≡ true) × (a.lone ≡ false) × AreDistinct ports × AreSpare a ports × StandsNext a l n Want
-  MayAct i a (TakePorts l n ports got) = (a.synced ≡ true) × (a.lone ≡ false) × (a.wants ≡ true) × AreGot a ports got × StandsNext a l n (Grant ports)
-  MayAct i a (LosePorts l n ports) = (a.synced ≡ true) × (a.lone ≡ false) × (a.wants ≡ false) × StandsNext a l n (Grant ports)
+  MayAct i a (GrantPorts l n ports) =
+      (a.synced ≡ true) × (a.lone ≡ false) × AreDistinct ports × AreSpare a ports
+      × StandsNext a l n Want
+  MayAct i a (TakePorts l n ports got) =
+      (a.synced ≡ true) × (a.lone ≡ false) × (a.wants ≡ true) × AreGot a ports got
+      × StandsNext a l n (Grant ports)
+  MayAct i a (LosePorts l n ports) =
+      (a.synced ≡ true) × (a.lone ≡ false) × (a.wants ≡ false) × StandsNext a l n (Grant ports)
   MayAct i a HandIn = a.synced ≡ true
-  MayAct i a (Ignore l n q) = (a.synced ≡ true) × (a.lone ≡ false) × ((m : ℕ) × (a.promised ≡ Some m)) × StandsNext a l n q
-  MayAct i a (Send first count) = (a.up ≡ true) × ((m : ℕ) → a.promised ≡ Some m → first + count ≤ m)
-  MayAct i a (LoneNew k e) = (a.synced ≡ true) × (a.lone ≡ true) × IsTrue (keyed a.owned k) × (a.table k ≡ Free) × IsUnbound a.table e
+  MayAct i a (Ignore l n q) =
+      (a.synced ≡ true) × (a.lone ≡ false) × ((m : ℕ) × (a.promised ≡ Some m)) × StandsNext a l n q
+  MayAct i a (Send first count) =
+      (a.up ≡ true) × ((m : ℕ) → a.promised ≡ Some m → first + count ≤ m)
+  MayAct i a (LoneNew k e) =
+      (a.synced ≡ true) × (a.lone ≡ true) × IsTrue (keyed a.owned k) × (a.table k ≡ Free)
+      × IsUnbound a.table e
   MayAct i a (LoneUse k e) = (a.synced ≡ true) × (a.lone ≡ true) × (translated (a.table k) ≡ Some e)
-  MayAct i a (LoneDrop k e) = (a.synced ≡ true) × (a.lone ≡ true) × (translated (a.table k) ≡ Some e)
+  MayAct i a (LoneDrop k e) =
+      (a.synced ≡ true) × (a.lone ≡ true) × (translated (a.table k) ≡ Some e)
   MayAct i a Crash = a.up ≡ true
   MayAct i a (Boot n) = (a.up ≡ false) × (a.boot < n)
 

@@ -10,12 +10,16 @@ use Rattle.pair_machine.specs.Talk.{Slot, held}
 -- keys and endpoints are distinct
 abbrev pub AreApart : List Pair → Type 0
 AreApart [] = Unit {0}
-AreApart (p ∷ ps) = ((q : Pair) → In q ps → (q.key ≡ p.key → ⊥) × (q.endpoint ≡ p.endpoint → ⊥)) × AreApart ps
+AreApart (p ∷ ps) =
+    ((q : Pair) → In q ps → (q.key ≡ p.key → ⊥) × (q.endpoint ≡ p.endpoint → ⊥)) × AreApart ps
 
 -- these are the table's pairs
 abbrev pub AreThose : (Key → Slot) → List Pair → Type 0
-AreThose table ps = (p : Pair) → (In p ps → held (table p.key) ≡ Some p.endpoint) × (held (table p.key) ≡ Some p.endpoint → In p ps)
+AreThose table ps =
+    (p : Pair) → (In p ps → held (table p.key) ≡ Some p.endpoint)
+    × (held (table p.key) ≡ Some p.endpoint → In p ps)
 
 -- each pair's port lies in the ranges
 abbrev pub LieWithin : Ranges → (Key → Slot) → Type 0
-LieWithin r table = (k : Key) (e : Endpoint) → held (table k) ≡ Some e → IsTrue (keyed r.in_ranges k)
+LieWithin r table =
+    (k : Key) (e : Endpoint) → held (table k) ≡ Some e → IsTrue (keyed r.in_ranges k)

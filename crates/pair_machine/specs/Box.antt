@@ -112,7 +112,9 @@ module _ (r : Ranges) where
   -- each pair is new where it is put, and its port lies in the ranges
   abbrev pub AreLoadable : (Key → Bool) → (Key → Slot) → List Pair → Type 0
   AreLoadable owned table [] = Unit {0}
-  AreLoadable owned table (p ∷ ps) = (table p.key ≡ Free) × IsUnbound table p.endpoint × IsTrue (keyed r.in_ranges p.key) × AreLoadable owned (set_at table p.key (loaded_slot owned p.key p.endpoint)) ps
+  AreLoadable owned table (p ∷ ps) =
+      (table p.key ≡ Free) × IsUnbound table p.endpoint × IsTrue (keyed r.in_ranges p.key)
+      × AreLoadable owned (set_at table p.key (loaded_slot owned p.key p.endpoint)) ps
 
 -- a slot at the peer's restart: what was proposed or asked to be closed goes on translating
 abbrev pub revived : Slot → Slot
@@ -134,7 +136,9 @@ is_back (Held e) = None
 
 -- these are the pairs that do
 abbrev pub AreBack : (Key → Slot) → List Pair → Type 0
-AreBack table back = (p : Pair) → (In p back → is_back (table p.key) ≡ Some p.endpoint) × (is_back (table p.key) ≡ Some p.endpoint → In p back)
+AreBack table back =
+    (p : Pair) → (In p back → is_back (table p.key) ≡ Some p.endpoint)
+    × (is_back (table p.key) ≡ Some p.endpoint → In p back)
 
 -- their notes
 abbrev pub retakes : GatewayId → ℕ → List Pair → List Note
@@ -189,7 +193,8 @@ resets a boot lone sent promised = record a {
 
 -- It hears a greater boot of the peer, and pushes its table. In parts: all but Done may be sent at first.
 abbrev pub hears : Box → ℕ → List Run → List Pair → Bool → Box
-hears a boot os ps part = resets a boot false (batch os ps) (cond part (Some (suc (length os + length ps))) None)
+hears a boot os ps part =
+    resets a boot false (batch os ps) (cond part (Some (suc (length os + length ps))) None)
 
 -- the operator says that the peer's boot of this number is off: it is alone
 abbrev pub put_off : Box → ℕ → Box
@@ -223,7 +228,8 @@ hands_in a = record a { promised = None }
 
 -- it takes Done
 abbrev pub takes_done : Box → Box
-takes_done a = record a { synced = true; lone = false; taken = suc a.taken; loading = false; promised = None }
+takes_done a =
+    record a { synced = true; lone = false; taken = suc a.taken; loading = false; promised = None }
 
 -- after a crash
 abbrev pub crashed : Box → Box
@@ -243,7 +249,8 @@ never = bare false 0
 
 -- with these ports, records pushed and taken, an open Want or none, and this as the last port named
 abbrev pub owns_ports : Box → List MachineRecord → ℕ → (ℕ → Bool) → Bool → ℕ → Box
-owns_ports a sent taken owned wants named = record a { sent = sent; taken = taken; owned = owned; wants = wants; named = named }
+owns_ports a sent taken owned wants named =
+    record a { sent = sent; taken = taken; owned = owned; wants = wants; named = named }
 
 -- it takes an Owner: it won't own that run
 abbrev pub takes_owner : Box → ℕ → ℕ → Box
@@ -255,19 +262,29 @@ wants_ports a = owns_ports a (a.sent ++ Want ∷ []) a.taken a.owned true a.name
 
 -- it takes a Want, and grants these ports
 abbrev pub grants_ports : Box → List ℕ → Box
-grants_ports a ports = owns_ports a (a.sent ++ Grant ports ∷ []) (suc a.taken) (λ p. cond (has p ports) false (a.owned p)) a.wants a.named
+grants_ports a ports =
+    owns_ports a (a.sent ++ Grant ports ∷ []) (suc a.taken)
+    (λ p. cond (has p ports) false (a.owned p)) a.wants a.named
 
 -- it takes a Grant, and these become owned
 abbrev pub takes_ports : Box → List ℕ → Box
-takes_ports a got = owns_ports a a.sent (suc a.taken) (λ p. cond (has p got) true (a.owned p)) false a.named
+takes_ports a got =
+    owns_ports a a.sent (suc a.taken) (λ p. cond (has p got) true (a.owned p)) false a.named
 
 -- it takes a Put: the pair is Live on a port that it is to own, else Held
 abbrev pub takes_put : Box → Pair → Box
-takes_put a p = box_with a (set_at a.table p.key (loaded_slot (keyed a.owned) p.key p.endpoint)) a.sent (suc a.taken)
+takes_put a p =
+    box_with a (set_at a.table p.key (loaded_slot (keyed a.owned) p.key p.endpoint)) a.sent
+    (suc a.taken)
 
 -- the datagram with this part of the records pushed
 abbrev pub letter : Box → ℕ → ℕ → Letter
-letter a first count = record { boot = a.boot; to = a.peer; first = first; records = take count (drop first a.sent) }
+letter a first count = record {
+  boot = a.boot;
+  to = a.peer;
+  first = first;
+  records = take count (drop first a.sent);
+}
 
 -- the letter has this record at the number that is next
 pub record StandsNext (a : Box) (l : Letter) (offset : ℕ) (r : MachineRecord) : Type 0 where

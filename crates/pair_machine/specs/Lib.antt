@@ -4,6 +4,7 @@ pub mod Box
 pub mod Acts
 pub mod World
 pub mod Step
+pub mod RecordTable
 pub mod Batch
 pub mod Rows
 pub mod Mapped

@@ -17,11 +17,19 @@ pub record Ranges : Type 0 where
 
 -- fixed ranges: owner says whose each port is
 abbrev pub fixed : (ℕ → Bool) → (ℕ → GatewayId) → Ranges
-fixed in_ranges owner = record { in_ranges = in_ranges; at_start = λ p. same Zero (owner p); at_begin = λ j p. in_ranges p && same j (owner p) }
+fixed in_ranges owner = record {
+  in_ranges = in_ranges;
+  at_start = λ p. same Zero (owner p);
+  at_begin = λ j p. in_ranges p && same j (owner p);
+}
 
 -- ports that move: gateway 0 is founded with the range that at_start says
 abbrev pub moving : (ℕ → Bool) → (ℕ → Bool) → Ranges
-moving in_ranges at_start = record { in_ranges = in_ranges; at_start = at_start; at_begin = λ j. in_ranges }
+moving in_ranges at_start = record {
+  in_ranges = in_ranges;
+  at_start = at_start;
+  at_begin = λ j. in_ranges;
+}
 
 -- a run of ports
 pub record Run : Type 0 where
@@ -53,7 +61,8 @@ last_named low (o ∷ os) = last_named o.last os
 
 -- a run that rises, lies in the ranges, and begins above this port
 abbrev pub IsRisingRun : (ℕ → Bool) → ℕ → ℕ → ℕ → Type 0
-IsRisingRun ranges low first last = (low < first) × (first ≤ last) × ((p : ℕ) → first ≤ p → p ≤ last → IsTrue (ranges p))
+IsRisingRun ranges low first last =
+    (low < first) × (first ≤ last) × ((p : ℕ) → first ≤ p → p ≤ last → IsTrue (ranges p))
 
 -- each run is such, above the one before
 abbrev pub AreRising : (ℕ → Bool) → ℕ → List Run → Type 0

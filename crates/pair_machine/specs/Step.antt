@@ -32,7 +32,8 @@ module _ (r : Ranges) where
   -- what a step of gateway i at a, which was handed these letters and words, does: these acts in order
   abbrev pub Follows : GatewayId → Box → List Letter → List ℕ → List Act → Type 0
   Follows i a ls ws [] = Unit {0}
-  Follows i a ls ws (x ∷ xs) = MayAct r i a x × ReadsOnly ls ws x × Follows i (box_after r i a x) ls ws xs
+  Follows i a ls ws (x ∷ xs) =
+      MayAct r i a x × ReadsOnly ls ws x × Follows i (box_after r i a x) ls ws xs
 
   -- the box after these acts
   abbrev pub boxes_after : GatewayId → Box → List Act → Box
@@ -50,20 +51,11 @@ module _ (r : Ranges) where
   mail_after i a (x ∷ xs) mail = mail_after i (box_after r i a x) xs (letters_by a x ++ mail)
 
   -- A step of gateway i at this moment: from the box old to the box new, with these notes and letters more.
-  pub record IsStep (i : GatewayId) (moment : ℕ) (old new : Box) (handed : List Letter) (words : List ℕ) (t t2 : List Note) (mail mail2 : List Letter) : Type 0 where
+  pub record IsStep (i : GatewayId) (moment : ℕ) (old new : Box)
+      (handed : List Letter) (words : List ℕ)
+      (t t2 : List Note) (mail mail2 : List Letter) : Type 0 where
     pub acts : List Act
     pub follows : Follows i old handed words acts
     pub box_is : new ≡ boxes_after i old acts
     pub trace_is : t2 ≡ notes_after i moment acts t
     pub mail_is : mail2 ≡ mail_after i old acts mail
-
--- the next record of the letter is taken by some act
-abbrev pub CanTake : Ranges → GatewayId → Box → Letter → Type 0
-CanTake r i a l = (x : Act) × MayAct r i a x × (read_by x ≡ l ∷ []) × ((box_after r i a x).taken ≡ suc a.taken)
-
--- What a gateway finds out of its own table before it takes a record of a batch: whether a pair has the endpoint,
--- whether there is any, and whether an Owner names a run.
-pub record IsDecided (r : Ranges) (a : Box) : Type 0 where
-  pub is_new : (e : Endpoint) → IsUnbound a.table e ⊎ (IsUnbound a.table e → ⊥)
-  pub is_empty : ((k : Key) → a.table k ≡ Free) ⊎ (((k : Key) → a.table k ≡ Free) → ⊥)
-  pub is_run : (first last : ℕ) → IsRisingRun r.in_ranges a.named first last ⊎ (IsRisingRun r.in_ranges a.named first last → ⊥)

@@ -186,7 +186,8 @@ module _ (owned : Key → Bool) where
   abbrev pub IsLost : (Key → Slot) → MachineRecord → Type 0
   IsLost table (Install k e) = ⊥
   IsLost table (Accept k) = (e : Endpoint) → IsTrue (owned k) → table k ≡ Pending e → ⊥
-  IsLost table (Refuse k) = (e : Endpoint) → IsTrue (owned k) → ((table k ≡ Pending e) ⊎ (table k ≡ Doomed e)) → ⊥
+  IsLost table (Refuse k) =
+      (e : Endpoint) → IsTrue (owned k) → ((table k ≡ Pending e) ⊎ (table k ≡ Doomed e)) → ⊥
   IsLost table (Ask k) = ⊥
   IsLost table (Yes k) = (e : Endpoint) → IsTrue (owned k) → table k ≡ Closing e → ⊥
   IsLost table (No k) = (e : Endpoint) → IsTrue (owned k) → table k ≡ Closing e → ⊥

@@ -21,7 +21,13 @@ pub record Scene : Type 0 where
 
 -- what the other sees
 abbrev pub flip : Scene → Scene
-flip s = record { mine = s.theirs; theirs = s.mine; my_mail = s.their_mail; their_mail = s.my_mail; trace = s.trace }
+flip s = record {
+  mine = s.theirs;
+  theirs = s.mine;
+  my_mail = s.their_mail;
+  their_mail = s.my_mail;
+  trace = s.trace;
+}
 
 -- what has to hold outside the gateway: the operator's word is true, and the last synced gateway doesn't crash
 abbrev pub Outside : Scene → Act → Type 0
@@ -43,7 +49,13 @@ seen_by One s = flip s
 
 -- gateway 0 is founded with boot 1, gateway 1 down
 abbrev pub founding : Ranges → Scene
-founding r = record { mine = founder (λ p. r.in_ranges p && r.at_start p); theirs = never; my_mail = []; their_mail = []; trace = [] }
+founding r = record {
+  mine = founder (λ p. r.in_ranges p && r.at_start p);
+  theirs = never;
+  my_mail = [];
+  their_mail = [];
+  trace = [];
+}
 
 -- what belongs to gateway 0, and what to gateway 1
 abbrev pub both : {A : Type 0} → A → A → GatewayId → A
@@ -84,21 +96,31 @@ pub record IsKept (t : List Note) (tables : GatewayId → Key → Slot) : Type 0
 -- What is promised of the ports of each world.
 pub record HasOwners (r : Ranges) (s : Scene) : Type 0 where
   -- no port is owned by two synced gateways
-  pub apart : s.mine.synced ≡ true → s.theirs.synced ≡ true → (p : ℕ) → IsTrue (s.mine.owned p) → IsTrue (s.theirs.owned p) → ⊥
+  pub apart : s.mine.synced ≡ true → s.theirs.synced ≡ true → (p : ℕ) → IsTrue (s.mine.owned p) →
+      IsTrue (s.theirs.owned p) → ⊥
   -- where both are synced and every record pushed was taken, each port of the ranges has one owner
-  pub whole : s.mine.synced ≡ true → s.theirs.synced ≡ true → s.mine.taken ≡ length s.theirs.sent → s.theirs.taken ≡ length s.mine.sent
+  pub whole : s.mine.synced ≡ true → s.theirs.synced ≡ true → s.mine.taken ≡ length s.theirs.sent →
+      s.theirs.taken ≡ length s.mine.sent
       → (p : ℕ) → IsTrue (r.in_ranges p) → IsTrue (s.mine.owned p || s.theirs.owned p)
   -- and no other port is owned
-  pub within : (i : GatewayId) → (box_in s i).synced ≡ true → (p : ℕ) → IsTrue ((box_in s i).owned p) → IsTrue (r.in_ranges p)
+  pub within : (i : GatewayId) → (box_in s i).synced ≡ true → (p : ℕ) →
+      IsTrue ((box_in s i).owned p) → IsTrue (r.in_ranges p)
 
 module _ (r : Ranges) where
   -- An act is allowed where the gateway may do it, what it reads was sent, and the outside is so.
   abbrev pub Can : GatewayId → Scene → Act → Type 0
-  Can i s x = MayAct r i s.mine x × ((l : Letter) → In l (read_by x) → In l s.their_mail) × Outside s x
+  Can i s x =
+      MayAct r i s.mine x × ((l : Letter) → In l (read_by x) → In l s.their_mail) × Outside s x
 
   -- the scene afterwards
   abbrev pub after_act : GatewayId → ℕ → Scene → Act → Scene
-  after_act i moment s x = record { mine = box_after r i s.mine x; theirs = s.theirs; my_mail = letters_by s.mine x ++ s.my_mail; their_mail = s.their_mail; trace = act_notes i moment x ++ s.trace }
+  after_act i moment s x = record {
+    mine = box_after r i s.mine x;
+    theirs = s.theirs;
+    my_mail = letters_by s.mine x ++ s.my_mail;
+    their_mail = s.their_mail;
+    trace = act_notes i moment x ++ s.trace;
+  }
 
   -- the world after an event
   abbrev pub after_event : Scene → MachineEvent → Scene

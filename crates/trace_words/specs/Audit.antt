@@ -16,11 +16,15 @@ ListsHold zero one One pair = Contains one pair
 
 -- The notes before the position, which counts from 1, fit and are silent; with the note there they aren't silent.
 abbrev pub FirstNotSilent : List Note → ℕ → Type 0
-FirstNotSilent trace position = Fits (take (position - 1) trace) × Silent (take (position - 1) trace) × (Silent (take position trace) → ⊥)
+FirstNotSilent trace position =
+    Fits (take (position - 1) trace) × Silent (take (position - 1) trace)
+    × (Silent (take position trace) → ⊥)
 
 -- The notes before the position fit, and with the note there they are silent but don't fit.
 abbrev pub FirstNotFits : List Note → ℕ → Type 0
-FirstNotFits trace position = Fits (take (position - 1) trace) × Silent (take position trace) × (Fits (take position trace) → ⊥)
+FirstNotFits trace position =
+    Fits (take (position - 1) trace) × Silent (take position trace)
+    × (Fits (take position trace) → ⊥)
 
 -- what a fault says of a trace and two tables
 abbrev pub FaultSays : List Note → List Pair → List Pair → AuditFault → Type 0
@@ -43,9 +47,11 @@ AreOpen opens notes = (q : Pair) → Contains opens q ↔ IsTrue (past.is_open q
 -- what a fault says of one note after the others
 abbrev pub Judged : List Note → Note → ℕ → AuditFault → Type 0
 Judged notes note position NoMemory = ⊥
-Judged notes note position (NotFits at) = (at ≡ position) × past.SilentAt note.by note.what notes × (past.FitsAt note.what notes → ⊥)
+Judged notes note position (NotFits at) =
+    (at ≡ position) × past.SilentAt note.by note.what notes × (past.FitsAt note.what notes → ⊥)
 Judged notes note position NotKept = ⊥
-Judged notes note position (NotSilent at) = (at ≡ position) × (past.SilentAt note.by note.what notes → ⊥)
+Judged notes note position (NotSilent at) =
+    (at ≡ position) × (past.SilentAt note.by note.what notes → ⊥)
 
 -- what is kept for a gateway, of two values
 abbrev pub by_gateway : GatewayId → Bool → Bool → Bool

@@ -1,4 +1,5 @@
--- What a reader says of a trace by position: the oldest note stands at 0, and `take k trace` is what stood before the note at k.
+-- What a reader says of a trace by position: the oldest note stands at 0, and `take k trace` is what stood before the
+-- note at k.
 use Rattle.std.specs.Prelude.{◌≡◌, ℕ, zero, suc, ◌+◌, ◌<◌, ◌≤◌, Bool, true, false, ◌&&◌, ◌||◌, List, [], ◌∷◌, take, Option, Some, None, IsTrue, ◌⊎◌, ◌↔◌}
 use Rattle.nat_types.specs.declared.gateways.GatewayId.{GatewayId}
 use Rattle.nat_types.specs.declared.gateways.GatewayId.TheVariants.{Zero}
@@ -17,7 +18,9 @@ note_at (note ∷ notes) (suc k) = note_at notes k
 
 -- the note is the last one that passes the test
 abbrev pub LastIs : (Note → Bool) → List Note → Note → Type 0
-LastIs test trace note = (k : ℕ) × (note_at trace k ≡ Some note) × IsTrue (test note) × ((j : ℕ) (later : Note) → k < j → note_at trace j ≡ Some later → test later ≡ false)
+LastIs test trace note =
+    (k : ℕ) × (note_at trace k ≡ Some note) × IsTrue (test note)
+    × ((j : ℕ) (later : Note) → k < j → note_at trace j ≡ Some later → test later ≡ false)
 
 -- no note passes the test
 abbrev pub NoneIs : (Note → Bool) → List Note → Type 0
@@ -38,7 +41,9 @@ is_state gateway note = same gateway note.by && is_state_word note.what
 
 -- Synced: the last note of the gateway among Synced, Crashed and Booted is Synced, or it has none and is gateway 0.
 abbrev pub SyncedSays : GatewayId → List Note → Type 0
-SyncedSays gateway trace = ((note : Note) × LastIs (is_state gateway) trace note × (note.what ≡ Synced)) ⊎ (NoneIs (is_state gateway) trace × (gateway ≡ Zero))
+SyncedSays gateway trace =
+    ((note : Note) × LastIs (is_state gateway) trace note × (note.what ≡ Synced))
+    ⊎ (NoneIs (is_state gateway) trace × (gateway ≡ Zero))
 
 -- Used, Released or Retaken, of the pair
 abbrev pub is_pair_word : Pair → Happening → Bool
@@ -55,11 +60,13 @@ is_on_pair gateway pair note = same gateway note.by && is_pair_word pair note.wh
 
 -- Let go: the last note of the gateway on the pair is Released.
 abbrev pub LetGoSays : GatewayId → Pair → List Note → Type 0
-LetGoSays gateway pair trace = (note : Note) × LastIs (is_on_pair gateway pair) trace note × (note.what ≡ Released pair)
+LetGoSays gateway pair trace =
+    (note : Note) × LastIs (is_on_pair gateway pair) trace note × (note.what ≡ Released pair)
 
 -- the other gateway isn't synced, or has let the pair go
 abbrev pub AgreedSays : GatewayId → Pair → List Note → Type 0
-AgreedSays gateway pair trace = (SyncedSays (other gateway) trace → ⊥) ⊎ LetGoSays (other gateway) pair trace
+AgreedSays gateway pair trace =
+    (SyncedSays (other gateway) trace → ⊥) ⊎ LetGoSays (other gateway) pair trace
 
 -- Agreed deletion: the note, with those before it, is one of the pair.
 abbrev pub Deletes : Pair → Note → List Note → Type 0
@@ -67,7 +74,10 @@ Deletes pair note before = (note.what ≡ Released pair) × AgreedSays note.by p
 
 -- Open: there is a Used note of the pair after which no agreed deletion of it stands.
 abbrev pub OpenSays : Pair → List Note → Type 0
-OpenSays pair trace = (k : ℕ) × (note : Note) × (note_at trace k ≡ Some note) × (note.what ≡ Used pair) × ((j : ℕ) (later : Note) → k < j → note_at trace j ≡ Some later → Deletes pair later (take j trace) → ⊥)
+OpenSays pair trace =
+    (k : ℕ) × (note : Note) × (note_at trace k ≡ Some note) × (note.what ≡ Used pair)
+    × ((j : ℕ) (later : Note) → k < j → note_at trace j ≡ Some later →
+    Deletes pair later (take j trace) → ⊥)
 
 -- each note, with those before it
 abbrev pub Each : (Note → List Note → Type 0) → List Note → Type 0
@@ -91,7 +101,9 @@ SilentSays trace = Each SilentHere trace
 
 -- Kept: each open pair is held by each synced gateway.
 abbrev pub KeptSays : (GatewayId → Pair → Type 0) → List Note → Type 0
-KeptSays Holds trace = (pair : Pair) → OpenSays pair trace → (gateway : GatewayId) → SyncedSays gateway trace → Holds gateway pair
+KeptSays Holds trace =
+    (pair : Pair) → OpenSays pair trace → (gateway : GatewayId) → SyncedSays gateway trace →
+    Holds gateway pair
 
 -- Booted
 abbrev pub is_boot_word : Happening → Bool
@@ -104,23 +116,34 @@ is_boot_word (Booted number) = true
 
 -- a note of the gateway on the pair, or one that begins a life of the gateway
 abbrev pub is_of_life : GatewayId → Pair → Note → Bool
-is_of_life gateway pair note = same gateway note.by && (is_pair_word pair note.what || is_boot_word note.what)
+is_of_life gateway pair note =
+    same gateway note.by && (is_pair_word pair note.what || is_boot_word note.what)
 
 -- the last note of the gateway on the pair is Used or Retaken, and no life of the gateway began since
 abbrev pub GoesOnSays : GatewayId → Pair → List Note → Type 0
-GoesOnSays gateway pair trace = (note : Note) × LastIs (is_of_life gateway pair) trace note × ((note.what ≡ Used pair) ⊎ (note.what ≡ Retaken pair))
+GoesOnSays gateway pair trace =
+    (note : Note) × LastIs (is_of_life gateway pair) trace note
+    × ((note.what ≡ Used pair) ⊎ (note.what ≡ Retaken pair))
 
 -- Goes on: a synced gateway translates with exactly the pairs that go on there.
 abbrev pub TranslatesSays : (GatewayId → Pair → Type 0) → List Note → Type 0
-TranslatesSays Translates trace = (gateway : GatewayId) → SyncedSays gateway trace → (pair : Pair) → (GoesOnSays gateway pair trace ↔ Translates gateway pair)
+TranslatesSays Translates trace =
+    (gateway : GatewayId) → SyncedSays gateway trace → (pair : Pair) →
+    (GoesOnSays gateway pair trace ↔ Translates gateway pair)
 
 -- a Used note of the gateway and the pair has that moment, and no life of the gateway began since
 abbrev pub UseSays : GatewayId → Pair → ℕ → List Note → Type 0
-UseSays gateway pair use_at trace = (j : ℕ) × (note : Note) × (note_at trace j ≡ Some note) × (note.by ≡ gateway) × (note.what ≡ Used pair) × (note.at ≡ use_at) × ((k : ℕ) (later : Note) (number : ℕ) → j < k → note_at trace k ≡ Some later → later.by ≡ gateway → later.what ≡ Booted number → ⊥)
+UseSays gateway pair use_at trace =
+    (j : ℕ) × (note : Note) × (note_at trace j ≡ Some note) × (note.by ≡ gateway)
+    × (note.what ≡ Used pair) × (note.at ≡ use_at)
+    × ((k : ℕ) (later : Note) (number : ℕ) → j < k → note_at trace k ≡ Some later →
+    later.by ≡ gateway → later.what ≡ Booted number → ⊥)
 
 -- a release of a pair comes at least its rest after each use of it by the same gateway in the same life
 abbrev pub IdleHere : Note → List Note → Type 0
-IdleHere note before = (pair : Pair) (use_at : ℕ) → note.what ≡ Released pair → UseSays note.by pair use_at before → use_at + rest_of pair.key.protocol ≤ note.at
+IdleHere note before =
+    (pair : Pair) (use_at : ℕ) → note.what ≡ Released pair → UseSays note.by pair use_at before →
+    use_at + rest_of pair.key.protocol ≤ note.at
 
 -- Idle, by position
 abbrev pub IdleSays : List Note → Type 0

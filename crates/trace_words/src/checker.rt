@@ -1,3 +1,4 @@
+//! The checker of traces: it goes through the notes once, and keeps the open pairs and who is synced.
 ghost use Rattle.std.specs.Prelude.{◌≡◌, ◌+◌, not, List, ◌∷◌, filter, reverse, ◌&&◌, IsTrue, ◌↔◌, OnOk, IfErr, All, Contains};
 ghost use Rattle.nat_types.specs.Same.{other, same, same_pair};
 ghost use Rattle.nat_types.specs.declared.notes.Note.{Note as Noted};
@@ -125,7 +126,9 @@ fn has_all(table: &[Pair], opens: &[Pair]) -> bool
 
 /// Whether each gateway that is synced has all open pairs in its table.
 fn are_kept(opens: &[Pair], synced: (bool, bool), zero: &[Pair], one: &[Pair]) -> bool
-    ensures { IsTrue result ↔ ((IsTrue synced.0 → All (Contains zero.now) opens.now) × (IsTrue synced.1 → All (Contains one.now) opens.now)) }
+    ensures { IsTrue result
+        ↔ ((IsTrue synced.0 → All (Contains zero.now) opens.now)
+        × (IsTrue synced.1 → All (Contains one.now) opens.now)) }
 {
     (!synced.0 || has_all(zero, opens)) && (!synced.1 || has_all(one, opens))
 }
@@ -147,8 +150,12 @@ fn of_gateway(gateway: GatewayId, zero: bool, one: bool) -> bool
 
 /// Judges one note after the others.
 fn judge(opens: &[Pair], synced: bool, note: &Note, position: usize) -> Result<(), AuditFault>
-    ensures ok { OnOk result ((t : List Noted) → AreOpen opens.now t → synced ≡ past.is_synced note.now.by t → past.FitsAt note.now.what t × past.SilentAt note.now.by note.now.what t) }
-    ensures err { IfErr result (λ f. (t : List Noted) → AreOpen opens.now t → synced ≡ past.is_synced note.now.by t → Judged t note.now position f) }
+    ensures ok { OnOk result
+        ((t : List Noted) → AreOpen opens.now t → synced ≡ past.is_synced note.now.by t →
+        past.FitsAt note.now.what t × past.SilentAt note.now.by note.now.what t) }
+    ensures err { IfErr result
+        (λ f. (t : List Noted) → AreOpen opens.now t → synced ≡ past.is_synced note.now.by t →
+        Judged t note.now position f) }
 {
     match note.what {
         Happening::Used(pair) => {
@@ -165,7 +172,12 @@ fn judge(opens: &[Pair], synced: bool, note: &Note, position: usize) -> Result<(
 }
 
 /// The open pairs after a note. `alone` says that the other gateway isn't synced.
-fn follow(opens: &mut Vec<Pair>, before: &[Note], alone: bool, note: &Note) -> Result<(), AuditFault>
+fn follow(
+    opens: &mut Vec<Pair>,
+    before: &[Note],
+    alone: bool,
+    note: &Note,
+) -> Result<(), AuditFault>
     requires pairs { AreOpen opens.old.items (reverse before.now) }
     requires alone { alone ≡ not (past.is_synced (other note.now.by) (reverse before.now)) }
     ensures ok { OnOk result (AreOpen opens.new.items (note.now ∷ reverse before.now)) }

@@ -53,13 +53,17 @@ pub fn silent_by_position()
 
 /// The tables are kept exactly where each synced gateway holds each open pair.
 pub fn kept_by_position()
-    ensures { (holds : GatewayId → Pair → Bool) (t : List Note) → Kept (λ i p. IsTrue (holds i p)) t ↔ KeptSays (λ i p. IsTrue (holds i p)) t }
+    ensures { (holds : GatewayId → Pair → Bool) (t : List Note) →
+        Kept (λ i p. IsTrue (holds i p)) t ↔ KeptSays (λ i p. IsTrue (holds i p)) t }
 {}
 
 /// A pair goes on at a gateway exactly where its last note on it, in its present life, is Used or Retaken.
 pub fn goes_on_by_position()
-    ensures pair { (i : GatewayId) (p : Pair) (t : List Note) → GoesOnWith i p t ↔ GoesOnSays i p t }
-    ensures all { (translates : GatewayId → Pair → Bool) (t : List Note) → GoesOn (λ i p. IsTrue (translates i p)) t ↔ TranslatesSays (λ i p. IsTrue (translates i p)) t }
+    ensures pair { (i : GatewayId) (p : Pair) (t : List Note) →
+        GoesOnWith i p t ↔ GoesOnSays i p t }
+    ensures all { (translates : GatewayId → Pair → Bool) (t : List Note) →
+        GoesOn (λ i p. IsTrue (translates i p)) t
+        ↔ TranslatesSays (λ i p. IsTrue (translates i p)) t }
 {}
 
 /// A trace is idle exactly where each release comes a rest after each use of the pair by the same gateway in the same life.
@@ -70,13 +74,24 @@ pub fn idle_by_position()
 /// One more note at the end of a trace is the newest one, and each word changes by one step.
 pub fn one_more_note()
     ensures newest { (t : List Note) (n : Note) → reverse (t ++ n ∷ []) ≡ n ∷ reverse t }
-    ensures synced { (i : GatewayId) (t : List Note) (n : Note) → past.is_synced i (reverse (t ++ n ∷ [])) ≡ past.synced_after i n.by n.what (past.is_synced i (reverse t)) }
-    ensures let_go { (i : GatewayId) (p : Pair) (t : List Note) (n : Note) → past.has_let_go i p (reverse (t ++ n ∷ [])) ≡ past.let_go_after i p n.by n.what (past.has_let_go i p (reverse t)) }
-    ensures opens { (p : Pair) (t : List Note) (n : Note) → past.is_open p (reverse (t ++ n ∷ [])) ≡ past.open_after p n.what (past.is_agreed n.by p (reverse t)) (past.is_open p (reverse t)) }
-    ensures goes_on { (i : GatewayId) (p : Pair) (t : List Note) (n : Note) → past.goes_on i p (reverse (t ++ n ∷ [])) ≡ past.goes_after i p n.by n.what (past.goes_on i p (reverse t)) }
-    ensures fits { (t : List Note) (n : Note) → Fits (t ++ n ∷ []) ↔ past.FitsAt n.what (reverse t) × Fits t }
-    ensures silent { (t : List Note) (n : Note) → Silent (t ++ n ∷ []) ↔ past.SilentAt n.by n.what (reverse t) × Silent t }
-    ensures idle { (t : List Note) (n : Note) → Idle (t ++ n ∷ []) ↔ past.IdleAt n.by n.at n.what (reverse t) × Idle t }
+    ensures synced { (i : GatewayId) (t : List Note) (n : Note) →
+        past.is_synced i (reverse (t ++ n ∷ [])) ≡ past.synced_after i n.by n.what
+        (past.is_synced i (reverse t)) }
+    ensures let_go { (i : GatewayId) (p : Pair) (t : List Note) (n : Note) →
+        past.has_let_go i p (reverse (t ++ n ∷ [])) ≡ past.let_go_after i p n.by n.what
+        (past.has_let_go i p (reverse t)) }
+    ensures opens { (p : Pair) (t : List Note) (n : Note) →
+        past.is_open p (reverse (t ++ n ∷ [])) ≡ past.open_after p n.what
+        (past.is_agreed n.by p (reverse t)) (past.is_open p (reverse t)) }
+    ensures goes_on { (i : GatewayId) (p : Pair) (t : List Note) (n : Note) →
+        past.goes_on i p (reverse (t ++ n ∷ [])) ≡ past.goes_after i p n.by n.what
+        (past.goes_on i p (reverse t)) }
+    ensures fits { (t : List Note) (n : Note) →
+        Fits (t ++ n ∷ []) ↔ past.FitsAt n.what (reverse t) × Fits t }
+    ensures silent { (t : List Note) (n : Note) →
+        Silent (t ++ n ∷ []) ↔ past.SilentAt n.by n.what (reverse t) × Silent t }
+    ensures idle { (t : List Note) (n : Note) →
+        Idle (t ++ n ∷ []) ↔ past.IdleAt n.by n.at n.what (reverse t) × Idle t }
 {}
 
 /// One box is a one-to-one map from keys to endpoints: a use is of a pair in it, allotted new just before where it isn't there, and an
@@ -87,13 +102,16 @@ pub fn is_one_box()
 
 /// The map of any run of one box is what is open, and is one to one; so the notes of any run fit.
 pub fn one_box_says()
-    ensures opens { (m : Map) (t : List Note) → IsRun m (reverse t) → (p : Pair) → m p ≡ past.is_open p (reverse t) }
+    ensures opens { (m : Map) (t : List Note) → IsRun m (reverse t) → (p : Pair) →
+        m p ≡ past.is_open p (reverse t) }
     ensures one_to_one { (m : Map) (t : List Note) → IsRun m (reverse t) → IsOneToOne m }
     ensures fits { (m : Map) (t : List Note) → IsRun m (reverse t) → Fits t }
 {}
 
 /// Of each trace and two tables no two faults can be said, and none where all is well; want of memory apart.
 pub fn one_answer()
-    ensures fault { (t : List Note) (zero one : List Pair) (f g : AuditFault) → IsFound f → IsFound g → FaultSays t zero one f → FaultSays t zero one g → f ≡ g }
-    ensures none { (t : List Note) (zero one : List Pair) (f : AuditFault) → Fits t → Silent t → Kept (ListsHold zero one) t → IsFound f → FaultSays t zero one f → ⊥ }
+    ensures fault { (t : List Note) (zero one : List Pair) (f g : AuditFault) → IsFound f →
+        IsFound g → FaultSays t zero one f → FaultSays t zero one g → f ≡ g }
+    ensures none { (t : List Note) (zero one : List Pair) (f : AuditFault) → Fits t → Silent t →
+        Kept (ListsHold zero one) t → IsFound f → FaultSays t zero one f → ⊥ }
 {}

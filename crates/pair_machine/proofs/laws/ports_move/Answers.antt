@@ -1,3 +1,4 @@
+use Rattle.pair_machine.proofs.MoreRuns as more
 use Rattle.pair_machine.proofs.Runs as laws
 use Rattle.pair_machine.proofs.laws.ports_move.Goals as goal
 
@@ -9,3 +10,6 @@ returns-clause-taken c = laws.granting_leaves
 
 pub returns-clause-lost : goal.returns-clause-lost
 returns-clause-lost c = laws.losing_leaves
+
+pub returns-clause-named : goal.returns-clause-named
+returns-clause-named c = more.naming_leaves

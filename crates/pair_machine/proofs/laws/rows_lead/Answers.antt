@@ -1,3 +1,4 @@
+use Rattle.pair_machine.proofs.MoreRuns as more
 use Rattle.pair_machine.proofs.Runs as laws
 use Rattle.pair_machine.proofs.laws.rows_lead.Goals as goal
 
@@ -24,3 +25,15 @@ returns-clause-peer_off c = laws.off_leads
 
 pub returns-clause-doomed : goal.returns-clause-doomed
 returns-clause-doomed c = laws.doomed_leads
+
+pub returns-clause-alone : goal.returns-clause-alone
+returns-clause-alone c = more.alone_leads
+
+pub returns-clause-promised : goal.returns-clause-promised
+returns-clause-promised c = more.promising_leads
+
+pub returns-clause-named : goal.returns-clause-named
+returns-clause-named c = more.naming_leads
+
+pub returns-clause-returned : goal.returns-clause-returned
+returns-clause-returned c = more.returning_leads
