@@ -4,6 +4,6 @@
 mod ethernet;
 mod refusals;
 
+pub use addresses::{Ip, Mac, Prefix};
 pub use ethernet::{EthView, EthViewMut, EtherType, FrameFault, split_mut, write_header};
 pub use refusals::Refused;
-pub use addresses::{Ip, Mac, Prefix};
