@@ -1,9 +1,9 @@
 //! Flows: what a translation reads of a packet, and what it writes.
 ghost use Rattle.std.specs.Prelude.{◌≡◌};
-ghost use Rattle.ipv4.specs.Datagram.{IsUdp};
+ghost use Rattle.ipv4.specs.Carried.{IsTransport};
 ghost use Rattle.ipv4.specs.Flow.{flow_of};
 
-use crate::{Ipv4View, UdpView};
+use crate::{Ipv4View, Transport};
 use addresses::{Ip, Port, Protocol};
 
 /// From where to where a packet goes, and by which protocol.
@@ -17,20 +17,18 @@ pub struct Flow {
 }
 
 impl Flow {
-    /// The flow of a UDP packet.
+    /// The flow of a UDP or TCP packet.
     pub fn of(packet: &Ipv4View<'_>) -> Flow
-        requires udp { IsUdp packet.now.bytes.now }
+        requires { IsTransport packet.now.bytes.now }
         ensures { result ≡ flow_of packet.now.bytes.now }
     {
-        let datagram = UdpView {
-            bytes: packet.payload(),
-        };
+        let transport = Transport::of(packet);
         Flow {
-            protocol: Protocol::Udp,
+            protocol: transport.protocol(),
             source: packet.source(),
-            source_port: datagram.source_port(),
+            source_port: transport.source_port(),
             destination: packet.destination(),
-            destination_port: datagram.destination_port(),
+            destination_port: transport.destination_port(),
         }
     }
 }
