@@ -5,7 +5,7 @@ ghost use Rattle.nat_types.specs.declared.gateways.GatewayId.TheVariants.{Zero};
 ghost use Rattle.nat_types.specs.declared.pairs.EntryState.TheVariants.{Live};
 ghost use Rattle.frames.specs.Frame.{frame_of};
 ghost use Rattle.ipv4.specs.Header.{IsIpv4, header_of};
-ghost use Rattle.ipv4.specs.Datagram.{IsUdp};
+ghost use Rattle.ipv4.specs.Carried.{IsTransport};
 ghost use Rattle.bindings.specs.Entries.{IsTable, is_pair, translates, pairs_in, place_of, entry_in, with_entry};
 ghost use Rattle.packet_path.specs.Networks.{exit_of};
 ghost use Rattle.gateway.specs.Choices.{CanAllot, IsAllowed, table_after};
@@ -199,7 +199,7 @@ impl Gateway {
         ensures allowed { IfOk result (λ plan. IsAllowed self.now.table plan.choice) }
         ensures whole { OnOk result (14 ≤ length bytes.now) }
         ensures ipv4 { OnOk result (IsIpv4 (frame_of bytes.now).body) }
-        ensures udp { OnOk result (IsUdp (frame_of bytes.now).body) }
+        ensures transport { OnOk result (IsTransport (frame_of bytes.now).body) }
         ensures ttl { OnOk result (2 ≤ (header_of (frame_of bytes.now).body).ttl) }
     {
         let flow = read_packet(&self.networks.of(side), self.synced, bytes)?;

@@ -3,7 +3,7 @@ ghost use Rattle.std.specs.Prelude.{◌≡◌, ◌≤◌, IfOk, length};
 ghost use Rattle.addresses.specs.declared.transport.Protocol.TheVariants.{Udp};
 ghost use Rattle.frames.specs.Frame.{frame_of};
 ghost use Rattle.ipv4.specs.Header.{IsIpv4, header_of};
-ghost use Rattle.ipv4.specs.Datagram.{IsUdp};
+ghost use Rattle.ipv4.specs.Carried.{IsTransport};
 ghost use Rattle.gateway.specs.Choices.{IsAllowed};
 ghost use Rattle.gateway.specs.Verdict.{outward_plan, inward_plan, planned_frame};
 
@@ -83,7 +83,7 @@ impl Plan {
     ) -> Result<Vec<u8>, NoMemory>
         requires whole { 14 ≤ length bytes.now }
         requires ipv4 { IsIpv4 (frame_of bytes.now).body }
-        requires udp { IsUdp (frame_of bytes.now).body }
+        requires transport { IsTransport (frame_of bytes.now).body }
         requires ttl { 2 ≤ (header_of (frame_of bytes.now).body).ttl }
         ensures { IfOk result (λ v. v.items ≡ planned_frame networks.now self.now bytes.now) }
     {

@@ -3,7 +3,7 @@ use Rattle.std.specs.Prelude.{ℕ, Bool, ◌==◌, ◌&&◌, nat_le, Option, Som
 use Rattle.std.specs.Option.{option_map}
 use Rattle.frames.specs.Frame.{Frame, frame_of}
 use Rattle.ipv4.specs.Header.{header_of, ipv4_refusal}
-use Rattle.ipv4.specs.Datagram.{udp_refusal}
+use Rattle.ipv4.specs.Carried.{transport_refusal as carried_refusal}
 use Rattle.ipv4.specs.declared.faults.Ipv4Fault as fault
 use Rattle.ipv4.specs.declared.faults.Ipv4Fault.{Ipv4Fault}
 use Rattle.packet_path.specs.declared.reasons.Reason.{Reason}
@@ -49,7 +49,9 @@ virtual_refusal network frame = (if is_virtual network frame.dst then None else 
 
 -- 6. the packet carries a UDP datagram (TCP isn't translated yet)
 unfoldable pub transport_refusal : List ℕ → Option Reason
-transport_refusal packet = option_map reason_of (udp_refusal packet)
+transport_refusal packet =
+    (if (header_of packet).protocol == 17 then option_map reason_of (carried_refusal packet)
+    else Some NotUdpTcp)
 
 -- 6. its time to live isn't over
 unfoldable pub ttl_refusal : List ℕ → Option Reason

@@ -3,7 +3,7 @@ ghost use Rattle.std.specs.Prelude.{◌≡◌, ◌≤◌, IfOk, OnOk, length};
 ghost use Rattle.std.specs.Result.{result_err};
 ghost use Rattle.frames.specs.Frame.{frame_of};
 ghost use Rattle.ipv4.specs.Header.{IsIpv4, header_of};
-ghost use Rattle.ipv4.specs.Datagram.{IsUdp};
+ghost use Rattle.ipv4.specs.Carried.{IsTransport};
 ghost use Rattle.packet_path.specs.Steps.{reason_of, size_refusal, destination_refusal, header_refusal, virtual_refusal, transport_refusal, ttl_refusal, frame_refusal, is_arp, arp_reading, arp_in};
 ghost use Rattle.packet_path.specs.Flows.{flow_in};
 ghost use Rattle.packet_path.specs.declared.steps.TheConstants.{LONGEST_FRAME};
@@ -11,9 +11,10 @@ ghost use Rattle.addresses.specs.declared.transport.Protocol.TheVariants.{Udp};
 
 use crate::Reason;
 use crate::networks::{Network, is_for_gateway, is_to_virtual};
+use addresses::Protocol;
 use arp::ArpPacket;
 use frames::{EthView, EtherType};
-use ipv4::{Flow, Ipv4Fault, Ipv4View, UdpView};
+use ipv4::{Flow, Ipv4Fault, Ipv4View, Transport};
 
 /// The bytes of the longest frame that is taken.
 pub const LONGEST_FRAME: usize = 1514;
@@ -83,9 +84,14 @@ fn test_virtual(network: &Network, frame: &EthView<'_>) -> Result<(), Reason>
 #[tactic(auto, unfolding(crate::specs::Steps::transport_refusal))]
 fn test_transport(packet: &Ipv4View<'_>) -> Result<(), Reason>
     ensures refusal { result_err result ≡ transport_refusal packet.now.bytes.now }
-    ensures udp { OnOk result (IsUdp packet.now.bytes.now) }
+    ensures protocol { OnOk result ((header_of packet.now.bytes.now).protocol ≡ 17) }
+    ensures transport { OnOk result (IsTransport packet.now.bytes.now) }
 {
-    match UdpView::parse(packet) {
+    // TCP isn't translated yet.
+    if packet.protocol() != Protocol::Udp.number() {
+        return Err(Reason::NotUdpTcp);
+    }
+    match Transport::parse(packet) {
         Ok(_datagram) => Ok(()),
         Err(fault) => Err(reason_for(fault)),
     }
@@ -112,7 +118,7 @@ pub fn read_packet(network: &Network, synced: bool, bytes: &[u8]) -> Result<Flow
     ensures whole { OnOk result (14 ≤ length bytes.now) }
     ensures short { OnOk result (length bytes.now ≤ LONGEST_FRAME) }
     ensures ipv4 { OnOk result (IsIpv4 (frame_of bytes.now).body) }
-    ensures udp { OnOk result (IsUdp (frame_of bytes.now).body) }
+    ensures transport { OnOk result (IsTransport (frame_of bytes.now).body) }
     ensures ttl { OnOk result (2 ≤ (header_of (frame_of bytes.now).body).ttl) }
 {
     let frame = view_frame(bytes)?;

@@ -2,7 +2,7 @@
 ghost use Rattle.std.specs.Prelude.{◌≡◌, ◌+◌, ◌-◌, ◌≤◌, ◌++◌, length, take, drop, vec_len, vec_capacity};
 ghost use Rattle.frames.specs.Frame.{frame_of};
 ghost use Rattle.ipv4.specs.Header.{IsIpv4, header_of};
-ghost use Rattle.ipv4.specs.Datagram.{IsUdp};
+ghost use Rattle.ipv4.specs.Carried.{IsTransport};
 ghost use Rattle.packet_path.specs.Frames.{translated_by, sent_header, sent_frame};
 
 use crate::networks::{Direction, Networks};
@@ -28,7 +28,7 @@ fn unpadded_length(bytes: &[u8]) -> usize
 #[tactic(auto, unfolding(crate::specs::Frames::translated_by))]
 fn translate(packet: &mut [u8], networks: &Networks, direction: Direction, pair: Pair)
     requires ipv4 { IsIpv4 packet.old }
-    requires udp { IsUdp packet.old }
+    requires transport { IsTransport packet.old }
     requires ttl { 2 ≤ (header_of packet.old).ttl }
     ensures { packet.new ≡ translated_by networks.now direction pair packet.old }
 {
@@ -49,7 +49,7 @@ fn translate(packet: &mut [u8], networks: &Networks, direction: Direction, pair:
 fn translate_body(frame: &mut [u8], networks: &Networks, direction: Direction, pair: Pair)
     requires whole { 14 ≤ length frame.old }
     requires ipv4 { IsIpv4 (frame_of frame.old).body }
-    requires udp { IsUdp (frame_of frame.old).body }
+    requires transport { IsTransport (frame_of frame.old).body }
     requires ttl { 2 ≤ (header_of (frame_of frame.old).body).ttl }
     ensures { frame.new
         ≡ take 14 frame.old ++ translated_by networks.now direction pair (drop 14 frame.old) }
@@ -81,7 +81,7 @@ fn translate_frame(
 )
     requires whole { 14 ≤ length frame.old }
     requires ipv4 { IsIpv4 (frame_of frame.old).body }
-    requires udp { IsUdp (frame_of frame.old).body }
+    requires transport { IsTransport (frame_of frame.old).body }
     requires ttl { 2 ≤ (header_of (frame_of frame.old).body).ttl }
     ensures bytes { frame.new ≡ sent_header networks.now direction next_mac
         ++ translated_by networks.now direction pair (drop 14 frame.old) }
@@ -117,7 +117,7 @@ pub fn append_sent(
     requires room { vec_len list.old + length bytes.now ≤ vec_capacity list.old }
     requires whole { 14 ≤ length bytes.now }
     requires ipv4 { IsIpv4 (frame_of bytes.now).body }
-    requires udp { IsUdp (frame_of bytes.now).body }
+    requires transport { IsTransport (frame_of bytes.now).body }
     requires ttl { 2 ≤ (header_of (frame_of bytes.now).body).ttl }
     ensures items { list.new.items
         ≡ list.old.items ++ sent_frame networks.now direction pair next_mac bytes.now }
@@ -141,7 +141,7 @@ fn translate_tail(
 )
     requires whole { start + 14 ≤ vec_len list.old }
     requires ipv4 { IsIpv4 (frame_of (drop start list.old.items)).body }
-    requires udp { IsUdp (frame_of (drop start list.old.items)).body }
+    requires transport { IsTransport (frame_of (drop start list.old.items)).body }
     requires ttl { 2 ≤ (header_of (frame_of (drop start list.old.items)).body).ttl }
     ensures items { list.new.items ≡ take start list.old.items
         ++ (sent_header networks.now direction next_mac
