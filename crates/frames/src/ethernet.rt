@@ -1,12 +1,28 @@
-ghost use Rattle.std.specs.Prelude.{◌≡◌, ◌++◌, ◌↔◌, length, take, drop, IsOk, IfOk};
+//! Ethernet frames (IEEE 802.3, without the check sequence): 14 bytes of header, and a body.
+//!
+//! ```text
+//!  0       6       12          14
+//! +-------+-------+-----------+--------+
+//! | to    | from  | EtherType | body   |
+//! +-------+-------+-----------+--------+
+//! ```
+//!
+//! A host's packet on its way to virtual router 11:
+//!
+//! ```text
+//! 00005e00010b 02000000000a 0800 4500..
+//! to           from         IPv4 the body
+//! ```
+ghost use Rattle.std.specs.Prelude.{◌≡◌, ◌++◌, ◌↔◌, length, take, drop, IsOk, IfOk, IfErr};
 ghost use Rattle.byteorder.specs.Endian.{big_bytes};
-ghost use Rattle.frames.specs.Bytes.{Puts};
 ghost use Rattle.std.specs.Borrow.{sem};
-ghost use Rattle.frames.specs.Lending.{LendsParts};
+ghost use Rattle.frames.specs.Bytes.{Puts};
 ghost use Rattle.frames.specs.Frame.{IsFrame, frame_of, header_bytes};
+ghost use Rattle.frames.specs.Lending.{LendsParts};
 
-use byteorder::{BigEndian, ByteOrder};
+use crate::Refused;
 use addresses::Mac;
+use byteorder::{BigEndian, ByteOrder};
 use thiserror::Error;
 
 /// Where the header's fields lie.
@@ -35,12 +51,13 @@ impl EtherType {
 /// Why bytes are no frame.
 #[derive(Clone, Copy, Debug, PartialEq, Eq, Error)]
 pub enum FrameFault {
+    /// Fewer than 14 bytes.
     #[error("the frame is too short")]
     TooShort,
 }
 
-/// An Ethernet frame in someone else's bytes: to whom (6 bytes), from whom (6), what it carries (2, as
-/// `08 00`), and its body.
+/// An Ethernet frame in someone else's bytes: to whom (6 bytes), from whom (6), what it carries
+/// (2, as `08 00`), and its body.
 #[derive(Clone, Copy)]
 pub struct EthView<'a> {
     pub bytes: &'a [u8],
@@ -101,15 +118,19 @@ pub struct EthViewMut<'a> {
 }
 
 impl<'a> EthViewMut<'a> {
-    /// A caller that is to know the bytes afterwards tests them with [`EthView::parse`] and calls
-    /// [`EthViewMut::new`].
-    pub fn parse(bytes: &'a mut [u8]) -> Result<EthViewMut<'a>, FrameFault>
+    /// Bytes that are refused are handed back as they were. A caller that is to know the bytes
+    /// afterwards tests them with [`EthView::parse`] and calls [`EthViewMut::new`].
+    pub fn parse(bytes: &'a mut [u8]) -> Result<EthViewMut<'a>, Refused<'a, FrameFault>>
         ensures ok { IsOk result ↔ IsFrame bytes.old }
         ensures bytes { IfOk result (λ v. v.bytes.now ≡ bytes.old) }
         ensures same_reference { IfOk result (λ v. v.bytes.ghost_name ≡ bytes.entry.ghost_name) }
+        ensures err { IfErr result (λ r. r.bytes.now ≡ bytes.old) }
+        ensures err_reference { IfErr result (λ r. r.bytes.ghost_name ≡ bytes.entry.ghost_name) }
     {
-        EthView::parse(bytes)?;
-        Ok(EthViewMut { bytes })
+        match EthView::parse(bytes) {
+            Ok(_) => Ok(EthViewMut { bytes }),
+            Err(fault) => Err(Refused { fault, bytes }),
+        }
     }
 
     pub fn new(bytes: &'a mut [u8]) -> EthViewMut<'a>
@@ -120,9 +141,35 @@ impl<'a> EthViewMut<'a> {
         EthViewMut { bytes }
     }
 
+    /// The same frame, to be read.
+    pub fn view(&self) -> EthView<'_>
+        ensures { result.bytes.now ≡ self.now.bytes.now }
+    {
+        EthView { bytes: self.bytes }
+    }
+
+    pub fn dst(&self) -> Mac
+        ensures { result.0 ≡ (frame_of self.now.bytes.now).dst }
+    {
+        self.view().dst()
+    }
+
+    pub fn src(&self) -> Mac
+        ensures { result.0 ≡ (frame_of self.now.bytes.now).src }
+    {
+        self.view().src()
+    }
+
+    pub fn ethertype(&self) -> EtherType
+        ensures { result.0 ≡ (frame_of self.now.bytes.now).ethertype }
+    {
+        self.view().ethertype()
+    }
+
     pub fn set_dst(&mut self, dst: Mac)
         ensures written { Puts 0 dst.0 self.old.bytes.now self.new.bytes.now }
-        ensures frame { frame_of self.new.bytes.now ≡ record (frame_of self.old.bytes.now) { dst = dst.0 } }
+        ensures frame { frame_of self.new.bytes.now
+            ≡ record (frame_of self.old.bytes.now) { dst = dst.0 } }
         ensures same_reference { self.new.bytes.ghost_name ≡ self.old.bytes.ghost_name }
     {
         self.bytes[field::DESTINATION].copy_from_slice(&dst.0);
@@ -130,7 +177,8 @@ impl<'a> EthViewMut<'a> {
 
     pub fn set_src(&mut self, src: Mac)
         ensures written { Puts 6 src.0 self.old.bytes.now self.new.bytes.now }
-        ensures frame { frame_of self.new.bytes.now ≡ record (frame_of self.old.bytes.now) { src = src.0 } }
+        ensures frame { frame_of self.new.bytes.now
+            ≡ record (frame_of self.old.bytes.now) { src = src.0 } }
         ensures same_reference { self.new.bytes.ghost_name ≡ self.old.bytes.ghost_name }
     {
         self.bytes[field::SOURCE].copy_from_slice(&src.0);
@@ -138,18 +186,22 @@ impl<'a> EthViewMut<'a> {
 
     pub fn set_ethertype(&mut self, ethertype: EtherType)
         ensures written { Puts 12 (big_bytes 2 ethertype.0) self.old.bytes.now self.new.bytes.now }
-        ensures frame { frame_of self.new.bytes.now ≡ record (frame_of self.old.bytes.now) { ethertype = ethertype.0 } }
+        ensures frame { frame_of self.new.bytes.now
+            ≡ record (frame_of self.old.bytes.now) { ethertype = ethertype.0 } }
         ensures same_reference { self.new.bytes.ghost_name ≡ self.old.bytes.ghost_name }
     {
         BigEndian::write_u16(&mut self.bytes[field::ETHERTYPE], ethertype.0);
     }
 
-    /// The body, to be written. [`split_mut`] also tells its caller what the whole frame ends as.
-    pub fn body_mut(self) -> &'a mut [u8]
-        ensures { result.now ≡ (frame_of self.entry.bytes.now).body }
+    /// The header, to be read, and the body, to be written. [`split_mut`] also tells its caller
+    /// what the whole frame ends as.
+    pub fn body_mut(self) -> (&'a [u8], &'a mut [u8])
+        ensures header { result.0.now ≡ take 14 self.entry.bytes.now }
+        ensures body { result.1.now ≡ (frame_of self.entry.bytes.now).body }
     {
         let EthViewMut { bytes } = self;
-        &mut bytes[field::HEADER..]
+        let (header, body) = bytes.split_at_mut(field::HEADER);
+        (header, body)
     }
 }
 
@@ -167,7 +219,8 @@ pub fn split_mut(bytes: &mut [u8]) -> (&mut [u8], &mut [u8])
 pub fn write_header(bytes: &mut [u8], dst: Mac, src: Mac, ethertype: EtherType)
     requires { IsFrame bytes.old }
     ensures written { bytes.new ≡ header_bytes dst.0 src.0 ethertype.0 ++ drop 14 bytes.old }
-    ensures frame { frame_of bytes.new ≡ record { dst = dst.0; src = src.0; ethertype = ethertype.0; body = drop 14 bytes.old } }
+    ensures frame { frame_of bytes.new
+        ≡ record { dst = dst.0; src = src.0; ethertype = ethertype.0; body = drop 14 bytes.old } }
 {
     let mut view = EthViewMut::new(bytes);
     view.set_dst(dst);

@@ -2,9 +2,8 @@
 #![tactic(auto)]
 
 mod ethernet;
+mod refusals;
 
-pub use ethernet::{EthView, EthViewMut, EtherType, FrameFault, split_mut, write_header};
 pub use addresses::{Ip, Mac, Prefix};
-
-#[cfg(test)]
-mod tests;
+pub use ethernet::{EthView, EthViewMut, EtherType, FrameFault, split_mut, write_header};
+pub use refusals::Refused;

@@ -1,9 +1,7 @@
 -- UDP datagrams (RFC 768).
-use Rattle.std.specs.Prelude.{◌≡◌, ◌≤◌, ◌<◌, ℕ, ◌-◌, Bool, ◌==◌, nat_lt, not, ◌||◌, List, [], ◌∷◌, length, take, drop, Option}
-use Rattle.ipv4.specs.Order.{first_fault}
+use Rattle.std.specs.Prelude.{◌≡◌, ◌≤◌, ◌<◌, ℕ, ◌-◌, Bool, ◌==◌, nat_lt, ◌||◌, List, length, take, drop}
 use Rattle.ipv4.specs.Header.{word_at, header_of, payload_of}
-use Rattle.ipv4.specs.declared.faults.Ipv4Fault.{Ipv4Fault}
-use Rattle.ipv4.specs.declared.faults.Ipv4Fault.TheVariants.{NotUdpTcp, BadTransport}
+use Rattle.ipv4.specs.declared.udp.field.TheConstants.{HEADER}
 
 -- the fields of a UDP header
 pub record Datagram : Type 0 where
@@ -23,12 +21,17 @@ datagram_of payload = record {
 
 -- what stands behind the UDP header, as far as its length goes
 abbrev pub data_of : List ℕ → List ℕ
-data_of payload = take ((datagram_of payload).udp_length - 8) (drop 8 payload)
+data_of payload = take ((datagram_of payload).udp_length - HEADER) (drop HEADER payload)
+
+-- the datagram's data lies in the bytes
+pub record HoldsData (payload : List ℕ) : Type 0 where
+  pub holds_header : HEADER ≤ (datagram_of payload).udp_length
+  pub there : (datagram_of payload).udp_length ≤ length payload
 
 -- a payload begins with a whole datagram between ports that aren't 0
 pub record IsDatagram (payload : List ℕ) : Type 0 where
-  pub long : 8 ≤ length payload
-  pub holds_header : 8 ≤ (datagram_of payload).udp_length
+  pub long : HEADER ≤ length payload
+  pub holds_header : HEADER ≤ (datagram_of payload).udp_length
   pub there : (datagram_of payload).udp_length ≤ length payload
   pub from : 0 < (datagram_of payload).source_port
   pub to : 0 < (datagram_of payload).destination_port
@@ -41,16 +44,8 @@ pub record IsUdp (packet : List ℕ) : Type 0 where
 -- a payload is no datagram
 abbrev pub has_no_datagram : List ℕ → Bool
 has_no_datagram payload =
-    nat_lt (length payload) 8
-    || nat_lt (datagram_of payload).udp_length 8
+    nat_lt (length payload) HEADER
+    || nat_lt (datagram_of payload).udp_length HEADER
     || nat_lt (length payload) (datagram_of payload).udp_length
     || ((datagram_of payload).source_port == 0)
     || ((datagram_of payload).destination_port == 0)
-
--- why an IPv4 packet carries no UDP datagram
-abbrev pub udp_refusal : List ℕ → Option Ipv4Fault
-udp_refusal packet =
-    first_fault (
-    (not ((header_of packet).protocol == 17), NotUdpTcp)
-    ∷ (has_no_datagram (payload_of packet), BadTransport)
-    ∷ [])

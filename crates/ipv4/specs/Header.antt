@@ -3,6 +3,8 @@ use Rattle.std.specs.Prelude.{◌≡◌, ◌≤◌, ℕ, ◌-◌, ◌*◌, ◌/�
 use Rattle.byteorder.specs.Endian.{big_number}
 use Rattle.sums.specs.Sum.{word_sum, IsRight}
 use Rattle.ipv4.specs.Order.{first_fault}
+use Rattle.ipv4.specs.declared.header.TheConstants.{MORE_FRAGMENTS}
+use Rattle.ipv4.specs.declared.header.field.TheConstants.{FIXED}
 use Rattle.ipv4.specs.declared.faults.Ipv4Fault.{Ipv4Fault}
 use Rattle.ipv4.specs.declared.faults.Ipv4Fault.TheVariants.{TooShort, BadVersion, BadLength, BadHeaderSum, Fragment}
 
@@ -17,6 +19,7 @@ pub record Header : Type 0 where
   pub type_of_service : ℕ
   pub total_length : ℕ
   pub identification : ℕ
+  pub flags_word : ℕ
   pub more_fragments : ℕ
   pub fragment_offset : ℕ
   pub ttl : ℕ
@@ -33,8 +36,9 @@ header_of bytes = record {
   type_of_service = slice_index bytes 1;
   total_length = word_at 2 bytes;
   identification = word_at 4 bytes;
-  more_fragments = word_at 6 bytes / 0x2000 % 2;
-  fragment_offset = word_at 6 bytes % 0x2000;
+  flags_word = word_at 6 bytes;
+  more_fragments = word_at 6 bytes / MORE_FRAGMENTS % 2;
+  fragment_offset = word_at 6 bytes % MORE_FRAGMENTS;
   ttl = slice_index bytes 8;
   protocol = slice_index bytes 9;
   checksum = word_at 10 bytes;
@@ -44,17 +48,25 @@ header_of bytes = record {
 
 -- what stands in the header behind its first 20 bytes
 abbrev pub options_of : List ℕ → List ℕ
-options_of bytes = take ((header_of bytes).header_length - 20) (drop 20 bytes)
+options_of bytes = take ((header_of bytes).header_length - FIXED) (drop FIXED bytes)
 
 -- what stands behind the header, without padding
 abbrev pub payload_of : List ℕ → List ℕ
-payload_of bytes = take ((header_of bytes).total_length - (header_of bytes).header_length) (drop (header_of bytes).header_length bytes)
+payload_of bytes =
+    let header = header_of bytes in
+    take (header.total_length - header.header_length) (drop header.header_length bytes)
+
+-- the header's options and the payload lie in the bytes
+pub record HoldsPayload (bytes : List ℕ) : Type 0 where
+  pub holds_fields : FIXED ≤ (header_of bytes).header_length
+  pub holds_header : (header_of bytes).header_length ≤ (header_of bytes).total_length
+  pub there : (header_of bytes).total_length ≤ length bytes
 
 -- the bytes begin with a whole IPv4 packet, its header right and it no fragment
 pub record IsIpv4 (bytes : List ℕ) : Type 0 where
-  pub long : 20 ≤ length bytes
+  pub long : FIXED ≤ length bytes
   pub version : (header_of bytes).version ≡ 4
-  pub holds_fields : 20 ≤ (header_of bytes).header_length
+  pub holds_fields : FIXED ≤ (header_of bytes).header_length
   pub holds_header : (header_of bytes).header_length ≤ (header_of bytes).total_length
   pub there : (header_of bytes).total_length ≤ length bytes
   pub sum : IsRight (take (header_of bytes).header_length bytes)
@@ -74,9 +86,13 @@ abbrev pub ipv4_refusal : List ℕ → Option Ipv4Fault
 ipv4_refusal bytes =
     let header = header_of bytes in
     first_fault (
-    (nat_lt (length bytes) 20, TooShort)
-    ∷ (not (header.version == 4) || nat_lt header.header_length 20, BadVersion)
-    ∷ (nat_lt header.total_length header.header_length || nat_lt (length bytes) header.total_length, BadLength)
+    (nat_lt (length bytes) FIXED, TooShort)
+    ∷ (not (header.version == 4) || nat_lt header.header_length FIXED, BadVersion)
+    ∷ (
+      nat_lt header.total_length header.header_length
+          || nat_lt (length bytes) header.total_length,
+      BadLength,
+    )
     ∷ (has_wrong_sum (take header.header_length bytes), BadHeaderSum)
     ∷ (is_fragment header, Fragment)
     ∷ [])

@@ -1,3 +1,6 @@
+pub mod Carried
 pub mod Datagram
+pub mod Flow
 pub mod Header
 pub mod Order
+pub mod Segment

@@ -1,3 +1,4 @@
+//! Why bytes are refused.
 use thiserror::Error;
 
 /// Why bytes are no packet that is taken: the first test that fails, in this order.

@@ -1,14 +1,34 @@
-ghost use Rattle.std.specs.Prelude.{◌≡◌, ◌≤◌, ◌↔◌, length, ◌∷◌, [], IsOk, IfOk, None, List, ℕ};
+//! IPv4 headers (RFC 791, section 3.1): 20 bytes, and options as far as the header's length says.
+//!
+//! ```text
+//!  0                    1                 2                4
+//! +--------------------+-----------------+----------------+----------------+
+//! | version and length | type of service | total length   | identification |
+//! +--------------------+-----+-----------+----------------+----------------+
+//! | flags and offset   | TTL | protocol  | checksum       | source         |
+//! +--------------------+-----+-----------+----------------+----------------+
+//! | destination        | options         | payload        | padding        |
+//! +--------------------+-----------------+----------------+----------------+
+//! ```
+//!
+//! Flags stand at 6, the TTL at 8, the protocol at 9, the checksum at 10, the source at 12, the
+//! destination at 16, options from 20 on. A UDP packet from 192.168.1.10 to 198.51.100.7:
+//!
+//! ```text
+//! 45         00 001e     0001   0000  40     11  8ee1     c0a8010a     c6336407
+//! 4, 5 words -- 30 bytes number flags TTL 64 UDP checksum 192.168.1.10 198.51.100.7
+//! ```
+ghost use Rattle.std.specs.Prelude.{◌≡◌, ◌≤◌, ◌↔◌, length, ◌∷◌, [], take, IsOk, IfOk, IfErr, None, Some, List, ℕ};
 ghost use Rattle.std.specs.Result.{result_err};
 ghost use Rattle.byteorder.specs.Endian.{big_bytes};
 ghost use Rattle.addresses.specs.Transport.{protocol_numbered};
 ghost use Rattle.frames.specs.Bytes.{Puts};
-ghost use Rattle.ipv4.specs.Header.{header_of, options_of, payload_of, IsIpv4, is_fragment, ipv4_refusal};
+ghost use Rattle.ipv4.specs.Header.{header_of, options_of, payload_of, HoldsPayload, IsIpv4, is_fragment, ipv4_refusal};
 
 use crate::Ipv4Fault;
+use addresses::{Ip, Protocol};
 use byteorder::{BigEndian, ByteOrder};
-use frames::Ip;
-use addresses::Protocol;
+use frames::Refused;
 use sums::is_right;
 
 /// Where the header's fields lie.
@@ -105,17 +125,24 @@ impl<'a> Ipv4View<'a> {
         BigEndian::read_u16(&self.bytes[field::IDENTIFICATION])
     }
 
+    /// The flags in the high 3 bits, the fragment's offset in the low 13.
+    pub fn flags_word(&self) -> u16
+        ensures { result ≡ (header_of self.now.bytes.now).flags_word }
+    {
+        BigEndian::read_u16(&self.bytes[field::FRAGMENT])
+    }
+
     pub fn ttl(&self) -> u8
         ensures { result ≡ (header_of self.now.bytes.now).ttl }
     {
-        self.bytes[field::TTL]
+        ttl(self.bytes)
     }
 
     /// The number of what is carried (RFC 790).
     pub fn protocol(&self) -> u8
         ensures { result ≡ (header_of self.now.bytes.now).protocol }
     {
-        self.bytes[field::PROTOCOL]
+        protocol(self.bytes)
     }
 
     /// What is carried, where it is translated.
@@ -128,19 +155,19 @@ impl<'a> Ipv4View<'a> {
     pub fn checksum(&self) -> u16
         ensures { result ≡ (header_of self.now.bytes.now).checksum }
     {
-        BigEndian::read_u16(&self.bytes[field::CHECKSUM])
+        checksum(self.bytes)
     }
 
     pub fn source(&self) -> Ip
         ensures { result.0 ≡ (header_of self.now.bytes.now).source }
     {
-        Ip(BigEndian::read_u32(&self.bytes[field::SOURCE]))
+        source(self.bytes)
     }
 
     pub fn destination(&self) -> Ip
         ensures { result.0 ≡ (header_of self.now.bytes.now).destination }
     {
-        Ip(BigEndian::read_u32(&self.bytes[field::DESTINATION]))
+        destination(self.bytes)
     }
 
     pub fn options(&self) -> &'a [u8]
@@ -178,6 +205,41 @@ fn total_length(bytes: &[u8]) -> usize
     usize::from(BigEndian::read_u16(&bytes[field::TOTAL_LENGTH]))
 }
 
+fn ttl(bytes: &[u8]) -> u8
+    requires { 20 ≤ length bytes.now }
+    ensures { result ≡ (header_of bytes.now).ttl }
+{
+    bytes[field::TTL]
+}
+
+fn protocol(bytes: &[u8]) -> u8
+    requires { 20 ≤ length bytes.now }
+    ensures { result ≡ (header_of bytes.now).protocol }
+{
+    bytes[field::PROTOCOL]
+}
+
+fn checksum(bytes: &[u8]) -> u16
+    requires { 20 ≤ length bytes.now }
+    ensures { result ≡ (header_of bytes.now).checksum }
+{
+    BigEndian::read_u16(&bytes[field::CHECKSUM])
+}
+
+fn source(bytes: &[u8]) -> Ip
+    requires { 20 ≤ length bytes.now }
+    ensures { result.0 ≡ (header_of bytes.now).source }
+{
+    Ip(BigEndian::read_u32(&bytes[field::SOURCE]))
+}
+
+fn destination(bytes: &[u8]) -> Ip
+    requires { 20 ≤ length bytes.now }
+    ensures { result.0 ≡ (header_of bytes.now).destination }
+{
+    Ip(BigEndian::read_u32(&bytes[field::DESTINATION]))
+}
+
 fn fragment(bytes: &[u8]) -> bool
     requires { 20 ≤ length bytes.now }
     ensures { result ≡ is_fragment (header_of bytes.now) }
@@ -199,17 +261,23 @@ pub struct Ipv4ViewMut<'a> {
 }
 
 impl<'a> Ipv4ViewMut<'a> {
-    /// A caller that is to know the bytes afterwards tests them with [`Ipv4View::parse`] and calls
-    /// [`Ipv4ViewMut::new`].
-    pub fn parse(bytes: &'a mut [u8]) -> Result<Ipv4ViewMut<'a>, Ipv4Fault>
-        ensures refusal { result_err result ≡ ipv4_refusal bytes.old }
+    /// Bytes that are refused are handed back as they were. A caller that is to know the bytes
+    /// afterwards tests them with [`Ipv4View::parse`] and calls [`Ipv4ViewMut::new`].
+    pub fn parse(bytes: &'a mut [u8]) -> Result<Ipv4ViewMut<'a>, Refused<'a, Ipv4Fault>>
+        ensures ok { IsOk result ↔ IsIpv4 bytes.old }
+        ensures fault { IfErr result (λ r. Some r.fault ≡ ipv4_refusal bytes.old) }
         ensures bytes { IfOk result (λ v. v.bytes.now ≡ bytes.old) }
         ensures same_reference { IfOk result (λ v. v.bytes.ghost_name ≡ bytes.entry.ghost_name) }
+        ensures err { IfErr result (λ r. r.bytes.now ≡ bytes.old) }
+        ensures err_reference { IfErr result (λ r. r.bytes.ghost_name ≡ bytes.entry.ghost_name) }
     {
-        Ipv4View::parse(bytes)?;
-        Ok(Ipv4ViewMut { bytes })
+        match Ipv4View::parse(bytes) {
+            Ok(_) => Ok(Ipv4ViewMut { bytes }),
+            Err(fault) => Err(Refused { fault, bytes }),
+        }
     }
 
+    /// The bytes begin with an IPv4 header.
     pub fn new(bytes: &'a mut [u8]) -> Ipv4ViewMut<'a>
         requires { 20 ≤ length bytes.old }
         ensures bytes { result.bytes.now ≡ bytes.old }
@@ -218,9 +286,55 @@ impl<'a> Ipv4ViewMut<'a> {
         Ipv4ViewMut { bytes }
     }
 
+    /// The bytes of the header, as it says.
+    pub fn header_length(&self) -> usize
+        ensures { result ≡ (header_of self.now.bytes.now).header_length }
+    {
+        header_length(self.bytes)
+    }
+
+    /// The bytes of header and payload, as the header says.
+    pub fn total_length(&self) -> usize
+        ensures { result ≡ (header_of self.now.bytes.now).total_length }
+    {
+        total_length(self.bytes)
+    }
+
+    pub fn ttl(&self) -> u8
+        ensures { result ≡ (header_of self.now.bytes.now).ttl }
+    {
+        ttl(self.bytes)
+    }
+
+    /// The number of what is carried (RFC 790).
+    pub fn protocol(&self) -> u8
+        ensures { result ≡ (header_of self.now.bytes.now).protocol }
+    {
+        protocol(self.bytes)
+    }
+
+    pub fn checksum(&self) -> u16
+        ensures { result ≡ (header_of self.now.bytes.now).checksum }
+    {
+        checksum(self.bytes)
+    }
+
+    pub fn source(&self) -> Ip
+        ensures { result.0 ≡ (header_of self.now.bytes.now).source }
+    {
+        source(self.bytes)
+    }
+
+    pub fn destination(&self) -> Ip
+        ensures { result.0 ≡ (header_of self.now.bytes.now).destination }
+    {
+        destination(self.bytes)
+    }
+
     pub fn set_ttl(&mut self, ttl: u8)
         ensures written { Puts 8 (ttl ∷ []) self.old.bytes.now self.new.bytes.now }
-        ensures header { header_of self.new.bytes.now ≡ record (header_of self.old.bytes.now) { ttl = ttl } }
+        ensures header { header_of self.new.bytes.now
+            ≡ record (header_of self.old.bytes.now) { ttl = ttl } }
         ensures same_reference { self.new.bytes.ghost_name ≡ self.old.bytes.ghost_name }
     {
         self.bytes[field::TTL] = ttl;
@@ -228,7 +342,8 @@ impl<'a> Ipv4ViewMut<'a> {
 
     pub fn set_checksum(&mut self, checksum: u16)
         ensures written { Puts 10 (big_bytes 2 checksum) self.old.bytes.now self.new.bytes.now }
-        ensures header { header_of self.new.bytes.now ≡ record (header_of self.old.bytes.now) { checksum = checksum } }
+        ensures header { header_of self.new.bytes.now
+            ≡ record (header_of self.old.bytes.now) { checksum = checksum } }
         ensures same_reference { self.new.bytes.ghost_name ≡ self.old.bytes.ghost_name }
     {
         BigEndian::write_u16(&mut self.bytes[field::CHECKSUM], checksum);
@@ -236,7 +351,8 @@ impl<'a> Ipv4ViewMut<'a> {
 
     pub fn set_source(&mut self, source: Ip)
         ensures written { Puts 12 (big_bytes 4 source.0) self.old.bytes.now self.new.bytes.now }
-        ensures header { header_of self.new.bytes.now ≡ record (header_of self.old.bytes.now) { source = source.0 } }
+        ensures header { header_of self.new.bytes.now
+            ≡ record (header_of self.old.bytes.now) { source = source.0 } }
         ensures same_reference { self.new.bytes.ghost_name ≡ self.old.bytes.ghost_name }
     {
         BigEndian::write_u32(&mut self.bytes[field::SOURCE], source.0);
@@ -249,5 +365,19 @@ impl<'a> Ipv4ViewMut<'a> {
         ensures same_reference { self.new.bytes.ghost_name ≡ self.old.bytes.ghost_name }
     {
         BigEndian::write_u32(&mut self.bytes[field::DESTINATION], destination.0);
+    }
+
+    /// The header with its options, to be read, and the payload, to be written.
+    pub fn payload_mut(self) -> (&'a [u8], &'a mut [u8])
+        requires { HoldsPayload self.bytes.now }
+        ensures header { result.0.now
+            ≡ take (header_of self.entry.bytes.now).header_length self.entry.bytes.now }
+        ensures payload { result.1.now ≡ payload_of self.entry.bytes.now }
+    {
+        let Ipv4ViewMut { bytes } = self;
+        let length = header_length(bytes);
+        let total = total_length(bytes);
+        let (header, rest) = bytes.split_at_mut(length);
+        (header, &mut rest[..total - length])
     }
 }

@@ -1,13 +1,27 @@
-ghost use Rattle.std.specs.Prelude.{◌≡◌, ◌≤◌, ◌↔◌, length, IsOk, IfOk, IfErr, None, List, ℕ};
-ghost use Rattle.std.specs.Result.{result_err};
+//! UDP datagrams (RFC 768): 8 bytes of header, and data as far as the length says.
+//!
+//! ```text
+//!  0             2                  4        6          8
+//! +-------------+------------------+--------+----------+------+
+//! | source port | destination port | length | checksum | data |
+//! +-------------+------------------+--------+----------+------+
+//! ```
+//!
+//! `hi` from port 5000 to port 53:
+//!
+//! ```text
+//! 1388 0035 000a     97c6     6869
+//! 5000 53   10 bytes checksum "hi"
+//! ```
+ghost use Rattle.std.specs.Prelude.{◌≡◌, ◌≤◌, ◌↔◌, length, take, IsOk, IfOk, IfErr, List, ℕ, false};
 ghost use Rattle.byteorder.specs.Endian.{big_bytes};
 ghost use Rattle.frames.specs.Bytes.{Puts};
-ghost use Rattle.ipv4.specs.Header.{payload_of};
-ghost use Rattle.ipv4.specs.Datagram.{datagram_of, data_of, IsDatagram, IsUdp, has_no_datagram, udp_refusal};
+ghost use Rattle.ipv4.specs.Datagram.{datagram_of, data_of, HoldsData, IsDatagram, has_no_datagram};
 
-use crate::{Ipv4Fault, Ipv4View};
+use crate::Ipv4Fault;
+use addresses::Port;
 use byteorder::{BigEndian, ByteOrder};
-use addresses::{Port, Protocol};
+use frames::Refused;
 
 /// Where the header's fields lie.
 mod field {
@@ -32,32 +46,28 @@ pub struct UdpView<'a> {
 }
 
 impl<'a> UdpView<'a> {
-    /// The checksum isn't tested.
-    pub fn parse(packet: &Ipv4View<'a>) -> Result<UdpView<'a>, Ipv4Fault>
-        ensures refusal { result_err result ≡ udp_refusal packet.now.bytes.now }
-        ensures ok { IsOk result ↔ IsUdp packet.now.bytes.now }
-        ensures bytes { IfOk result (λ v. v.bytes.now ≡ payload_of packet.now.bytes.now) }
+    /// The datagram in the payload of a UDP packet. The checksum isn't tested.
+    pub fn parse(payload: &'a [u8]) -> Result<UdpView<'a>, Ipv4Fault>
+        ensures ok { IsOk result ↔ IsDatagram payload.now }
+        ensures fault { IfErr result (λ f. f ≡ Ipv4Fault.BadTransport) }
+        ensures bytes { IfOk result (λ v. v.bytes.now ≡ payload.now) }
     {
-        if packet.protocol() != Protocol::Udp.number() {
-            return Err(Ipv4Fault::NotUdpTcp);
-        }
-        let bytes = packet.payload();
-        if no_datagram(bytes) {
+        if no_datagram(payload) {
             return Err(Ipv4Fault::BadTransport);
         }
-        Ok(UdpView { bytes })
+        Ok(UdpView { bytes: payload })
     }
 
     pub fn source_port(&self) -> Port
         ensures { result.0 ≡ (datagram_of self.now.bytes.now).source_port }
     {
-        Port(BigEndian::read_u16(&self.bytes[field::SOURCE_PORT]))
+        source_port(self.bytes)
     }
 
     pub fn destination_port(&self) -> Port
         ensures { result.0 ≡ (datagram_of self.now.bytes.now).destination_port }
     {
-        Port(BigEndian::read_u16(&self.bytes[field::DESTINATION_PORT]))
+        destination_port(self.bytes)
     }
 
     /// The bytes of header and data.
@@ -73,7 +83,7 @@ impl<'a> UdpView<'a> {
     pub fn checksum(&self) -> u16
         ensures { result ≡ (datagram_of self.now.bytes.now).checksum }
     {
-        BigEndian::read_u16(&self.bytes[field::CHECKSUM])
+        checksum(self.bytes)
     }
 
     /// The data, as far as the datagram's length goes.
@@ -84,11 +94,32 @@ impl<'a> UdpView<'a> {
     }
 }
 
+fn source_port(bytes: &[u8]) -> Port
+    requires { 8 ≤ length bytes.now }
+    ensures { result.0 ≡ (datagram_of bytes.now).source_port }
+{
+    Port(BigEndian::read_u16(&bytes[field::SOURCE_PORT]))
+}
+
+fn destination_port(bytes: &[u8]) -> Port
+    requires { 8 ≤ length bytes.now }
+    ensures { result.0 ≡ (datagram_of bytes.now).destination_port }
+{
+    Port(BigEndian::read_u16(&bytes[field::DESTINATION_PORT]))
+}
+
 fn udp_length(bytes: &[u8]) -> usize
     requires { 8 ≤ length bytes.now }
     ensures { result ≡ (datagram_of bytes.now).udp_length }
 {
     usize::from(BigEndian::read_u16(&bytes[field::LENGTH]))
+}
+
+fn checksum(bytes: &[u8]) -> u16
+    requires { 8 ≤ length bytes.now }
+    ensures { result ≡ (datagram_of bytes.now).checksum }
+{
+    BigEndian::read_u16(&bytes[field::CHECKSUM])
 }
 
 fn no_datagram(bytes: &[u8]) -> bool
@@ -100,13 +131,13 @@ fn no_datagram(bytes: &[u8]) -> bool
     let length = udp_length(bytes);
     length < field::HEADER
         || bytes.len() < length
-        || BigEndian::read_u16(&bytes[field::SOURCE_PORT]) == 0
-        || BigEndian::read_u16(&bytes[field::DESTINATION_PORT]) == 0
+        || source_port(bytes).0 == 0
+        || destination_port(bytes).0 == 0
 }
 
-/// The packets in which a datagram isn't refused are those that carry one.
+/// The payloads that aren't refused are those of the grammar.
 pub fn udp_grammar()
-    ensures { (packet : List ℕ) → (udp_refusal packet ≡ None) ↔ IsUdp packet }
+    ensures { (payload : List ℕ) → (has_no_datagram payload ≡ false) ↔ IsDatagram payload }
 {}
 
 /// A UDP header in bytes that are lent to be written.
@@ -117,16 +148,22 @@ pub struct UdpViewMut<'a> {
 }
 
 impl<'a> UdpViewMut<'a> {
-    /// The datagram in a packet's payload. A caller that is to know the bytes afterwards tests them with
-    /// [`UdpView::parse`] and calls [`UdpViewMut::new`].
-    pub fn parse(payload: &'a mut [u8]) -> Result<UdpViewMut<'a>, Ipv4Fault>
+    /// The datagram in the payload of a UDP packet; one that is refused is handed back as it was.
+    /// A caller that is to know the bytes afterwards tests them with [`UdpView::parse`] and calls
+    /// [`UdpViewMut::new`].
+    pub fn parse(payload: &'a mut [u8]) -> Result<UdpViewMut<'a>, Refused<'a, Ipv4Fault>>
         ensures ok { IsOk result ↔ IsDatagram payload.old }
-        ensures err { IfErr result (λ f. f ≡ Ipv4Fault.BadTransport) }
+        ensures fault { IfErr result (λ r. r.fault ≡ Ipv4Fault.BadTransport) }
         ensures bytes { IfOk result (λ v. v.bytes.now ≡ payload.old) }
         ensures same_reference { IfOk result (λ v. v.bytes.ghost_name ≡ payload.entry.ghost_name) }
+        ensures err { IfErr result (λ r. r.bytes.now ≡ payload.old) }
+        ensures err_reference { IfErr result (λ r. r.bytes.ghost_name ≡ payload.entry.ghost_name) }
     {
         if no_datagram(payload) {
-            return Err(Ipv4Fault::BadTransport);
+            return Err(Refused {
+                fault: Ipv4Fault::BadTransport,
+                bytes: payload,
+            });
         }
         Ok(UdpViewMut { bytes: payload })
     }
@@ -138,6 +175,32 @@ impl<'a> UdpViewMut<'a> {
         ensures same_reference { result.bytes.ghost_name ≡ bytes.entry.ghost_name }
     {
         UdpViewMut { bytes }
+    }
+
+    pub fn source_port(&self) -> Port
+        ensures { result.0 ≡ (datagram_of self.now.bytes.now).source_port }
+    {
+        source_port(self.bytes)
+    }
+
+    pub fn destination_port(&self) -> Port
+        ensures { result.0 ≡ (datagram_of self.now.bytes.now).destination_port }
+    {
+        destination_port(self.bytes)
+    }
+
+    /// The bytes of header and data, as the header says.
+    pub fn length(&self) -> usize
+        ensures { result ≡ (datagram_of self.now.bytes.now).udp_length }
+    {
+        udp_length(self.bytes)
+    }
+
+    /// 0 where the sender made none.
+    pub fn checksum(&self) -> u16
+        ensures { result ≡ (datagram_of self.now.bytes.now).checksum }
+    {
+        checksum(self.bytes)
     }
 
     pub fn set_source_port(&mut self, port: Port)
@@ -165,5 +228,17 @@ impl<'a> UdpViewMut<'a> {
         ensures same_reference { self.new.bytes.ghost_name ≡ self.old.bytes.ghost_name }
     {
         BigEndian::write_u16(&mut self.bytes[field::CHECKSUM], checksum);
+    }
+
+    /// The header, to be read, and the data, to be written.
+    pub fn payload_mut(self) -> (&'a [u8], &'a mut [u8])
+        requires { HoldsData self.bytes.now }
+        ensures header { result.0.now ≡ take 8 self.entry.bytes.now }
+        ensures payload { result.1.now ≡ data_of self.entry.bytes.now }
+    {
+        let UdpViewMut { bytes } = self;
+        let data = udp_length(bytes) - field::HEADER;
+        let (header, rest) = bytes.split_at_mut(field::HEADER);
+        (header, &mut rest[..data])
     }
 }

@@ -6,7 +6,7 @@ use Rattle.settings.specs.declared.whole.Settings.{Settings}
 use Rattle.settings.specs.Sample.{IsSample}
 use Rattle.frame_sim.specs.declared.events.Step.{Step}
 use Rattle.frame_sim.specs.declared.events.WorldEvent.{WorldEvent}
-use Rattle.frame_sim.specs.Seen.{Seen, founded}
+use Rattle.frame_sim.specs.World.{World, founded}
 use Rattle.frame_sim.specs.Runs.{AreSteps}
 use Rattle.natpair.specs.Script.{said, events_of}
 
@@ -23,7 +23,7 @@ pub record IsRun (events : List WorldEvent) (status : ℕ) : Type 0 where
   pub settings : Settings
   pub sample : IsSample settings
   pub steps : List Step
-  pub world : Seen
+  pub world : World
   pub answers : AreSteps (founded settings) events steps world
   pub refusals : status ≡ run_status steps
 

@@ -8,12 +8,12 @@ use Rattle.nat_types.specs.declared.gateways.GatewayId.TheVariants.{Zero, One}
 use Rattle.nat_types.specs.declared.notes.Happening.{Happening}
 use Rattle.nat_types.specs.declared.notes.Happening.TheVariants.{Used, Released, Retaken, Synced, Crashed, Booted}
 use Rattle.nat_types.specs.declared.notes.Note.{Note}
-use Rattle.trace_words.specs.Past.{FitsAt, Fits, SilentAt, Silent, Kept, GoesOn}
+use Rattle.trace_words.specs.Past.{is_synced, FitsAt, Fits, SilentAt, Silent, Kept, GoesOn}
 use Rattle.pair_machine.specs.Box.{Letter, In, StandsNext, nth}
 use Rattle.pair_machine.proofs.Invariant.{Inv, View}
 use Rattle.pair_machine.specs.Ownership.{Ranges}
 use Rattle.pair_machine.specs.Talk.{MachineRecord}
-use Rattle.pair_machine.specs.World.{HasOwners, IsWorld, Scene, seen_by, flip, IsKept, tables_of, founding, TableHolds, TableTranslates}
+use Rattle.pair_machine.specs.World.{HasOwners, IsWorld, Scene, seen_by, flip, IsKept, tables_of, founding, TableHolds, TableTranslates, box_in}
 use Rattle.pair_machine.proofs.Kept.{is_kept, has_owners, inv_run, inv_start}
 use Rattle.pair_machine.proofs.Loading.{Reading, reading}
 use Rattle.pair_machine.proofs.Mirror.{inv_flip}
@@ -59,6 +59,14 @@ module _ (r : Ranges) where
 
   pub promises_ports : (s : Scene) → IsWorld r s → HasOwners r s
   promises_ports s w = ∥∥₁_elim (inv_world s w) (owners_prop s) (has_owners r s)
+
+  -- a gateway's box is synced exactly where the trace says so
+  synced_here : (s : Scene) (i : GatewayId) → Inv r Zero s → (box_in s i).synced ≡ is_synced i s.trace
+  synced_here s Zero v = sym v.here.synced_is
+  synced_here s One v = sym v.there.synced_is
+
+  pub synced_in_order : (s : Scene) (trace : List Note) (i : GatewayId) → IsWorld r s → s.trace ≡ reverse trace → (box_in s i).synced ≡ is_synced i (reverse trace)
+  synced_in_order s trace i w order = ∥∥₁_elim (inv_world s w) (hlevel (props)) (synced_here s i) ∙ ap (is_synced i) order
 
   -- the trace in the order in which its notes were made
   module _ (s : Scene) (trace : List Note) (w : IsWorld r s) (order : s.trace ≡ reverse trace) where

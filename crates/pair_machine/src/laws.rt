@@ -6,6 +6,7 @@ ghost use Rattle.nat_types.specs.declared.gateways.GatewayId.{GatewayId};
 ghost use Rattle.nat_types.specs.declared.notes.Note.{Note};
 ghost use Rattle.nat_types.specs.declared.pairs.Key.{Key};
 ghost use Rattle.nat_types.specs.declared.pairs.Pair.{Pair};
+ghost use Rattle.trace_words.specs.Past.{is_synced};
 ghost use Rattle.trace_words.specs.Trace.{Fits, GoesOn, Kept, Silent};
 ghost use Rattle.pair_machine.specs.Acts.{Act, AreGot, MayAct, box_after, letters_by, act_notes};
 ghost use Rattle.pair_machine.specs.Batch.{AreApart, AreThose, LieWithin};
@@ -45,7 +46,8 @@ pub fn promises()
     ensures owners { (r : Ranges) (s : Scene) → IsWorld r s → HasOwners r s }
 {}
 
-/// The same of a trace in the order in which its notes were made.
+/// The same of a trace in the order in which its notes were made, and that a gateway's box is synced exactly where
+/// the trace says so.
 pub fn promises_in_order()
     ensures fits { (r : Ranges) (s : Scene) (trace : List Note) → IsWorld r s →
         s.trace ≡ reverse trace → Fits trace }
@@ -55,6 +57,8 @@ pub fn promises_in_order()
         s.trace ≡ reverse trace → Silent trace }
     ensures goes_on { (r : Ranges) (s : Scene) (trace : List Note) → IsWorld r s →
         s.trace ≡ reverse trace → GoesOn (TableTranslates (tables_of s)) trace }
+    ensures synced { (r : Ranges) (s : Scene) (trace : List Note) (i : GatewayId) → IsWorld r s →
+        s.trace ≡ reverse trace → (box_in s i).synced ≡ is_synced i (reverse trace) }
 {}
 
 /// Where the other gateway is synced, the record that gateway i may take next is the one that the other pushed at that

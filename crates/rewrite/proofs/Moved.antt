@@ -1,11 +1,13 @@
 -- How whole sums change with addresses and ports.
-use Rattle.std.proofs.Common.{◌≡◌, ℕ, ◌+◌, ◌-◌, ◌*◌, ◌/◌, ◌%◌, ◌<◌, ◌≤◌, List, [], ◌∷◌, ◌++◌, length, take, drop, append_assoc, slice_index, arith, refl, ap, ap₂, ◌∙◌}
-use Rattle.byteorder.specs.Endian.{big_number}
+use Rattle.std.proofs.lemmas.List.{get_or-drop}
+use Rattle.std.proofs.Common.{◌≡◌, ℕ, ◌+◌, ◌-◌, ◌*◌, ◌/◌, ◌%◌, ◌<◌, ◌≤◌, List, [], ◌∷◌, ◌++◌, length, take, drop, append_assoc, slice_index, arith, refl, ap, ◌∙◌}
+use Rattle.byteorder.specs.Endian.{big_number, big_bytes}
+use Rattle.frames.specs.Bytes.{Puts}
 use Rattle.sums.specs.Sum.{word_sum, ones_sum, checksum_of, IsRight, IsUpdate}
 use Rattle.sums.proofs.Words.{word_sum-replace}
-use Rattle.rewrite.specs.declared.flows.Flow.{Flow}
+use Rattle.ipv4.specs.declared.flows.Flow.{Flow}
 use Rattle.rewrite.specs.Sums.{address_sum, flow_sum}
-use Rattle.rewrite.specs.Translated.{header_unsummed, header_with, udp_sum, segment_with_ports, moved_sum, with_word, udp_field, udp_with}
+use Rattle.rewrite.specs.Translated.{header_unsummed, header_with, tcp_sum, segment_with_ports, moved_sum, with_word, tcp_checksum, tcp_with}
 use Rattle.ipv4.specs.Header.{word_at}
 
 -- the two words of an address, by the four bytes that it is written as
@@ -20,26 +22,43 @@ pub record InRange (flow : Flow) : Type 0 where
   pub destination_port : flow.destination_port.0 < 65536
 
 -- the whole sum of a segment changes by the difference of the flows
-pub udp_sum-moved : (old new : Flow) (segment : List ℕ) → InRange old → InRange new → 8 ≤ length segment → old.source_port.0 ≡ big_number 2 segment → old.destination_port.0 ≡ big_number 2 (drop 2 segment) → udp_sum new (segment_with_ports new segment) + flow_sum old ≡ udp_sum old segment + flow_sum new
-udp_sum-moved old new (a ∷ b ∷ c ∷ d ∷ e ∷ f ∷ g ∷ h ∷ payload) old_fits new_fits long is_source is_destination =
+pub tcp_sum-moved : (old new : Flow) (segment : List ℕ) → InRange old → InRange new → 20 ≤ length segment → old.source_port.0 ≡ big_number 2 segment → old.destination_port.0 ≡ big_number 2 (drop 2 segment) → tcp_sum new (segment_with_ports new segment) + flow_sum old ≡ tcp_sum old segment + flow_sum new
+tcp_sum-moved old new (a ∷ b ∷ c ∷ d ∷ e ∷ f ∷ g ∷ h ∷ i ∷ j ∷ k ∷ l ∷ m ∷ n ∷ o ∷ p ∷ q ∷ r ∷ rest) old_fits new_fits long is_source is_destination =
     let w1 = address_sum-written old.source.0 old_fits.source in
     let w2 = address_sum-written old.destination.0 old_fits.destination in
     let w3 = address_sum-written new.source.0 new_fits.source in
     let w4 = address_sum-written new.destination.0 new_fits.destination in
     omega (arith, w1, w2, w3, w4)
-udp_sum-moved old new _ old_fits new_fits long is_source is_destination = absurd (omega arith)
+tcp_sum-moved old new _ old_fits new_fits long is_source is_destination = absurd (omega arith)
 
 -- an update by the flows is the sum that the whole sums ask for
-pub moved_sum-update : (t old new s s2 u : ℕ) → s2 + old ≡ s + new → IsUpdate t old new u → u ≡ moved_sum t s s2
+moved_sum-update : (t old new s s2 u : ℕ) → s2 + old ≡ s + new → IsUpdate t old new u → u ≡ moved_sum t s s2
 moved_sum-update t old new s s2 u same is_update = omega arith
 
--- the words that a rewrite of a UDP segment writes are those of the definition
-pub udp-rewritten : (old new : Flow) (segment : List ℕ) (t sum : ℕ) → InRange old → InRange new → 8 ≤ length segment → old.source_port.0 ≡ big_number 2 segment → old.destination_port.0 ≡ big_number 2 (drop 2 segment) → t ≡ word_at 6 segment → IsUpdate t (flow_sum old) (flow_sum new) sum → with_word 6 (udp_field t sum) (segment_with_ports new segment) ≡ udp_with old new segment
-udp-rewritten old new segment t sum old_fits new_fits long is_source is_destination is_t is_update =
-    let moved : udp_sum new (segment_with_ports new segment) + flow_sum old ≡ udp_sum old segment + flow_sum new = udp_sum-moved old new segment old_fits new_fits long is_source is_destination in
-    let is_sum : sum ≡ moved_sum t (udp_sum old segment) (udp_sum new (segment_with_ports new segment)) = moved_sum-update t (flow_sum old) (flow_sum new) (udp_sum old segment) (udp_sum new (segment_with_ports new segment)) sum moved is_update in
-    let is_field : udp_field t sum ≡ udp_field (word_at 6 segment) (moved_sum (word_at 6 segment) (udp_sum old segment) (udp_sum new (segment_with_ports new segment))) = ap₂ udp_field is_t (is_sum ∙ ap (λ x. moved_sum x (udp_sum old segment) (udp_sum new (segment_with_ports new segment))) is_t) in
-    ap (λ x. with_word 6 x (segment_with_ports new segment)) is_field
+-- the ports and a TCP checksum, written one after the other
+tcp-put : (new : Flow) (s s1 s2 s3 : List ℕ) (field : ℕ) → 20 ≤ length s → Puts 0 (big_bytes 2 new.source_port.0) s s1 → Puts 2 (big_bytes 2 new.destination_port.0) s1 s2 → Puts 16 (big_bytes 2 field) s2 s3 → s3 ≡ with_word 16 field (segment_with_ports new s)
+tcp-put new (a ∷ b ∷ c ∷ d ∷ e ∷ f ∷ g ∷ h ∷ i ∷ j ∷ k ∷ l ∷ m ∷ n ∷ o ∷ p ∷ q ∷ r ∷ rest) s1 s2 s3 field long p1 p2 p3 =
+    p3 ∙ ap (λ (x : List ℕ). take 16 x ++ big_bytes 2 field ++ drop 18 x) (p2 ∙ ap (λ (x : List ℕ). take 2 x ++ big_bytes 2 new.destination_port.0 ++ drop 4 x) p1)
+tcp-put new _ s1 s2 s3 field long p1 p2 p3 = absurd (omega arith)
+
+-- what a rewrite of a TCP segment writes is what the definition asks for
+pub tcp-rewritten : (old new : Flow) (s s1 s2 s3 : List ℕ) (t sum : ℕ) → InRange old → InRange new → 20 ≤ length s → old.source_port.0 ≡ big_number 2 s → old.destination_port.0 ≡ big_number 2 (drop 2 s) → t ≡ word_at 16 s → IsUpdate t (flow_sum old) (flow_sum new) sum → Puts 0 (big_bytes 2 new.source_port.0) s s1 → Puts 2 (big_bytes 2 new.destination_port.0) s1 s2 → Puts 16 (big_bytes 2 sum) s2 s3 → s3 ≡ tcp_with old new s
+tcp-rewritten old new s s1 s2 s3 t sum old_fits new_fits long is_source is_destination is_t is_update p1 p2 p3 =
+    let before = tcp_sum old s in
+    let after = tcp_sum new (segment_with_ports new s) in
+    let is_sum : sum ≡ moved_sum t before after = moved_sum-update t (flow_sum old) (flow_sum new) before after sum (tcp_sum-moved old new s old_fits new_fits long is_source is_destination) is_update in
+    let is_field : sum ≡ tcp_checksum old new s = is_sum ∙ ap (λ x. moved_sum x before after) is_t in
+    tcp-put new s s1 s2 s3 sum long p1 p2 p3 ∙ ap (λ x. with_word 16 x (segment_with_ports new s)) is_field
+
+-- the TTL, the checksum and the addresses, written one after the other
+pub header-put : (new : Flow) (h h1 h2 h3 h4 : List ℕ) (ttl field : ℕ) → 20 ≤ length h → ttl ≡ slice_index h 8 - 1 → Puts 8 (ttl ∷ []) h h1 → Puts 10 (big_bytes 2 field) h1 h2 → Puts 12 (big_bytes 4 new.source.0) h2 h3 → Puts 16 (big_bytes 4 new.destination.0) h3 h4 → h4 ≡ with_word 10 field (header_unsummed new h)
+header-put new (b0 ∷ b1 ∷ b2 ∷ b3 ∷ b4 ∷ b5 ∷ b6 ∷ b7 ∷ b8 ∷ b9 ∷ b10 ∷ b11 ∷ b12 ∷ b13 ∷ b14 ∷ b15 ∷ b16 ∷ b17 ∷ b18 ∷ b19 ∷ options) h1 h2 h3 h4 ttl field long is_ttl p1 p2 p3 p4 =
+    let h = b0 ∷ b1 ∷ b2 ∷ b3 ∷ b4 ∷ b5 ∷ b6 ∷ b7 ∷ b8 ∷ b9 ∷ b10 ∷ b11 ∷ b12 ∷ b13 ∷ b14 ∷ b15 ∷ b16 ∷ b17 ∷ b18 ∷ b19 ∷ options in
+    let q1 : h1 ≡ take 8 h ++ ((b8 - 1) ∷ []) ++ drop 9 h = p1 ∙ ap (λ (x : ℕ). take 8 h ++ (x ∷ []) ++ drop 9 h) is_ttl in
+    p4 ∙ ap (λ (x : List ℕ). take 16 x ++ big_bytes 4 new.destination.0 ++ drop 20 x)
+    (p3 ∙ ap (λ (x : List ℕ). take 12 x ++ big_bytes 4 new.source.0 ++ drop 16 x)
+    (p2 ∙ ap (λ (x : List ℕ). take 10 x ++ big_bytes 2 field ++ drop 12 x) q1))
+header-put new _ h1 h2 h3 h4 ttl field long is_ttl p1 p2 p3 p4 = absurd (omega arith)
 
 -- two updates after one another are one by the sums of their words
 pub update-join : (c old new old2 new2 u v : ℕ) → IsUpdate c old new u → IsUpdate u old2 new2 v → IsUpdate c (old + old2) (new + new2) v
@@ -56,6 +75,10 @@ old_words header = word_at 8 header + address_sum (big_number 4 (drop 12 header)
 -- and those that it writes
 abbrev pub new_words : Flow → List ℕ → ℕ
 new_words new header = (word_at 8 header - 256) + address_sum new.source.0 + address_sum new.destination.0
+
+-- the word of TTL and protocol, by its bytes
+pub hops-word : (h : List ℕ) → 256 * slice_index h 8 + slice_index h 9 ≡ word_at 8 h
+hops-word h = omega (arith, get_or-drop 8 h 0 0, get_or-drop 8 h 1 0)
 
 -- sums that begin with the same word
 sum-same : (w x y p q : ℕ) → x + p ≡ y + q → w + x + p ≡ w + y + q

@@ -3,9 +3,12 @@ use Rattle.std.proofs.Common.{◌≡◌, ℕ, ◌+◌, ◌-◌, ◌*◌, ◌≤�
 use Rattle.std.proofs.lemmas.List.{drop-drop, get_or-take, get_or-drop, length-take}
 use Rattle.byteorder.specs.Endian.{big_number}
 use Rattle.ipv4.specs.Header.{word_at, header_of, payload_of}
-use Rattle.ipv4.specs.Datagram.{datagram_of}
-use Rattle.rewrite.specs.declared.flows.Flow.{Flow}
-use Rattle.rewrite.specs.Translated.{header_with, udp_with, flow_of, translated}
+use Rattle.ipv4.specs.declared.flows.Flow.{Flow}
+use Rattle.addresses.specs.declared.transport.Protocol.{Protocol}
+use Rattle.addresses.specs.declared.transport.Protocol.TheVariants.{Udp, Tcp}
+use Rattle.ipv4.specs.Flow.{protocol_of, flow_of}
+use Rattle.rewrite.specs.Sums.{shortest}
+use Rattle.rewrite.specs.Translated.{header_with, segment_with, length_in, translated}
 
 -- a word that lies in the first bytes
 pub word_at-take : (place n : ℕ) (bytes : List ℕ) → place + 2 ≤ n → word_at place (take n bytes) ≡ word_at place bytes
@@ -26,11 +29,17 @@ word_at-payload place packet within =
     word_at-take place n (drop h packet) (omega (arith, length-take n (drop h packet)))
 
 -- a header, a segment and the rest make the translated packet
-pub translated-parts : (new : Flow) (packet : List ℕ) (h n : ℕ) → h ≡ (header_of packet).header_length → n ≡ (datagram_of (payload_of packet)).udp_length → header_with new (take h packet) ++ (udp_with (flow_of packet) new (take n (drop h packet)) ++ drop n (drop h packet)) ≡ translated new packet
+pub translated-parts : (new : Flow) (packet : List ℕ) (h n : ℕ) → h ≡ (header_of packet).header_length → n ≡ length_in (protocol_of packet) (payload_of packet) → header_with new (take h packet) ++ (segment_with (protocol_of packet) (flow_of packet) new (take n (drop h packet)) ++ drop n (drop h packet)) ≡ translated new packet
 translated-parts new packet h n is_h is_n =
-    let parts : header_with new (take h packet) ++ udp_with (flow_of packet) new (take n (drop h packet)) ++ drop n (drop h packet) ≡ translated new packet =
-    ap₂ (λ (a b : ℕ). header_with new (take a packet) ++ udp_with (flow_of packet) new (take b (drop a packet)) ++ drop b (drop a packet)) is_h is_n in
-    sym (append_assoc (header_with new (take h packet)) (udp_with (flow_of packet) new (take n (drop h packet))) (drop n (drop h packet))) ∙ parts
+    let segment = segment_with (protocol_of packet) (flow_of packet) new in
+    let parts : header_with new (take h packet) ++ segment (take n (drop h packet)) ++ drop n (drop h packet) ≡ translated new packet =
+    ap₂ (λ (a b : ℕ). header_with new (take a packet) ++ segment (take b (drop a packet)) ++ drop b (drop a packet)) is_h is_n in
+    sym (append_assoc (header_with new (take h packet)) (segment (take n (drop h packet))) (drop n (drop h packet))) ∙ parts
+
+-- the shortest segment has its ports
+pub shortest-ports : (p : Protocol) (n : ℕ) → shortest p ≤ n → 8 ≤ n
+shortest-ports Udp n h = h
+shortest-ports Tcp n h = omega arith
 
 -- a word of the segment, in the packet's payload and in the bytes behind the header
 pub word_at-segment : (place n : ℕ) (packet rest : List ℕ) → rest ≡ drop (header_of packet).header_length packet → place + 2 ≤ length (payload_of packet) → place + 2 ≤ n → word_at place (payload_of packet) ≡ word_at place (take n rest)

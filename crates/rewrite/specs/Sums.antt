@@ -1,6 +1,8 @@
 -- The words that a translation replaces, added up.
 use Rattle.std.specs.Prelude.{ℕ, ◌+◌, ◌/◌, ◌%◌}
-use Rattle.rewrite.specs.declared.flows.Flow.{Flow}
+use Rattle.addresses.specs.declared.transport.Protocol.{Protocol}
+use Rattle.addresses.specs.declared.transport.Protocol.TheVariants.{Udp, Tcp}
+use Rattle.ipv4.specs.declared.flows.Flow.{Flow}
 
 -- the two words of an address
 abbrev pub address_sum : ℕ → ℕ
@@ -8,4 +10,11 @@ address_sum address = address / 65536 + address % 65536
 
 -- the words of addresses and ports
 abbrev pub flow_sum : Flow → ℕ
-flow_sum flow = address_sum flow.source.0 + address_sum flow.destination.0 + flow.source_port.0 + flow.destination_port.0
+flow_sum flow =
+    address_sum flow.source.0 + address_sum flow.destination.0
+    + flow.source_port.0 + flow.destination_port.0
+
+-- the fewest bytes of a segment
+abbrev pub shortest : Protocol → ℕ
+shortest Udp = 8
+shortest Tcp = 20

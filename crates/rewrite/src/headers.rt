@@ -1,58 +1,27 @@
-ghost use Rattle.std.specs.Prelude.{◌≡◌, ◌<◌, ◌≤◌, length, slice_index};
+//! IPv4 headers: other addresses, a lower TTL, and a checksum that follows.
+ghost use Rattle.std.specs.Prelude.{◌≡◌, ℕ, ◌<◌, ◌≤◌, length, slice_index};
 ghost use Rattle.sums.specs.Sum.{checksum_of, IsRight};
-ghost use Rattle.rewrite.specs.Translated.{header_unsummed, header_with, with_word};
+ghost use Rattle.rewrite.specs.Translated.{header_unsummed, header_with};
 
-use crate::flows::{Flow, update_address};
-use crate::places::{read_address, read_word};
-use byteorder::{BigEndian, ByteOrder};
+use crate::flows::update_address;
+use ipv4::{Flow, Ipv4ViewMut};
 use sums::update;
 
-/// Where the header's fields lie (RFC 791, section 3.1).
-mod field {
-    use std::ops::Range;
-
-    /// The high half of its word, of which the protocol is the low one.
-    pub const TTL: usize = 8;
-
-    pub const CHECKSUM: Range<usize> = 10..12;
-
-    pub const SOURCE: Range<usize> = 12..16;
-
-    pub const DESTINATION: Range<usize> = 16..20;
-}
+/// What a TTL lowered by one takes from the word of TTL and protocol.
+const ONE_HOP: u16 = 0x0100;
 
 /// The checksum that a header has after its TTL and addresses have changed.
-fn header_checksum(header: &[u8], new: Flow) -> u16
-    requires long { 20 ≤ length header.now }
-    requires right { IsRight header.now }
-    requires version { 0 < slice_index header.now 0 }
-    requires ttl { 0 < slice_index header.now 8 }
-    ensures { result ≡ checksum_of (header_unsummed new header.now) }
+fn header_checksum(header: &Ipv4ViewMut<'_>, new: Flow) -> u16
+    requires octets { (i : ℕ) → slice_index header.now.bytes.now i < 256 }
+    requires right { IsRight header.now.bytes.now }
+    requires version { 0 < slice_index header.now.bytes.now 0 }
+    requires ttl { 0 < slice_index header.now.bytes.now 8 }
+    ensures { result ≡ checksum_of (header_unsummed new header.now.bytes.now) }
 {
-    let hops = read_word(header, field::TTL);
-    let checksum = update(read_word(header, field::CHECKSUM.start), hops, hops - 256);
-    let checksum = update_address(
-        checksum,
-        read_address(header, field::SOURCE.start),
-        new.source,
-    );
-    update_address(
-        checksum,
-        read_address(header, field::DESTINATION.start),
-        new.destination,
-    )
-}
-
-/// Writes a header's addresses and checksum, and lowers its TTL.
-fn put_header(header: &mut [u8], new: Flow, checksum: u16)
-    requires long { 20 ≤ length header.old }
-    requires ttl { 0 < slice_index header.old 8 }
-    ensures { header.new ≡ with_word 10 checksum (header_unsummed new header.old) }
-{
-    header[field::TTL] -= 1;
-    BigEndian::write_u16(&mut header[field::CHECKSUM], checksum);
-    BigEndian::write_u32(&mut header[field::SOURCE], new.source.0);
-    BigEndian::write_u32(&mut header[field::DESTINATION], new.destination.0);
+    let hops = ONE_HOP * u16::from(header.ttl()) + u16::from(header.protocol());
+    let checksum = update(header.checksum(), hops, hops - ONE_HOP);
+    let checksum = update_address(checksum, header.source(), new.source);
+    update_address(checksum, header.destination(), new.destination)
 }
 
 /// Gives a header other addresses, a lower TTL and its checksum.
@@ -63,6 +32,11 @@ pub fn rewrite_header(header: &mut [u8], new: Flow)
     requires ttl { 0 < slice_index header.old 8 }
     ensures { header.new ≡ header_with new header.old }
 {
-    let checksum = header_checksum(header, new);
-    put_header(header, new, checksum);
+    let mut view = Ipv4ViewMut::new(header);
+    let checksum = header_checksum(&view, new);
+    let ttl = view.ttl();
+    view.set_ttl(ttl - 1);
+    view.set_checksum(checksum);
+    view.set_source(new.source);
+    view.set_destination(new.destination);
 }

@@ -1,4 +1,5 @@
-//! What a pair of gateways is set up with: port ranges, interfaces, the two gateways, static neighbours.
+//! What a pair of gateways is set up with: port ranges, networks, the two gateways, static
+//! neighbours.
 #![tactic(auto)]
 
 mod gateway_settings;
@@ -11,6 +12,3 @@ pub use gateway_settings::GatewaySettings;
 pub use interfaces::{Interface, Neighbour};
 pub use ranges::{PortRange, PortRanges};
 pub use whole::Settings;
-
-#[cfg(test)]
-mod tests;

@@ -12,3 +12,6 @@ returns-clause-silent c = laws.silent_in_order
 
 pub returns-clause-goes_on : goal.returns-clause-goes_on
 returns-clause-goes_on c = laws.goes_on_in_order
+
+pub returns-clause-synced : goal.returns-clause-synced
+returns-clause-synced c = laws.synced_in_order

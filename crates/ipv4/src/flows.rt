@@ -1,0 +1,34 @@
+//! Flows: what a translation reads of a packet, and what it writes.
+ghost use Rattle.std.specs.Prelude.{◌≡◌};
+ghost use Rattle.ipv4.specs.Carried.{IsTransport};
+ghost use Rattle.ipv4.specs.Flow.{flow_of};
+
+use crate::{Ipv4View, Transport};
+use addresses::{Ip, Port, Protocol};
+
+/// From where to where a packet goes, and by which protocol.
+#[derive(Clone, Copy, Debug, PartialEq, Eq)]
+pub struct Flow {
+    pub protocol: Protocol,
+    pub source: Ip,
+    pub source_port: Port,
+    pub destination: Ip,
+    pub destination_port: Port,
+}
+
+impl Flow {
+    /// The flow of a UDP or TCP packet.
+    pub fn of(packet: &Ipv4View<'_>) -> Flow
+        requires { IsTransport packet.now.bytes.now }
+        ensures { result ≡ flow_of packet.now.bytes.now }
+    {
+        let transport = Transport::of(packet);
+        Flow {
+            protocol: transport.protocol(),
+            source: packet.source(),
+            source_port: transport.source_port(),
+            destination: packet.destination(),
+            destination_port: transport.destination_port(),
+        }
+    }
+}

@@ -1,5 +1,0 @@
-use Rattle.rewrite.proofs.Moved.{header_with-right}
-use Rattle.rewrite.proofs.header_law.Goals as goal
-
-pub returns : goal.returns
-returns c = header_with-right

@@ -1,0 +1,45 @@
+//! What follows of checksums from the definition of a translation.
+ghost use Rattle.std.specs.Prelude.{◌≡◌, ℕ, ◌+◌, ◌%◌, ◌<◌, ◌≤◌, List, length, slice_index};
+ghost use Rattle.sums.specs.Sum.{word_sum, IsRight};
+ghost use Rattle.ipv4.specs.declared.flows.Flow.{Flow as FlowValue};
+ghost use Rattle.ipv4.specs.Header.{word_at};
+ghost use Rattle.rewrite.specs.Translated.{header_with, moved_sum, summed, udp_with, tcp_with};
+
+/// A checksum moved from a whole sum `s` to `s2` is a number below 65535 that is as right as it
+/// was.
+pub fn moved_sum_law()
+    ensures small { (t s s2 : ℕ) → moved_sum t s s2 < 65535 }
+    ensures same { (t s s2 : ℕ) → (moved_sum t s s2 + s2) % 65535 ≡ (t + s) % 65535 }
+{}
+
+/// The complement of the whole sum is a right checksum.
+pub fn header_law()
+    ensures { (flow : FlowValue) (header : List ℕ) → 20 ≤ length header
+        → 0 < slice_index header 0 → IsRight (header_with flow header) }
+{}
+
+/// A UDP checksum that is absent stays absent, and another stays there: a right one right, and a
+/// wrong one wrong by as much.
+pub fn udp_law()
+    ensures absent { (old new : FlowValue) (segment : List ℕ) → 8 ≤ length segment
+        → word_at 6 segment ≡ 0 → word_at 6 (udp_with old new segment) ≡ 0 }
+    ensures present { (old new : FlowValue) (segment : List ℕ) → 8 ≤ length segment
+        → 0 < word_at 6 segment → 0 < word_at 6 (udp_with old new segment) }
+    ensures same { (old new : FlowValue) (segment : List ℕ) → 8 ≤ length segment
+        → 0 < word_at 6 segment
+        → word_sum (summed new 17 (udp_with old new segment)) % 65535
+        ≡ word_sum (summed old 17 segment) % 65535 }
+    ensures right { (old new : FlowValue) (segment : List ℕ) → 8 ≤ length segment
+        → 0 < word_at 6 segment → IsRight (summed old 17 segment)
+        → IsRight (summed new 17 (udp_with old new segment)) }
+{}
+
+/// A right TCP checksum stays right, and a wrong one wrong by as much.
+pub fn tcp_law()
+    ensures same { (old new : FlowValue) (segment : List ℕ) → 20 ≤ length segment
+        → word_sum (summed new 6 (tcp_with old new segment)) % 65535
+        ≡ word_sum (summed old 6 segment) % 65535 }
+    ensures right { (old new : FlowValue) (segment : List ℕ) → 20 ≤ length segment
+        → IsRight (summed old 6 segment)
+        → IsRight (summed new 6 (tcp_with old new segment)) }
+{}

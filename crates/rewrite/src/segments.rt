@@ -1,0 +1,62 @@
+//! UDP datagrams and TCP segments: other ports, and a checksum that follows.
+ghost use Rattle.std.specs.Prelude.{◌≡◌, ◌≤◌, length, drop};
+ghost use Rattle.byteorder.specs.Endian.{big_number};
+ghost use Rattle.rewrite.specs.Sums.{shortest};
+ghost use Rattle.rewrite.specs.Translated.{udp_field, udp_with, tcp_with, segment_with};
+
+use crate::flows::update_flow;
+use addresses::Protocol;
+use ipv4::{Flow, TcpViewMut, UdpViewMut};
+
+/// The checksum of a UDP header, where the field was `old` and the sum is now `sum`.
+fn udp_field(old: u16, sum: u16) -> u16
+    ensures { result ≡ udp_field old sum }
+{
+    match (old, sum) {
+        (0, _) => 0,
+        (_, 0) => 65535,
+        _ => sum,
+    }
+}
+
+/// Writes the ports, and lets the checksum follow.
+fn rewrite_udp(segment: &mut [u8], old: Flow, new: Flow)
+    requires long { 8 ≤ length segment.old }
+    requires source_port { old.source_port.0 ≡ big_number 2 segment.old }
+    requires destination_port { old.destination_port.0 ≡ big_number 2 (drop 2 segment.old) }
+    ensures { segment.new ≡ udp_with old new segment.old }
+{
+    let mut view = UdpViewMut::new(segment);
+    let checksum = view.checksum();
+    let sum = update_flow(checksum, old, new);
+    view.set_source_port(new.source_port);
+    view.set_destination_port(new.destination_port);
+    view.set_checksum(udp_field(checksum, sum));
+}
+
+/// Writes the ports, and lets the checksum follow: 0 is a sum as any other.
+fn rewrite_tcp(segment: &mut [u8], old: Flow, new: Flow)
+    requires long { 20 ≤ length segment.old }
+    requires source_port { old.source_port.0 ≡ big_number 2 segment.old }
+    requires destination_port { old.destination_port.0 ≡ big_number 2 (drop 2 segment.old) }
+    ensures { segment.new ≡ tcp_with old new segment.old }
+{
+    let mut view = TcpViewMut::new(segment);
+    let sum = update_flow(view.checksum(), old, new);
+    view.set_source_port(new.source_port);
+    view.set_destination_port(new.destination_port);
+    view.set_checksum(sum);
+}
+
+/// The same for the protocol of the flow.
+pub fn rewrite_segment(segment: &mut [u8], old: Flow, new: Flow)
+    requires long { shortest old.protocol ≤ length segment.old }
+    requires source_port { old.source_port.0 ≡ big_number 2 segment.old }
+    requires destination_port { old.destination_port.0 ≡ big_number 2 (drop 2 segment.old) }
+    ensures { segment.new ≡ segment_with old.protocol old new segment.old }
+{
+    match old.protocol {
+        Protocol::Udp => rewrite_udp(segment, old, new),
+        Protocol::Tcp => rewrite_tcp(segment, old, new),
+    }
+}
