@@ -44,7 +44,8 @@ or_else None other = other
 or_else (Some x) other = Some x
 
 abbrev pub mac_at : ℕ → ℕ → Neighbours → Option Mac
-mac_at address now known = or_else (fixed_mac address known.fixed) (learnt_mac address now known.learnt)
+mac_at address now known =
+    or_else (fixed_mac address known.fixed) (learnt_mac address now known.learnt)
 
 -- a sender that is learnt: of the interface's network, another than its own and the virtual
 -- address, with one station's hardware address

@@ -59,7 +59,8 @@ impl Model for Cache {
 }
 
 impl Cache {
-    /// A cache of these fixed neighbours, which has learnt none. Of two with one address the first counts.
+    /// A cache of these fixed neighbours, which has learnt none. Of two with one address the first
+    /// counts.
     pub fn new(alloc: Global, fixed: &[Neighbour]) -> Result<Self, AllocError>
         ensures fixed { IfOk result (λ c. c.fixed ≡ fixed.now) }
         ensures learnt { IfOk result (λ c. c.learnt ≡ []) }
@@ -74,7 +75,8 @@ impl Cache {
     /// renewed longest ago is dropped, valid or not.
     pub fn learn(&mut self, address: Ip, mac: Mac, now: u64)
         ensures fixed { self.new.fixed ≡ self.old.fixed }
-        ensures learnt { self.new.learnt ≡ with_entry (record { address = address; mac = mac; at = now }) self.old.learnt }
+        ensures learnt { self.new.learnt
+            ≡ with_entry (record { address = address; mac = mac; at = now }) self.old.learnt }
     {
         let entry = Entry {
             address,
@@ -84,7 +86,8 @@ impl Cache {
         renew(&mut self.learnt, entry);
     }
 
-    /// The hardware address of a neighbour that is fixed, or valid at the moment `now`, in centiseconds.
+    /// The hardware address of a neighbour that is fixed, or valid at the moment `now`, in
+    /// centiseconds.
     pub fn mac_of(&self, address: Ip, now: u64) -> Option<Mac>
         ensures mac { result ≡ mac_at address.0 now self.now }
         ensures six { IfSome result (λ m. length m.0 ≡ 6) }

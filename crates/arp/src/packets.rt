@@ -158,7 +158,8 @@ pub fn request(out: &mut [u8; 42], mac: Mac, ip: Ip, target: Ip)
     write_frame(out, Mac::BROADCAST, mac, &packet);
 }
 
-/// Answers `asked`: its target address has the hardware address `answer`. The frame comes from `own`.
+/// Answers `asked`: its target address has the hardware address `answer`. The frame comes from
+/// `own`.
 pub fn reply(out: &mut [u8; 42], own: Mac, answer: Mac, asked: &ArpPacket)
     ensures { out.new
         ≡ frame_bytes asked.now.sender_mac.0 own.0 (reply_packet answer asked.now) }
