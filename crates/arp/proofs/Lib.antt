@@ -1,3 +1,4 @@
 mod Reading
 mod Spelling
 mod Spelt
+mod Wholes

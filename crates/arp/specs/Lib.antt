@@ -1,2 +1,3 @@
+pub mod Macs
 pub mod Neighbours
 pub mod Packet

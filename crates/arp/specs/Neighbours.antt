@@ -3,6 +3,8 @@ use Rattle.std.specs.Prelude.{◌≡◌, ◌≢◌, ◌≤◌, ℕ, ◌-◌, ◌
 use Rattle.std.specs.List.{filter}
 use Rattle.addresses.specs.declared.ethernet.Mac.{Mac}
 use Rattle.addresses.specs.Address.{IsIn}
+use Rattle.arp.specs.declared.caches.TheConstants.{ENTRIES, VALID_FOR}
+use Rattle.arp.specs.declared.caches.Interface.{Interface}
 use Rattle.arp.specs.declared.caches.Neighbour.{Neighbour}
 use Rattle.arp.specs.declared.caches.Entry.{Entry}
 
@@ -21,17 +23,20 @@ newest n entries = drop (length entries - n) entries
 
 -- an entry is learnt or renewed; a full cache loses its oldest
 abbrev pub with_entry : Entry → List Entry → List Entry
-with_entry entry entries = newest 1023 (without entry.address.0 entries) ++ entry ∷ []
+with_entry entry entries = newest (ENTRIES - 1) (without entry.address.0 entries) ++ entry ∷ []
 
 -- the first fixed neighbour of that address
 abbrev pub fixed_mac : ℕ → List Neighbour → Option Mac
 fixed_mac address [] = None
-fixed_mac address (n ∷ neighbours) = if n.address.0 == address then Some n.mac else fixed_mac address neighbours
+fixed_mac address (n ∷ neighbours) =
+    if n.address.0 == address then Some n.mac else fixed_mac address neighbours
 
 -- the first valid entry of that address: fewer than 120,000 centiseconds old
 abbrev pub learnt_mac : ℕ → ℕ → List Entry → Option Mac
 learnt_mac address now [] = None
-learnt_mac address now (e ∷ entries) = if e.address.0 == address && nat_lt (now - e.at) 120000 then Some e.mac else learnt_mac address now entries
+learnt_mac address now (e ∷ entries) =
+    if e.address.0 == address && nat_lt (now - e.at) VALID_FOR then Some e.mac
+    else learnt_mac address now entries
 
 -- the first that there is
 abbrev pub or_else : {X : Type 0} → Option X → Option X → Option X
@@ -39,17 +44,19 @@ or_else None other = other
 or_else (Some x) other = Some x
 
 abbrev pub mac_at : ℕ → ℕ → Neighbours → Option Mac
-mac_at address now known = or_else (fixed_mac address known.fixed) (learnt_mac address now known.learnt)
+mac_at address now known =
+    or_else (fixed_mac address known.fixed) (learnt_mac address now known.learnt)
 
--- a sender that is learnt: of the interface's network, another than its own and the virtual address, with one station's hardware address
-pub record IsLearnable (address network length own shared : ℕ) (mac : List ℕ) : Type 0 where
-  pub near : IsIn address network length
-  pub not_own : address ≢ own
-  pub not_shared : address ≢ shared
-  pub not_zero : mac ≢ replicate 6 0
-  pub one_station : slice_index mac 0 % 2 ≡ 0
+-- a sender that is learnt: of the interface's network, another than its own and the virtual
+-- address, with one station's hardware address
+pub record IsLearnable (interface : Interface) (sender : Neighbour) : Type 0 where
+  pub near : IsIn sender.address.0 interface.network.address.0 interface.network.length
+  pub not_primary : sender.address ≢ interface.primary_ip
+  pub not_virtual : sender.address ≢ interface.virtual_ip
+  pub not_zero : sender.mac.0 ≢ replicate 6 0
+  pub one_station : slice_index sender.mac.0 0 % 2 ≡ 0
 
 -- room for all that a cache may learn
 pub record HasRoom (count capacity : ℕ) : Type 0 where
-  pub most : count ≤ 1024
-  pub room : 1024 ≤ capacity
+  pub most : count ≤ ENTRIES
+  pub room : ENTRIES ≤ capacity

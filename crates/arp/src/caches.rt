@@ -1,8 +1,10 @@
-// The cache of neighbours.
-ghost use Rattle.std.specs.Prelude.{◌≡◌, ◌≤◌, ◌++◌, ◌∷◌, [], ◌<◌, ◌↔◌, ◌-◌, ◌+◌, length, vec_len, vec_capacity, IfOk, IsTrue};
+//! The cache of neighbours.
+ghost use Rattle.std.specs.Prelude.{◌≡◌, ◌≤◌, ◌++◌, ◌∷◌, [], ◌<◌, ◌↔◌, ◌-◌, ◌+◌, length, vec_len, vec_capacity, IfOk, IfSome, IsTrue};
+ghost use Rattle.arp.specs.Macs.{AllSix, KnowsMacs};
 ghost use Rattle.arp.specs.Neighbours.{without, newest, with_entry, fixed_mac, learnt_mac, mac_at, IsLearnable, HasRoom};
 
-use frames::{Ip, Mac, Prefix};
+use crate::packets::octets_of;
+use addresses::{Ip, Mac, Prefix};
 use std::alloc::{AllocError, Global};
 use std::marker::Model;
 
@@ -27,6 +29,15 @@ pub struct Entry {
     pub at: u64,
 }
 
+/// An interface, as far as it decides whom it learns: its network, and its primary and its
+/// virtual address.
+#[derive(Clone, Copy, Debug, PartialEq, Eq)]
+pub struct Interface {
+    pub network: Prefix,
+    pub primary_ip: Ip,
+    pub virtual_ip: Ip,
+}
+
 /// The neighbours that an interface knows: those of the settings, and up to 1,024 that it learnt.
 #[derive(Drop)]
 pub struct Cache {
@@ -35,48 +46,86 @@ pub struct Cache {
 }
 
 impl Model for Cache {
-    ghost use Rattle.std.specs.Prelude.{◌≤◌, length, vec_capacity};
+    ghost use Rattle.std.specs.Prelude.{length, vec_capacity};
+    ghost use Rattle.arp.specs.Macs.{KnowsMacs};
     ghost use Rattle.arp.specs.Neighbours.{Neighbours, HasRoom};
 
     ghost Value = { Neighbours };
 
     ghost view = { λ c. record { fixed = c.fixed.items; learnt = c.learnt.items } };
 
-    ghost invariant = { λ c. HasRoom (length c.learnt.items) (vec_capacity c.learnt) };
+    ghost invariant = { λ c. HasRoom (length c.learnt.items) (vec_capacity c.learnt)
+        × KnowsMacs (record { fixed = c.fixed.items; learnt = c.learnt.items }) };
 }
 
 impl Cache {
-    /// A cache of these fixed neighbours, which has learnt none. Of two with one address the first counts.
+    /// A cache of these fixed neighbours, which has learnt none. Of two with one address the first
+    /// counts.
     pub fn new(alloc: Global, fixed: &[Neighbour]) -> Result<Self, AllocError>
         ensures fixed { IfOk result (λ c. c.fixed ≡ fixed.now) }
         ensures learnt { IfOk result (λ c. c.learnt ≡ []) }
     {
         let learnt = Vec::with_capacity(alloc, ENTRIES)?;
-        let fixed = fixed.to_vec(alloc)?;
+        let fixed = whole_neighbours(alloc, fixed)?;
         Ok(Cache { fixed, learnt })
     }
 
-    /// Learns or renews a neighbour at the moment `now`, in centiseconds.
+    /// Learns or renews a neighbour at the moment `now`, in centiseconds. An entry of the same
+    /// address gives way to it; where 1,024 other addresses are learnt, the one that was learnt or
+    /// renewed longest ago is dropped, valid or not.
     pub fn learn(&mut self, address: Ip, mac: Mac, now: u64)
         ensures fixed { self.new.fixed ≡ self.old.fixed }
-        ensures learnt { self.new.learnt ≡ with_entry (record { address = address; mac = mac; at = now }) self.old.learnt }
+        ensures learnt { self.new.learnt
+            ≡ with_entry (record { address = address; mac = mac; at = now }) self.old.learnt }
     {
         let entry = Entry {
             address,
-            mac,
+            mac: Mac(octets_of(mac)),
             at: now,
         };
         renew(&mut self.learnt, entry);
     }
 
-    /// The hardware address of a neighbour that is fixed, or valid at the moment `now`, in centiseconds.
+    /// The hardware address of a neighbour that is fixed, or valid at the moment `now`, in
+    /// centiseconds.
     pub fn mac_of(&self, address: Ip, now: u64) -> Option<Mac>
-        ensures { result ≡ mac_at address.0 now self.now }
+        ensures mac { result ≡ mac_at address.0 now self.now }
+        ensures six { IfSome result (λ m. length m.0 ≡ 6) }
     {
         match fixed_mac(&self.fixed, address) {
             Some(mac) => Some(mac),
             None => learnt_mac(&self.learnt, address, now),
         }
+    }
+
+    /// Reminds the prover that every known hardware address has six bytes; it does nothing when
+    /// it runs.
+    pub fn recall(&self)
+        ensures { KnowsMacs self.now }
+    {
+        let _ = &self.fixed;
+    }
+}
+
+/// The same neighbours, in a list of their own.
+fn whole_neighbours(alloc: Global, neighbours: &[Neighbour]) -> Result<Vec<Neighbour>, AllocError>
+    ensures same { IfOk result (λ v. v.items ≡ neighbours.now) }
+    ensures six { IfOk result (λ v. AllSix (λ n. n.mac) v.items) }
+{
+    let mut whole = Vec::new(alloc);
+    for neighbour in neighbours {
+        whole.push(whole_neighbour(neighbour))?;
+    }
+    Ok(whole)
+}
+
+fn whole_neighbour(neighbour: &Neighbour) -> Neighbour
+    ensures same { result ≡ neighbour.now }
+    ensures six { length result.mac.0 ≡ 6 }
+{
+    Neighbour {
+        address: neighbour.address,
+        mac: Mac(octets_of(neighbour.mac)),
     }
 }
 
@@ -101,9 +150,9 @@ fn forget(entries: &mut Vec<Entry>, address: Ip)
 
 /// Removes the oldest entry where all places are taken.
 fn drop_oldest(entries: &mut Vec<Entry>)
-    requires { length entries.old.items ≤ 1024 }
-    ensures items { entries.new.items ≡ newest 1023 entries.old.items }
-    ensures fewer { length entries.new.items ≤ 1023 }
+    requires { length entries.old.items ≤ ENTRIES }
+    ensures items { entries.new.items ≡ newest (ENTRIES - 1) entries.old.items }
+    ensures fewer { length entries.new.items < ENTRIES }
     ensures capacity { vec_capacity entries.old ≤ vec_capacity entries.new }
 {
     if entries.len() == ENTRIES {
@@ -116,10 +165,7 @@ fn put(entries: &mut Vec<Entry>, entry: Entry)
     ensures items { entries.new.items ≡ entries.old.items ++ entry ∷ [] }
     ensures capacity { vec_capacity entries.old ≤ vec_capacity entries.new }
 {
-    match entries.push(entry) {
-        Ok(()) => {}
-        Err(_) => unreachable!(),
-    }
+    entries.push_reserved(entry);
 }
 
 fn fixed_mac(neighbours: &[Neighbour], address: Ip) -> Option<Mac>
@@ -144,13 +190,14 @@ fn learnt_mac(entries: &[Entry], address: Ip, now: u64) -> Option<Mac>
     None
 }
 
-/// Whether a sender is learnt at an interface of this network with this primary and this virtual address.
-pub fn is_learnable(network: Prefix, own: Ip, shared: Ip, address: Ip, mac: Mac) -> bool
-    ensures { IsTrue result ↔ IsLearnable address.0 network.address.0 network.length own.0 shared.0 mac.0 }
+/// Whether an interface learns a sender (RFC 826): one of its network, but neither itself nor the
+/// virtual router, with the hardware address of one station.
+pub fn is_learnable(interface: &Interface, sender: &Neighbour) -> bool
+    ensures { IsTrue result ↔ IsLearnable interface.now sender.now }
 {
-    network.contains(address)
-        && address != own
-        && address != shared
-        && mac.0 != [0; 6]
-        && mac.0[0] % 2 == 0
+    interface.network.contains(sender.address)
+        && sender.address != interface.primary_ip
+        && sender.address != interface.virtual_ip
+        && sender.mac.0 != [0; 6]
+        && sender.mac.0[0] % 2 == 0
 }

@@ -1,4 +1,4 @@
-// What follows of packets from the definitions of their bytes.
+//! What follows of packets from the definitions of their bytes.
 ghost use Rattle.std.specs.Prelude.{◌≡◌, ◌<◌, ◌↔◌, ℕ, List, None, slice_index};
 ghost use Rattle.arp.specs.declared.packets.ArpPacket.{ArpPacket};
 ghost use Rattle.arp.specs.Packet.{arp_refusal, IsArp, packet_of, IsPacket, Spells, IsReadAs};
@@ -15,5 +15,6 @@ pub fn written_is_read()
 
 /// Bytes that are read begin with the packet that they are read as.
 pub fn read_is_spelled()
-    ensures { (bytes : List ℕ) → ((i : ℕ) → slice_index bytes i < 256) → IsArp bytes → Spells bytes (packet_of bytes) }
+    ensures { (bytes : List ℕ) → ((i : ℕ) → slice_index bytes i < 256) → IsArp bytes
+        → Spells bytes (packet_of bytes) }
 {}

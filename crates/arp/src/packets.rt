@@ -1,14 +1,57 @@
-// ARP packets, read from Ethernet bodies and written as whole frames.
-ghost use Rattle.std.specs.Prelude.{◌≡◌, ◌≤◌, ◌↔◌, ◌∷◌, [], length, take, IfOk, IsOk};
+//! ARP packets (RFC 826), read from Ethernet bodies and written as whole frames.
+//!
+//! ```text
+//!  0               2               4    5    6           8
+//! +---------------+---------------+----+----+-----------+
+//! | hardware type | protocol type | 6  | 4  | operation |
+//! +---------------+---+-----------+----+----+-----------+------+
+//! | sender MAC        | sender IP      | target MAC | target IP |
+//! +-------------------+----------------+------------+-----------+
+//!  8                   14               18           24          28
+//! ```
+//!
+//! 192.0.2.2 asks for 192.0.2.9:
+//!
+//! ```text
+//! 0001     0800 06 04 0001    020000000200 c0000202  000000000000 c0000209
+//! Ethernet IPv4       request sender       192.0.2.2 asked for    192.0.2.9
+//! ```
+ghost use Rattle.std.specs.Prelude.{◌≡◌, ◌≤◌, ◌↔◌, length, IfOk, IsOk};
 ghost use Rattle.std.specs.Result.{result_err};
-ghost use Rattle.arp.specs.Packet.{operation_number, packet_bytes, is_ethernet_ipv4, arp_refusal, IsArp, packet_of, frame_bytes};
-ghost use Rattle.arp.specs.declared.packets.Operation.TheVariants.{Request, Reply};
+ghost use Rattle.arp.specs.Packet.{operation_number, packet_bytes, is_ethernet_ipv4, arp_refusal, IsArp, packet_of, frame_bytes, request_packet, reply_packet, gratuitous_packet};
 
+use addresses::{Ip, Mac};
 use byteorder::{BigEndian, ByteOrder};
-use frames::{EtherType, Ip, Mac, write_header};
+use frames::{EtherType, write_header};
 use thiserror::Error;
 
-const PACKET_BYTES: usize = 28;
+/// Where the packet's fields lie.
+mod field {
+    use std::ops::Range;
+
+    pub const HARDWARE_TYPE: Range<usize> = 0..2;
+
+    pub const PROTOCOL_TYPE: Range<usize> = 2..4;
+
+    pub const HARDWARE_LENGTH: usize = 4;
+
+    pub const PROTOCOL_LENGTH: usize = 5;
+
+    pub const OPERATION: Range<usize> = 6..8;
+
+    pub const SENDER_MAC: Range<usize> = 8..14;
+
+    pub const SENDER_IP: Range<usize> = 14..18;
+
+    pub const TARGET_MAC: Range<usize> = 18..24;
+
+    pub const TARGET_IP: Range<usize> = 24..28;
+    /// The bytes of a packet.
+    pub const PACKET: usize = 28;
+}
+
+/// The bytes of a header before a packet.
+const HEADER: usize = 14;
 
 const ETHERNET: u16 = 1;
 
@@ -61,23 +104,23 @@ pub fn parse(bytes: &[u8]) -> Result<ArpPacket, ArpFault>
     ensures ok { IsOk result ↔ IsArp bytes.now }
     ensures value { IfOk result (λ p. p ≡ packet_of bytes.now) }
 {
-    if bytes.len() < PACKET_BYTES {
+    if bytes.len() < field::PACKET {
         return Err(ArpFault::TooShort);
     }
     if !is_ethernet_ipv4(bytes) {
         return Err(ArpFault::NotEthernetIpv4);
     }
-    let operation = match BigEndian::read_u16(&bytes[6..]) {
+    let operation = match BigEndian::read_u16(&bytes[field::OPERATION]) {
         1 => Operation::Request,
         2 => Operation::Reply,
         _ => return Err(ArpFault::BadOperation),
     };
     Ok(ArpPacket {
         operation,
-        sender_mac: mac_at(&bytes[8..]),
-        sender_ip: Ip(BigEndian::read_u32(&bytes[14..])),
-        target_mac: mac_at(&bytes[18..]),
-        target_ip: Ip(BigEndian::read_u32(&bytes[24..])),
+        sender_mac: mac_at(&bytes[field::SENDER_MAC]),
+        sender_ip: Ip(BigEndian::read_u32(&bytes[field::SENDER_IP])),
+        target_mac: mac_at(&bytes[field::TARGET_MAC]),
+        target_ip: Ip(BigEndian::read_u32(&bytes[field::TARGET_IP])),
     })
 }
 
@@ -86,24 +129,24 @@ fn is_ethernet_ipv4(bytes: &[u8]) -> bool
     requires { 28 ≤ length bytes.now }
     ensures { result ≡ is_ethernet_ipv4 bytes.now }
 {
-    BigEndian::read_u16(bytes) == ETHERNET
-        && BigEndian::read_u16(&bytes[2..]) == IPV4
-        && bytes[4] == 6
-        && bytes[5] == 4
+    BigEndian::read_u16(&bytes[field::HARDWARE_TYPE]) == ETHERNET
+        && BigEndian::read_u16(&bytes[field::PROTOCOL_TYPE]) == IPV4
+        && bytes[field::HARDWARE_LENGTH] == 6
+        && bytes[field::PROTOCOL_LENGTH] == 4
 }
 
 fn mac_at(bytes: &[u8]) -> Mac
-    requires { 6 ≤ length bytes.now }
-    ensures { result.0 ≡ take 6 bytes.now }
+    requires { length bytes.now ≡ 6 }
+    ensures { result.0 ≡ bytes.now }
 {
     let mut octets = [0; 6];
-    octets.copy_from_slice(&bytes[..6]);
+    octets.copy_from_slice(bytes);
     Mac(octets)
 }
 
 /// Asks everyone for the hardware address of `target`.
 pub fn request(out: &mut [u8; 42], mac: Mac, ip: Ip, target: Ip)
-    ensures { out.new ≡ frame_bytes Mac.BROADCAST.0 mac.0 (record { operation = Request; sender_mac = mac; sender_ip = ip; target_mac = record { 0 = 0 ∷ 0 ∷ 0 ∷ 0 ∷ 0 ∷ 0 ∷ [] }; target_ip = target }) }
+    ensures { out.new ≡ frame_bytes Mac.BROADCAST.0 mac.0 (request_packet mac ip target) }
 {
     let packet = ArpPacket {
         operation: Operation::Request,
@@ -115,9 +158,11 @@ pub fn request(out: &mut [u8; 42], mac: Mac, ip: Ip, target: Ip)
     write_frame(out, Mac::BROADCAST, mac, &packet);
 }
 
-/// Answers `asked`: its target address has the hardware address `answer`. The frame comes from `own`.
+/// Answers `asked`: its target address has the hardware address `answer`. The frame comes from
+/// `own`.
 pub fn reply(out: &mut [u8; 42], own: Mac, answer: Mac, asked: &ArpPacket)
-    ensures { out.new ≡ frame_bytes asked.now.sender_mac.0 own.0 (record { operation = Reply; sender_mac = answer; sender_ip = asked.now.target_ip; target_mac = asked.now.sender_mac; target_ip = asked.now.sender_ip }) }
+    ensures { out.new
+        ≡ frame_bytes asked.now.sender_mac.0 own.0 (reply_packet answer asked.now) }
 {
     let packet = ArpPacket {
         operation: Operation::Reply,
@@ -131,7 +176,7 @@ pub fn reply(out: &mut [u8; 42], own: Mac, answer: Mac, asked: &ArpPacket)
 
 /// Tells everyone that `ip` has the hardware address `mac`, as a request for itself.
 pub fn gratuitous(out: &mut [u8; 42], mac: Mac, ip: Ip)
-    ensures { out.new ≡ frame_bytes Mac.BROADCAST.0 mac.0 (record { operation = Request; sender_mac = mac; sender_ip = ip; target_mac = mac; target_ip = ip }) }
+    ensures { out.new ≡ frame_bytes Mac.BROADCAST.0 mac.0 (gratuitous_packet mac ip) }
 {
     let packet = ArpPacket {
         operation: Operation::Request,
@@ -147,10 +192,11 @@ fn write_frame(out: &mut [u8; 42], dst: Mac, src: Mac, packet: &ArpPacket)
     ensures { out.new ≡ frame_bytes dst.0 src.0 packet.now }
 {
     write_header(out, dst, src, EtherType::ARP);
-    out[14..].copy_from_slice(&body_of(packet));
+    out[HEADER..].copy_from_slice(&body_of(packet));
 }
 
-fn octets_of(mac: Mac) -> [u8; 6]
+/// The six bytes, of which a proof knows that they are six.
+pub(crate) fn octets_of(mac: Mac) -> [u8; 6]
     ensures same { result ≡ mac.0 }
     ensures six { length result ≡ 6 }
 {

@@ -359,7 +359,8 @@ impl<'a> Ipv4ViewMut<'a> {
     }
 
     pub fn set_destination(&mut self, destination: Ip)
-        ensures written { Puts 16 (big_bytes 4 destination.0) self.old.bytes.now self.new.bytes.now }
+        ensures written { Puts 16 (big_bytes 4 destination.0)
+            self.old.bytes.now self.new.bytes.now }
         ensures header { header_of self.new.bytes.now
             ≡ record (header_of self.old.bytes.now) { destination = destination.0 } }
         ensures same_reference { self.new.bytes.ghost_name ≡ self.old.bytes.ghost_name }

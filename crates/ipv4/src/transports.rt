@@ -22,7 +22,8 @@ impl<'a> Transport<'a> {
         ensures refusal { result_err result ≡ transport_refusal packet.now.bytes.now }
         ensures ok { IsOk result ↔ IsTransport packet.now.bytes.now }
         ensures bytes { IfOk result (λ t. carried_bytes t ≡ payload_of packet.now.bytes.now) }
-        ensures protocol { IfOk result (λ t. carried_protocol t ≡ protocol_of packet.now.bytes.now) }
+        ensures protocol { IfOk result
+            (λ t. carried_protocol t ≡ protocol_of packet.now.bytes.now) }
     {
         match packet.transport() {
             Some(Protocol::Udp) => match UdpView::parse(packet.payload()) {

@@ -75,15 +75,18 @@ udp_checksum old new segment =
 -- that of a TCP segment, where 0 is a sum as any other
 abbrev pub tcp_checksum : Flow → Flow → List ℕ → ℕ
 tcp_checksum old new segment =
-    moved_sum (word_at 16 segment) (tcp_sum old segment) (tcp_sum new (segment_with_ports new segment))
+    let t = word_at 16 segment in
+    moved_sum t (tcp_sum old segment) (tcp_sum new (segment_with_ports new segment))
 
 -- a UDP segment with the ports of `new` and its checksum
 abbrev pub udp_with : Flow → Flow → List ℕ → List ℕ
-udp_with old new segment = with_word 6 (udp_checksum old new segment) (segment_with_ports new segment)
+udp_with old new segment =
+    with_word 6 (udp_checksum old new segment) (segment_with_ports new segment)
 
 -- a TCP segment with the ports of `new` and its checksum
 abbrev pub tcp_with : Flow → Flow → List ℕ → List ℕ
-tcp_with old new segment = with_word 16 (tcp_checksum old new segment) (segment_with_ports new segment)
+tcp_with old new segment =
+    with_word 16 (tcp_checksum old new segment) (segment_with_ports new segment)
 
 -- a segment of either protocol
 abbrev pub segment_with : Protocol → Flow → Flow → List ℕ → List ℕ

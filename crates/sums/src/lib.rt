@@ -1,4 +1,5 @@
-//! The checksum of the internet protocols (RFC 1071): sums of 16-bit words in one's complement, and updates of them.
+//! The checksum of the internet protocols (RFC 1071): sums of 16-bit words in one's complement, and
+//! updates of them.
 #![tactic(auto)]
 
 ghost use Rattle.std.specs.Prelude.{◌≡◌, ℕ, ◌+◌, ◌-◌, ◌*◌, ◌%◌, ◌<◌, ◌≤◌, ◌↔◌, IsTrue, List, ◌++◌, length, take, drop};
@@ -20,8 +21,8 @@ pub fn add(a: u16, b: u16) -> u16
     }
 }
 
-/// The one's complement sum of the big-endian 16-bit words, an odd last byte followed by a zero: 0 only
-/// where all bytes are 0. A checksum is its complement.
+/// The one's complement sum of the big-endian 16-bit words, an odd last byte followed by a zero: 0
+/// only where all bytes are 0. A checksum is its complement.
 pub fn sum(bytes: &[u8]) -> u16
     ensures { result ≡ ones_sum (word_sum bytes.now) }
 {
@@ -52,8 +53,8 @@ pub fn update(c: u16, old: u16, new: u16) -> u16
     ((u32::from(c) + u32::from(old) + 65535 - u32::from(new)) % 65535) as u16
 }
 
-/// A whole sum follows an update of one of its words: where the other words added up to `s` and now,
-/// one of them changed, to `s2`, field and words keep their sum.
+/// A whole sum follows an update of one of its words: where the other words added up to `s` and
+/// now, one of them changed, to `s2`, field and words keep their sum.
 pub fn update_law()
     ensures { (c old new s s2 u : ℕ) → s2 + old ≡ s + new → IsUpdate c old new u
         → (u + s2) % 65535 ≡ (c + s) % 65535 }
@@ -72,6 +73,3 @@ pub fn replace_law()
         + word_sum (take 2 (drop (2 * half) bytes))
         ≡ word_sum bytes + value }
 {}
-
-#[cfg(test)]
-mod tests;

@@ -4,6 +4,8 @@ use Rattle.byteorder.specs.Endian.{big_number, big_bytes}
 use Rattle.sums.specs.Sum.{IsRight, checksum_of}
 use Rattle.ipv4.specs.Order.{first_fault}
 use Rattle.ipv4.specs.Header.{word_at, header_of, payload_of, has_wrong_sum}
+use Rattle.vrrp_packet.specs.declared.TheConstants.{PROTOCOL, VERSION, ADVERTISEMENT, INTERVALS}
+use Rattle.vrrp_packet.specs.declared.field.TheConstants.{HEADER}
 use Rattle.vrrp_packet.specs.declared.Advert.{Advert}
 use Rattle.vrrp_packet.specs.declared.AdvertFault.{AdvertFault}
 use Rattle.vrrp_packet.specs.declared.AdvertFault.TheVariants.{BadTtl, BadVersion, BadType, TooShort, NoAddress, BadSum, ZeroInterval}
@@ -25,17 +27,17 @@ message_of payload = record {
   router = slice_index payload 1;
   priority = slice_index payload 2;
   count = slice_index payload 3;
-  interval = word_at 4 payload % 0x1000;
+  interval = word_at 4 payload % INTERVALS;
 }
 
 -- the bytes of a message with its addresses
 abbrev pub size_of : Message → ℕ
-size_of message = 8 + 4 * message.count
+size_of message = HEADER + 4 * message.count
 
 -- what the checksum may count before the message (RFC 9568, section 5.2.8)
 abbrev pub pseudo_header : (source destination size : ℕ) → List ℕ
 pseudo_header source destination size =
-    big_bytes 4 source ++ big_bytes 4 destination ++ (0 ∷ 112 ∷ []) ++ big_bytes 2 size
+    big_bytes 4 source ++ big_bytes 4 destination ++ (0 ∷ PROTOCOL ∷ []) ++ big_bytes 2 size
 
 -- what a checksum counts: the message with its addresses
 abbrev pub summed : List ℕ → List ℕ
@@ -50,9 +52,9 @@ summed_with_pseudo packet =
 -- an IPv4 packet carries an advertisement
 pub record IsAdvert (packet : List ℕ) : Type 0 where
   pub one_hop : (header_of packet).ttl ≡ 255
-  pub long : 8 ≤ length (payload_of packet)
-  pub version : (message_of (payload_of packet)).version ≡ 3
-  pub kind : (message_of (payload_of packet)).kind ≡ 1
+  pub long : HEADER ≤ length (payload_of packet)
+  pub version : (message_of (payload_of packet)).version ≡ VERSION
+  pub kind : (message_of (payload_of packet)).kind ≡ ADVERTISEMENT
   pub some_address : 0 < (message_of (payload_of packet)).count
   pub there : size_of (message_of (payload_of packet)) ≤ length (payload_of packet)
   pub sum : IsRight (summed packet) ⊎ IsRight (summed_with_pseudo packet)
@@ -65,9 +67,9 @@ advert_refusal packet =
     let message = message_of payload in
     first_fault (
     (not ((header_of packet).ttl == 255), BadTtl)
-    ∷ (nat_lt (length payload) 8, TooShort)
-    ∷ (not (message.version == 3), BadVersion)
-    ∷ (not (message.kind == 1), BadType)
+    ∷ (nat_lt (length payload) HEADER, TooShort)
+    ∷ (not (message.version == VERSION), BadVersion)
+    ∷ (not (message.kind == ADVERTISEMENT), BadType)
     ∷ (message.count == 0, NoAddress)
     ∷ (nat_lt (length payload) (size_of message), TooShort)
     ∷ (has_wrong_sum (summed packet) && has_wrong_sum (summed_with_pseudo packet), BadSum)

@@ -1,4 +1,21 @@
 //! VRRP advertisements (RFC 9568, section 5.2), read from IPv4 packets and written.
+//!
+//! ```text
+//!  0                  1        2          3       4
+//! +------------------+--------+----------+-------+
+//! | version and type | router | priority | count |
+//! +------------------+---+----+----------+-------+-----+
+//! | reserved, interval   | checksum      | addresses   |
+//! +----------------------+---------------+-------------+
+//!  4                      6               8             8 + 4 x count
+//! ```
+//!
+//! Router 10 of priority 100 advertises 192.0.2.1 each second:
+//!
+//! ```text
+//! 31     0a 64  01          0064   a88e     c0000201
+//! 3, 1   10 100 one address 100 cs checksum 192.0.2.1
+//! ```
 #![tactic(auto)]
 
 ghost use Rattle.std.specs.Prelude.{◌≡◌, ◌<◌, ◌^◌, ◌↔◌, ◌++◌, ◌&&◌, length, IsOk, IfOk, None, List, ℕ};
@@ -8,8 +25,8 @@ ghost use Rattle.ipv4.specs.Header.{header_of, payload_of, has_wrong_sum};
 ghost use Rattle.vrrp_packet.specs.declared.Advert.{Advert as Sent};
 ghost use Rattle.vrrp_packet.specs.Message.{pseudo_header as pseudo_bytes, IsAdvert, advert_refusal, advert_of, advert_bytes, IsWritable};
 
+use addresses::Ip;
 use byteorder::{BigEndian, ByteOrder};
-use frames::Ip;
 use ipv4::Ipv4View;
 use sums::{add, is_right, sum};
 use thiserror::Error;
@@ -81,8 +98,9 @@ pub enum AdvertFault {
     ZeroInterval,
 }
 
-/// The advertisement that a packet carries. Reserved bits and bytes behind the addresses are ignored; the
-/// checksum may count the message alone, or with the pseudo-header (RFC 9568, section 5.2.8).
+/// The advertisement that a packet carries. Reserved bits and bytes behind the addresses are
+/// ignored; the checksum may count the message alone, or with the pseudo-header (RFC 9568, section
+/// 5.2.8).
 pub fn parse(packet: &Ipv4View<'_>) -> Result<Advert, AdvertFault>
     ensures refusal { result_err result ≡ advert_refusal packet.now.bytes.now }
     ensures ok { IsOk result ↔ IsAdvert packet.now.bytes.now }
@@ -177,6 +195,3 @@ pub fn written_is_read()
         → (header_of packet).ttl ≡ 255 → payload_of packet ≡ advert_bytes advert
         → IsAdvert packet × (advert_of (payload_of packet) ≡ advert) }
 {}
-
-#[cfg(test)]
-mod tests;

@@ -1,0 +1,10 @@
+use Rattle.std.proofs.Common.{◌≡◌, take}
+use Rattle.arp.specs.Macs.{AllSix}
+use Rattle.arp.proofs.caches.whole_neighbours.Given as goal
+
+-- those so far, each whole
+abbrev pub invariant-loop-neighbour : goal.invariant-loop-neighbour
+invariant-loop-neighbour l = record {
+  same : l.whole.items ≡ take l.neighbour-index l.neighbours;
+  six : AllSix (λ n. n.mac) l.whole.items;
+}
