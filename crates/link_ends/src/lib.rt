@@ -9,7 +9,4 @@ mod spelled;
 
 pub use commands::{Act, Boot, Command};
 pub use ends::Ends;
-pub use logs::Passage;
-
-#[cfg(test)]
-mod tests;
+pub use logs::{Closing, Passage};
