@@ -41,7 +41,8 @@ ghost use Rattle.std.specs.Prelude.{◌≡◌, ◌+◌, ◌≤◌, true, length,
 ghost use Rattle.byteorder.specs.Endian.{big_number};
 ghost use Rattle.link.specs.Grammar.{header_bytes, gateway_number, status_number};
 ghost use Rattle.link.specs.Reading.{Gives, header_at, header};
-ghost use Rattle.link.specs.Reading.{gateway_numbered as gateway_of, is_ours as is_datagram_of_ours};
+ghost use Rattle.link.specs.Reading.{gateway_numbered as gateway_of};
+ghost use Rattle.link.specs.Reading.{is_ours as is_datagram_of_ours};
 ghost use Rattle.link.specs.Reading.{is_sender as names_sender, is_in_range as fields_are_in_range};
 
 use crate::writing::{Bytes, put};

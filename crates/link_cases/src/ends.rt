@@ -47,9 +47,9 @@ fn shown(alloc: Global, list: &[Record]) -> Result<String> {
         first: 1,
         records,
     };
-    let mut text = spelled(alloc, &datagram)?;
-    text.drain(..74);
-    Ok(text)
+    let text = spelled(alloc, &datagram)?;
+    let tail = text.get(74..).unwrap_or("");
+    Ok(format!(in alloc; "{tail}")?)
 }
 
 /// One act, and the datagram that it sent.
@@ -95,7 +95,12 @@ fn step(ends: &mut Ends, given: &mut Given) -> Result<String> {
         "feed" => act(ends, alloc, at, Act::Feed(given.count()?)),
         "tick" => act(ends, alloc, at, Act::Tick(given.number()?, true)),
         "answer" => act(ends, alloc, at, Act::Answer(true)),
-        "deliver" => act(ends, alloc, at, Act::Deliver(given.count()?, given.number()?)),
+        "deliver" => act(
+            ends,
+            alloc,
+            at,
+            Act::Deliver(given.count()?, given.number()?),
+        ),
         "close" => act(ends, alloc, at, Act::Close(given.number()?)),
         "restart" => act(
             ends,

@@ -1,6 +1,7 @@
 //! What happens at one end.
 
-ghost use Rattle.std.specs.Prelude.{◌≡◌, ◌<◌, ◌∷◌, [], OnOk, OnErr, IfOk, option_map, slice_get, reverse};
+ghost use Rattle.std.specs.Prelude.{◌≡◌, ◌<◌, ◌∷◌, [], OnOk, OnErr, IfOk, option_map, slice_get};
+ghost use Rattle.std.specs.Prelude.{reverse};
 ghost use Rattle.std.specs.List.{AllByRecursion};
 ghost use Rattle.link.specs.Grammar.{IsWellFormed, spelling};
 ghost use Rattle.link.specs.Link.{fresh};
@@ -16,7 +17,8 @@ use link::{Datagram, Link, one_spelling, write};
 use nat_types::{GatewayId, Record};
 use std::alloc::{AllocError, Global};
 
-/// One end, the number of its boot, and of the batch that it last promised how many records are handed in.
+/// One end, the number of its boot, and of the batch that it last promised how many records are
+/// handed in.
 #[derive(Drop)]
 pub(crate) struct Seat {
     pub boot: u64,
@@ -84,7 +86,8 @@ fn promise(
 ) -> Result<(), AllocError>
     requires seat { IsSeat seat.old }
     requires sent { IsWhole log.old }
-    ensures ok { OnOk result (Moves at (promises_at at batch.now) seat.old log.old seat.new log.new) }
+    ensures ok { OnOk result (Moves at
+        (promises_at at batch.now) seat.old log.old seat.new log.new) }
     ensures err { OnErr result (Moves at [] seat.old log.old seat.new log.new) }
 {
     if !all_spelled(batch)
@@ -105,7 +108,8 @@ fn promise(
 
 fn feed(seat: &mut Seat, at: GatewayId, count: usize)
     requires { IsSeat seat.old }
-    ensures { (log : Logged) → IsWhole log → Moves at (Feed at count ∷ []) seat.old log seat.new log }
+    ensures { (log : Logged) → IsWhole log
+        → Moves at (Feed at count ∷ []) seat.old log seat.new log }
 {
     let left = seat.batch.len() - seat.handed;
     let count = count.min(seat.link.wanted()).min(left);
@@ -123,7 +127,8 @@ fn tick(
 ) -> Result<(), AllocError>
     requires seat { IsSeat seat.old }
     requires sent { IsWhole log.old }
-    ensures ok { OnOk result (Moves at (Tick at now synced ∷ []) seat.old log.old seat.new log.new) }
+    ensures ok { OnOk result (Moves at
+        (Tick at now synced ∷ []) seat.old log.old seat.new log.new) }
     ensures err { OnErr result (Moves at [] seat.old log.old seat.new log.new) }
 {
     if seat.link.wanted() != 0 {
@@ -185,7 +190,8 @@ fn deliver(
 ) -> Result<(), AllocError>
     requires seat { IsSeat seat.old }
     requires sent { IsWhole log.old }
-    ensures ok { OnOk result (Moves at (Deliver at which now ∷ []) seat.old log.old seat.new log.new) }
+    ensures ok { OnOk result (Moves at
+        (Deliver at which now ∷ []) seat.old log.old seat.new log.new) }
     ensures err { OnErr result (Moves at [] seat.old log.old seat.new log.new) }
 {
     one_spelling();

@@ -13,7 +13,8 @@ use nat_types::{GatewayId, Record};
 use std::alloc::{AllocError, Global};
 use std::marker::Model;
 
-/// Two ends of the link, every datagram that either ever sent, and what each pushed and took in each of its sessions.
+/// Two ends of the link, every datagram that either ever sent, and what each pushed and took in
+/// each of its sessions.
 #[derive(Drop)]
 pub struct Ends {
     alloc: Global,
@@ -37,7 +38,8 @@ impl Ends {
     pub fn new(alloc: Global, zero: Boot, one: Boot) -> Result<Ends, AllocError>
         requires zero { 0 < zero.number }
         requires one { 0 < one.number }
-        ensures { IfOk result (λ ends. world_of ends ≡ start (placed ids.Zero zero.number one.number)
+        ensures { IfOk result (λ ends. world_of ends ≡ start
+            (placed ids.Zero zero.number one.number)
             (placed ids.Zero zero.capacity one.capacity)) }
     {
         Ok(Ends {
@@ -53,9 +55,11 @@ impl Ends {
         })
     }
 
-    /// What the command does, as the link's schedules have it. An `Err` is want of memory, and nothing happened.
+    /// What the command does, as the link's schedules have it. An `Err` is want of memory, and
+    /// nothing happened.
     pub fn apply(&mut self, command: &Command<'_>) -> Result<(), AllocError>
-        ensures ok { OnOk result (world_of self.new ≡ run_of (events_of command.now) (world_of self.old)) }
+        ensures ok { OnOk result (world_of self.new ≡ run_of (events_of command.now)
+            (world_of self.old)) }
         ensures err { OnErr result (world_of self.new ≡ world_of self.old) }
     {
         match command.at {
@@ -76,11 +80,14 @@ impl Ends {
         }
     }
 
-    /// Takes the commands in order. An `Err` is want of memory at one of them: those before it were taken, it and the rest weren't.
+    /// Takes the commands in order. An `Err` is want of memory at one of them: those before it were
+    /// taken, it and the rest weren't.
     pub fn run(&mut self, commands: &[Command<'_>]) -> Result<(), AllocError>
-        // Whatever was lost, repeated or reordered: the records taken in a session are a beginning of those pushed in it.
+        // Whatever was lost, repeated or reordered: the records taken in a session are a beginning
+        // of those pushed in it.
         ensures prefixes { HasPrefixes (world_of self.new) }
-        ensures ok { OnOk result (world_of self.new ≡ run_of (schedule commands.now) (world_of self.old)) }
+        ensures ok { OnOk result (world_of self.new ≡ run_of (schedule commands.now)
+            (world_of self.old)) }
         ensures err { OnErr result (IsBegun (world_of self.old) commands.now (world_of self.new)) }
     {
         for command in commands {
@@ -93,8 +100,8 @@ impl Ends {
         Ok(())
     }
 
-    /// Reminds the prover of what each pair of ends keeps: the records taken in a session are a beginning of those pushed
-    /// in it. It does nothing when it runs.
+    /// Reminds the prover of what each pair of ends keeps: the records taken in a session are a
+    /// beginning of those pushed in it. It does nothing when it runs.
     pub fn recall(&self)
         ensures prefixes { HasPrefixes (world_of self.now) }
     {

@@ -1,4 +1,5 @@
-//! Two ends of the link in memory, and each datagram that either ever sent: for tests, and for the law of the link.
+//! Two ends of the link in memory, and each datagram that either ever sent: for tests, and for the
+//! law of the link.
 #![tactic(auto)]
 
 mod acts;

@@ -1,5 +1,6 @@
 //! What is logged of two ends of the link.
-ghost use Rattle.std.specs.Prelude.{◌≡◌, ◌+◌, ◌<◌, ◌≤◌, ◌++◌, IfOk, length, map, vec_len, vec_capacity};
+ghost use Rattle.std.specs.Prelude.{◌≡◌, ◌+◌, ◌<◌, ◌≤◌, ◌++◌, IfOk, length, map, vec_len};
+ghost use Rattle.std.specs.Prelude.{vec_capacity};
 ghost use Rattle.link_ends.specs.Logs.{passage, histories, is_of as is_of_session};
 
 use link::Datagram;
@@ -16,7 +17,8 @@ pub struct Passage {
     pub entry: Record,
 }
 
-/// An operator's word: at which end, in which of its boots, and the last of the other's boots that are over.
+/// An operator's word: at which end, in which of its boots, and the last of the other's boots that
+/// are over.
 #[derive(Clone, Copy, Debug, PartialEq, Eq)]
 pub struct Closing {
     pub by: GatewayId,

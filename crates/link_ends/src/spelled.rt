@@ -2,9 +2,11 @@
 ghost use Rattle.std.specs.Prelude.{◌≡◌, ◌<◌, ◌^◌, IsTrue};
 ghost use Rattle.std.specs.List.{AllByRecursion};
 ghost use Rattle.nat_types.specs.Granted.{IsPort};
-ghost use Rattle.link.specs.Grammar.{IsWellFormedKey, IsWellFormedPair, IsWellFormedRun, IsWellFormedRecord};
+ghost use Rattle.link.specs.Grammar.{IsWellFormedKey, IsWellFormedPair, IsWellFormedRun};
+ghost use Rattle.link.specs.Grammar.{IsWellFormedRecord};
 ghost use Rattle.link_ends.specs.Schedules.{has_port, is_spelled_pair, is_spelled_run};
-ghost use Rattle.link_ends.specs.Schedules.{is_spelled as is_spelled_record, all_spelled as are_spelled};
+ghost use Rattle.link_ends.specs.Schedules.{is_spelled as is_spelled_record};
+ghost use Rattle.link_ends.specs.Schedules.{all_spelled as are_spelled};
 
 use addresses::{Ip, Port};
 use nat_types::{Key, Pair, Record};

@@ -9,7 +9,8 @@ use std::marker::Model;
 /// The most ports that one record grants.
 const MOST: usize = 16;
 
-/// Ports that one gateway grants the other: at most 16, and none is port 0. They lie in the value itself.
+/// Ports that one gateway grants the other: at most 16, and none is port 0. They lie in the value
+/// itself.
 #[derive(Clone, Copy, Debug, PartialEq, Eq, PartialOrd, Ord)]
 pub struct Granted {
     places: [Port; MOST],
