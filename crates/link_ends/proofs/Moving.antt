@@ -1,5 +1,5 @@
 -- What a call at one end of the link, with what is logged of it, is in the link's schedules.
-use Rattle.std.proofs.Common.{◌≡◌, ℕ, zero, suc, ◌+◌, ◌-◌, ◌<◌, ◌≤◌, min, Bool, true, false, cond, ◌==◌, nat_le, List, [], ◌∷◌, ◌++◌, length, map, take, drop, reverse, slice_get, Option, Some, None, Ok, Err, refl, sym, ap, subst, ◌∙◌, arith}
+use Rattle.std.proofs.Common.{◌≡◌, ℕ, zero, suc, ◌+◌, ◌<◌, ◌≤◌, min, Bool, true, false, cond, ◌==◌, nat_le, List, [], ◌∷◌, ◌++◌, length, map, take, drop, reverse, slice_get, Option, Some, None, Ok, Err, refl, sym, ap, subst, ◌∙◌, arith}
 use Rattle.std.specs.List.{AllByRecursion}
 use Rattle.std.proofs.lemmas.Bool.{ne_eqb, eq-eqb, le-leb}
 use Rattle.std.proofs.lemmas.List.{drop-drop}
@@ -9,14 +9,14 @@ use Rattle.link.specs.declared.datagrams.Datagram.{Datagram}
 use Rattle.link.specs.declared.datagrams.Taken.{Taken}
 use Rattle.link.specs.declared.faults.LinkFault.{LinkFault}
 use Rattle.link.specs.Grammar.{IsWellFormedRecord, IsWellFormed}
-use Rattle.link.specs.Link.{Link, fresh, free_places, occupied, wanted, with_pushed, with_promised, with_fed, datagram_of, is_due_on_tick, sent_on_tick, sent_on_answer, is_restart, refusal, met, restarted, closed_at, acknowledged_to, taken_of, answered, records_taken, after_take}
-use Rattle.link.specs.Sessions.{World, Push, Promise, Feed, Tick, Answer, Deliver, Close, Restart, with_more, with_end, with_coming, with_least, sends, takes, unless_refused, delivers, happens}
+use Rattle.link.specs.Link.{Link, free_places, occupied, wanted, with_pushed, with_promised, with_fed, datagram_of, is_due_on_tick, sent_on_tick, sent_on_answer, is_restart, refusal, met, restarted, closed_at, acknowledged_to, taken_of, answered, records_taken, after_take}
+use Rattle.link.specs.Sessions.{World, Push, Promise, Feed, Tick, Answer, Deliver, Close, sends, takes, unless_refused, delivers, happens}
 use Rattle.link_ends.specs.declared.logs.Log.{Log}
 use Rattle.link_ends.specs.declared.logs.Passage.{Passage}
 use Rattle.link_ends.specs.declared.logs.Closing.{Closing}
 use Rattle.link_ends.specs.declared.acts.Seat.{Seat}
-use Rattle.link_ends.specs.Logs.{passage, histories, closing, openings}
-use Rattle.link_ends.specs.Worlds.{placed, world, coming_of, IsSeat, IsWhole, Moves}
+use Rattle.link_ends.specs.Logs.{passage, closing}
+use Rattle.link_ends.specs.Worlds.{world, coming_of, IsSeat, IsWhole, Moves}
 use Rattle.link_ends.specs.Schedules.{is_spelled, all_spelled}
 use Rattle.link_ends.proofs.Formed.{all_append}
 use Rattle.link_ends.proofs.Worlds.{placed-self, placed-with, more_logged, more_closed, newest_first}

@@ -1,4 +1,4 @@
-use Rattle.std.proofs.Common.{◌+◌, ◌∷◌, [], List, length, ap, arith}
+use Rattle.std.proofs.Common.{◌∷◌, [], List, length, ap, arith}
 use Rattle.std.proofs.lemmas.List.{length-append}
 use Rattle.addresses.specs.declared.transport.Port.{Port}
 use Rattle.link.proofs.Loop.{goes_on, ends, is_done}

@@ -1,7 +1,7 @@
 use Rattle.std.proofs.Common.{◌≡◌, ℕ, ◌+◌, ◌-◌, min, List, length, take, drop, refl, ap, ◌∙◌, arith}
 use Rattle.std.proofs.lemmas.List.{length-drop}
 use Rattle.nat_types.specs.declared.records.Record.{Record}
-use Rattle.link.specs.Link.{wanted, with_fed}
+use Rattle.link.specs.Link.{with_fed}
 use Rattle.link_ends.proofs.Moving.{feed_moves}
 use Rattle.link_ends.proofs.acts.feed.Goals as goal
 

@@ -1,4 +1,4 @@
-use Rattle.std.proofs.Common.{◌≡◌, ◌+◌, ◌&&◌, Bool, drop, sym, ap, ◌∙◌, arith}
+use Rattle.std.proofs.Common.{◌+◌, ◌&&◌, Bool, drop, sym, ap, ◌∙◌, arith}
 use Rattle.link_ends.specs.Schedules.{all_spelled}
 use Rattle.link_ends.proofs.Formed.{spelled_at, formed_more}
 use Rattle.link_ends.proofs.spelled.all_spelled.Goals as goal

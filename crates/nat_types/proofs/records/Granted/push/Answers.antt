@@ -1,7 +1,6 @@
-use Rattle.std.proofs.Common.{◌≡◌, ℕ, ◌+◌, ◌-◌, ◌<◌, ◌≤◌, ◌++◌, take, replicate, length, List, ap, sym, subst, arith, ◌∙◌}
+use Rattle.std.proofs.Common.{◌≡◌, ℕ, ◌+◌, ◌-◌, ◌<◌, ◌≤◌, ◌++◌, take, replicate, length, ap, sym, subst, arith, ◌∙◌}
 use Rattle.std.proofs.lemmas.List.{length-take-le, length-set, take_more_set}
 use Rattle.std.specs.Prelude.{slice_set}
-use Rattle.addresses.specs.declared.transport.Port.{Port}
 use Rattle.nat_types.specs.Granted.{Granted, IsPort, ArePorts, no_port}
 use Rattle.nat_types.proofs.Places.{filled_more, ports_more}
 use Rattle.nat_types.proofs.records.Granted.push.Goals as goal
