@@ -1,25 +1,27 @@
 -- Two ends with their logs, as a world of the link's schedules.
-use Rattle.std.proofs.Common.{◌≡◌, ℕ, ◌+◌, ◌<◌, length, take, get_or, Bool, true, false, cond, List, [], ◌∷◌, ◌++◌, map, reverse, refl, sym, ap, subst, ◌∙◌}
+use Rattle.std.proofs.Common.{◌≡◌, ℕ, ◌+◌, ◌<◌, length, take, get_or, Bool, true, false, cond, List, [], ◌∷◌, ◌++◌, map, reverse, refl, sym, ap, subst, ◌∙◌, arith}
 use Rattle.std.specs.List.{filter}
 use Rattle.std.proofs.lemmas.List.{take_more, reverse-append, map-append, append-nil}
 use Rattle.std.proofs.lemmas.List.Elements.{filter-append}
 use Rattle.std.proofs.lemmas.List.Concat.{flat_map-append}
 use mathlib.Core.Path.{fun_ext}
+use Rattle.nat_types.specs.Same.{same}
 use Rattle.nat_types.specs.declared.gateways.GatewayId.{GatewayId}
 use Rattle.nat_types.specs.declared.gateways.GatewayId.TheVariants.{Zero, One}
 use Rattle.nat_types.specs.declared.records.Record.{Record}
 use Rattle.link.specs.declared.datagrams.Datagram.{Datagram}
-use Rattle.link.specs.End.{End, fresh}
-use Rattle.link.specs.Sessions.{Event, World, Histories, is_session, with_more, with_end, happens, run, start, first_ends, nothing_yet, HasPrefixes}
+use Rattle.link.specs.Link.{Link, fresh}
+use Rattle.link.specs.Sessions.{Event, World, Histories, Openings, is_session, with_more, with_least, happens, run, start, first_ends, nothing_yet, nothing_promised, none_closed, HasPrefixes}
 use Rattle.link_ends.specs.declared.logs.Passage.{Passage}
+use Rattle.link_ends.specs.declared.logs.Closing.{Closing}
 use Rattle.link_ends.specs.declared.commands.Command.{Command}
 use Rattle.link_ends.specs.Schedules.{schedule, events_of}
-use Rattle.link_ends.specs.Logs.{passage, is_of, histories}
+use Rattle.link_ends.specs.Logs.{passage, is_of, histories, closing, openings}
 use Rattle.std.specs.Prelude.{OnOk, OnErr, Result, Ok, Err}
 use Rattle.link_ends.specs.declared.logs.Log.{Log}
 use Rattle.link_ends.specs.declared.acts.Seat.{Seat}
 use Rattle.link_ends.specs.declared.ends.Ends.TheInside.{Inside}
-use Rattle.link_ends.specs.Worlds.{placed, world, world_of, seen, Moves, IsReached, IsSound}
+use Rattle.link_ends.specs.Worlds.{placed, world, world_of, coming_of, shown, Moves, IsReached, IsSound}
 
 -- ---- ends
 
@@ -27,21 +29,24 @@ pub placed-self : {A : Type 0} (i : GatewayId) (mine theirs : A) → placed i mi
 placed-self Zero mine theirs = refl
 placed-self One mine theirs = refl
 
-placed-with_at : (i : GatewayId) (mine theirs e : End) (j : GatewayId) → with_end (placed i mine theirs) i e j ≡ placed i e theirs j
+placed-with_at : {A : Type 0} (i : GatewayId) (mine theirs e : A) (j : GatewayId) → cond (same i j) e (placed i mine theirs j) ≡ placed i e theirs j
 placed-with_at Zero mine theirs e Zero = refl
 placed-with_at Zero mine theirs e One = refl
 placed-with_at One mine theirs e Zero = refl
 placed-with_at One mine theirs e One = refl
 
-pub placed-with : (i : GatewayId) (mine theirs e : End) → with_end (placed i mine theirs) i e ≡ placed i e theirs
+-- another one at its place
+pub placed-with : {A : Type 0} (i : GatewayId) (mine theirs e : A) → (λ (j : GatewayId). cond (same i j) e (placed i mine theirs j)) ≡ placed i e theirs
 placed-with i mine theirs e = fun_ext (placed-with_at i mine theirs e)
 
 swapped_at : {A : Type 0} (a b : A) (j : GatewayId) → placed One b a j ≡ placed Zero a b j
 swapped_at a b Zero = refl
 swapped_at a b One = refl
 
-pub swapped : (a b : End) (sent : List Datagram) (pushed taken : List Passage) → world One b a sent pushed taken ≡ world Zero a b sent pushed taken
-swapped a b sent pushed taken = ap (λ (ends : GatewayId → End). record { ends = ends; sent = reverse sent; pushed = histories pushed; taken = histories taken }) (fun_ext (swapped_at a b))
+pub swapped : (a b : Link) (c d : List Record) (sent : List Datagram) (pushed taken : List Passage) (closed : List Closing) → world One b a d c sent pushed taken closed ≡ world Zero a b c d sent pushed taken closed
+swapped a b c d sent pushed taken closed =
+    ap (λ (ends : GatewayId → Link). record { ends = ends; sent = reverse sent; pushed = histories pushed; taken = histories taken; coming = placed One d c; least = openings (reverse closed) }) (fun_ext (swapped_at a b))
+    ∙ ap (λ (coming : GatewayId → List Record). record { ends = placed Zero a b; sent = reverse sent; pushed = histories pushed; taken = histories taken; coming = coming; least = openings (reverse closed) }) (fun_ext (swapped_at c d))
 
 -- ---- logs
 
@@ -71,6 +76,14 @@ more_logged log i boot peer rs = fun_ext (λ j. fun_ext (λ b. fun_ext (λ c. mo
 pub newest_first : (sent : List Datagram) (d : Datagram) → reverse (sent ++ d ∷ []) ≡ d ∷ reverse sent
 newest_first sent d = reverse-append sent (d ∷ [])
 
+closed_at_one : (closed : List Closing) (i : GatewayId) (boot n : ℕ) (j : GatewayId) (b : ℕ) → openings (closing i boot n ∷ closed) j b ≡ with_least (openings closed) i boot (n + 1) j b
+closed_at_one closed i boot n j b = refl
+
+pub more_closed : (closed : List Closing) (i : GatewayId) (boot n : ℕ) → openings (reverse (closed ++ closing i boot n ∷ [])) ≡ with_least (openings (reverse closed)) i boot (n + 1)
+more_closed closed i boot n =
+    ap (λ (cs : List Closing). openings cs) (reverse-append closed (closing i boot n ∷ []))
+    ∙ fun_ext (λ j. fun_ext (λ b. closed_at_one (reverse closed) i boot n j b))
+
 -- ---- where it begins, and what is reached
 
 first_at : (b0 b1 c0 c1 : ℕ) (j : GatewayId) → first_ends (placed Zero b0 b1) (placed Zero c0 c1) j ≡ placed Zero (fresh Zero b0 c0) (fresh One b1 c1) j
@@ -80,11 +93,21 @@ first_at b0 b1 c0 c1 One = refl
 none_logged : (j : GatewayId) (b c : ℕ) → nothing_yet j b c ≡ histories [] j b c
 none_logged j b c = refl
 
-pub starts : (b0 b1 c0 c1 : ℕ) → start (placed Zero b0 b1) (placed Zero c0 c1) ≡ world Zero (fresh Zero b0 c0) (fresh One b1 c1) [] [] []
+none_closed_at : (j : GatewayId) (b : ℕ) → none_closed j b ≡ openings [] j b
+none_closed_at j b = refl
+
+none_coming : (j : GatewayId) → nothing_promised j ≡ placed Zero [] [] j
+none_coming Zero = refl
+none_coming One = refl
+
+pub starts : (b0 b1 c0 c1 : ℕ) → start (placed Zero b0 b1) (placed Zero c0 c1) ≡ world Zero (fresh Zero b0 c0) (fresh One b1 c1) [] [] [] [] [] []
 starts b0 b1 c0 c1 =
     let none : nothing_yet ≡ histories [] = fun_ext (λ j. fun_ext (λ b. fun_ext (λ c. none_logged j b c))) in
-    ap (λ (ends : GatewayId → End). record { ends = ends; sent = []; pushed = nothing_yet; taken = nothing_yet }) (fun_ext (first_at b0 b1 c0 c1))
-    ∙ ap (λ (hs : Histories). record { ends = placed Zero (fresh Zero b0 c0) (fresh One b1 c1); sent = []; pushed = hs; taken = hs }) none
+    let open_all : none_closed ≡ openings [] = fun_ext (λ j. fun_ext (λ b. none_closed_at j b)) in
+    ap (λ (ends : GatewayId → Link). record { ends = ends; sent = []; pushed = nothing_yet; taken = nothing_yet; coming = nothing_promised; least = none_closed }) (fun_ext (first_at b0 b1 c0 c1))
+    ∙ ap (λ (hs : Histories). record { ends = placed Zero (fresh Zero b0 c0) (fresh One b1 c1); sent = []; pushed = hs; taken = hs; coming = nothing_promised; least = none_closed }) none
+    ∙ ap (λ (coming : GatewayId → List Record). record { ends = placed Zero (fresh Zero b0 c0) (fresh One b1 c1); sent = []; pushed = histories []; taken = histories []; coming = coming; least = none_closed }) (fun_ext none_coming)
+    ∙ ap (λ (least : Openings). record { ends = placed Zero (fresh Zero b0 c0) (fresh One b1 c1); sent = []; pushed = histories []; taken = histories []; coming = placed Zero [] []; least = least }) open_all
 
 pub run-append : (xs ys : List Event) (w : World) → run (xs ++ ys) w ≡ run ys (run xs w)
 run-append [] ys w = refl
@@ -111,17 +134,18 @@ one_more commands i d w v u more so_far now = rw (take_more commands i d more) (
 
 -- ---- two ends
 
-pub begins_sound : (e : Inside) (b0 b1 c0 c1 : ℕ) → e.zero.boot ≡ b0 → e.zero.link ≡ fresh Zero b0 c0 → e.one.boot ≡ b1 → e.one.link ≡ fresh One b1 c1
-    → e.log.sent.items ≡ [] → e.log.pushed.items ≡ [] → e.log.taken.items ≡ [] → IsSound e
-begins_sound e b0 b1 c0 c1 zero_boot zero_link one_boot one_link sent pushed taken = record {
-  zero = record { boot = rw (zero_boot, zero_link) refl; waiting = rw zero_link tt };
-  one = record { boot = rw (one_boot, one_link) refl; waiting = rw one_link tt };
+pub begins_sound : (e : Inside) (b0 b1 c0 c1 : ℕ) → e.zero.boot ≡ b0 → e.zero.link ≡ fresh Zero b0 c0 → e.zero.batch.items ≡ [] → e.zero.handed ≡ 0
+    → e.one.boot ≡ b1 → e.one.link ≡ fresh One b1 c1 → e.one.batch.items ≡ [] → e.one.handed ≡ 0
+    → e.log.sent.items ≡ [] → e.log.pushed.items ≡ [] → e.log.taken.items ≡ [] → e.log.closed.items ≡ [] → IsSound e
+begins_sound e b0 b1 c0 c1 zero_boot zero_link zero_batch zero_handed one_boot one_link one_batch one_handed sent pushed taken closed = record {
+  zero = record { boot = rw (zero_boot, zero_link) refl; batch = rw zero_batch tt; handed = omega (arith, zero_handed) };
+  one = record { boot = rw (one_boot, one_link) refl; batch = rw one_batch tt; handed = omega (arith, one_handed) };
   sent = rw sent tt;
   reached = record {
     boots = placed Zero b0 b1;
     capacities = placed Zero c0 c1;
     events = [];
-    is = rw (zero_link, one_link, sent, pushed, taken) (starts b0 b1 c0 c1);
+    is = rw (zero_link, one_link, zero_batch, one_batch, zero_handed, one_handed, sent, pushed, taken, closed) (starts b0 b1 c0 c1);
   };
 }
 
@@ -130,21 +154,21 @@ zero_sound e seat log events sound m = record {
   zero = m.seat;
   one = sound.one;
   sent = m.sent;
-  reached = reaches (world_of (seen e)) (world_of (seen (record e { zero = seat; log = log }))) events sound.reached (m.world e.one.link);
+  reached = reaches (world_of (shown e)) (world_of (shown (record e { zero = seat; log = log }))) events sound.reached (m.world e.one.link (coming_of e.one));
 }
 
-pub one_moves : (e : Inside) (seat : Seat) (log : Log) (events : List Event) → Moves One events e.one e.log seat log → world_of (seen (record e { one = seat; log = log })) ≡ run events (world_of (seen e))
+pub one_moves : (e : Inside) (seat : Seat) (log : Log) (events : List Event) → Moves One events e.one e.log seat log → world_of (shown (record e { one = seat; log = log })) ≡ run events (world_of (shown e))
 one_moves e seat log events m =
-    sym (swapped e.zero.link seat.link log.sent.items log.pushed.items log.taken.items)
-    ∙ m.world e.zero.link
-    ∙ ap (run events) (swapped e.zero.link e.one.link e.log.sent.items e.log.pushed.items e.log.taken.items)
+    sym (swapped e.zero.link seat.link (coming_of e.zero) (coming_of seat) log.sent.items log.pushed.items log.taken.items log.closed.items)
+    ∙ m.world e.zero.link (coming_of e.zero)
+    ∙ ap (run events) (swapped e.zero.link e.one.link (coming_of e.zero) (coming_of e.one) e.log.sent.items e.log.pushed.items e.log.taken.items e.log.closed.items)
 
 pub one_sound : (e : Inside) (seat : Seat) (log : Log) (events : List Event) → IsSound e → Moves One events e.one e.log seat log → IsSound (record e { one = seat; log = log })
 one_sound e seat log events sound m = record {
   zero = sound.zero;
   one = m.seat;
   sent = m.sent;
-  reached = reaches (world_of (seen e)) (world_of (seen (record e { one = seat; log = log }))) events sound.reached (one_moves e seat log events m);
+  reached = reaches (world_of (shown e)) (world_of (shown (record e { one = seat; log = log }))) events sound.reached (one_moves e seat log events m);
 }
 
 -- ---- what holds at Ok and at Err

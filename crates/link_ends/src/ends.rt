@@ -1,3 +1,4 @@
+//! The two ends, and what happens to them.
 ghost use Rattle.std.specs.Prelude.{◌≡◌, ◌<◌, IfOk, OnOk, OnErr};
 ghost use Rattle.nat_types.specs.declared.gateways.GatewayId.TheVariants as ids;
 ghost use Rattle.link.specs.Sessions.{HasPrefixes, run as run_of, start};
@@ -12,7 +13,8 @@ use nat_types::{GatewayId, Record};
 use std::alloc::{AllocError, Global};
 use std::marker::Model;
 
-/// Two ends of the link, every datagram that either ever sent, and what each pushed and took in each of its sessions.
+/// Two ends of the link, every datagram that either ever sent, and what each pushed and took in
+/// each of its sessions.
 #[derive(Drop)]
 pub struct Ends {
     alloc: Global,
@@ -22,11 +24,11 @@ pub struct Ends {
 }
 
 impl Model for Ends {
-    ghost use Rattle.link_ends.specs.Worlds.{Seen, seen, IsSound};
+    ghost use Rattle.link_ends.specs.Worlds.{Ends as Shown, shown, IsSound};
 
-    ghost Value = { Seen };
+    ghost Value = { Shown };
 
-    ghost view = { seen };
+    ghost view = { shown };
 
     ghost invariant = { IsSound };
 }
@@ -36,7 +38,9 @@ impl Ends {
     pub fn new(alloc: Global, zero: Boot, one: Boot) -> Result<Ends, AllocError>
         requires zero { 0 < zero.number }
         requires one { 0 < one.number }
-        ensures { IfOk result (λ ends. world_of ends ≡ start (placed ids.Zero zero.number one.number) (placed ids.Zero zero.capacity one.capacity)) }
+        ensures { IfOk result (λ ends. world_of ends ≡ start
+            (placed ids.Zero zero.number one.number)
+            (placed ids.Zero zero.capacity one.capacity)) }
     {
         Ok(Ends {
             alloc,
@@ -46,13 +50,16 @@ impl Ends {
                 sent: Vec::new(alloc),
                 pushed: Vec::new(alloc),
                 taken: Vec::new(alloc),
+                closed: Vec::new(alloc),
             },
         })
     }
 
-    /// What the command does, as the link's schedules have it. An `Err` is want of memory, and nothing happened.
-    pub fn apply(&mut self, command: &Command) -> Result<(), AllocError>
-        ensures ok { OnOk result (world_of self.new ≡ run_of (events_of command.now) (world_of self.old)) }
+    /// What the command does, as the link's schedules have it. An `Err` is want of memory, and
+    /// nothing happened.
+    pub fn apply(&mut self, command: &Command<'_>) -> Result<(), AllocError>
+        ensures ok { OnOk result (world_of self.new ≡ run_of (events_of command.now)
+            (world_of self.old)) }
         ensures err { OnErr result (world_of self.new ≡ world_of self.old) }
     {
         match command.at {
@@ -61,38 +68,42 @@ impl Ends {
                 &mut self.zero,
                 &mut self.log,
                 GatewayId::Zero,
-                command.act,
+                &command.act,
             ),
             GatewayId::One => do_act(
                 self.alloc,
                 &mut self.one,
                 &mut self.log,
                 GatewayId::One,
-                command.act,
+                &command.act,
             ),
         }
     }
 
-    /// Takes the commands in order. An `Err` is want of memory at one of them: those before it were taken, it and the rest weren't.
-    pub fn run(&mut self, commands: &[Command]) -> Result<(), AllocError>
-        // Whatever was lost, repeated or reordered: the records taken in a session are a beginning of those pushed in it.
+    /// Takes the commands in order. An `Err` is want of memory at one of them: those before it were
+    /// taken, it and the rest weren't.
+    pub fn run(&mut self, commands: &[Command<'_>]) -> Result<(), AllocError>
+        // Whatever was lost, repeated or reordered: the records taken in a session are a beginning
+        // of those pushed in it.
         ensures prefixes { HasPrefixes (world_of self.new) }
-        ensures ok { OnOk result (world_of self.new ≡ run_of (schedule commands.now) (world_of self.old)) }
+        ensures ok { OnOk result (world_of self.new ≡ run_of (schedule commands.now)
+            (world_of self.old)) }
         ensures err { OnErr result (IsBegun (world_of self.old) commands.now (world_of self.new)) }
     {
         for command in commands {
             if let Err(fault) = self.apply(command) {
-                self.promises();
+                self.recall();
                 return Err(fault);
             }
         }
-        self.promises();
+        self.recall();
         Ok(())
     }
 
-    /// What each pair of ends keeps: the records taken in a session are a beginning of those pushed in it.
-    pub fn promises(&self)
-        ensures { HasPrefixes (world_of self.now) }
+    /// Reminds the prover of what each pair of ends keeps: the records taken in a session are a
+    /// beginning of those pushed in it. It does nothing when it runs.
+    pub fn recall(&self)
+        ensures prefixes { HasPrefixes (world_of self.now) }
     {
         let _ = &self.log;
         prefix_law();

@@ -1,4 +1,5 @@
-//! Two ends of the link in memory, and each datagram that either ever sent: for tests, and for the law of the link.
+//! Two ends of the link in memory, and each datagram that either ever sent: for tests, and for the
+//! law of the link.
 #![tactic(auto)]
 
 mod acts;
@@ -9,7 +10,4 @@ mod spelled;
 
 pub use commands::{Act, Boot, Command};
 pub use ends::Ends;
-pub use logs::Passage;
-
-#[cfg(test)]
-mod tests;
+pub use logs::{Closing, Passage};

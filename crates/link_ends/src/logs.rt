@@ -1,13 +1,14 @@
-ghost use Rattle.std.specs.Prelude.{◌≡◌, ◌+◌, ◌<◌, ◌≤◌, ◌++◌, IfOk, length, map, vec_len, vec_capacity};
+//! What is logged of two ends of the link.
+ghost use Rattle.std.specs.Prelude.{◌≡◌, ◌+◌, ◌<◌, ◌≤◌, ◌++◌, IfOk, length, map, vec_len};
+ghost use Rattle.std.specs.Prelude.{vec_capacity};
 ghost use Rattle.link_ends.specs.Logs.{passage, histories, is_of as is_of_session};
 
 use link::Datagram;
 use nat_types::{GatewayId, Record};
-use reserved::put_reserved;
 use std::alloc::{AllocError, Global};
 
 /// A record that was pushed or taken: by which end, between which boots.
-#[derive(Clone, Copy, Debug, PartialEq, Eq)]
+#[derive(Clone, Copy)]
 pub struct Passage {
     pub by: GatewayId,
     pub boot: u64,
@@ -16,12 +17,22 @@ pub struct Passage {
     pub entry: Record,
 }
 
+/// An operator's word: at which end, in which of its boots, and the last of the other's boots that
+/// are over.
+#[derive(Clone, Copy, Debug, PartialEq, Eq)]
+pub struct Closing {
+    pub by: GatewayId,
+    pub boot: u64,
+    pub peer: u64,
+}
+
 /// All that passed, the oldest first.
 #[derive(Drop)]
 pub(crate) struct Log {
     pub sent: Vec<Datagram>,
     pub pushed: Vec<Passage>,
     pub taken: Vec<Passage>,
+    pub closed: Vec<Closing>,
 }
 
 /// Logs these records as passed in one session.
@@ -36,15 +47,12 @@ pub(crate) fn log_records(
     ensures { list.new.items ≡ list.old.items ++ map (passage by boot peer) records.now }
 {
     for entry in records {
-        put_reserved(
-            list,
-            Passage {
-                by,
-                boot,
-                peer,
-                entry: *entry,
-            },
-        );
+        list.push_reserved(Passage {
+            by,
+            boot,
+            peer,
+            entry: *entry,
+        });
     }
 }
 

@@ -9,4 +9,4 @@ mod records;
 pub use gateways::{GatewayId, Side};
 pub use notes::{Happening, Note};
 pub use pairs::{Endpoint, EntryState, Key, Pair};
-pub use records::Record;
+pub use records::{Granted, Record};

@@ -1,9 +1,10 @@
 -- The entries of a table and the records of the link, as the machine has them.
+use Rattle.std.specs.Prelude.{map}
 use Rattle.nat_types.specs.declared.pairs.Endpoint.{Endpoint}
 use Rattle.nat_types.specs.declared.pairs.EntryState.{EntryState}
 use Rattle.nat_types.specs.declared.pairs.EntryState.TheVariants.{Pending, Doomed, Live, Closing, Held}
 use Rattle.nat_types.specs.declared.records.Record.{Record}
-use Rattle.nat_types.specs.declared.records.Record.TheVariants.{Install, Accept, Refuse, Ask, Yes, No, Begin, Put, Done}
+use Rattle.nat_types.specs.declared.records.Record.TheVariants.{Install, Accept, Refuse, Ask, Yes, No, Begin, Put, Done, Want, Grant, Owner}
 use Rattle.pair_machine.specs.Talk as machine
 
 -- what the table has at the key of an entry
@@ -25,3 +26,6 @@ machine_record (No k) = machine.No k
 machine_record Begin = machine.Begin
 machine_record (Put p) = machine.Put p.key p.endpoint
 machine_record Done = machine.Done
+machine_record Want = machine.Want
+machine_record (Grant g) = machine.Grant (map (λ p. p.0) g.ports)
+machine_record (Owner first last) = machine.Owner first.0 last.0

@@ -1,0 +1,212 @@
+//! The 38 bytes before a datagram's records.
+//!
+//! ```text
+//!  0                   1                   2                   3
+//!  0 1 2 3 4 5 6 7 8 9 0 1 2 3 4 5 6 7 8 9 0 1 2 3 4 5 6 7 8 9 0 1
+//! +---------------+---------------+---------------+---------------+
+//! |   'N' (4e)    |   'P' (50)    |  version, 2   | sender, 0 / 1 |  0
+//! +---------------+---------------+---------------+---------------+
+//! |                   the sender's boot, from 1                   |  4
+//! |                           (8 bytes)                           |
+//! +---------------------------------------------------------------+
+//! |             the receiver's boot as it is known, or 0          |  12
+//! |                           (8 bytes)                           |
+//! +---------------+-----------------------------------------------+
+//! | synced, 0 / 1 |                                               |  20
+//! +---------------+                                               |
+//! |   how many of the receiver's records were taken (8 bytes)     |  21
+//! |               +-----------------------------------------------+
+//! |               |                                               |  29
+//! +---------------+                                               |
+//! |        the number of the first record, from 1 (8 bytes)       |
+//! |               +---------------+-------------------------------+
+//! |               | records, to 64|  the records, and nothing more   37
+//! +---------------+---------------+-------------------------------+
+//! ```
+//!
+//! Numbers are big-endian. Gateway 0 proposes a pair:
+//!
+//! ```text
+//! 4e50 02 00         a datagram of version 2, by gateway 0
+//! 0000000000000001   which is in its boot 1,
+//! 0000000000000001   and knows the receiver's boot 1;
+//! 01                 its table is synced,
+//! 0000000000000000   it took no record of the receiver,
+//! 0000000000000004   and its own records from number 4 on are not yet known to be taken:
+//! 01                 one,
+//! 01 11 4e20         Install, of UDP port 20000,
+//! c0a8010a 1388      for 192.168.1.10 port 5000.
+//! ```
+ghost use Rattle.std.specs.Prelude.{◌≡◌, ◌+◌, ◌≤◌, true, length, drop, IfOk, OnOk};
+ghost use Rattle.byteorder.specs.Endian.{big_number};
+ghost use Rattle.link.specs.Grammar.{header_bytes, gateway_number, status_number};
+ghost use Rattle.link.specs.Reading.{Gives, header_at, header};
+ghost use Rattle.link.specs.Reading.{gateway_numbered as gateway_of};
+ghost use Rattle.link.specs.Reading.{is_ours as is_datagram_of_ours};
+ghost use Rattle.link.specs.Reading.{is_sender as names_sender, is_in_range as fields_are_in_range};
+
+use crate::writing::{Bytes, put};
+use crate::{Datagram, LinkFault};
+use byteorder::{BigEndian, ByteOrder};
+use nat_types::GatewayId;
+use std::ops::Range;
+
+/// Where the fields lie.
+mod field {
+    use std::ops::Range;
+
+    pub const VERSION: usize = 2;
+
+    pub const SENDER: usize = 3;
+
+    pub const BOOT: Range<usize> = 4..12;
+
+    pub const RECEIVER_BOOT: Range<usize> = 12..20;
+
+    pub const SYNCED: usize = 20;
+
+    pub const DELIVERED: Range<usize> = 21..29;
+
+    pub const FIRST: Range<usize> = 29..37;
+
+    pub const COUNT: usize = 37;
+    /// The bytes of a header.
+    pub const HEADER: usize = 38;
+}
+
+/// The version of the link that is spoken here.
+const VERSION: u8 = 2;
+
+/// The number behind the last one that a record may have.
+const NUMBERS_END: u64 = 9_223_372_036_854_775_808;
+
+/// What stands before the records.
+#[derive(Clone, Copy)]
+pub(crate) struct Header {
+    pub sender: GatewayId,
+    pub boot: u64,
+    pub receiver_boot: u64,
+    pub synced: bool,
+    pub delivered: u64,
+    pub first: u64,
+    pub count: u8,
+}
+
+fn gateway_numbered(number: u8) -> GatewayId
+    ensures { result ≡ gateway_of number }
+{
+    if number == 0 {
+        GatewayId::Zero
+    } else {
+        GatewayId::One
+    }
+}
+
+fn is_ours(bytes: &[u8]) -> bool
+    ensures { result ≡ is_datagram_of_ours bytes.now }
+{
+    match bytes {
+        [first, second, ..] => *first == b'N' && *second == b'P',
+        _ => false,
+    }
+}
+
+fn is_sender(number: u8, boot: u64) -> bool
+    ensures { result ≡ names_sender number boot }
+{
+    number < 2 && boot > 0
+}
+
+fn is_in_range(status: u8, count: u8, first: u64) -> bool
+    ensures exact { result ≡ fields_are_in_range status count first }
+    ensures count { result ≡ true → count ≤ 64 }
+{
+    status < 2 && count <= 64 && first > 0 && first <= NUMBERS_END - u64::from(count)
+}
+
+fn number_in(bytes: &[u8], place: Range<usize>) -> u64
+    requires { place.start + 8 ≤ length bytes.now }
+    ensures { result ≡ big_number 8 (drop place.start bytes.now) }
+{
+    BigEndian::read_u64(&bytes[place.start..])
+}
+
+/// The fields of a header that is there.
+fn fields_of(bytes: &[u8]) -> Header
+    requires { 38 ≤ length bytes.now }
+    ensures { result ≡ header bytes.now }
+{
+    Header {
+        sender: gateway_numbered(bytes[field::SENDER]),
+        boot: number_in(bytes, field::BOOT),
+        receiver_boot: number_in(bytes, field::RECEIVER_BOOT),
+        synced: bytes[field::SYNCED] == 1,
+        delivered: number_in(bytes, field::DELIVERED),
+        first: number_in(bytes, field::FIRST),
+        count: bytes[field::COUNT],
+    }
+}
+
+/// The header of a datagram, or the first of its tests that fails.
+#[tactic(auto, unfolding(crate::specs::Reading::header_at))]
+pub(crate) fn header_of(bytes: &[u8]) -> Result<Header, LinkFault>
+    ensures exact { Gives (λ h. h) result (header_at bytes.now) }
+    ensures count { IfOk result (λ h. h.count ≤ 64) }
+    ensures long { OnOk result (38 ≤ length bytes.now) }
+{
+    if !is_ours(bytes) {
+        return Err(LinkFault::NotOurs);
+    }
+    if bytes.len() < field::HEADER {
+        return Err(LinkFault::TooShort);
+    }
+    if bytes[field::VERSION] != VERSION {
+        return Err(LinkFault::BadVersion);
+    }
+    let header = fields_of(bytes);
+    if !is_sender(bytes[field::SENDER], header.boot) {
+        return Err(LinkFault::NotOurs);
+    }
+    if !is_in_range(bytes[field::SYNCED], header.count, header.first) {
+        return Err(LinkFault::BadRecord);
+    }
+    Ok(header)
+}
+
+/// What stands behind the header.
+pub(crate) fn behind_header(bytes: &[u8]) -> &[u8]
+    requires { 38 ≤ length bytes.now }
+    ensures { result.now ≡ drop 38 bytes.now }
+{
+    &bytes[field::HEADER..]
+}
+
+fn number_of(sender: GatewayId) -> u8
+    ensures { result ≡ gateway_number sender }
+{
+    match sender {
+        GatewayId::Zero => 0,
+        GatewayId::One => 1,
+    }
+}
+
+fn status_of(synced: bool) -> u8
+    ensures { result ≡ status_number synced }
+{
+    if synced { 1 } else { 0 }
+}
+
+/// Writes the header.
+pub(crate) fn put_header(out: &mut Bytes, d: &Datagram)
+    requires { length out.old.items ≡ 0 }
+    ensures { out.new.items ≡ header_bytes d.now.sender d.now.boot d.now.receiver_boot d.now.synced
+        d.now.delivered d.now.first (length d.now.records.items) }
+{
+    put(out, &[b'N', b'P', VERSION, number_of(d.sender)]);
+    put(out, &d.boot.to_be_bytes());
+    put(out, &d.receiver_boot.to_be_bytes());
+    put(out, &[status_of(d.synced)]);
+    put(out, &d.delivered.to_be_bytes());
+    put(out, &d.first.to_be_bytes());
+    put(out, &[d.records.len() as u8]);
+}
