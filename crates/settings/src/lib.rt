@@ -11,6 +11,3 @@ pub use gateway_settings::GatewaySettings;
 pub use interfaces::{Interface, Neighbour};
 pub use ranges::{PortRange, PortRanges};
 pub use whole::Settings;
-
-#[cfg(test)]
-mod tests;
