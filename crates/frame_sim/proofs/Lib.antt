@@ -1,4 +1,4 @@
 pub mod Scenes
 pub mod Founding
 pub mod Keeping
-pub mod Steps
+pub mod Runs

@@ -1,4 +1,4 @@
-pub mod Seen
+pub mod World
 pub mod Scene
 pub mod Truly
 pub mod Runs

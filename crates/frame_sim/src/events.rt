@@ -1,5 +1,6 @@
+//! What can happen to the world, and what it gave.
 ghost use Rattle.std.specs.Prelude.{◌≡◌};
-ghost use Rattle.frame_sim.specs.Seen.{by_of};
+ghost use Rattle.frame_sim.specs.World.{by_of};
 
 use gateway::{NoMemory, Out, Outcome};
 use nat_types::{GatewayId, Side};

@@ -7,6 +7,3 @@ mod worlds;
 pub use events::{Step, WorldEvent, WorldFault};
 pub use trace_words::{AuditFault, audit};
 pub use worlds::World;
-
-#[cfg(test)]
-mod tests;

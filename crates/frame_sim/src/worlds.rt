@@ -1,20 +1,20 @@
-ghost use Rattle.std.specs.Prelude.{◌≡◌, ◌+◌, ◌<◌, ◌≤◌, ◌++◌, drop, length, vec_len, vec_capacity, is_some, Some, IfOk, IfErr, OnOk, OnErr};
+//! The world of a script: two gateways, what happens to them, and the trace of their notes.
+ghost use Rattle.std.specs.Prelude.{◌≡◌, ◌+◌, ◌≤◌, ◌++◌, drop, length, vec_len, vec_capacity, is_some, Some, IfOk, IfErr, OnOk, OnErr};
 ghost use Rattle.std.specs.List.Sorted.{IsPermutation, IsNonDecreasingBy};
-ghost use Rattle.nat_types.specs.declared.gateways.GatewayId.TheVariants as ids;
 ghost use Rattle.bindings.specs.Entries.{pairs_in, is_pair, translates, place_of};
+ghost use Rattle.settings.specs.Ranges.{of_gateway};
 ghost use Rattle.trace_words.specs.Trace.{Fits, Silent, Kept, GoesOn};
+ghost use Rattle.gateway.specs.Machine.{IsMachineStep};
 ghost use Rattle.frame_sim.specs.declared.events.WorldFault.TheVariants as faults;
-ghost use Rattle.frame_sim.specs.Seen.{Holds, Translates, after, by_of, entries_of, founded, outcome_at, outcome_of, seen_at, shown_at, synced_at, told_at, told_of};
+ghost use Rattle.frame_sim.specs.World.{Holds, Translates, ShowsSynced, by_of, effect_at, effect_in, effect_up, entries_of, founded, gateway_at, synced_at, world_after};
 ghost use Rattle.frame_sim.specs.Scene.{HasTable};
 ghost use Rattle.frame_sim.specs.Truly.{StepsAsMachine, TellsTruly};
-ghost use Rattle.gateway.specs.Machine.{IsMachineStep};
 ghost use Rattle.frame_sim.specs.Runs.{AreSteps, AreToldTruly, IsStepOf};
 
 use crate::{Step, WorldEvent, WorldFault};
 use gateway::{Event, Gateway, NoMemory, Out, Outcome};
 use nat_types::{GatewayId, Note, Pair};
-use pair_machine::{begins, one_steps, promises_in_order, steps_anywhere, zero_steps};
-use reserved::put_reserved;
+use pair_machine::laws::{a_step_keeps, begins, promises_in_order, steps_anywhere};
 use settings::{PortRanges, Settings};
 use std::alloc::Global;
 use std::marker::Model;
@@ -22,25 +22,41 @@ use std::marker::Model;
 /// The most notes that one step makes.
 const NOTES: usize = 2;
 
+/// The two gateways, each where it is up.
+#[derive(Drop)]
+struct Gateways {
+    zero: Option<Gateway>,
+    one: Option<Gateway>,
+}
+
 /// Two gateways on one inside and one outside network, and all that they noted.
 #[derive(Drop)]
 pub struct World {
     alloc: Global,
     ports: PortRanges,
-    zero: Option<Gateway>,
-    one: Option<Gateway>,
+    gateways: Gateways,
     trace: Vec<Note>,
 }
 
 impl Model for World {
-    ghost use Rattle.frame_sim.specs.Seen.{Seen};
+    ghost use Rattle.frame_sim.specs.World.{World as Shown};
     ghost use Rattle.frame_sim.specs.Scene.{IsSound};
 
-    ghost Value = { Seen };
+    ghost Value = { Shown };
 
-    ghost view = { λ w. record { ports = w.ports; zero = w.zero; one = w.one; trace = w.trace.items } };
+    ghost view = { λ w. record {
+      ports = w.ports;
+      zero = w.gateways.zero;
+      one = w.gateways.one;
+      trace = w.trace.items;
+    } };
 
-    ghost invariant = { λ w. IsSound (record { ports = w.ports; zero = w.zero; one = w.one; trace = w.trace.items }) };
+    ghost invariant = { λ w. IsSound (record {
+      ports = w.ports;
+      zero = w.gateways.zero;
+      one = w.gateways.one;
+      trace = w.trace.items;
+    }) };
 }
 
 fn append_reserved(list: &mut Vec<Note>, notes: &[Note])
@@ -61,14 +77,14 @@ fn notes_since(out: &Out, told: usize) -> &[Note]
     &out.notes()[told..]
 }
 
-/// A gateway's step.
+/// The step of a gateway that is up.
 fn step_up(gateway: &mut Gateway, event: &WorldEvent, out: &mut Out) -> Result<Outcome, NoMemory>
-    ensures outcome { IfOk result (λ o. o ≡ outcome_at (Some gateway.old) event.now) }
-    ensures shown { OnOk result (Some gateway.new ≡ shown_at (Some gateway.old) event.now) }
-    ensures told { OnOk result (out.new ≡ told_at (Some gateway.old) event.now out.old) }
+    ensures outcome { IfOk result (λ o. o ≡ (effect_up gateway.old event.now out.old).outcome) }
+    ensures gateway { OnOk result (gateway.new ≡ (effect_up gateway.old event.now out.old).gateway) }
+    ensures out { OnOk result (out.new ≡ (effect_up gateway.old event.now out.old).out) }
     ensures truly { OnOk result (TellsTruly (Some gateway.old) event.now out.old out.new) }
     ensures machine { OnOk result (IsMachineStep gateway.old gateway.new out.old out.new) }
-    ensures same { OnErr result (gateway.new ≡ gateway.old) }
+    ensures err { OnErr result (gateway.new ≡ gateway.old) }
     ensures untold { OnErr result (out.new ≡ out.old) }
 {
     match event {
@@ -86,12 +102,12 @@ fn step_of(
     event: &WorldEvent,
     out: &mut Out,
 ) -> Result<Outcome, NoMemory>
-    ensures outcome { IfOk result (λ o. o ≡ outcome_at gateway.old event.now) }
-    ensures shown { OnOk result (gateway.new ≡ shown_at gateway.old event.now) }
-    ensures told { OnOk result (out.new ≡ told_at gateway.old event.now out.old) }
+    ensures outcome { IfOk result (λ o. o ≡ (effect_at gateway.old event.now out.old).outcome) }
+    ensures gateway { OnOk result (gateway.new ≡ (effect_at gateway.old event.now out.old).gateway) }
+    ensures out { OnOk result (out.new ≡ (effect_at gateway.old event.now out.old).out) }
     ensures truly { OnOk result (TellsTruly gateway.old event.now out.old out.new) }
     ensures machine { OnOk result (StepsAsMachine gateway.old gateway.new out.old out.new) }
-    ensures same { OnErr result (gateway.new ≡ gateway.old) }
+    ensures err { OnErr result (gateway.new ≡ gateway.old) }
     ensures untold { OnErr result (out.new ≡ out.old) }
 {
     let Some(gateway) = gateway else {
@@ -100,11 +116,12 @@ fn step_of(
     step_up(gateway, event, out)
 }
 
-fn check_table(gateway: &Option<Gateway>)
+/// Reminds the prover of what a gateway keeps; it does nothing when it runs.
+fn recall_table(gateway: &Option<Gateway>)
     ensures { HasTable gateway.now }
 {
     if let Some(gateway) = gateway {
-        gateway.audit();
+        gateway.recall();
     }
 }
 
@@ -119,7 +136,8 @@ fn pairs_of(alloc: Global, gateway: &Option<Gateway>) -> Result<Vec<Pair>, NoMem
 }
 
 fn translating_of(alloc: Global, gateway: &Option<Gateway>) -> Result<Vec<Pair>, NoMemory>
-    ensures all { IfOk result (λ v. IsPermutation (pairs_in translates (entries_of gateway.now)) v.items) }
+    ensures all { IfOk result (λ v.
+        IsPermutation (pairs_in translates (entries_of gateway.now)) v.items) }
     ensures sorted { IfOk result (λ v. IsNonDecreasingBy place_of v.items) }
 {
     match gateway {
@@ -137,6 +155,47 @@ fn is_synced(gateway: &Option<Gateway>) -> bool
     }
 }
 
+impl Gateways {
+    fn of(&self, id: GatewayId) -> &Option<Gateway>
+        ensures { result.now ≡ of_gateway self.now.zero self.now.one id }
+    {
+        match id {
+            GatewayId::Zero => &self.zero,
+            GatewayId::One => &self.one,
+        }
+    }
+
+    /// The step of the gateway that the event happens to. The other one stays.
+    fn step(&mut self, event: &WorldEvent, out: &mut Out) -> Result<Outcome, NoMemory>
+        ensures outcome { IfOk result (λ o.
+            let g = of_gateway self.old.zero self.old.one (by_of event.now) in
+            o ≡ (effect_at g event.now out.old).outcome) }
+        ensures zero { OnOk result (
+            let new = (effect_at self.old.zero event.now out.old).gateway in
+            self.new.zero ≡ of_gateway new self.old.zero (by_of event.now)) }
+        ensures one { OnOk result (
+            let new = (effect_at self.old.one event.now out.old).gateway in
+            self.new.one ≡ of_gateway self.old.one new (by_of event.now)) }
+        ensures out { OnOk result (
+            let g = of_gateway self.old.zero self.old.one (by_of event.now) in
+            out.new ≡ (effect_at g event.now out.old).out) }
+        ensures truly { OnOk result (
+            let g = of_gateway self.old.zero self.old.one (by_of event.now) in
+            TellsTruly g event.now out.old out.new) }
+        ensures machine { OnOk result (
+            let old = of_gateway self.old.zero self.old.one (by_of event.now) in
+            let new = of_gateway self.new.zero self.new.one (by_of event.now) in
+            StepsAsMachine old new out.old out.new) }
+        ensures err { OnErr result (self.new ≡ self.old) }
+        ensures untold { OnErr result (out.new ≡ out.old) }
+    {
+        match event.gateway() {
+            GatewayId::Zero => step_of(&mut self.zero, event, out),
+            GatewayId::One => step_of(&mut self.one, event, out),
+        }
+    }
+}
+
 impl World {
     /// Gateway 0 founded with boot 1, and gateway 1 down.
     pub fn new(alloc: Global, settings: &Settings) -> Result<World, NoMemory>
@@ -147,26 +206,30 @@ impl World {
         Ok(World {
             alloc,
             ports: settings.ports,
-            zero: Some(zero),
-            one: None,
+            gateways: Gateways {
+                zero: Some(zero),
+                one: None,
+            },
             trace: Vec::new(alloc),
         })
     }
 
     /// Takes one event. What the gateway sends and notes is appended to `out`.
     pub fn apply(&mut self, event: &WorldEvent, out: &mut Out) -> Result<Outcome, WorldFault>
-        ensures outcome { IfOk result (λ o. o ≡ outcome_of self.old event.now) }
-        ensures world { OnOk result (self.new ≡ after self.old event.now) }
-        ensures told { OnOk result (out.new ≡ told_of self.old event.now out.old) }
-        ensures truly { OnOk result (TellsTruly (seen_at self.old (by_of event.now)) event.now out.old out.new) }
+        ensures outcome { IfOk result (λ o. o ≡ (effect_in self.old event.now out.old).outcome) }
+        ensures world { OnOk result (self.new ≡ world_after self.old event.now) }
+        ensures out { OnOk result (out.new ≡ (effect_in self.old event.now out.old).out) }
+        ensures truly { OnOk result (
+            TellsTruly (gateway_at self.old (by_of event.now)) event.now out.old out.new) }
+        ensures synced { ShowsSynced self.new }
         ensures refused { IfErr result (λ fault. fault ≡ faults.NoMemory) }
-        ensures same { OnErr result (self.new ≡ self.old) }
+        ensures err { OnErr result (self.new ≡ self.old) }
         ensures untold { OnErr result (out.new ≡ out.old) }
     {
-        match event.gateway() {
-            GatewayId::Zero => Ok(self.step_zero(event, out)?),
-            GatewayId::One => Ok(self.step_one(event, out)?),
-        }
+        self.recall();
+        let outcome = self.take(event, out)?;
+        self.recall();
+        Ok(outcome)
     }
 
     /// Takes the events in order, and gives a step for each. An `Err` applies none.
@@ -175,31 +238,33 @@ impl World {
         ensures kept { Kept (Holds self.new) self.new.trace }
         ensures silent { Silent self.new.trace }
         ensures goes_on { GoesOn (Translates self.new) self.new.trace }
+        ensures synced { ShowsSynced self.new }
 
-        ensures steps { IfOk result (λ steps. AreSteps self.old events.now steps.items self.new) }
-        ensures truly { IfOk result (λ steps. AreToldTruly self.old events.now steps.items) }
+        ensures steps { IfOk result (λ ss. AreSteps self.old events.now ss.items self.new) }
+        ensures truly { IfOk result (λ ss. AreToldTruly self.old events.now ss.items) }
         ensures err { OnErr result (self.new ≡ self.old) }
     {
-        self.promises();
+        self.recall();
         let mut steps = Vec::with_capacity(self.alloc, events.len())?;
         for event in events {
             let step = self.step(event);
-            put_reserved(&mut steps, step);
+            steps.push_reserved(step);
         }
-        self.promises();
+        self.recall();
         Ok(steps)
     }
 
-    /// What each world keeps.
-    pub fn promises(&self)
+    /// Reminds the prover of what each world keeps; it does nothing when it runs.
+    pub fn recall(&self)
         ensures fits { Fits self.now.trace }
         ensures kept { Kept (Holds self.now) self.now.trace }
         ensures silent { Silent self.now.trace }
         ensures goes_on { GoesOn (Translates self.now) self.now.trace }
+        ensures synced { ShowsSynced self.now }
     {
         promises_in_order();
-        check_table(&self.zero);
-        check_table(&self.one);
+        recall_table(&self.gateways.zero);
+        recall_table(&self.gateways.one);
     }
 
     /// All notes so far, the oldest first.
@@ -209,46 +274,37 @@ impl World {
         self.trace.as_slice()
     }
 
-    /// The pairs of a gateway's table by protocol (tcp first) and port, without proposals given up; none while it is down.
+    /// The pairs of a gateway's table by protocol (tcp first) and port, without proposals given up; none
+    /// while it is down.
     pub fn table(&self, id: GatewayId) -> Result<Vec<Pair>, NoMemory>
-        ensures all { IfOk result (λ v. IsPermutation (pairs_in is_pair (entries_of (seen_at self.now id))) v.items) }
+        ensures all { IfOk result (λ v.
+            IsPermutation (pairs_in is_pair (entries_of (gateway_at self.now id))) v.items) }
         ensures sorted { IfOk result (λ v. IsNonDecreasingBy place_of v.items) }
     {
-        match id {
-            GatewayId::Zero => pairs_of(self.alloc, &self.zero),
-            GatewayId::One => pairs_of(self.alloc, &self.one),
-        }
+        pairs_of(self.alloc, self.gateways.of(id))
     }
 
     /// The pairs with which a gateway translates, in the same order.
     pub fn translating(&self, id: GatewayId) -> Result<Vec<Pair>, NoMemory>
-        ensures all { IfOk result (λ v. IsPermutation (pairs_in translates (entries_of (seen_at self.now id))) v.items) }
+        ensures all { IfOk result (λ v.
+            IsPermutation (pairs_in translates (entries_of (gateway_at self.now id))) v.items) }
         ensures sorted { IfOk result (λ v. IsNonDecreasingBy place_of v.items) }
     {
-        match id {
-            GatewayId::Zero => translating_of(self.alloc, &self.zero),
-            GatewayId::One => translating_of(self.alloc, &self.one),
-        }
+        translating_of(self.alloc, self.gateways.of(id))
     }
 
     /// Whether a gateway is up and its table loaded.
     pub fn synced(&self, id: GatewayId) -> bool
-        ensures { result ≡ synced_at (seen_at self.now id) }
+        ensures { result ≡ synced_at (gateway_at self.now id) }
     {
-        match id {
-            GatewayId::Zero => is_synced(&self.zero),
-            GatewayId::One => is_synced(&self.one),
-        }
+        is_synced(self.gateways.of(id))
     }
 
     /// Whether a gateway is up.
     pub fn up(&self, id: GatewayId) -> bool
-        ensures { result ≡ is_some (seen_at self.now id) }
+        ensures { result ≡ is_some (gateway_at self.now id) }
     {
-        match id {
-            GatewayId::Zero => self.zero.is_some(),
-            GatewayId::One => self.one.is_some(),
-        }
+        self.gateways.of(id).is_some()
     }
 
     fn step(&mut self, event: &WorldEvent) -> Step
@@ -259,38 +315,21 @@ impl World {
         Step { answer, out }
     }
 
-    fn step_zero(&mut self, event: &WorldEvent, out: &mut Out) -> Result<Outcome, NoMemory>
-        requires { by_of event.now ≡ ids.Zero }
-        ensures outcome { IfOk result (λ o. o ≡ outcome_at self.old.zero event.now) }
-        ensures world { OnOk result (self.new ≡ after self.old event.now) }
-        ensures told { OnOk result (out.new ≡ told_at self.old.zero event.now out.old) }
-        ensures truly { OnOk result (TellsTruly self.old.zero event.now out.old out.new) }
-        ensures same { OnErr result (self.new ≡ self.old) }
+    /// The step of the gateway that the event happens to, whose notes come behind the trace.
+    fn take(&mut self, event: &WorldEvent, out: &mut Out) -> Result<Outcome, NoMemory>
+        ensures outcome { IfOk result (λ o. o ≡ (effect_in self.old event.now out.old).outcome) }
+        ensures world { OnOk result (self.new ≡ world_after self.old event.now) }
+        ensures out { OnOk result (out.new ≡ (effect_in self.old event.now out.old).out) }
+        ensures truly { OnOk result (
+            TellsTruly (gateway_at self.old (by_of event.now)) event.now out.old out.new) }
+        ensures err { OnErr result (self.new ≡ self.old) }
         ensures untold { OnErr result (out.new ≡ out.old) }
     {
-        zero_steps();
+        a_step_keeps();
         steps_anywhere();
         self.trace.reserve(NOTES)?;
         let told = out.notes().len();
-        let outcome = step_of(&mut self.zero, event, out)?;
-        append_reserved(&mut self.trace, notes_since(out, told));
-        Ok(outcome)
-    }
-
-    fn step_one(&mut self, event: &WorldEvent, out: &mut Out) -> Result<Outcome, NoMemory>
-        requires { by_of event.now ≡ ids.One }
-        ensures outcome { IfOk result (λ o. o ≡ outcome_at self.old.one event.now) }
-        ensures world { OnOk result (self.new ≡ after self.old event.now) }
-        ensures told { OnOk result (out.new ≡ told_at self.old.one event.now out.old) }
-        ensures truly { OnOk result (TellsTruly self.old.one event.now out.old out.new) }
-        ensures same { OnErr result (self.new ≡ self.old) }
-        ensures untold { OnErr result (out.new ≡ out.old) }
-    {
-        one_steps();
-        steps_anywhere();
-        self.trace.reserve(NOTES)?;
-        let told = out.notes().len();
-        let outcome = step_of(&mut self.one, event, out)?;
+        let outcome = self.gateways.step(event, out)?;
         append_reserved(&mut self.trace, notes_since(out, told));
         Ok(outcome)
     }

@@ -1,5 +1,4 @@
-pub mod Cut
-pub mod Deeds
+pub mod Passes
 pub mod Rooms
 pub mod Truths
 pub mod Slots

@@ -10,29 +10,28 @@ use Rattle.nat_types.specs.declared.pairs.EntryState.TheVariants.{Live}
 use Rattle.bindings.specs.Entries.{Bindings, slot_of, entry_of, entry_in, with_entry, is_pair, translates}
 use Rattle.bindings.specs.Ports.{chosen_port}
 use Rattle.bindings.specs.declared.entries.Entry.{Entry}
-use Rattle.gateway.specs.declared.reasons.Reason.{Reason}
-use Rattle.gateway.specs.declared.reasons.Reason.TheVariants.{NoBinding, NoPort, CannotWait}
+use Rattle.packet_path.specs.declared.reasons.Reason.{Reason}
+use Rattle.packet_path.specs.declared.reasons.Reason.TheVariants.{NoBinding, NoPort, CannotWait}
 use Rattle.gateway.specs.declared.choices.Choice.{Choice}
 use Rattle.gateway.specs.declared.choices.Choice.TheVariants.{Known, New}
-use Rattle.gateway.specs.declared.packets.Packet.{Packet}
-
--- the endpoint that a packet comes from
-abbrev pub source_of : Packet → Endpoint
-source_of packet = record { protocol = Udp; address = packet.source; port = packet.source_port }
-
--- the outside port that a packet goes to
-abbrev pub target_of : Packet → Key
-target_of packet = record { protocol = Udp; port = packet.destination_port }
 
 -- the pair of a choice
 abbrev pub chosen_pair : Choice → Pair
 chosen_pair (Known pair) = pair
 chosen_pair (New pair) = pair
 
+-- the port that is chosen for an endpoint
+abbrev pub port_for : Bindings → Endpoint → Option Port
+port_for table e = chosen_port table.entries table.own e.protocol (parity_of e.port.0)
+
+-- the pair of an endpoint on this port
+abbrev pub pair_on : Port → Endpoint → Pair
+pair_on port e = record { key = record { protocol = e.protocol; port = port }; endpoint = e }
+
 -- a new pair on the chosen port
 abbrev pub new_choice : Endpoint → Option Port → Result Choice Reason
 new_choice endpoint None = Err NoPort
-new_choice endpoint (Some port) = Ok (New (record { key = record { protocol = endpoint.protocol; port = port }; endpoint = endpoint }))
+new_choice endpoint (Some port) = Ok (New (pair_on port endpoint))
 
 -- an entry's pair, where it translates; else the packet would have to wait
 abbrev pub known_choice : Entry → Result Choice Reason
@@ -41,8 +40,7 @@ known_choice entry = (if translates entry.state then Ok (Known entry.pair) else 
 -- the pair of an endpoint: its own, else a new one
 abbrev pub outward_choice_by : Bindings → Endpoint → Option Entry → Result Choice Reason
 outward_choice_by table endpoint (Some entry) = known_choice entry
-outward_choice_by table endpoint None =
-    new_choice endpoint (chosen_port table.entries table.own endpoint.protocol (parity_of endpoint.port.0))
+outward_choice_by table endpoint None = new_choice endpoint (port_for table endpoint)
 
 -- the pair of a packet that leaves
 unfoldable pub outward_choice : Bindings → Endpoint → Result Choice Reason
@@ -51,7 +49,8 @@ outward_choice table endpoint = outward_choice_by table endpoint (entry_of table
 -- the pair of an outside port: a free or Doomed one has none
 abbrev pub inward_choice_by : Option Entry → Result Choice Reason
 inward_choice_by None = Err NoBinding
-inward_choice_by (Some entry) = (if is_pair entry.state then known_choice entry else Err NoBinding)
+inward_choice_by (Some entry) =
+    (if is_pair entry.state then known_choice entry else Err NoBinding)
 
 -- the pair of a packet that comes in
 unfoldable pub inward_choice : Bindings → Key → Result Choice Reason
@@ -63,8 +62,9 @@ table_after table (Known pair) = table
 table_after table (New pair) = with_entry table (entry_in Live pair)
 
 -- a pair that can come into the table: on the chosen port, for an endpoint that has none
-pub record IsNew (table : Bindings) (pair : Pair) : Type 0 where
-  pub port : chosen_port table.entries table.own Udp (parity_of pair.endpoint.port.0) ≡ Some pair.key.port
+pub record CanAllot (table : Bindings) (pair : Pair) : Type 0 where
+  pub port : chosen_port table.entries table.own Udp (parity_of pair.endpoint.port.0)
+      ≡ Some pair.key.port
   pub key : pair.key.protocol ≡ Udp
   pub endpoint : pair.endpoint.protocol ≡ Udp
   pub unserved : entry_of table.entries pair.endpoint ≡ None
@@ -72,4 +72,4 @@ pub record IsNew (table : Bindings) (pair : Pair) : Type 0 where
 -- a choice that a table allows
 abbrev pub IsAllowed : Bindings → Choice → Type 0
 IsAllowed table (Known pair) = Unit {0}
-IsAllowed table (New pair) = IsNew table pair
+IsAllowed table (New pair) = CanAllot table pair

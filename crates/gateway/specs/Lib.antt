@@ -1,12 +1,7 @@
 pub mod Choices
-pub mod Deeds
 pub mod Effects
-pub mod Frames
-pub mod Networks
-pub mod Reasons
-pub mod Shown
-pub mod Steps
-pub mod Told
-pub mod Verdict
-pub mod Truly
+pub mod Gateway
 pub mod Machine
+pub mod Out
+pub mod Truly
+pub mod Verdict

@@ -7,11 +7,11 @@ use Rattle.bindings.specs.Entries.{slot_of}
 use Rattle.pair_machine.specs.Talk as machine
 use Rattle.pair_machine.specs.Mapped.{slot_in}
 use Rattle.pair_machine.specs.Box.{Box}
-use Rattle.pair_machine.specs.Ports.{Ranges, in_run, no_port}
+use Rattle.pair_machine.specs.Ownership.{Ranges, in_run, no_port}
 use Rattle.pair_machine.specs.Step.{IsStep}
 use Rattle.nat_types.specs.declared.notes.Note.{Note}
-use Rattle.gateway.specs.Told.{Told}
-use Rattle.gateway.specs.Shown.{Shown}
+use Rattle.gateway.specs.Gateway.{Gateway}
+use Rattle.gateway.specs.Out.{Out}
 
 -- the slot of an entry
 abbrev pub machine_slot : Option Entry → machine.Slot
@@ -28,7 +28,7 @@ ports_of own port = in_run own.lowest.0 own.highest.0 port
 
 -- A gateway that no peer was heard by: it is alone where it is synced, it owns its range then, and it has sent
 -- and taken no record.
-abbrev pub box_of : Shown → Box
+abbrev pub box_of : Gateway → Box
 box_of g = record {
   up = true;
   boot = g.boot;
@@ -45,8 +45,10 @@ box_of g = record {
   promised = None;
 }
 
--- a step of the pair machine from one showing to another, whose notes stand behind what was told before
-pub record IsMachineStep (old new : Shown) (before now : Told) : Type 0 where
+-- a step of the pair machine from one gateway to another, whose notes bear the moment after it and
+-- stand behind what was told before
+pub record IsMachineStep (old new : Gateway) (before now : Out) : Type 0 where
   pub notes : List Note
   pub added : now.notes ≡ before.notes ++ notes
-  pub step : (r : Ranges) → IsStep r old.id old.moment (box_of old) (box_of new) [] [] [] (reverse notes) [] []
+  pub step : (r : Ranges)
+      → IsStep r old.id new.moment (box_of old) (box_of new) [] [] [] (reverse notes) [] []

@@ -1,9 +1,8 @@
+//! Which pair a packet takes.
 ghost use Rattle.std.specs.Prelude.{◌≡◌, IfOk, None};
 ghost use Rattle.addresses.specs.declared.transport.Protocol.TheVariants.{Udp};
-ghost use Rattle.addresses.specs.Transport.{parity_of};
 ghost use Rattle.bindings.specs.Entries.{Bindings, translates as translates_in, entry_of};
-ghost use Rattle.bindings.specs.Ports.{chosen_port};
-ghost use Rattle.gateway.specs.Choices.{chosen_pair, known_choice, new_choice, outward_choice, inward_choice, IsAllowed};
+ghost use Rattle.gateway.specs.Choices.{chosen_pair, known_choice, port_for, new_choice, outward_choice, inward_choice, IsAllowed};
 
 use crate::Reason;
 use bindings::{Entry, Table};
@@ -19,12 +18,13 @@ pub enum Choice {
 }
 
 impl Choice {
-    pub fn pair(self) -> Pair
-        ensures { result ≡ chosen_pair self }
+    /// The pair itself.
+    pub fn pair(&self) -> Pair
+        ensures { result ≡ chosen_pair self.now }
     {
         match self {
-            Choice::Known(pair) => pair,
-            Choice::New(pair) => pair,
+            Choice::Known(pair) => *pair,
+            Choice::New(pair) => *pair,
         }
     }
 }
@@ -50,7 +50,7 @@ fn choose_new(table: &Table, endpoint: Endpoint) -> Result<Choice, Reason>
     requires udp { endpoint.protocol ≡ Udp }
     requires unserved { entry_of table.now.entries endpoint ≡ None }
     ensures allowed { IfOk result (IsAllowed table.now) }
-    ensures choice { result ≡ new_choice endpoint (chosen_port table.now.entries table.now.own endpoint.protocol (parity_of endpoint.port.0)) }
+    ensures choice { result ≡ new_choice endpoint (port_for table.now endpoint) }
 {
     let Some(port) = table.free_like(endpoint.protocol, endpoint.port.parity()) else {
         return Err(Reason::NoPort);

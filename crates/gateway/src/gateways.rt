@@ -1,33 +1,33 @@
-ghost use Rattle.std.specs.Prelude.{◌≡◌, ◌≤◌, ◌<◌, IsTrue, IfOk, OnOk, OnErr, Ok, length};
+//! One gateway of the pair, and its step.
+ghost use Rattle.std.specs.Prelude.{◌≡◌, ◌≤◌, ◌<◌, IsTrue, IfOk, OnOk, OnErr, length};
+ghost use Rattle.std.specs.List.Sorted.{IsPermutation, IsNonDecreasingBy};
 ghost use Rattle.nat_types.specs.declared.gateways.GatewayId.TheVariants.{Zero};
+ghost use Rattle.nat_types.specs.declared.pairs.EntryState.TheVariants.{Live};
 ghost use Rattle.frames.specs.Frame.{frame_of};
 ghost use Rattle.ipv4.specs.Header.{IsIpv4, header_of};
 ghost use Rattle.ipv4.specs.Datagram.{IsUdp};
 ghost use Rattle.bindings.specs.Entries.{IsTable, is_pair, translates, pairs_in, place_of, entry_in, with_entry};
-ghost use Rattle.gateway.specs.Choices.{IsNew, IsAllowed};
-ghost use Rattle.nat_types.specs.declared.pairs.EntryState.TheVariants.{Live};
-ghost use Rattle.std.specs.List.Sorted.{IsPermutation, IsNonDecreasingBy};
-ghost use Rattle.gateway.specs.Shown.{started, IsLone, size_of, bounds_of, networks_of, empty_table};
-ghost use Rattle.gateway.specs.Deeds.{Acts};
-ghost use Rattle.gateway.specs.Effects.{outcome_on, shown_on, told_on, shown_by, told_by, clock_after};
+ghost use Rattle.packet_path.specs.Networks.{exit_of};
+ghost use Rattle.gateway.specs.Choices.{CanAllot, IsAllowed, table_after};
+ghost use Rattle.gateway.specs.Gateway.{started, IsLone, size_of, bounds_of, networks_of, empty_table};
+ghost use Rattle.gateway.specs.Effects.{effect_on, frame_effect, clock_after, notes_of};
+ghost use Rattle.gateway.specs.Out.{with_sent};
 ghost use Rattle.gateway.specs.Truly.{TellsTruly};
 ghost use Rattle.gateway.specs.Machine.{IsMachineStep};
-ghost use Rattle.gateway.specs.Verdict.{plan_of, verdict};
+ghost use Rattle.gateway.specs.Verdict.{plan_of};
 
 use crate::choices::Choice;
-use crate::networks::{Direction, Network, Networks, direction_taken};
 use crate::plans::{Plan, plan_inward, plan_outward};
-use crate::steps::read_packet;
-use crate::translations::make_frame;
-use crate::{Event, NoMemory, Out, Outcome, Reason};
+use crate::{Direction, Event, Network, Networks, NoMemory, Out, Outcome, Reason};
 use bindings::{PortBounds, Table};
 use nat_types::{EntryState, GatewayId, Happening, Note, Pair, Side};
+use packet_path::{direction_taken, read_packet};
 use settings::{Neighbour, PortRange, Settings};
 use std::alloc::Global;
 use std::marker::Model;
 
 /// The greatest moment of a clock, in centiseconds.
-const LAST_MOMENT: u64 = 4_000_000_000_000;
+pub const LAST_MOMENT: u64 = 4_000_000_000_000;
 
 /// One gateway of the pair.
 #[derive(Drop)]
@@ -43,7 +43,7 @@ pub struct Gateway {
 }
 
 impl Model for Gateway {
-    ghost use Rattle.gateway.specs.Shown.{Shown, IsLone};
+    ghost use Rattle.gateway.specs.Gateway.{Gateway as Shown, IsLone};
 
     ghost Value = { Shown };
 
@@ -84,10 +84,12 @@ fn networks_for(settings: &Settings, id: GatewayId) -> Networks
         inside: Network {
             interface: settings.inside,
             own_mac: own.inside_mac,
+            own_ip: own.inside_ip,
         },
         outside: Network {
             interface: settings.outside,
             own_mac: own.outside_mac,
+            own_ip: own.outside_ip,
         },
         router: settings.router,
     }
@@ -104,7 +106,7 @@ fn table_for(alloc: Global, settings: &Settings, id: GatewayId) -> Result<Table,
 impl Gateway {
     /// A gateway in the life of that number. Gateway 0 of a pair that is founded anew is synced at once, any
     /// other isn't until it is loaded.
-    #[tactic(auto, unfolding(crate::specs::Shown::started))]
+    #[tactic(auto, unfolding(crate::specs::Gateway::started))]
     pub fn new(
         alloc: Global,
         settings: &Settings,
@@ -128,8 +130,8 @@ impl Gateway {
         })
     }
 
-    /// What each gateway keeps.
-    pub fn audit(&self)
+    /// Reminds the prover of what each gateway keeps; it does nothing when it runs.
+    pub fn recall(&self)
         ensures lone { IsLone self.now.table }
         ensures table { IsTable self.now.table }
     {
@@ -159,18 +161,18 @@ impl Gateway {
         Ok(self.table.translating()?)
     }
 
-    /// One step.
+    /// One step: takes an event, and appends to `out` what is sent and noted with it. At an `Err`, which
+    /// stands for a refused growth, nothing has changed.
     pub fn step(&mut self, event: Event<'_>, out: &mut Out) -> Result<Outcome, NoMemory>
-        ensures outcome { IfOk result (λ o. o ≡ outcome_on self.old event.entry) }
-        ensures shown { OnOk result (self.new ≡ shown_on self.old event.entry) }
-        ensures told { OnOk result (out.new ≡ told_on self.old event.entry out.old) }
-        ensures acts { OnOk result (Acts self.old self.new out.old out.new) }
-        ensures machine { OnOk result (IsMachineStep self.old self.new out.old out.new) }
+        ensures outcome { IfOk result (λ o. o ≡ (effect_on self.old event.entry out.old).outcome) }
+        ensures gateway { OnOk result (self.new ≡ (effect_on self.old event.entry out.old).gateway) }
+        ensures out { OnOk result (out.new ≡ (effect_on self.old event.entry out.old).out) }
         ensures truly { OnOk result (TellsTruly self.old event.entry out.old out.new) }
-        ensures same { OnErr result (self.new ≡ self.old) }
+        ensures machine { OnOk result (IsMachineStep self.old self.new out.old out.new) }
+        ensures err { OnErr result (self.new ≡ self.old) }
         ensures untold { OnErr result (out.new ≡ out.old) }
     {
-        self.audit();
+        self.recall();
         match event {
             Event::Frame(side, bytes) => self.take_frame(side, bytes, out),
             Event::Tick(now) => {
@@ -195,47 +197,62 @@ impl Gateway {
         ensures udp { OnOk result (IsUdp (frame_of bytes.now).body) }
         ensures ttl { OnOk result (2 ≤ (header_of (frame_of bytes.now).body).ttl) }
     {
-        let packet = read_packet(&self.networks.of(side), self.synced, bytes)?;
-        match direction_taken(&self.networks, side, packet.source, packet.destination)? {
-            Direction::Outward => plan_outward(
-                &self.networks,
-                &self.neighbours,
-                &self.table,
-                &packet,
-            ),
-            Direction::Inward => plan_inward(&self.neighbours, &self.table, &packet),
+        let flow = read_packet(&self.networks.of(side), self.synced, bytes)?;
+        match direction_taken(&self.networks, side, flow.source, flow.destination)? {
+            Direction::Outward => plan_outward(&self.networks, &self.neighbours, &self.table, flow),
+            Direction::Inward => plan_inward(&self.neighbours, &self.table, flow),
         }
     }
 
     fn take_frame(&mut self, side: Side, bytes: &[u8], out: &mut Out) -> Result<Outcome, NoMemory>
-        ensures outcome { IfOk result (λ o. o ≡ verdict self.old side bytes.now) }
-        ensures shown { OnOk result (self.new ≡ shown_by self.old (plan_of self.old side bytes.now)) }
-        ensures told { OnOk result (out.new ≡ told_by self.old bytes.now out.old (plan_of self.old side bytes.now)) }
-        ensures same { OnErr result (self.new ≡ self.old) }
+        ensures outcome { IfOk result (λ o. o ≡ (frame_effect self.old side bytes.now out.old).outcome) }
+        ensures gateway { OnOk result (self.new ≡ (frame_effect self.old side bytes.now out.old).gateway) }
+        ensures out { OnOk result (out.new ≡ (frame_effect self.old side bytes.now out.old).out) }
+        ensures err { OnErr result (self.new ≡ self.old) }
         ensures untold { OnErr result (out.new ≡ out.old) }
     {
         let plan = match self.plan(side, bytes) {
             Ok(plan) => plan,
             Err(reason) => return Ok(Outcome::Dropped(reason)),
         };
-        let frame = make_frame(self.alloc, &self.networks, &plan, bytes)?;
-        let exit = plan.direction.exit();
-        match plan.choice {
-            Choice::Known(pair) => out.send(exit, frame, &[self.note(Happening::Used(pair))])?,
-            Choice::New(pair) => {
-                let notes = [
-                    self.note(Happening::Retaken(pair)),
-                    self.note(Happening::Used(pair)),
-                ];
-                out.send(exit, frame, &notes)?;
-                self.add_live(pair);
-            }
-        }
+        let frame = plan.frame(self.alloc, &self.networks, bytes)?;
+        self.tell(&plan, frame, out)?;
+        self.keep(&plan);
         Ok(Outcome::Sent)
     }
 
+    /// Tells of a translation: its frame and its notes.
+    fn tell(&self, plan: &Plan, frame: Vec<u8>, out: &mut Out) -> Result<(), NoMemory>
+        ensures ok { OnOk result (out.new ≡ with_sent out.old (exit_of plan.now.direction) frame.items
+            (notes_of self.now.id self.now.moment plan.now.choice)) }
+        ensures err { OnErr result (out.new ≡ out.old) }
+    {
+        let exit = plan.direction.exit();
+        match &plan.choice {
+            Choice::Known(pair) => {
+                let used = self.note(Happening::Used(*pair));
+                out.send(exit, frame, &[used])
+            }
+            Choice::New(pair) => {
+                let retaken = self.note(Happening::Retaken(*pair));
+                let used = self.note(Happening::Used(*pair));
+                out.send(exit, frame, &[retaken, used])
+            }
+        }
+    }
+
+    /// A packet's new pair comes into the table.
+    fn keep(&mut self, plan: &Plan)
+        requires { IsAllowed self.old.table plan.now.choice }
+        ensures { self.new ≡ record self.old { table = table_after self.old.table plan.now.choice } }
+    {
+        if let Choice::New(pair) = &plan.choice {
+            self.add_live(*pair);
+        }
+    }
+
     fn add_live(&mut self, pair: Pair)
-        requires { IsNew self.old.table pair }
+        requires { CanAllot self.old.table pair }
         ensures { self.new ≡ record self.old { table = with_entry self.old.table (entry_in Live pair) } }
     {
         self.table.audit();

@@ -5,23 +5,15 @@ mod choices;
 mod events;
 mod gateways;
 mod memory;
-mod networks;
+mod outcomes;
 mod outs;
-mod packets;
 mod plans;
-mod reasons;
-mod steps;
-mod translations;
 
 pub use choices::Choice;
 pub use events::Event;
-pub use gateways::Gateway;
+pub use gateways::{Gateway, LAST_MOMENT};
 pub use memory::NoMemory;
-pub use networks::{Direction, Network, Networks};
-pub use outs::{Frame, Out};
-pub use packets::Packet;
+pub use outcomes::Outcome;
+pub use outs::{Out, SentFrame};
+pub use packet_path::{Direction, Network, Networks, Reason};
 pub use plans::Plan;
-pub use reasons::{Outcome, Reason};
-
-#[cfg(test)]
-mod tests;

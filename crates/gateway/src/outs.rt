@@ -1,38 +1,46 @@
-ghost use Rattle.std.specs.Prelude.{◌≡◌, ◌<◌, OnOk, OnErr};
-ghost use Rattle.gateway.specs.Told.{with_sent, none_told, sent_of};
+//! What the steps of a gateway tell.
+ghost use Rattle.std.specs.Prelude.{◌≡◌, OnOk, OnErr};
+ghost use Rattle.gateway.specs.Out.{with_sent, empty_out};
 
 use crate::NoMemory;
 use nat_types::{Note, Side};
-use reserved::put_reserved;
-use std::alloc::{AllocError, Global};
+use std::alloc::Global;
 use std::marker::Model;
 
 /// A frame that a gateway sends, with the network that it goes to.
 #[derive(Debug, Drop)]
-pub struct Frame {
+pub struct SentFrame {
     pub side: Side,
     pub bytes: Vec<u8>,
+}
+
+impl Model for SentFrame {
+    ghost use Rattle.gateway.specs.Out.{SentFrame as SentBytes};
+
+    ghost Value = { SentBytes };
+
+    ghost view = { λ f. record { side = f.side; bytes = f.bytes.items } };
 }
 
 /// What the steps of a gateway tell: frames and notes, each in the order in which they came.
 #[derive(Debug, Drop)]
 pub struct Out {
-    frames: Vec<Frame>,
+    frames: Vec<SentFrame>,
     notes: Vec<Note>,
 }
 
 impl Model for Out {
-    ghost use Rattle.gateway.specs.Told.{Told, sent_of};
+    ghost use Rattle.gateway.specs.Out.{Out as Told};
 
     ghost Value = { Told };
 
-    ghost view = { λ o. record { frames = sent_of o.frames.items; notes = o.notes.items } };
+    ghost view = { λ o. record { frames = o.frames.items; notes = o.notes.items } };
 }
 
 impl Out {
     /// With no frame and no note.
     pub fn new(alloc: Global) -> Out
-        ensures { result ≡ none_told }
+        ensures { result ≡ empty_out }
     {
         Out {
             frames: Vec::new(alloc),
@@ -40,12 +48,14 @@ impl Out {
         }
     }
 
-    pub fn frames(&self) -> &[Frame]
-        ensures { sent_of result.now ≡ self.now.frames }
+    /// The frames that are sent, in order.
+    pub fn frames(&self) -> &[SentFrame]
+        ensures { result.now ≡ self.now.frames }
     {
         self.frames.as_slice()
     }
 
+    /// What is noted, in order.
     pub fn notes(&self) -> &[Note]
         ensures { result.now ≡ self.now.notes }
     {
@@ -64,7 +74,7 @@ impl Out {
     {
         self.frames.reserve(1)?;
         self.notes.extend_from_slice(notes)?;
-        put_reserved(&mut self.frames, Frame { side, bytes });
+        self.frames.push_reserved(SentFrame { side, bytes });
         Ok(())
     }
 }

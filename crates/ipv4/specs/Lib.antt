@@ -1,3 +1,4 @@
 pub mod Datagram
+pub mod Flow
 pub mod Header
 pub mod Order

@@ -6,9 +6,9 @@ ghost use Rattle.frames.specs.Bytes.{Puts};
 ghost use Rattle.ipv4.specs.Header.{header_of, options_of, payload_of, IsIpv4, is_fragment, ipv4_refusal};
 
 use crate::Ipv4Fault;
+use addresses::Protocol;
 use byteorder::{BigEndian, ByteOrder};
 use frames::Ip;
-use addresses::Protocol;
 use sums::is_right;
 
 /// Where the header's fields lie.

@@ -2,10 +2,12 @@
 #![tactic(auto)]
 
 mod faults;
+mod flows;
 mod header;
 mod udp;
 
 pub use faults::Ipv4Fault;
+pub use flows::Flow;
 pub use header::{Ipv4View, Ipv4ViewMut, ipv4_grammar};
 pub use udp::{UdpView, UdpViewMut, udp_grammar};
 

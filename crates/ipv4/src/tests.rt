@@ -1,6 +1,6 @@
 use crate::{Ipv4Fault, Ipv4View, Ipv4ViewMut, UdpView, UdpViewMut};
-use frames::Ip;
 use addresses::{Port, Protocol};
+use frames::Ip;
 use std::test::Fail;
 
 /// `hi` from 192.168.1.10 port 5000 to 198.51.100.7 port 53.

@@ -6,8 +6,8 @@ ghost use Rattle.ipv4.specs.Header.{payload_of};
 ghost use Rattle.ipv4.specs.Datagram.{datagram_of, data_of, IsDatagram, IsUdp, has_no_datagram, udp_refusal};
 
 use crate::{Ipv4Fault, Ipv4View};
-use byteorder::{BigEndian, ByteOrder};
 use addresses::{Port, Protocol};
+use byteorder::{BigEndian, ByteOrder};
 
 /// Where the header's fields lie.
 mod field {

@@ -9,13 +9,13 @@ use Rattle.nat_types.specs.declared.pairs.Key.{Key}
 use Rattle.nat_types.specs.declared.pairs.Pair.{Pair}
 use Rattle.trace_words.specs.Past.{Fits, Silent, is_synced}
 use Rattle.pair_machine.specs.Acts.{Do, Take}
-use Rattle.pair_machine.specs.Box.{Box, Letter, In, nth, IsNext, goes}
-use Rattle.pair_machine.specs.Invariant.{is_proper, Within, Fresh, Naming, Part, Ports, Loads, Real, View, Awaits, Side, Inv}
-use Rattle.pair_machine.specs.Phase.{owns, MayBy, Phase, Proposed, Asked, Talks, phase_after, closing}
-use Rattle.pair_machine.specs.Ports.{Ranges, Run, keyed}
-use Rattle.pair_machine.specs.Talk.{Slot, MachineRecord, Deed, Propose, Close, Use, Agree, Yield, Reject, Agreed, Rejected, Leave, Stay, Left, Stayed, Pass, Skip, May, taken_by, pushed_by, table_after, notes_by}
-use Rattle.pair_machine.specs.Told.{GoesAt}
-use Rattle.pair_machine.specs.World.{Scene, Can, after}
+use Rattle.pair_machine.specs.Box.{Box, Letter, In, nth, StandsNext}
+use Rattle.pair_machine.proofs.Invariant.{is_proper, Within, Fresh, Naming, Part, Whereabouts, Loads, Real, View, Awaits, Side, Inv}
+use Rattle.pair_machine.proofs.Phase.{owns, MayDoOwned, Phase, Proposed, Asked, Talks, phase_after, closing}
+use Rattle.pair_machine.specs.Ownership.{Ranges, Run, keyed}
+use Rattle.pair_machine.specs.Talk.{Slot, MachineRecord, Deed, Propose, Close, Use, Agree, Yield, Reject, Agreed, Rejected, Leave, Stay, Left, Stayed, Pass, Skip, MayDo, taken_by, pushed_by, table_after, noted_by}
+use Rattle.pair_machine.proofs.Traced.{GoesAt}
+use Rattle.pair_machine.specs.World.{Scene, Can, after_act}
 use Rattle.pair_machine.proofs.Deeds.{keeps}
 use Rattle.pair_machine.proofs.Grants.{proper-phase, may_as, ghost_free, ports_deed}
 use Rattle.pair_machine.proofs.Lists.{nth_at, nth_first, within_more, nil_left, nil_right, length_last}
@@ -34,7 +34,7 @@ same-not i = same-other i i ∙ ap not (same-self i)
 
 module _ (owner : Key → GatewayId) where
   -- an own deed closes none of the other's ports
-  closing_theirs : (i : GatewayId) (table : Key → Slot) (ph : Key → Phase) (d : Deed) → MayBy (owns owner i) i table d → taken_by d ≡ [] → ((k : Key) → IsTrue (owns owner (other i) k) → closing (ph k) ≡ None) → (k : Key) → IsTrue (owns owner (other i) k) → closing (phase_after ph d k) ≡ None
+  closing_theirs : (i : GatewayId) (table : Key → Slot) (ph : Key → Phase) (d : Deed) → MayDoOwned (owns owner i) i table d → taken_by d ≡ [] → ((k : Key) → IsTrue (owns owner (other i) k) → closing (ph k) ≡ None) → (k : Key) → IsTrue (owns owner (other i) k) → closing (phase_after ph d k) ≡ None
   closing_theirs i table ph (Propose k e) may nothing was q own = elim (cases_key k q) [ inl at ↦ ap closing (set_same ph k (Proposed e) q at) | inr ne ↦ ap closing (set_other ph k (Proposed e) q ne) ∙ was q own ]
   closing_theirs i table ph (Close k e) may nothing was q own = elim (cases_key k q) [
     | inl at ↦ let x : owns owner i q ≡ false = not-true (owns owner i q) (sym (other-owns owner i q) ∙ own) in let y : owns owner i q ≡ true = ap (owns owner i) (sym at) ∙ may.0 in absurd (both_ways (owns owner i q) x y)
@@ -65,15 +65,15 @@ module _ (r : Ranges) where
   ]
 
   -- what a gateway may do by its ports, it may do by the ghost's word
-  pub ghost_may : {i : GatewayId} {a b : Box} {mb : List Letter} {t : List Note} (v : View r i a b mb t) (d : Deed) → May (keyed a.owned) i a.table d → MayBy (owns v.owner i) i a.table d
+  pub ghost_may : {i : GatewayId} {a b : Box} {mb : List Letter} {t : List Note} (v : View r i a b mb t) (d : Deed) → MayDo (keyed a.owned) i a.table d → MayDoOwned (owns v.owner i) i a.table d
   ghost_may {i} {a} {b} {mb} {t} v d may = may_as (keyed a.owned) (owns v.owner i) a.table (λ k. ap (is_proper (owns v.owner i k)) (v.talks.here.slots k) ∙ proper-phase (owns v.owner i k) (v.phase k)) v.ports.mine_is (ghost_free r i v.phase v.owner a.owned v.their_owned a.wants v.their_want a.table v.out v.inn v.ports v.talks.here) i d may
 
   module _ (moment : ℕ) (i : GatewayId) (a b : Box) (mb : List Letter) (t : List Note) (d : Deed) where
-    pub view_deed : (v : View r i a b mb t) (taken2 : ℕ) (heard2 inn2 : List MachineRecord) → May (keyed a.owned) i a.table d → v.inn ≡ taken_by d ++ inn2 → heard2 ++ inn2 ≡ v.heard ++ v.inn → taken2 ≡ length heard2 → View r i (with_deed a d taken2) b mb (notes_by i moment d ++ t)
+    pub view_deed : (v : View r i a b mb t) (taken2 : ℕ) (heard2 inn2 : List MachineRecord) → MayDo (keyed a.owned) i a.table d → v.inn ≡ taken_by d ++ inn2 → heard2 ++ inn2 ≡ v.heard ++ v.inn → taken2 ≡ length heard2 → View r i (with_deed a d taken2) b mb (noted_by i moment d ++ t)
     view_deed v taken2 heard2 inn2 may inn_is whole number =
         let talks : Talks v.owner i a.table v.out v.table (taken_by d ++ inn2) v.phase = subst (λ (x : List MachineRecord). Talks v.owner i a.table v.out v.table x v.phase) inn_is v.talks in
-        let ports : Ports r i v.phase v.owner a.owned v.their_owned a.wants v.their_want v.out (taken_by d ++ inn2) = subst (λ (x : List MachineRecord). Ports r i v.phase v.owner a.owned v.their_owned a.wants v.their_want v.out x) inn_is v.ports in
-        let by : MayBy (owns v.owner i) i a.table d = ghost_may v d may in
+        let ports : Whereabouts r i v.phase v.owner a.owned v.their_owned a.wants v.their_want v.out (taken_by d ++ inn2) = subst (λ (x : List MachineRecord). Whereabouts r i v.phase v.owner a.owned v.their_owned a.wants v.their_want v.out x) inn_is v.ports in
+        let by : MayDoOwned (owns v.owner i) i a.table d = ghost_may v d may in
         record {
           lone = v.lone;
           phase = phase_after v.phase d;
@@ -162,20 +162,20 @@ module _ (r : Ranges) where
       }
 
   inv_deed : (moment : ℕ) (i : GatewayId) (a b : Box) (ma mb : List Letter) (t : List Note) (d : Deed) (taken2 : ℕ) → Inv r i (record { mine = a; theirs = b; my_mail = ma; their_mail = mb; trace = t }) → a.synced ≡ true
-      → View r i (with_deed a d taken2) b mb (notes_by i moment d ++ t)
-      → GoesAt i (table_after a.table d) (notes_by i moment d ++ t)
-      → Fits (notes_by i moment d ++ t)
-      → Inv r i (record { mine = with_deed a d taken2; theirs = b; my_mail = ma; their_mail = mb; trace = notes_by i moment d ++ t })
+      → View r i (with_deed a d taken2) b mb (noted_by i moment d ++ t)
+      → GoesAt i (table_after a.table d) (noted_by i moment d ++ t)
+      → Fits (noted_by i moment d ++ t)
+      → Inv r i (record { mine = with_deed a d taken2; theirs = b; my_mail = ma; their_mail = mb; trace = noted_by i moment d ++ t })
   inv_deed moment i a b ma mb t d taken2 v sa view goes fits =
       let none : Key → GatewayId = λ k. i in
-      inv_next i a b ma mb t (notes_by i moment d ++ t) (table_after a.table d) (a.sent ++ pushed_by d) taken2 a.owned a.wants v sa view (λ l w. within_more l a.sent (pushed_by d) w) goes
+      inv_next i a b ma mb t (noted_by i moment d ++ t) (table_after a.table d) (a.sent ++ pushed_by d) taken2 a.owned a.wants v sa view (λ l w. within_more l a.sent (pushed_by d) w) goes
       (λ g. goes_other_deed moment (other i) i b.table d t (same-not i) g) fits (silent_deed moment i d t (v.here.synced_is ∙ sa) v.silent) (λ j. synced_deed moment j i d t)
 
   -- the view of a gateway that isn't lone
   pub view_of : (i : GatewayId) (a b : Box) (ma mb : List Letter) (t : List Note) → Side r i a b ma mb t → a.synced ≡ true → a.lone ≡ false → View r i a b mb t
   view_of i a b ma mb t side sa not_lone = elim (side.state sa) [ inl x ↦ let bad : true ≡ false = sym x.lone ∙ not_lone in absurd (cc) | inr v ↦ v ]
 
-  pub inv_do : (moment : ℕ) (i : GatewayId) (s : Scene) (d : Deed) → Inv r i s → Can r i s (Do d) → Inv r i (after r i moment s (Do d))
+  pub inv_do : (moment : ℕ) (i : GatewayId) (s : Scene) (d : Deed) → Inv r i s → Can r i s (Do d) → Inv r i (after_act r i moment s (Do d))
   inv_do moment i s d v can =
       let view : View r i s.mine s.theirs s.their_mail s.trace = view_of i s.mine s.theirs s.my_mail s.their_mail s.trace v.here can.0.0 can.0.1 in
       let inn_is : view.inn ≡ taken_by d ++ view.inn = ap (λ x. x ++ view.inn) (sym can.0.3) in
@@ -186,13 +186,13 @@ module _ (r : Ranges) where
       (fits_deed view.owner moment i s.mine.table view.out view.table view.inn view.phase d s.trace talks (ghost_may view d can.0.2) view.covers v.fits)
 
   -- the record that a letter has at the next number is the next that is under way
-  pub next_is : (i : GatewayId) (a b : Box) (mb : List Letter) (t : List Note) (v : View r i a b mb t) (l : Letter) (n : ℕ) (q : MachineRecord) → In l mb → IsNext a l n q → (rest : List MachineRecord) × (v.inn ≡ q ∷ rest)
+  pub next_is : (i : GatewayId) (a b : Box) (mb : List Letter) (t : List Note) (v : View r i a b mb t) (l : Letter) (n : ℕ) (q : MachineRecord) → In l mb → StandsNext a l n q → (rest : List MachineRecord) × (v.inn ≡ q ∷ rest)
   next_is i a b mb t v l n q sent x =
       let stands : nth (v.heard ++ v.inn) (l.first + n) ≡ Some q = v.letters l sent x.boot x.to n q x.record_is in
       let here : nth (v.heard ++ v.inn) (length v.heard) ≡ Some q = ap (nth (v.heard ++ v.inn)) (sym (x.number ∙ v.taken)) ∙ stands in
       nth_first v.inn q (sym (nth_at v.heard v.inn) ∙ here)
 
-  pub inv_take : (moment : ℕ) (i : GatewayId) (s : Scene) (l : Letter) (n : ℕ) (q : MachineRecord) (d : Deed) → Inv r i s → Can r i s (Take l n q d) → Inv r i (after r i moment s (Take l n q d))
+  pub inv_take : (moment : ℕ) (i : GatewayId) (s : Scene) (l : Letter) (n : ℕ) (q : MachineRecord) (d : Deed) → Inv r i s → Can r i s (Take l n q d) → Inv r i (after_act r i moment s (Take l n q d))
   inv_take moment i s l n q d v can =
       let view : View r i s.mine s.theirs s.their_mail s.trace = view_of i s.mine s.theirs s.my_mail s.their_mail s.trace v.here can.0.0 can.0.1 in
       let next : (rest : List MachineRecord) × (view.inn ≡ q ∷ rest) = next_is i s.mine s.theirs s.their_mail s.trace view l n q (can.1 l (inl refl)) can.0.4 in

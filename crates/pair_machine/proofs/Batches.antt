@@ -7,8 +7,8 @@ use Rattle.nat_types.specs.declared.pairs.Endpoint.{Endpoint}
 use Rattle.nat_types.specs.declared.pairs.Key.{Key}
 use Rattle.nat_types.specs.declared.pairs.Pair.{Pair}
 use Rattle.pair_machine.specs.Batch.{AreApart, AreThose, LieWithin}
-use Rattle.pair_machine.specs.Box.{In, empty, loaded_slot, load, AreNew, mirrored, AreMirrored}
-use Rattle.pair_machine.specs.Ports.{Ranges, Run, in_run, in_runs, cut, cuts, fixed, moving, LeaveRest}
+use Rattle.pair_machine.specs.Box.{In, empty, loaded_slot, load, AreLoadable, mirrored, AreMirrored}
+use Rattle.pair_machine.specs.Ownership.{Ranges, Run, in_run, in_runs, cut, cuts, fixed, moving, LeaveRest}
 use Rattle.pair_machine.specs.Talk.{Slot, Free, Live, Held, held, set_at, pair_of}
 use Rattle.pair_machine.proofs.Set.{set_same, set_other, cases_key}
 
@@ -19,7 +19,7 @@ module _ (r : Ranges) (own : Key → Bool) where
   one_some : (a b : Endpoint) → Some a ≡ Some b → a ≡ b
   one_some a b h = cc
 
-  are_new : (table : Key → Slot) (ps : List Pair) → AreApart ps → ((q : Pair) → In q ps → (table q.key ≡ Free) × ((k : Key) → held (table k) ≡ Some q.endpoint → ⊥) × IsTrue (r.in_ranges q.key.port.0)) → AreNew r own table ps
+  are_new : (table : Key → Slot) (ps : List Pair) → AreApart ps → ((q : Pair) → In q ps → (table q.key ≡ Free) × ((k : Key) → held (table k) ≡ Some q.endpoint → ⊥) × IsTrue (r.in_ranges q.key.port.0)) → AreLoadable r own table ps
   are_new table [] apart free = tt
   are_new table (p ∷ ps) apart free = (
     (free p (inl refl)).0,
@@ -55,7 +55,7 @@ module _ (r : Ranges) (own : Key → Bool) where
   some_or_none None = inl refl
   some_or_none (Some e) = inr (e, refl)
 
-  pub batch_new : (table : Key → Slot) (ps : List Pair) → LieWithin r table → AreThose table ps → AreApart ps → AreNew r own empty ps
+  pub batch_new : (table : Key → Slot) (ps : List Pair) → LieWithin r table → AreThose table ps → AreApart ps → AreLoadable r own empty ps
   batch_new table ps inside those apart = are_new empty ps apart (λ q h. (refl, λ k bad. cc, inside q.key q.endpoint ((those q).0 h)))
 
   pub batch_mirrored : (table : Key → Slot) (ps : List Pair) → LieWithin r table → AreThose table ps → AreApart ps → AreMirrored own table ps

@@ -10,10 +10,10 @@ use Rattle.nat_types.specs.declared.pairs.Endpoint.{Endpoint}
 use Rattle.nat_types.specs.declared.pairs.Key.{Key}
 use Rattle.nat_types.specs.declared.pairs.Pair.{Pair}
 use Rattle.trace_words.specs.Past.{has_let_go, is_open, goes_on, is_agreed}
-use Rattle.pair_machine.specs.Phase.{owns, Phase, shared, closing}
+use Rattle.pair_machine.proofs.Phase.{owns, Phase, shared, closing}
 use Rattle.pair_machine.specs.Talk.{Slot, translated, set_at, pair_of, note}
-use Rattle.pair_machine.specs.Told.{Covers, LetsGo, GoesAt}
-use Rattle.pair_machine.specs.World.{after}
+use Rattle.pair_machine.proofs.Traced.{Covers, LetsGo, GoesAt}
+use Rattle.pair_machine.specs.World.{after_act}
 use Rattle.pair_machine.proofs.Set.{set_same, set_other, cases_key}
 
 pub still : (b x : Bool) → cond b false x ≡ true → x ≡ true
@@ -21,10 +21,10 @@ still true x h = absurd (cc)
 still false x h = h
 
 -- the pairs held by both stay so at the one port whose phase changes
-pub covers_set : (ph : Key → Phase) (t : List Note) (k : Key) (after : Phase) → Covers ph t → ((n : Endpoint) → shared (ph k) ≡ Some n → shared after ≡ Some n) → Covers (set_at ph k after) t
-covers_set ph t k after c more p o = elim (cases_key k p.key) [
-  | inl e ↦ ap shared (set_same ph k after p.key e) ∙ more p.endpoint (ap (λ n. shared (ph n)) e ∙ c p o)
-  | inr ne ↦ ap shared (set_other ph k after p.key ne) ∙ c p o
+pub covers_set : (ph : Key → Phase) (t : List Note) (k : Key) (after_act : Phase) → Covers ph t → ((n : Endpoint) → shared (ph k) ≡ Some n → shared after_act ≡ Some n) → Covers (set_at ph k after_act) t
+covers_set ph t k after_act c more p o = elim (cases_key k p.key) [
+  | inl e ↦ ap shared (set_same ph k after_act p.key e) ∙ more p.endpoint (ap (λ n. shared (ph n)) e ∙ c p o)
+  | inr ne ↦ ap shared (set_other ph k after_act p.key ne) ∙ c p o
 ]
 
 -- a release leaves no more open
@@ -32,8 +32,8 @@ pub covers_release : (moment : ℕ) (ph : Key → Phase) (t : List Note) (i : Ga
 covers_release moment ph t i p c q o = c q (still (same_pair q p && is_agreed i q t) (is_open q t) o)
 
 -- an agreed release closes the pair, so nothing need hold it
-pub covers_agreed : (moment : ℕ) (ph : Key → Phase) (t : List Note) (i : GatewayId) (k : Key) (e : Endpoint) (after : Phase) → Covers ph t → shared (ph k) ≡ Some e → is_agreed i (pair_of k e) t ≡ true → Covers (set_at ph k after) (note i moment (Released (pair_of k e)) ∷ t)
-covers_agreed moment ph t i k e after c held_by agreed q o =
+pub covers_agreed : (moment : ℕ) (ph : Key → Phase) (t : List Note) (i : GatewayId) (k : Key) (e : Endpoint) (after_act : Phase) → Covers ph t → shared (ph k) ≡ Some e → is_agreed i (pair_of k e) t ≡ true → Covers (set_at ph k after_act) (note i moment (Released (pair_of k e)) ∷ t)
+covers_agreed moment ph t i k e after_act c held_by agreed q o =
     elim (cases_key k q.key) [
       | inl at ↦
           let was : is_open q t ≡ true = still (same_pair q (pair_of k e) && is_agreed i q t) (is_open q t) o in
@@ -43,7 +43,7 @@ covers_agreed moment ph t i k e after c held_by agreed q o =
           let b : (same_pair q (pair_of k e) && is_agreed i q t) ≡ true = and_from (same_pair q (pair_of k e)) (is_agreed i q t) (ap (same_pair q) pq ∙ pair-self q) (ap (λ x. is_agreed i x t) (sym pq) ∙ agreed) in
           let gone : is_open q (note i moment (Released (pair_of k e)) ∷ t) ≡ false = ap (λ x. cond x false (is_open q t)) b in
           absurd (both_ways (is_open q (note i moment (Released (pair_of k e)) ∷ t)) gone o)
-      | inr ne ↦ ap shared (set_other ph k after q.key ne) ∙ c q (still (same_pair q (pair_of k e) && is_agreed i q t) (is_open q t) o)
+      | inr ne ↦ ap shared (set_other ph k after_act q.key ne) ∙ c q (still (same_pair q (pair_of k e) && is_agreed i q t) (is_open q t) o)
     ]
 
 -- a pair that both hold may be used
@@ -111,10 +111,10 @@ goes_out moment i table table2 t k e g was now same_else p = elim (cases_key k p
 
 module _ (owner : Key → GatewayId) where
   -- what is asked to be closed stays let go, at the one port whose phase changes
-  pub lets_go_set : (j : GatewayId) (ph : Key → Phase) (t : List Note) (k : Key) (after : Phase) → LetsGo owner j ph t → ((n : Endpoint) → IsTrue (owns owner j k) → closing after ≡ Some n → closing (ph k) ≡ Some n) → LetsGo owner j (set_at ph k after) t
-  lets_go_set j ph t k after l fewer s q e own cl = elim (cases_key k q) [
-    | inl at ↦ l s q e own (ap (λ n. closing (ph n)) (sym at) ∙ fewer e (ap (owns owner j) at ∙ own) (ap closing (sym (set_same ph k after q at)) ∙ cl))
-    | inr ne ↦ l s q e own (ap closing (sym (set_other ph k after q ne)) ∙ cl)
+  pub lets_go_set : (j : GatewayId) (ph : Key → Phase) (t : List Note) (k : Key) (after_act : Phase) → LetsGo owner j ph t → ((n : Endpoint) → IsTrue (owns owner j k) → closing after_act ≡ Some n → closing (ph k) ≡ Some n) → LetsGo owner j (set_at ph k after_act) t
+  lets_go_set j ph t k after_act l fewer s q e own cl = elim (cases_key k q) [
+    | inl at ↦ l s q e own (ap (λ n. closing (ph n)) (sym at) ∙ fewer e (ap (owns owner j) at ∙ own) (ap closing (sym (set_same ph k after_act q at)) ∙ cl))
+    | inr ne ↦ l s q e own (ap closing (sym (set_other ph k after_act q ne)) ∙ cl)
   ]
 
   -- a release lets go of more
@@ -135,12 +135,12 @@ module _ (owner : Key → GatewayId) where
   lets_go_use moment j ph t i k n l none s q e own cl = lets_go_retake moment j ph t i k n l none s q e own cl
 
   -- the pair that i itself begins to close
-  pub lets_go_close : (moment : ℕ) (i : GatewayId) (ph : Key → Phase) (t : List Note) (k : Key) (n : Endpoint) (after : Phase) → LetsGo owner i ph t → closing after ≡ Some n → LetsGo owner i (set_at ph k after) (note i moment (Released (pair_of k n)) ∷ t)
-  lets_go_close moment i ph t k n after l now s q e own cl = elim (cases_key k q) [
-    | inl at ↦ let en : Some n ≡ Some e = sym now ∙ ap closing (sym (set_same ph k after q at)) ∙ cl in
+  pub lets_go_close : (moment : ℕ) (i : GatewayId) (ph : Key → Phase) (t : List Note) (k : Key) (n : Endpoint) (after_act : Phase) → LetsGo owner i ph t → closing after_act ≡ Some n → LetsGo owner i (set_at ph k after_act) (note i moment (Released (pair_of k n)) ∷ t)
+  lets_go_close moment i ph t k n after_act l now s q e own cl = elim (cases_key k q) [
+    | inl at ↦ let en : Some n ≡ Some e = sym now ∙ ap closing (sym (set_same ph k after_act q at)) ∙ cl in
         let ee : n ≡ e = cc in
         let pp : pair_of k n ≡ pair_of q e = ap (λ x. pair_of x n) at ∙ ap (pair_of q) ee in
         let b : (same i i && same_pair (pair_of q e) (pair_of k n)) ≡ true = and_from (same i i) (same_pair (pair_of q e) (pair_of k n)) (same-self i) (ap (same_pair (pair_of q e)) pp ∙ pair-self (pair_of q e)) in
         ap (λ x. cond x true (has_let_go i (pair_of q e) t)) b
-    | inr ne ↦ lets_go_release moment i ph t i (pair_of k n) l s q e own (ap closing (sym (set_other ph k after q ne)) ∙ cl)
+    | inr ne ↦ lets_go_release moment i ph t i (pair_of k n) l s q e own (ap closing (sym (set_other ph k after_act q ne)) ∙ cl)
   ]

@@ -4,21 +4,21 @@ use Rattle.nat_types.specs.Same.{other}
 use Rattle.nat_types.specs.declared.gateways.GatewayId.{GatewayId}
 use Rattle.pair_machine.specs.Acts.{HandIn, Ignore}
 use Rattle.pair_machine.specs.Box.{Letter, hands_in}
-use Rattle.pair_machine.specs.Invariant.{Loads, Real, View, Awaits, Side, Inv}
-use Rattle.pair_machine.specs.Ports.{Ranges}
+use Rattle.pair_machine.proofs.Invariant.{Loads, Real, View, Awaits, Side, Inv}
+use Rattle.pair_machine.specs.Ownership.{Ranges}
 use Rattle.pair_machine.specs.Talk.{MachineRecord}
-use Rattle.pair_machine.specs.World.{Scene, Can, after}
+use Rattle.pair_machine.specs.World.{Scene, Can, after_act}
 use Rattle.pair_machine.proofs.Acts.{view_of, next_is, progress_as}
 
 module _ (r : Ranges) where
   -- nothing comes while records are promised
-  pub inv_ignore : (moment : ℕ) (i : GatewayId) (s : Scene) (l : Letter) (n : ℕ) (q : MachineRecord) → Inv r i s → Can r i s (Ignore l n q) → Inv r i (after r i moment s (Ignore l n q))
+  pub inv_ignore : (moment : ℕ) (i : GatewayId) (s : Scene) (l : Letter) (n : ℕ) (q : MachineRecord) → Inv r i s → Can r i s (Ignore l n q) → Inv r i (after_act r i moment s (Ignore l n q))
   inv_ignore moment i s l n q v can =
       let view : View r i s.mine s.theirs s.their_mail s.trace = view_of r i s.mine s.theirs s.my_mail s.their_mail s.trace v.here can.0.0 can.0.1 in
       let next : (rest : List MachineRecord) × (view.inn ≡ q ∷ rest) = next_is r i s.mine s.theirs s.their_mail s.trace view l n q (can.1 l (inl refl)) can.0.3 in
       let bad : [] ≡ q ∷ next.0 = sym (view.owes can.0.2.0 can.0.2.1).0 ∙ next.1 in absurd (cc)
 
-  pub inv_hand_in : (moment : ℕ) (i : GatewayId) (s : Scene) → Inv r i s → Can r i s HandIn → Inv r i (after r i moment s HandIn)
+  pub inv_hand_in : (moment : ℕ) (i : GatewayId) (s : Scene) → Inv r i s → Can r i s HandIn → Inv r i (after_act r i moment s HandIn)
   inv_hand_in moment i s v can =
       let here : Side r i s.mine s.theirs s.my_mail s.their_mail s.trace = v.here in
       let there : Side r (other i) s.theirs s.mine s.their_mail s.my_mail s.trace = v.there in

@@ -7,13 +7,13 @@ use Rattle.nat_types.specs.declared.gateways.GatewayId.{GatewayId}
 use Rattle.nat_types.specs.declared.gateways.GatewayId.TheVariants.{Zero, One}
 use Rattle.nat_types.specs.declared.pairs.Endpoint.{Endpoint}
 use Rattle.nat_types.specs.declared.pairs.Key.{Key}
-use Rattle.pair_machine.specs.Phase.{owns, MayBy, Phase, Nothing, Proposed, Accepted, Refused, GivenUp, GivenUpRefused, Shared, Asked, Staying, Leaving, shared, is_given_up, slot_at, flight_at, has_accept, Excused, Matches, Talks, phase_after, refuse, give_up}
+use Rattle.pair_machine.proofs.Phase.{owns, MayDoOwned, Phase, Nothing, Proposed, Accepted, Refused, GivenUp, GivenUpRefused, Shared, Asked, Staying, Leaving, shared, is_given_up, slot_at, flight_at, has_accept, Excused, Matches, Talks, phase_after, refuse, give_up}
 use Rattle.pair_machine.specs.Talk.{Slot, Free, Pending, Doomed, Live, Closing, Held, held, MachineRecord, Install, Accept, Refuse, Ask, Yes, No, Begin, Put, Done, Want, Grant, Owner, is_on, on, set_at, Deed, Propose, Close, Use, Agree, Yield, Reject, Agreed, Rejected, Leave, Stay, Left, Stayed, Pass, Skip, IsLost, taken_by, pushed_by, table_after}
-use Rattle.pair_machine.specs.World.{after}
+use Rattle.pair_machine.specs.World.{after_act}
 use Rattle.pair_machine.proofs.Excuses.{excused_give_up}
-use Rattle.pair_machine.proofs.Phases.{when_free, when_live, when_pending, when_install, when_accept, when_refuse, when_ask, when_yes, when_no, shared_slot}
+use Rattle.pair_machine.proofs.Inversions.{when_free, when_live, when_pending, when_install, when_accept, when_refuse, when_ask, when_yes, when_no, shared_slot}
 use Rattle.pair_machine.proofs.Set.{set_same, set_other, on_here, on_elsewhere, other-owns, cases_key}
-use Rattle.pair_machine.proofs.Steps.{side_set, side_stay, slot_is, flight_is, turned, self, apart, push_here, push_else}
+use Rattle.pair_machine.proofs.Turned.{side_set, side_stay, slot_is, flight_is, turned, self, apart, push_here, push_else}
 
 module _ (owner : Key → GatewayId) where
   one_on : (k : Key) (r : MachineRecord) → is_on k r ≡ true → on k (r ∷ []) ≡ r ∷ []
@@ -37,7 +37,7 @@ module _ (owner : Key → GatewayId) where
     fresh_none : (mine2 : Key → Slot) (k : Key) → held (mine2 k) ≡ None → (q : Key) (e : Endpoint) → (k ≡ q → ⊥) → held (mine2 k) ≡ Some e → held (mine q) ≡ Some e → ⊥
     fresh_none mine2 k h q e ne a b = let bad : None ≡ Some e = sym h ∙ a in cc
 
-    pub keeps_propose : (k : Key) (e : Endpoint) → Talks owner i mine out theirs inn ph → MayBy (owns owner i) i mine (Propose k e) → Talks owner i (table_after mine (Propose k e)) (out ++ Install k e ∷ []) theirs inn (set_at ph k (Proposed e))
+    pub keeps_propose : (k : Key) (e : Endpoint) → Talks owner i mine out theirs inn ph → MayDoOwned (owns owner i) i mine (Propose k e) → Talks owner i (table_after mine (Propose k e)) (out ++ Install k e ∷ []) theirs inn (set_at ph k (Proposed e))
     keeps_propose k e t may =
         let now : ph k ≡ Nothing = when_free (ph k) (sym (slot_is owner ph i mine out k true (ph k) t.here may.0 refl) ∙ may.1) in
         let s : set_at mine k (Pending e) k ≡ Pending e = set_same mine k (Pending e) k refl in
@@ -56,7 +56,7 @@ module _ (owner : Key → GatewayId) where
         }
         (λ one. (λ g. let bad : Proposed e ≡ GivenUp e = sym (set_same ph k (Proposed e) k refl) ∙ g in absurd (cc), tt)) t.excused_in (λ z. refl)
 
-    pub keeps_close : (k : Key) (e : Endpoint) → Talks owner i mine out theirs inn ph → MayBy (owns owner i) i mine (Close k e) → Talks owner i (table_after mine (Close k e)) (out ++ Ask k ∷ []) theirs inn (set_at ph k (Asked e))
+    pub keeps_close : (k : Key) (e : Endpoint) → Talks owner i mine out theirs inn ph → MayDoOwned (owns owner i) i mine (Close k e) → Talks owner i (table_after mine (Close k e)) (out ++ Ask k ∷ []) theirs inn (set_at ph k (Asked e))
     keeps_close k e t may =
         let now : ph k ≡ Shared e = when_live (ph k) e (sym (slot_is owner ph i mine out k true (ph k) t.here may.0 refl) ∙ may.1) in
         let s : set_at mine k (Closing e) k ≡ Closing e = set_same mine k (Closing e) k refl in
@@ -76,13 +76,13 @@ module _ (owner : Key → GatewayId) where
         (λ one. tt) t.excused_in (λ z. refl)
 
     -- a given-up proposal isn't agreed to
-    given_up_taken : (k : Key) (e : Endpoint) → Talks owner i mine out theirs (Install k e ∷ inn) ph → MayBy (owns owner i) i mine (Agree k e) → ph k ≡ GivenUp e → owns owner (other i) k ≡ true → ⊥
+    given_up_taken : (k : Key) (e : Endpoint) → Talks owner i mine out theirs (Install k e ∷ inn) ph → MayDoOwned (owns owner i) i mine (Agree k e) → ph k ≡ GivenUp e → owns owner (other i) k ≡ true → ⊥
     given_up_taken k e t may g own = elim (which i) [
       | inl zero ↦ let x : (q : Key) × (ph q ≡ Accepted e) × IsTrue (has_accept q inn) = (t.excused_in zero).0 g in may.1 x.0 (ap held (t.here.slots x.0) ∙ shared_slot (owns owner i x.0) (ph x.0) e (ap shared x.1))
       | inr one ↦ let z : other i ≡ owner k = same-eq (other i) (owner k) own in let y : owner k ≡ Zero = sym z ∙ ap other one in let a : is_given_up (ph k) ≡ false = t.steady k y in let b : is_given_up (ph k) ≡ true = ap is_given_up g in cc
     ]
 
-    pub keeps_agree : (k : Key) (e : Endpoint) → Talks owner i mine out theirs (Install k e ∷ inn) ph → MayBy (owns owner i) i mine (Agree k e) → Talks owner i (table_after mine (Agree k e)) (out ++ Accept k ∷ []) theirs inn (set_at ph k (Accepted e))
+    pub keeps_agree : (k : Key) (e : Endpoint) → Talks owner i mine out theirs (Install k e ∷ inn) ph → MayDoOwned (owns owner i) i mine (Agree k e) → Talks owner i (table_after mine (Agree k e)) (out ++ Accept k ∷ []) theirs inn (set_at ph k (Accepted e))
     keeps_agree k e t may =
         let seen : (owns owner (other i) k ≡ true) × (((ph k ≡ Proposed e) ⊎ (ph k ≡ GivenUp e)) × (on k inn ≡ [])) = when_install (owns owner (other i) k) k (ph k) k e (on k inn) (sym (t.there.flights k) ∙ on_here k (Install k e) inn (self owner k)) in
         let own : owns owner i k ≡ false = not-true (owns owner i k) (sym (other-owns owner i k) ∙ seen.0) in
@@ -150,7 +150,7 @@ module _ (owner : Key → GatewayId) where
               (λ one. tt) (λ zero. (t.excused_in zero).1) (λ z. let a : is_given_up (ph k) ≡ false = t.steady k z in let b : is_given_up (ph k) ≡ true = ap is_given_up now in absurd (cc)))
         ]
 
-    pub keeps_agreed : (k : Key) (e : Endpoint) → Talks owner i mine out theirs (Accept k ∷ inn) ph → MayBy (owns owner i) i mine (Agreed k e) → Talks owner i (set_at mine k (Live e)) (out ++ []) theirs inn (set_at ph k (Shared e))
+    pub keeps_agreed : (k : Key) (e : Endpoint) → Talks owner i mine out theirs (Accept k ∷ inn) ph → MayDoOwned (owns owner i) i mine (Agreed k e) → Talks owner i (set_at mine k (Live e)) (out ++ []) theirs inn (set_at ph k (Shared e))
     keeps_agreed k e t may =
         let seen : (owns owner (other i) k ≡ false) × ((n : Endpoint) × (ph k ≡ Accepted n) × (on k inn ≡ [])) = when_accept (owns owner (other i) k) k (ph k) k (on k inn) (comes k (Accept k) t (self owner k)) in
         let known : Pending seen.1.0 ≡ Pending e = sym (slot_is owner ph i mine out k true (Accepted seen.1.0) t.here may.0 seen.1.1) ∙ may.1 in
@@ -216,7 +216,7 @@ module _ (owner : Key → GatewayId) where
         let same_e : seen.1.0 ≡ e = cc in
         (own, seen.1.1 ∙ ap (λ n. Asked n) same_e, seen.1.2)
 
-    pub keeps_leave : (k : Key) (e : Endpoint) → Talks owner i mine out theirs (Ask k ∷ inn) ph → MayBy (owns owner i) i mine (Leave k e) → Talks owner i (set_at mine k Free) (out ++ Yes k ∷ []) theirs inn (set_at ph k (Leaving e))
+    pub keeps_leave : (k : Key) (e : Endpoint) → Talks owner i mine out theirs (Ask k ∷ inn) ph → MayDoOwned (owns owner i) i mine (Leave k e) → Talks owner i (set_at mine k Free) (out ++ Yes k ∷ []) theirs inn (set_at ph k (Leaving e))
     keeps_leave k e t may =
         let seen : (owns owner i k ≡ false) × (ph k ≡ Asked e) × (on k inn ≡ []) = asked k e t may in
         let s : set_at mine k Free k ≡ Free = set_same mine k Free k refl in
@@ -235,7 +235,7 @@ module _ (owner : Key → GatewayId) where
         }
         (λ one. tt) (λ zero. t.excused_in zero) (λ z. refl)
 
-    pub keeps_stay : (k : Key) (e : Endpoint) → Talks owner i mine out theirs (Ask k ∷ inn) ph → MayBy (owns owner i) i mine (Stay k e) → Talks owner i mine (out ++ No k ∷ []) theirs inn (set_at ph k (Staying e))
+    pub keeps_stay : (k : Key) (e : Endpoint) → Talks owner i mine out theirs (Ask k ∷ inn) ph → MayDoOwned (owns owner i) i mine (Stay k e) → Talks owner i mine (out ++ No k ∷ []) theirs inn (set_at ph k (Staying e))
     keeps_stay k e t may =
         let seen : (owns owner i k ≡ false) × (ph k ≡ Asked e) × (on k inn ≡ []) = asked k e t may in
         turned owner i mine out theirs inn ph false k (Asked e) (Staying e) mine (Ask k ∷ []) (No k ∷ []) t seen.0 seen.1
@@ -253,7 +253,7 @@ module _ (owner : Key → GatewayId) where
         }
         (λ one. tt) (λ zero. t.excused_in zero) (λ z. refl)
 
-    pub keeps_left : (k : Key) (e : Endpoint) → Talks owner i mine out theirs (Yes k ∷ inn) ph → MayBy (owns owner i) i mine (Left k e) → Talks owner i (set_at mine k Free) (out ++ []) theirs inn (set_at ph k Nothing)
+    pub keeps_left : (k : Key) (e : Endpoint) → Talks owner i mine out theirs (Yes k ∷ inn) ph → MayDoOwned (owns owner i) i mine (Left k e) → Talks owner i (set_at mine k Free) (out ++ []) theirs inn (set_at ph k Nothing)
     keeps_left k e t may =
         let seen : (owns owner (other i) k ≡ false) × ((n : Endpoint) × (ph k ≡ Leaving n) × (on k inn ≡ [])) = when_yes (owns owner (other i) k) k (ph k) k (on k inn) (comes k (Yes k) t (self owner k)) in
         let s : set_at mine k Free k ≡ Free = set_same mine k Free k refl in
@@ -272,7 +272,7 @@ module _ (owner : Key → GatewayId) where
         }
         (λ one. tt) (λ zero. t.excused_in zero) (λ z. refl)
 
-    pub keeps_stayed : (k : Key) (e : Endpoint) → Talks owner i mine out theirs (No k ∷ inn) ph → MayBy (owns owner i) i mine (Stayed k e) → Talks owner i (set_at mine k (Live e)) (out ++ []) theirs inn (set_at ph k (Shared e))
+    pub keeps_stayed : (k : Key) (e : Endpoint) → Talks owner i mine out theirs (No k ∷ inn) ph → MayDoOwned (owns owner i) i mine (Stayed k e) → Talks owner i (set_at mine k (Live e)) (out ++ []) theirs inn (set_at ph k (Shared e))
     keeps_stayed k e t may =
         let seen : (owns owner (other i) k ≡ false) × ((n : Endpoint) × (ph k ≡ Staying n) × (on k inn ≡ [])) = when_no (owns owner (other i) k) k (ph k) k (on k inn) (comes k (No k) t (self owner k)) in
         let known : Closing seen.1.0 ≡ Closing e = sym (slot_is owner ph i mine out k true (Staying seen.1.0) t.here may.0 seen.1.1) ∙ may.1 in
@@ -295,27 +295,27 @@ module _ (owner : Key → GatewayId) where
         (λ one. tt) (λ zero. t.excused_in zero) (λ z. refl)
 
     -- gateway 1 gives its own proposal up for the one that came
-    yields : (k : Key) (e : Endpoint) (q : Key) (before after : Phase) → Talks owner i mine out theirs (Install k e ∷ inn) ph → MayBy (owns owner i) i mine (Yield k e q) → ph k ≡ Proposed e → owns owner i k ≡ false → on k inn ≡ [] → (k ≡ q → ⊥)
-        → ph q ≡ before → slot_at true after ≡ Doomed e → slot_at false before ≡ slot_at false after → flight_at true q before ≡ flight_at true q after → flight_at false q before ≡ flight_at false q after
-        → ((n : Endpoint) → after ≡ GivenUp n → n ≡ e) → ((n : Endpoint) → before ≡ Accepted n → ⊥)
-        → Talks owner i (set_at (set_at mine q (Doomed e)) k (Held e)) (out ++ Accept k ∷ []) theirs inn (set_at (set_at ph q after) k (Accepted e))
-    yields k e q before after t may now not_own none ne was gone theirs_same flight_same back_same given not_accepted =
+    yields : (k : Key) (e : Endpoint) (q : Key) (before after_act : Phase) → Talks owner i mine out theirs (Install k e ∷ inn) ph → MayDoOwned (owns owner i) i mine (Yield k e q) → ph k ≡ Proposed e → owns owner i k ≡ false → on k inn ≡ [] → (k ≡ q → ⊥)
+        → ph q ≡ before → slot_at true after_act ≡ Doomed e → slot_at false before ≡ slot_at false after_act → flight_at true q before ≡ flight_at true q after_act → flight_at false q before ≡ flight_at false q after_act
+        → ((n : Endpoint) → after_act ≡ GivenUp n → n ≡ e) → ((n : Endpoint) → before ≡ Accepted n → ⊥)
+        → Talks owner i (set_at (set_at mine q (Doomed e)) k (Held e)) (out ++ Accept k ∷ []) theirs inn (set_at (set_at ph q after_act) k (Accepted e))
+    yields k e q before after_act t may now not_own none ne was gone theirs_same flight_same back_same given not_accepted =
         let own_q : owns owner i q ≡ true = may.2 in
         let their_q : owns owner (other i) q ≡ false = other-owns owner i q ∙ ap not own_q in
         let their_k : owns owner (other i) k ≡ true = other-owns owner i k ∙ ap not not_own in
         let mine1 : Key → Slot = set_at mine q (Doomed e) in
-        let ph1 : Key → Phase = set_at ph q after in
+        let ph1 : Key → Phase = set_at ph q after_act in
         let ph2 : Key → Phase = set_at ph1 k (Accepted e) in
         let s1 : mine1 q ≡ Doomed e = set_same mine q (Doomed e) q refl in
         let qk : q ≡ k → ⊥ = λ h. ne (sym h) in
-        let k1 : ph1 k ≡ Proposed e = set_other ph q after k qk ∙ now in
-        let here1 : Matches owner ph1 i mine1 out = side_set owner ph i mine mine1 out out q after t.here
-        (s1 ∙ sym gone ∙ ap (λ b. slot_at b after) (sym own_q)) (λ x nx. set_other mine q (Doomed e) x nx)
-        (flight_is owner ph i mine out q true before t.here own_q was ∙ flight_same ∙ ap (λ b. flight_at b q after) (sym own_q)) (λ x nx. refl)
+        let k1 : ph1 k ≡ Proposed e = set_other ph q after_act k qk ∙ now in
+        let here1 : Matches owner ph1 i mine1 out = side_set owner ph i mine mine1 out out q after_act t.here
+        (s1 ∙ sym gone ∙ ap (λ b. slot_at b after_act) (sym own_q)) (λ x nx. set_other mine q (Doomed e) x nx)
+        (flight_is owner ph i mine out q true before t.here own_q was ∙ flight_same ∙ ap (λ b. flight_at b q after_act) (sym own_q)) (λ x nx. refl)
         (λ x n nx h g. let bad : None ≡ Some n = ap held (sym s1) ∙ h in cc) in
-        let there1 : Matches owner ph1 (other i) theirs (Install k e ∷ inn) = side_stay owner ph (other i) theirs (Install k e ∷ inn) (Install k e ∷ inn) q after t.there
-        (slot_is owner ph (other i) theirs (Install k e ∷ inn) q false before t.there their_q was ∙ theirs_same ∙ ap (λ b. slot_at b after) (sym their_q))
-        (flight_is owner ph (other i) theirs (Install k e ∷ inn) q false before t.there their_q was ∙ back_same ∙ ap (λ b. flight_at b q after) (sym their_q)) (λ x nx. refl) in
+        let there1 : Matches owner ph1 (other i) theirs (Install k e ∷ inn) = side_stay owner ph (other i) theirs (Install k e ∷ inn) (Install k e ∷ inn) q after_act t.there
+        (slot_is owner ph (other i) theirs (Install k e ∷ inn) q false before t.there their_q was ∙ theirs_same ∙ ap (λ b. slot_at b after_act) (sym their_q))
+        (flight_is owner ph (other i) theirs (Install k e ∷ inn) q false before t.there their_q was ∙ back_same ∙ ap (λ b. flight_at b q after_act) (sym their_q)) (λ x nx. refl) in
         let s2 : set_at mine1 k (Held e) k ≡ Held e = set_same mine1 k (Held e) k refl in
         let none_out : on k out ≡ [] = flight_is owner ph1 i mine1 out k false (Proposed e) here1 not_own k1 in
         record {
@@ -335,15 +335,15 @@ module _ (owner : Key → GatewayId) where
                 | inl kx ↦ let bad : Accepted e ≡ GivenUp n = sym (set_same ph1 k (Accepted e) x kx) ∙ h in absurd (cc)
                 | inr nkx ↦ let h1 : ph1 x ≡ GivenUp n = sym (set_other ph1 k (Accepted e) x nkx) ∙ h in
                     elim (cases_key q x) [
-                      | inl qx ↦ inr (given n (sym (set_same ph q after x qx) ∙ h1))
-                      | inr nqx ↦ inl (sym (set_other ph q after x nqx) ∙ h1)
+                      | inl qx ↦ inr (given n (sym (set_same ph q after_act x qx) ∙ h1))
+                      | inr nqx ↦ inl (sym (set_other ph q after_act x nqx) ∙ h1)
                     ]
               ])
               (λ x n a h. elim (cases_key k x) [
                 | inl kx ↦ let bad : Proposed e ≡ Accepted n = sym now ∙ ap ph kx ∙ h in absurd (cc)
                 | inr nkx ↦ elim (cases_key q x) [
                   | inl qx ↦ absurd (not_accepted n (sym was ∙ ap ph qx ∙ h))
-                  | inr nqx ↦ set_other ph1 k (Accepted e) x nkx ∙ set_other ph q after x nqx ∙ h
+                  | inr nqx ↦ set_other ph1 k (Accepted e) x nkx ∙ set_other ph q after_act x nqx ∙ h
                 ]
               ])
               (set_same ph1 k (Accepted e) k refl);
@@ -352,12 +352,12 @@ module _ (owner : Key → GatewayId) where
             | inl kx ↦ ap is_given_up (set_same ph1 k (Accepted e) x kx)
             | inr nkx ↦ elim (cases_key q x) [
               | inl qx ↦ let io : i ≡ owner q = same-eq i (owner q) own_q in absurd (not_one i (io ∙ ap owner qx ∙ z) may.0)
-              | inr nqx ↦ ap is_given_up (set_other ph1 k (Accepted e) x nkx ∙ set_other ph q after x nqx) ∙ t.steady x z
+              | inr nqx ↦ ap is_given_up (set_other ph1 k (Accepted e) x nkx ∙ set_other ph q after_act x nqx) ∙ t.steady x z
             ]
           ];
         }
 
-    pub keeps_yield : (k : Key) (e : Endpoint) (q : Key) → Talks owner i mine out theirs (Install k e ∷ inn) ph → MayBy (owns owner i) i mine (Yield k e q) → Talks owner i (set_at (set_at mine q (Doomed e)) k (Held e)) (out ++ Accept k ∷ []) theirs inn (set_at (set_at ph q (give_up (ph q))) k (Accepted e))
+    pub keeps_yield : (k : Key) (e : Endpoint) (q : Key) → Talks owner i mine out theirs (Install k e ∷ inn) ph → MayDoOwned (owns owner i) i mine (Yield k e q) → Talks owner i (set_at (set_at mine q (Doomed e)) k (Held e)) (out ++ Accept k ∷ []) theirs inn (set_at (set_at ph q (give_up (ph q))) k (Accepted e))
     keeps_yield k e q t may =
         let seen : (owns owner (other i) k ≡ true) × (((ph k ≡ Proposed e) ⊎ (ph k ≡ GivenUp e)) × (on k inn ≡ [])) = when_install (owns owner (other i) k) k (ph k) k e (on k inn) (comes k (Install k e) t (self owner k)) in
         let zero : owner k ≡ Zero = sym (same-eq (other i) (owner k) seen.0) ∙ ap other may.0 in
@@ -418,7 +418,7 @@ module _ (owner : Key → GatewayId) where
     keeps_skip (Owner fst lst) t may = passed (Owner fst lst ∷ inn) t (λ k. refl) (λ x. x)
 
   -- A deed of one gateway, at which the record that it takes leaves what is under way.
-  pub keeps : (i : GatewayId) (mine : Key → Slot) (out : List MachineRecord) (theirs : Key → Slot) (inn : List MachineRecord) (ph : Key → Phase) (d : Deed) → Talks owner i mine out theirs (taken_by d ++ inn) ph → MayBy (owns owner i) i mine d → Talks owner i (table_after mine d) (out ++ pushed_by d) theirs inn (phase_after ph d)
+  pub keeps : (i : GatewayId) (mine : Key → Slot) (out : List MachineRecord) (theirs : Key → Slot) (inn : List MachineRecord) (ph : Key → Phase) (d : Deed) → Talks owner i mine out theirs (taken_by d ++ inn) ph → MayDoOwned (owns owner i) i mine d → Talks owner i (table_after mine d) (out ++ pushed_by d) theirs inn (phase_after ph d)
   keeps i mine out theirs inn ph (Propose k e) t may = keeps_propose i mine out theirs inn ph k e t may
   keeps i mine out theirs inn ph (Close k e) t may = keeps_close i mine out theirs inn ph k e t may
   keeps i mine out theirs inn ph (Use k e) t may = subst (λ (fl : List MachineRecord). Talks owner i mine fl theirs inn ph) (sym (append-nil out)) t

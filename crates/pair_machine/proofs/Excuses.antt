@@ -5,7 +5,7 @@ use Rattle.nat_types.proofs.Equal.{key-true, key-false}
 use Rattle.nat_types.specs.Same.{same_key, same}
 use Rattle.nat_types.specs.declared.pairs.Endpoint.{Endpoint}
 use Rattle.nat_types.specs.declared.pairs.Key.{Key}
-use Rattle.pair_machine.specs.Phase.{Phase, Nothing, Proposed, Accepted, Refused, GivenUp, GivenUpRefused, Shared, Asked, Staying, Leaving, has_accept, Excused, flight_at}
+use Rattle.pair_machine.proofs.Phase.{Phase, Nothing, Proposed, Accepted, Refused, GivenUp, GivenUpRefused, Shared, Asked, Staying, Leaving, has_accept, Excused, flight_at}
 use Rattle.pair_machine.specs.Talk.{MachineRecord, Install, Accept, Refuse, Ask, Yes, No, Begin, Put, Done, Want, Grant, Owner, on, set_at}
 use Rattle.pair_machine.proofs.Set.{set_same, set_other, cases_key}
 

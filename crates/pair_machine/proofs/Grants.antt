@@ -4,13 +4,13 @@ use Rattle.std.proofs.lemmas.Bool.{both_ways, cases_Bool}
 use Rattle.nat_types.specs.Same.{other}
 use Rattle.nat_types.specs.declared.gateways.GatewayId.{GatewayId}
 use Rattle.nat_types.specs.declared.pairs.Key.{Key}
-use Rattle.pair_machine.specs.Invariant.{is_proper, bit, gifts, wants_in, grants_in, Ports}
-use Rattle.pair_machine.specs.Phase.{owns, MayBy, Phase, Nothing, Proposed, Accepted, Refused, GivenUp, GivenUpRefused, Asked, Shared, Leaving, Staying, refuse, give_up, slot_at, flight_at, Matches, Talks, phase_after}
-use Rattle.pair_machine.specs.Ports.{Ranges, keyed}
-use Rattle.pair_machine.specs.Talk.{Slot, Free, Pending, Doomed, Live, Closing, MachineRecord, Install, Accept, Refuse, Ask, Yes, No, Begin, Put, Done, Want, Grant, Owner, is_on, on, set_at, Deed, Propose, Close, Use, Agree, Yield, Reject, Agreed, Rejected, Leave, Stay, Left, Stayed, Pass, Skip, May, IsLost, taken_by, pushed_by}
-use Rattle.pair_machine.proofs.Ports.{free_at, none_at}
+use Rattle.pair_machine.proofs.Invariant.{is_proper, bit, gifts, wants_in, grants_in, Whereabouts}
+use Rattle.pair_machine.proofs.Phase.{owns, MayDoOwned, Phase, Nothing, Proposed, Accepted, Refused, GivenUp, GivenUpRefused, Asked, Shared, Leaving, Staying, refuse, give_up, slot_at, flight_at, Matches, Talks, phase_after}
+use Rattle.pair_machine.specs.Ownership.{Ranges, keyed}
+use Rattle.pair_machine.specs.Talk.{Slot, Free, Pending, Doomed, Live, Closing, MachineRecord, Install, Accept, Refuse, Ask, Yes, No, Begin, Put, Done, Want, Grant, Owner, is_on, on, set_at, Deed, Propose, Close, Use, Agree, Yield, Reject, Agreed, Rejected, Leave, Stay, Left, Stayed, Pass, Skip, MayDo, IsLost, taken_by, pushed_by}
+use Rattle.pair_machine.proofs.HandOver.{free_at, none_at}
 use Rattle.pair_machine.proofs.Set.{set_other, on_here, other-owns, cases_key}
-use Rattle.pair_machine.proofs.Steps.{self}
+use Rattle.pair_machine.proofs.Turned.{self}
 
 pub gifts-append : (p : ℕ) (xs ys : List MachineRecord) → gifts p (xs ++ ys) ≡ gifts p xs + gifts p ys
 gifts-append p [] ys = omega arith
@@ -58,7 +58,7 @@ lost_quiet own table Want lost = absurd lost
 lost_quiet own table (Grant ports) lost = absurd lost
 lost_quiet own table (Owner first last) lost = (λ p. refl, refl, refl)
 
-pub taken_quiet : (own : Key → Bool) (i : GatewayId) (table : Key → Slot) (d : Deed) → May own i table d → Quiet (taken_by d)
+pub taken_quiet : (own : Key → Bool) (i : GatewayId) (table : Key → Slot) (d : Deed) → MayDo own i table d → Quiet (taken_by d)
 taken_quiet own i table (Propose k e) may = (λ p. refl, refl, refl)
 taken_quiet own i table (Close k e) may = (λ p. refl, refl, refl)
 taken_quiet own i table (Use k e) may = (λ p. refl, refl, refl)
@@ -120,7 +120,7 @@ module _ (own own2 : Key → Bool) (table : Key → Slot) (proper : (k : Key) �
   told_own : (k : Key) (x : Slot) → table k ≡ x → is_proper (own2 k) x ≡ true
   told_own k x h = ap (is_proper (own2 k)) (sym h) ∙ proper k
 
-  pub may_as : (i : GatewayId) (d : Deed) → May own i table d → MayBy own2 i table d
+  pub may_as : (i : GatewayId) (d : Deed) → MayDo own i table d → MayDoOwned own2 i table d
   may_as i (Propose k e) may = (more k may.0, may.1, may.2)
   may_as i (Close k e) may = (told_own k (Live e) may, may)
   may_as i (Use k e) may = may
@@ -147,7 +147,7 @@ module _ (owner : Key → GatewayId) (own : Key → Bool) (i : GatewayId) (mine 
   free_there : (k q : Key) → k ≡ q → {ts : List MachineRecord} → Talks owner i mine out theirs ts ph → ph q ≡ Nothing → mine k ≡ Free
   free_there k q e t none = ap mine e ∙ t.here.slots q ∙ ap (slot_at (owns owner i q)) none ∙ free_at (owns owner i q)
 
-  pub stays_idle : (d : Deed) → Talks owner i mine out theirs (taken_by d ++ inn) ph → May own i mine d → (q : Key) → own q ≡ false → ph q ≡ Nothing → phase_after ph d q ≡ Nothing
+  pub stays_idle : (d : Deed) → Talks owner i mine out theirs (taken_by d ++ inn) ph → MayDo own i mine d → (q : Key) → own q ≡ false → ph q ≡ Nothing → phase_after ph d q ≡ Nothing
   stays_idle (Propose k e) t may q off none = elim (cases_key k q) [ inl e1 ↦ not_own k q e1 may.0 off | inr ne ↦ set_other ph k (Proposed e) q ne ∙ none ]
   stays_idle (Close k e) t may q off none = elim (cases_key k q) [ inl e1 ↦ (let bad : Free ≡ Live e = sym (free_there k q e1 t none) ∙ may in absurd (cc)) | inr ne ↦ set_other ph k (Asked e) q ne ∙ none ]
   stays_idle (Use k e) t may q off none = none
@@ -168,15 +168,15 @@ module _ (owner : Key → GatewayId) (own : Key → Bool) (i : GatewayId) (mine 
 
 module _ (r : Ranges) where
   -- where the ghost says that a key is the actor's, though it doesn't own its port, nothing stands
-  pub ghost_free : (i : GatewayId) (ph : Key → Phase) (owner : Key → GatewayId) (mine theirs : ℕ → Bool) (want want2 : Bool) (table : Key → Slot) (out inn : List MachineRecord) → Ports r i ph owner mine theirs want want2 out inn → Matches owner ph i table out
+  pub ghost_free : (i : GatewayId) (ph : Key → Phase) (owner : Key → GatewayId) (mine theirs : ℕ → Bool) (want want2 : Bool) (table : Key → Slot) (out inn : List MachineRecord) → Whereabouts r i ph owner mine theirs want want2 out inn → Matches owner ph i table out
       → (k : Key) → owns owner i k ≡ true → keyed mine k ≡ false → table k ≡ Free
   ghost_free i ph owner mine theirs want want2 table out inn p m k is off = elim (cases_Bool (keyed theirs k)) [
     | inl h ↦ absurd (both_ways (owns owner i k) (p.theirs_is k h) is)
     | inr h ↦ m.slots k ∙ ap (slot_at (owns owner i k)) (p.nobody k off h) ∙ free_at (owns owner i k)
   ]
 
-  pub ports_deed : (i : GatewayId) (ph : Key → Phase) (owner : Key → GatewayId) (mine theirs : ℕ → Bool) (want want2 : Bool) (table table2 : Key → Slot) (out inn2 : List MachineRecord) (d : Deed) → Talks owner i table out table2 (taken_by d ++ inn2) ph → May (keyed mine) i table d
-      → Ports r i ph owner mine theirs want want2 out (taken_by d ++ inn2) → Ports r i (phase_after ph d) owner mine theirs want want2 (out ++ pushed_by d) inn2
+  pub ports_deed : (i : GatewayId) (ph : Key → Phase) (owner : Key → GatewayId) (mine theirs : ℕ → Bool) (want want2 : Bool) (table table2 : Key → Slot) (out inn2 : List MachineRecord) (d : Deed) → Talks owner i table out table2 (taken_by d ++ inn2) ph → MayDo (keyed mine) i table d
+      → Whereabouts r i ph owner mine theirs want want2 out (taken_by d ++ inn2) → Whereabouts r i (phase_after ph d) owner mine theirs want want2 (out ++ pushed_by d) inn2
   ports_deed i ph owner mine theirs want want2 table table2 out inn2 d t may x =
       let q : Quiet (pushed_by d) = pushed_quiet d in
       let z : Quiet (taken_by d) = taken_quiet (keyed mine) i table d may in
@@ -209,7 +209,7 @@ module _ (r : Ranges) where
 
   -- seen from the other, whose sets agree with these everywhere
   pub ports_flip : (i : GatewayId) (ph : Key → Phase) (owner : Key → GatewayId) (mine theirs theirs2 : ℕ → Bool) (want want2 want3 : Bool) (out inn : List MachineRecord) → ((p : ℕ) → theirs2 p ≡ theirs p) → want3 ≡ want2
-      → Ports r i ph owner mine theirs want want2 out inn → Ports r (other i) ph owner theirs2 mine want3 want inn out
+      → Whereabouts r i ph owner mine theirs want want2 out inn → Whereabouts r (other i) ph owner theirs2 mine want3 want inn out
   ports_flip i ph owner mine theirs theirs2 want want2 want3 out inn same_ports same_want x = record {
     mine_is = λ k h. other-owns owner i k ∙ ap not (x.theirs_is k (sym (same_ports k.port.0) ∙ h));
     theirs_is = λ k h. other-owns owner i k ∙ ap not (x.mine_is k h);

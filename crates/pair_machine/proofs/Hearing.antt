@@ -12,18 +12,18 @@ use Rattle.nat_types.specs.declared.pairs.Pair.{Pair}
 use Rattle.trace_words.specs.Past.{is_synced, is_open, goes_on, Fits, Silent}
 use Rattle.pair_machine.specs.Acts.{Hear, PeerOff}
 use Rattle.pair_machine.specs.Box.{Box, Letter, In, nth, empty, load, mirrored, revived, is_back, retakes, hears, put_off, batch}
-use Rattle.pair_machine.specs.Invariant.{bit, gifts, View, Awaits, Side, Inv, is_proper}
-use Rattle.pair_machine.specs.Phase.{owns, Phase, Nothing, Shared, shared, closing, is_given_up, slot_at, flight_at}
-use Rattle.pair_machine.specs.Ports.{Ranges, Run, keyed, left_to}
+use Rattle.pair_machine.proofs.Invariant.{bit, gifts, View, Awaits, Side, Inv, is_proper}
+use Rattle.pair_machine.proofs.Phase.{owns, Phase, Nothing, Shared, shared, closing, is_given_up, slot_at, flight_at}
+use Rattle.pair_machine.specs.Ownership.{Ranges, Run, keyed, left_to}
 use Rattle.pair_machine.specs.Talk.{Slot, Free, Pending, Doomed, Live, Closing, Held, held, translated}
-use Rattle.pair_machine.specs.Told.{GoesAt}
-use Rattle.pair_machine.specs.World.{Scene, Can, after}
+use Rattle.pair_machine.proofs.Traced.{GoesAt}
+use Rattle.pair_machine.specs.World.{Scene, Can, after_act}
 use Rattle.pair_machine.proofs.Acts.{same-not}
 use Rattle.pair_machine.proofs.Covers.{goes_other}
 use Rattle.pair_machine.proofs.Grants.{proper-phase}
-use Rattle.pair_machine.proofs.Moving.{bit_true, bit_false}
-use Rattle.pair_machine.proofs.Phases.{shared_slot}
-use Rattle.pair_machine.proofs.Ports.{free_at}
+use Rattle.pair_machine.proofs.Granting.{bit_true, bit_false}
+use Rattle.pair_machine.proofs.Inversions.{shared_slot}
+use Rattle.pair_machine.proofs.HandOver.{free_at}
 use Rattle.pair_machine.proofs.Set.{cases_endpoint}
 
 flag : {A : Type 0} (b : Bool) → b ≡ true → b ≡ false → A
@@ -262,7 +262,7 @@ module _ (r : Ranges) where
   promise_is true n m h = sym (one_some n m h)
   promise_is false n m h = let bad : None ≡ Some m = h in absurd (cc)
 
-  pub inv_hear : (moment : ℕ) (i : GatewayId) (s : Scene) (l : Letter) (back : List Pair) (os : List Run) (ps : List Pair) (part : Bool) → Inv r i s → Can r i s (Hear l back os ps part) → Inv r i (after r i moment s (Hear l back os ps part))
+  pub inv_hear : (moment : ℕ) (i : GatewayId) (s : Scene) (l : Letter) (back : List Pair) (os : List Run) (ps : List Pair) (part : Bool) → Inv r i s → Can r i s (Hear l back os ps part) → Inv r i (after_act r i moment s (Hear l back os ps part))
   inv_hear moment i s l back os ps part v can =
       let here : Side r i s.mine s.theirs s.my_mail s.their_mail s.trace = v.here in
       let there : Side r (other i) s.theirs s.mine s.their_mail s.my_mail s.trace = v.there in
@@ -425,5 +425,5 @@ module _ (r : Ranges) where
         };
       }
 
-  pub inv_peer_off : (moment : ℕ) (i : GatewayId) (s : Scene) (number : ℕ) (back : List Pair) → Inv r i s → Can r i s (PeerOff number back) → Inv r i (after r i moment s (PeerOff number back))
+  pub inv_peer_off : (moment : ℕ) (i : GatewayId) (s : Scene) (number : ℕ) (back : List Pair) → Inv r i s → Can r i s (PeerOff number back) → Inv r i (after_act r i moment s (PeerOff number back))
   inv_peer_off moment i s number back v can = subst (λ (n : ℕ). Inv r i (record { mine = put_off s.mine n; theirs = s.theirs; my_mail = s.my_mail; their_mail = s.their_mail; trace = retakes i moment back ++ s.trace })) (sym can.2.1) (off_now moment i s back v can.0.0 can.2.0 can.0.1)

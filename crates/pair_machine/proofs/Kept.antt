@@ -8,11 +8,11 @@ use Rattle.nat_types.specs.declared.pairs.Pair.{Pair}
 use Rattle.trace_words.specs.Past.{is_synced, is_open, goes_on}
 use Rattle.pair_machine.specs.Acts.{Act, Do, Take, Hear, HandIn, Ignore, HearAnew, PeerOff, LoadBegin, LoadOwner, LoadPut, LoadDone, LoadSkip, WantPorts, GrantPorts, TakePorts, LosePorts, Send, LoneNew, LoneUse, LoneDrop, Crash, Boot}
 use Rattle.pair_machine.specs.Box.{Box, Letter}
-use Rattle.pair_machine.specs.Invariant.{bit, gifts, Real, View, Side, Inv}
-use Rattle.pair_machine.specs.Ports.{Ranges}
+use Rattle.pair_machine.proofs.Invariant.{bit, gifts, Real, View, Side, Inv}
+use Rattle.pair_machine.specs.Ownership.{Ranges}
 use Rattle.pair_machine.specs.Talk.{held, MachineRecord}
-use Rattle.pair_machine.specs.Told.{GoesAt}
-use Rattle.pair_machine.specs.World.{HasOwners, Scene, flip, Can, after, Event, seen_by, happens, run, AreAllowed, start, tables_of, Holds, Translates, IsKept, both}
+use Rattle.pair_machine.proofs.Traced.{GoesAt}
+use Rattle.pair_machine.specs.World.{HasOwners, Scene, flip, Can, after_act, MachineEvent, seen_by, after_event, after_events, AreAllowed, founding, tables_of, TableHolds, TableTranslates, IsKept, both}
 use Rattle.pair_machine.proofs.Acts.{inv_do, inv_take}
 use Rattle.pair_machine.proofs.Cursor.{inv_hand_in, inv_ignore}
 use Rattle.pair_machine.proofs.Hearing.{inv_hear, inv_peer_off, known_of}
@@ -20,11 +20,11 @@ use Rattle.pair_machine.proofs.Lives.{inv_crash, inv_boot, inv_hear_anew}
 use Rattle.pair_machine.proofs.Loading.{inv_load_begin, inv_load_owner, inv_load_put, inv_load_done, inv_load_skip}
 use Rattle.pair_machine.proofs.Lone.{inv_lone_new, inv_lone_use, inv_lone_drop}
 use Rattle.pair_machine.proofs.Mirror.{inv_flip}
-use Rattle.pair_machine.proofs.Moving.{inv_want, inv_grant, inv_take_ports, inv_lose_ports, bit_true, bit_most}
+use Rattle.pair_machine.proofs.Granting.{inv_want, inv_grant, inv_take_ports, inv_lose_ports, bit_true, bit_most}
 use Rattle.pair_machine.proofs.Sending.{inv_send}
 
 module _ (r : Ranges) where
-  pub inv_act : (moment : ℕ) (i : GatewayId) (s : Scene) (x : Act) → Inv r i s → Can r i s x → Inv r i (after r i moment s x)
+  pub inv_act : (moment : ℕ) (i : GatewayId) (s : Scene) (x : Act) → Inv r i s → Can r i s x → Inv r i (after_act r i moment s x)
   inv_act moment i s (Do d) v can = inv_do r moment i s d v can
   inv_act moment i s (Take l n q d) v can = inv_take r moment i s l n q d v can
   inv_act moment i s (Hear l back os ps part) v can = inv_hear r moment i s l back os ps part v can
@@ -48,15 +48,15 @@ module _ (r : Ranges) where
   inv_act moment i s Crash v can = inv_crash r moment i s v can
   inv_act moment i s (Boot n) v can = inv_boot r moment i s n v can
 
-  pub inv_by : (moment : ℕ) (by : GatewayId) (act : Act) (s : Scene) → Inv r Zero s → Can r by (seen_by by s) act → Inv r Zero (seen_by by (after r by moment (seen_by by s) act))
+  pub inv_by : (moment : ℕ) (by : GatewayId) (act : Act) (s : Scene) → Inv r Zero s → Can r by (seen_by by s) act → Inv r Zero (seen_by by (after_act r by moment (seen_by by s) act))
   inv_by moment Zero act s v can = inv_act moment Zero s act v can
-  inv_by moment One act s v can = inv_flip r One (after r One moment (flip s) act) (inv_act moment One (flip s) act (inv_flip r Zero s v) can)
+  inv_by moment One act s v can = inv_flip r One (after_act r One moment (flip s) act) (inv_act moment One (flip s) act (inv_flip r Zero s v) can)
 
-  pub inv_run : (es : List Event) (s : Scene) → Inv r Zero s → AreAllowed r es s → Inv r Zero (run r es s)
+  pub inv_run : (es : List MachineEvent) (s : Scene) → Inv r Zero s → AreAllowed r es s → Inv r Zero (after_events r es s)
   inv_run [] s v can = v
-  inv_run (e ∷ es) s v can = inv_run es (happens r s e) (inv_by e.moment e.by e.act s v can.0) can.1
+  inv_run (e ∷ es) s v can = inv_run es (after_event r s e) (inv_by e.moment e.by e.act s v can.0) can.1
 
-  pub inv_start : Inv r Zero (start r)
+  pub inv_start : Inv r Zero (founding r)
   inv_start = record {
     fits = tt;
     silent = tt;
@@ -97,19 +97,19 @@ module _ (r : Ranges) where
   side_goes : (i : GatewayId) (a b : Box) (ma mb : List Letter) (t : List Note) → Side r i a b ma mb t → IsTrue (is_synced i t) → GoesAt i a.table t
   side_goes i a b ma mb t side s = side.goes (side.up_synced (sym side.synced_is ∙ s))
 
-  kept : (s : Scene) → Inv r Zero s → (p : Pair) → IsTrue (is_open p s.trace) → (i : GatewayId) → IsTrue (is_synced i s.trace) → Holds (tables_of s) i p
+  kept : (s : Scene) → Inv r Zero s → (p : Pair) → IsTrue (is_open p s.trace) → (i : GatewayId) → IsTrue (is_synced i s.trace) → TableHolds (tables_of s) i p
   kept s v p o Zero z = side_holds Zero s.mine s.theirs s.my_mail s.their_mail s.trace v.here p o z
   kept s v p o One z = side_holds One s.theirs s.mine s.their_mail s.my_mail s.trace v.there p o z
 
-  goes : (s : Scene) → Inv r Zero s → (i : GatewayId) → IsTrue (is_synced i s.trace) → (p : Pair) → (IsTrue (goes_on i p s.trace) ↔ Translates (tables_of s) i p)
+  goes : (s : Scene) → Inv r Zero s → (i : GatewayId) → IsTrue (is_synced i s.trace) → (p : Pair) → (IsTrue (goes_on i p s.trace) ↔ TableTranslates (tables_of s) i p)
   goes s v Zero z p = side_goes Zero s.mine s.theirs s.my_mail s.their_mail s.trace v.here z p
   goes s v One z p = side_goes One s.theirs s.mine s.their_mail s.my_mail s.trace v.there z p
 
   pub is_kept : (s : Scene) → Inv r Zero s → IsKept s.trace (tables_of s)
   is_kept s v = record { fits = v.fits; kept = kept s v; silent = v.silent; goes_on = goes s v }
 
-  pub always_kept : (es : List Event) → AreAllowed r es (start r) → IsKept (run r es (start r)).trace (tables_of (run r es (start r)))
-  always_kept es can = is_kept (run r es (start r)) (inv_run es (start r) inv_start can)
+  pub always_kept : (es : List MachineEvent) → AreAllowed r es (founding r) → IsKept (after_events r es (founding r)).trace (tables_of (after_events r es (founding r)))
+  always_kept es can = is_kept (after_events r es (founding r)) (inv_run es (founding r) inv_start can)
 
   length-append : (xs ys : List MachineRecord) → length (xs ++ ys) ≡ length xs + length ys
   length-append [] ys = omega arith
@@ -160,5 +160,5 @@ module _ (r : Ranges) where
     within = ports_within s v;
   }
 
-  pub always_owned : (es : List Event) → AreAllowed r es (start r) → HasOwners r (run r es (start r))
-  always_owned es can = has_owners (run r es (start r)) (inv_run es (start r) inv_start can)
+  pub always_owned : (es : List MachineEvent) → AreAllowed r es (founding r) → HasOwners r (after_events r es (founding r))
+  always_owned es can = has_owners (after_events r es (founding r)) (inv_run es (founding r) inv_start can)

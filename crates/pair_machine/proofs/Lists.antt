@@ -1,7 +1,7 @@
 -- Places in lists.
 use Rattle.std.proofs.Common.{◌≡◌, ℕ, zero, suc, List, [], ◌∷◌, ◌++◌, length, ◌+◌, Some, take, drop, refl, ap, ◌∙◌, arith}
 use Rattle.pair_machine.specs.Box.{Letter, nth}
-use Rattle.pair_machine.specs.Invariant.{Within}
+use Rattle.pair_machine.proofs.Invariant.{Within}
 use Rattle.pair_machine.specs.Talk.{MachineRecord}
 
 pub nth_left : {A : Type 0} (xs ys : List A) (n : ℕ) (r : A) → nth xs n ≡ Some r → nth (xs ++ ys) n ≡ Some r

@@ -10,12 +10,12 @@ use Rattle.nat_types.specs.declared.pairs.Key.{Key}
 use Rattle.trace_words.specs.Past.{is_synced, goes_on}
 use Rattle.pair_machine.specs.Acts.{Crash, Boot, HearAnew}
 use Rattle.pair_machine.specs.Box.{Letter, empty, hears_anew}
-use Rattle.pair_machine.specs.Invariant.{Fresh, Loads, Side, Inv}
-use Rattle.pair_machine.specs.Phase.{Phase}
-use Rattle.pair_machine.specs.Ports.{Ranges}
+use Rattle.pair_machine.proofs.Invariant.{Fresh, Loads, Side, Inv}
+use Rattle.pair_machine.proofs.Phase.{Phase}
+use Rattle.pair_machine.specs.Ownership.{Ranges}
 use Rattle.pair_machine.specs.Talk.{translated, note}
-use Rattle.pair_machine.specs.Told.{LetsGo}
-use Rattle.pair_machine.specs.World.{Scene, Can, after}
+use Rattle.pair_machine.proofs.Traced.{LetsGo}
+use Rattle.pair_machine.specs.World.{Scene, Can, after_act}
 use Rattle.pair_machine.proofs.Acts.{same-not}
 use Rattle.pair_machine.proofs.Covers.{still, goes_quiet}
 
@@ -34,7 +34,7 @@ module _ (r : Ranges) where
   absurd_flag : {A : Type 0} (b : Bool) → b ≡ true → b ≡ false → A
   absurd_flag b h g = absurd (both_ways b g h)
 
-  pub inv_crash : (moment : ℕ) (i : GatewayId) (s : Scene) → Inv r i s → Can r i s Crash → Inv r i (after r i moment s Crash)
+  pub inv_crash : (moment : ℕ) (i : GatewayId) (s : Scene) → Inv r i s → Can r i s Crash → Inv r i (after_act r i moment s Crash)
   inv_crash moment i s v can =
       let here : Side r i s.mine s.theirs s.my_mail s.their_mail s.trace = v.here in
       let there : Side r (other i) s.theirs s.mine s.their_mail s.my_mail s.trace = v.there in
@@ -97,7 +97,7 @@ module _ (r : Ranges) where
         };
       }
 
-  pub inv_boot : (moment : ℕ) (i : GatewayId) (s : Scene) (n : ℕ) → Inv r i s → Can r i s (Boot n) → Inv r i (after r i moment s (Boot n))
+  pub inv_boot : (moment : ℕ) (i : GatewayId) (s : Scene) (n : ℕ) → Inv r i s → Can r i s (Boot n) → Inv r i (after_act r i moment s (Boot n))
   inv_boot moment i s n v can =
       let here : Side r i s.mine s.theirs s.my_mail s.their_mail s.trace = v.here in
       let there : Side r (other i) s.theirs s.mine s.their_mail s.my_mail s.trace = v.there in
@@ -177,7 +177,7 @@ module _ (r : Ranges) where
         | inr p ↦ (v.here.awaits sa up).fresh p
       ]
 
-  pub inv_hear_anew : (moment : ℕ) (i : GatewayId) (s : Scene) (l : Letter) → Inv r i s → Can r i s (HearAnew l) → Inv r i (after r i moment s (HearAnew l))
+  pub inv_hear_anew : (moment : ℕ) (i : GatewayId) (s : Scene) (l : Letter) → Inv r i s → Can r i s (HearAnew l) → Inv r i (after_act r i moment s (HearAnew l))
   inv_hear_anew moment i s l v can =
       let here : Side r i s.mine s.theirs s.my_mail s.their_mail s.trace = v.here in
       let there : Side r (other i) s.theirs s.mine s.their_mail s.my_mail s.trace = v.there in

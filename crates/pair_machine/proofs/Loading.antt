@@ -11,13 +11,13 @@ use Rattle.nat_types.specs.declared.pairs.Key.{Key}
 use Rattle.nat_types.specs.declared.pairs.Pair.{Pair}
 use Rattle.trace_words.specs.Past.{is_synced, Fits, Silent}
 use Rattle.pair_machine.specs.Acts.{LoadOwner, LoadBegin, LoadPut, LoadDone, LoadSkip, IsMisplaced}
-use Rattle.pair_machine.specs.Box.{owners, names, Box, Letter, nth, empty, load, loaded_slot, puts, batch, begins, loads_one, is_done, In, IsNext, AreNew, goes}
-use Rattle.pair_machine.specs.Invariant.{Within, Fresh, Naming, Part, Loads, Real, View, Awaits, Side, Inv}
-use Rattle.pair_machine.specs.Phase.{owns, Phase, closing}
-use Rattle.pair_machine.specs.Ports.{Ranges, Run, keyed, left_to, cut, cuts, in_run, last_named, AreRising, IsRun}
+use Rattle.pair_machine.specs.Box.{owners, takes_owner, Box, Letter, nth, empty, load, loaded_slot, puts, batch, takes_begin, takes_put, takes_done, In, StandsNext, AreLoadable}
+use Rattle.pair_machine.proofs.Invariant.{Within, Fresh, Naming, Part, Loads, Real, View, Awaits, Side, Inv}
+use Rattle.pair_machine.proofs.Phase.{owns, Phase, closing}
+use Rattle.pair_machine.specs.Ownership.{Ranges, Run, keyed, left_to, cut, cuts, in_run, last_named, AreRising, IsRisingRun}
 use Rattle.pair_machine.specs.Talk.{Slot, Free, Live, Held, held, translated, MachineRecord, Put, Owner, set_at, pair_of, note, Done, Begin}
-use Rattle.pair_machine.specs.Told.{Covers, LetsGo, GoesAt}
-use Rattle.pair_machine.specs.World.{Scene, Can, after}
+use Rattle.pair_machine.proofs.Traced.{Covers, LetsGo, GoesAt}
+use Rattle.pair_machine.specs.World.{Scene, Can, after_act}
 use Rattle.pair_machine.proofs.Acts.{same-not}
 use Rattle.pair_machine.proofs.Covers.{goes_quiet, goes_in, goes_other, lets_go_retake}
 use Rattle.pair_machine.proofs.Lists.{length_last}
@@ -40,7 +40,7 @@ named-last : (low : ℕ) (os : List Run) (o : Run) → last_named low (os ++ o �
 named-last low [] o = refl
 named-last low (x ∷ os) o = named-last x.last os o
 
-rising-next : (ranges : ℕ → Bool) (low : ℕ) (front : List Run) (o : Run) (rest : List Run) → AreRising ranges low (front ++ o ∷ rest) → IsRun ranges (last_named low front) o.first o.last
+rising-next : (ranges : ℕ → Bool) (low : ℕ) (front : List Run) (o : Run) (rest : List Run) → AreRising ranges low (front ++ o ∷ rest) → IsRisingRun ranges (last_named low front) o.first o.last
 rising-next ranges low [] o rest h = h.0
 rising-next ranges low (x ∷ front) o rest h = rising-next ranges x.last front o rest h.1
 
@@ -114,7 +114,7 @@ module _ (r : Ranges) where
     pub peer : s.mine.peer ≡ s.theirs.boot
     pub stands : nth (batch loads.os loads.ps ++ view.out) s.mine.taken ≡ Some q
 
-  pub reading : (i : GatewayId) (s : Scene) (l : Letter) (n : ℕ) (q : MachineRecord) → Inv r i s → s.mine.synced ≡ false → In l s.their_mail → IsNext s.mine l n q → Reading i s q
+  pub reading : (i : GatewayId) (s : Scene) (l : Letter) (n : ℕ) (q : MachineRecord) → Inv r i s → s.mine.synced ≡ false → In l s.their_mail → StandsNext s.mine l n q → Reading i s q
   reading i s l n q v sa sent x =
       let here : Side r i s.mine s.theirs s.my_mail s.their_mail s.trace = v.here in
       let there : Side r (other i) s.theirs s.mine s.their_mail s.my_mail s.trace = v.there in
@@ -239,7 +239,7 @@ module _ (r : Ranges) where
   no_begin : {A : Type 0} (i : GatewayId) (s : Scene) (x : Reading i s Begin) → Part r (other (other i)) s.theirs s.mine x.loads.os x.loads.ps → A
   no_begin i s x g = elim (some_load g.back x.view.out Begin (comes_next i s Begin x g)) [ inl e ↦ absurd (let bad : Begin ≡ Done = e in cc) | inr e ↦ absurd (let bad : Begin ≡ Put e.0.key e.0.endpoint = e.3 in cc) ]
 
-  pub inv_load_begin : (moment : ℕ) (i : GatewayId) (s : Scene) (l : Letter) (n : ℕ) → Inv r i s → Can r i s (LoadBegin l n) → Inv r i (after r i moment s (LoadBegin l n))
+  pub inv_load_begin : (moment : ℕ) (i : GatewayId) (s : Scene) (l : Letter) (n : ℕ) → Inv r i s → Can r i s (LoadBegin l n) → Inv r i (after_act r i moment s (LoadBegin l n))
   inv_load_begin moment i s l n v can =
       let x : Reading i s Begin = reading i s l n Begin v can.0.0 (can.1 l (inl refl)) can.0.1 in
       let f : Fresh s.mine = elim x.loads.progress [
@@ -249,7 +249,7 @@ module _ (r : Ranges) where
           | inr g ↦ no_begin i s x g
         ]
       ] in
-      still_loading i s (begins (r.at_begin i) s.mine) s.trace Begin v x can.0.0 refl refl can.0.0 refl refl refl (λ j. refl) v.fits v.silent
+      still_loading i s (takes_begin (r.at_begin i) s.mine) s.trace Begin v x can.0.0 refl refl can.0.0 refl refl refl (λ j. refl) v.fits v.silent
       (λ u. goes_quiet i s.mine.table empty s.trace (v.here.goes u) (λ q. ap translated (sym (f.table q))))
       (λ table g. g) (λ ph c. c) (λ owner g ph z. z)
       (λ y. inl record { front = []; back = y.loads.os; whole = refl; peer = y.peer; taken = ap suc f.taken; loading = refl; wants = f.wants; table = λ q. refl; owned = λ p. ap (λ j. r.at_begin j p) (sym (other-other i)); named = refl })
@@ -257,10 +257,10 @@ module _ (r : Ranges) where
   no_owner : {A : Type 0} (i : GatewayId) (s : Scene) (first last : ℕ) (x : Reading i s (Owner first last)) → Part r (other (other i)) s.theirs s.mine x.loads.os x.loads.ps → A
   no_owner i s first last x g = elim (some_load g.back x.view.out (Owner first last) (comes_next i s (Owner first last) x g)) [ inl e ↦ absurd (let bad : Owner first last ≡ Done = e in cc) | inr e ↦ absurd (let bad : Owner first last ≡ Put e.0.key e.0.endpoint = e.3 in cc) ]
 
-  pub inv_load_owner : (moment : ℕ) (i : GatewayId) (s : Scene) (l : Letter) (n first last : ℕ) → Inv r i s → Can r i s (LoadOwner l n first last) → Inv r i (after r i moment s (LoadOwner l n first last))
+  pub inv_load_owner : (moment : ℕ) (i : GatewayId) (s : Scene) (l : Letter) (n first last : ℕ) → Inv r i s → Can r i s (LoadOwner l n first last) → Inv r i (after_act r i moment s (LoadOwner l n first last))
   inv_load_owner moment i s l n first last v can =
       let x : Reading i s (Owner first last) = reading i s l n (Owner first last) v can.0.0 (can.1 l (inl refl)) can.0.4 in
-      still_loading i s (names s.mine first last) s.trace (Owner first last) v x can.0.0 refl refl can.0.0 refl refl refl (λ j. refl) v.fits v.silent
+      still_loading i s (takes_owner s.mine first last) s.trace (Owner first last) v x can.0.0 refl refl can.0.0 refl refl refl (λ j. refl) v.fits v.silent
       v.here.goes (λ table g. g) (λ ph c. c) (λ owner g ph z. z)
       (λ y. elim y.loads.progress [
         | inl f ↦ flag s.mine.loading can.0.1 f.loading
@@ -294,11 +294,11 @@ module _ (r : Ranges) where
     | inr ne ↦ lets_go_retake owner moment g ph t i p.key p.endpoint l (λ own e. absurd (both_ways (same g i) ne e)) s
   ]
 
-  pub inv_load_put : (moment : ℕ) (i : GatewayId) (s : Scene) (l : Letter) (n : ℕ) (p : Pair) → Inv r i s → Can r i s (LoadPut l n p) → Inv r i (after r i moment s (LoadPut l n p))
+  pub inv_load_put : (moment : ℕ) (i : GatewayId) (s : Scene) (l : Letter) (n : ℕ) (p : Pair) → Inv r i s → Can r i s (LoadPut l n p) → Inv r i (after_act r i moment s (LoadPut l n p))
   inv_load_put moment i s l n p v can =
       let x : Reading i s (Put p.key p.endpoint) = reading i s l n (Put p.key p.endpoint) v can.0.0 (can.1 l (inl refl)) can.0.4 in
       let slot : Slot = loaded_slot (keyed s.mine.owned) p.key p.endpoint in
-      still_loading i s (loads_one s.mine p) (note i moment (Retaken p) ∷ s.trace) (Put p.key p.endpoint) v x can.0.0 refl refl can.0.0 refl refl refl (λ j. refl) (tt, v.fits) (tt, v.silent)
+      still_loading i s (takes_put s.mine p) (note i moment (Retaken p) ∷ s.trace) (Put p.key p.endpoint) v x can.0.0 refl refl can.0.0 refl refl refl (λ j. refl) (tt, v.fits) (tt, v.silent)
       (λ u. goes_in moment i s.mine.table (set_at s.mine.table p.key slot) s.trace p.key p.endpoint (v.here.goes u)
       (ap translated (set_same s.mine.table p.key slot p.key refl) ∙ loaded_translates (keyed s.mine.owned p.key) p.endpoint)
       (λ q ne. ap translated (set_other s.mine.table p.key slot q ne))
@@ -329,7 +329,7 @@ module _ (r : Ranges) where
     | inr ne ↦ l (ap (λ y. cond y true (is_synced g t)) (sym ne) ∙ s) k e own cl
   ]
 
-  pub inv_load_done : (moment : ℕ) (i : GatewayId) (s : Scene) (l : Letter) (n : ℕ) → Inv r i s → Can r i s (LoadDone l n) → Inv r i (after r i moment s (LoadDone l n))
+  pub inv_load_done : (moment : ℕ) (i : GatewayId) (s : Scene) (l : Letter) (n : ℕ) → Inv r i s → Can r i s (LoadDone l n) → Inv r i (after_act r i moment s (LoadDone l n))
   inv_load_done moment i s l n v can =
       let here : Side r i s.mine s.theirs s.my_mail s.their_mail s.trace = v.here in
       let there : Side r (other i) s.theirs s.mine s.their_mail s.my_mail s.trace = v.there in
@@ -348,7 +348,7 @@ module _ (r : Ranges) where
       let whole : m ≡ suc (length x.loads.os + length x.loads.ps) = x.loads.bar m p in
       let same_length : length x.loads.ps ≡ length g.front = ap length all in
       omega arith in
-      let a2 : Box = is_done s.mine in
+      let a2 : Box = takes_done s.mine in
       let t2 : List Note = note i moment Synced ∷ s.trace in
       let real : Real s.theirs a2 x.view.table x.view.their_owned x.view.their_want x.view.gone x.view.heard x.view.inn = record {
         table_is = λ q. g.table q ∙ ap (λ y. load (keyed (left_to r (other (other i)) x.loads.os)) empty y q) (sym all) ∙ sym (x.loads.table_is q);
@@ -424,7 +424,7 @@ module _ (r : Ranges) where
       }
 
   -- what is next in the batch is new
-  next_new : (owned : Key → Bool) (table : Key → Slot) (front : List Pair) (p : Pair) (rest : List Pair) → AreNew r owned table (front ++ p ∷ rest) → (load owned table front p.key ≡ Free) × ((q : Key) → held (load owned table front q) ≡ Some p.endpoint → ⊥) × IsTrue (r.in_ranges p.key.port.0)
+  next_new : (owned : Key → Bool) (table : Key → Slot) (front : List Pair) (p : Pair) (rest : List Pair) → AreLoadable r owned table (front ++ p ∷ rest) → (load owned table front p.key ≡ Free) × ((q : Key) → held (load owned table front q) ≡ Some p.endpoint → ⊥) × IsTrue (r.in_ranges p.key.port.0)
   next_new owned table [] p rest h = (h.0, h.1, h.2)
   next_new owned table (x ∷ front) p rest h = next_new owned (set_at table x.key (loaded_slot owned x.key x.endpoint)) front p rest h.3
 
@@ -434,13 +434,13 @@ module _ (r : Ranges) where
     | inr e ↦
         let m : IsMisplaced r s.mine (Put e.0.key e.0.endpoint) = subst (λ (y : MachineRecord). IsMisplaced r s.mine y) e.3 lost in
         let own : Key → Bool = keyed (left_to r (other (other i)) x.loads.os) in
-        let all : AreNew r own empty (g.front ++ e.0 ∷ e.1) = subst (AreNew r own empty) (g.whole ∙ ap (λ z. g.front ++ z) e.2) x.loads.are_new in
+        let all : AreLoadable r own empty (g.front ++ e.0 ∷ e.1) = subst (AreLoadable r own empty) (g.whole ∙ ap (λ z. g.front ++ z) e.2) x.loads.are_new in
         let is_new : (load own empty g.front e.0.key ≡ Free) × ((q : Key) → held (load own empty g.front q) ≡ Some e.0.endpoint → ⊥) × IsTrue (r.in_ranges e.0.key.port.0) = next_new own empty g.front e.0 e.1 all in
         m g.loading is_new.2 (g.table e.0.key ∙ is_new.0) (λ q h. is_new.1 q (ap held (sym (g.table q)) ∙ h))
   ]
 
   -- nothing out of place comes
-  never_misplaced : (i : GatewayId) (s : Scene) (l : Letter) (n : ℕ) (q : MachineRecord) → Inv r i s → s.mine.synced ≡ false → In l s.their_mail → IsNext s.mine l n q → IsMisplaced r s.mine q → ⊥
+  never_misplaced : (i : GatewayId) (s : Scene) (l : Letter) (n : ℕ) (q : MachineRecord) → Inv r i s → s.mine.synced ≡ false → In l s.their_mail → StandsNext s.mine l n q → IsMisplaced r s.mine q → ⊥
   never_misplaced i s l n q v sa sent reads lost =
       let x : Reading i s q = reading i s l n q v sa sent reads in
       elim x.loads.progress [
@@ -452,11 +452,11 @@ module _ (r : Ranges) where
             | inr e ↦
                 let m : IsMisplaced r s.mine (Owner e.0.first e.0.last) = subst (λ (y : MachineRecord). IsMisplaced r s.mine y) e.3 lost in
                 let all : AreRising r.in_ranges 0 (g.front ++ e.0 ∷ e.1) = subst (AreRising r.in_ranges 0) (g.whole ∙ ap (λ z. g.front ++ z) e.2) x.loads.rising in
-                m g.loading g.table (subst (λ (z : ℕ). IsRun r.in_ranges z e.0.first e.0.last) (sym g.named) (rising-next r.in_ranges 0 g.front e.0 e.1 all))
+                m g.loading g.table (subst (λ (z : ℕ). IsRisingRun r.in_ranges z e.0.first e.0.last) (sym g.named) (rising-next r.in_ranges 0 g.front e.0 e.1 all))
           ]
           | inr g ↦ never_put i s q x g lost
         ]
       ]
 
-  pub inv_load_skip : (moment : ℕ) (i : GatewayId) (s : Scene) (l : Letter) (n : ℕ) (q : MachineRecord) → Inv r i s → Can r i s (LoadSkip l n q) → Inv r i (after r i moment s (LoadSkip l n q))
+  pub inv_load_skip : (moment : ℕ) (i : GatewayId) (s : Scene) (l : Letter) (n : ℕ) (q : MachineRecord) → Inv r i s → Can r i s (LoadSkip l n q) → Inv r i (after_act r i moment s (LoadSkip l n q))
   inv_load_skip moment i s l n q v can = absurd (never_misplaced i s l n q v can.0.0 (can.1 l (inl refl)) can.0.1 can.0.2)

@@ -11,12 +11,12 @@ use Rattle.nat_types.specs.declared.pairs.Key.{Key}
 use Rattle.nat_types.specs.declared.pairs.Pair.{Pair}
 use Rattle.trace_words.specs.Past.{is_synced, is_open, has_let_go, is_agreed, Fits, Silent}
 use Rattle.pair_machine.specs.Acts.{LoneNew, LoneUse, LoneDrop}
-use Rattle.pair_machine.specs.Box.{holds_table, goes}
-use Rattle.pair_machine.specs.Invariant.{Alone, Awaits, Side, Inv, is_proper}
-use Rattle.pair_machine.specs.Ports.{Ranges, keyed}
+use Rattle.pair_machine.specs.Box.{with_table}
+use Rattle.pair_machine.proofs.Invariant.{Alone, Awaits, Side, Inv, is_proper}
+use Rattle.pair_machine.specs.Ownership.{Ranges, keyed}
 use Rattle.pair_machine.specs.Talk.{Slot, Free, Pending, Doomed, Live, Closing, Held, held, translated, set_at, pair_of, note}
-use Rattle.pair_machine.specs.Told.{GoesAt}
-use Rattle.pair_machine.specs.World.{Scene, Can, after}
+use Rattle.pair_machine.proofs.Traced.{GoesAt}
+use Rattle.pair_machine.specs.World.{Scene, Can, after_act}
 use Rattle.pair_machine.proofs.Acts.{same-not}
 use Rattle.pair_machine.proofs.Covers.{still, goes_in, goes_out, goes_other}
 use Rattle.pair_machine.proofs.Set.{set_same, set_other, cases_key}
@@ -44,7 +44,7 @@ module _ (r : Ranges) where
       → ((j : GatewayId) → is_synced j t2 ≡ is_synced j s.trace) → Fits t2 → Silent t2 → GoesAt i table t2
       → ((k : Key) → is_proper (keyed s.mine.owned k) (table k) ≡ true) → ((k : Key) → keyed r.in_ranges k ≡ false → table k ≡ Free) → ((k q : Key) (e : Endpoint) → held (table k) ≡ Some e → held (table q) ≡ Some e → k ≡ q) → ((p : Pair) → IsTrue (is_open p t2) → held (table p.key) ≡ Some p.endpoint)
       → (GoesAt (other i) s.theirs.table s.trace → GoesAt (other i) s.theirs.table t2)
-      → Inv r i (record { mine = holds_table s.mine table; theirs = s.theirs; my_mail = s.my_mail; their_mail = s.their_mail; trace = t2 })
+      → Inv r i (record { mine = with_table s.mine table; theirs = s.theirs; my_mail = s.my_mail; their_mail = s.their_mail; trace = t2 })
   lone_step i s table t2 v sa x same_synced fits silent goes proper nowhere one_each covers goes_there =
       let here : Side r i s.mine s.theirs s.my_mail s.their_mail s.trace = v.here in
       let there : Side r (other i) s.theirs s.mine s.their_mail s.my_mail s.trace = v.there in
@@ -82,7 +82,7 @@ module _ (r : Ranges) where
         };
       }
 
-  pub inv_lone_new : (moment : ℕ) (i : GatewayId) (s : Scene) (k : Key) (e : Endpoint) → Inv r i s → Can r i s (LoneNew k e) → Inv r i (after r i moment s (LoneNew k e))
+  pub inv_lone_new : (moment : ℕ) (i : GatewayId) (s : Scene) (k : Key) (e : Endpoint) → Inv r i s → Can r i s (LoneNew k e) → Inv r i (after_act r i moment s (LoneNew k e))
   inv_lone_new moment i s k e v can =
       let x : Alone r i s.mine s.theirs s.trace = alone_of i s v can.0.0 can.0.1 in
       let old : Key → Slot = s.mine.table in
@@ -104,7 +104,7 @@ module _ (r : Ranges) where
       ])
       (λ g. (goes_other moment (other i) i s.theirs.table s.trace (pair_of k e) (same-not i) g).2)
 
-  pub inv_lone_use : (moment : ℕ) (i : GatewayId) (s : Scene) (k : Key) (e : Endpoint) → Inv r i s → Can r i s (LoneUse k e) → Inv r i (after r i moment s (LoneUse k e))
+  pub inv_lone_use : (moment : ℕ) (i : GatewayId) (s : Scene) (k : Key) (e : Endpoint) → Inv r i s → Can r i s (LoneUse k e) → Inv r i (after_act r i moment s (LoneUse k e))
   inv_lone_use moment i s k e v can =
       let x : Alone r i s.mine s.theirs s.trace = alone_of i s v can.0.0 can.0.1 in
       let has : held (s.mine.table k) ≡ Some e = held_of (s.mine.table k) e can.0.2 in
@@ -124,7 +124,7 @@ module _ (r : Ranges) where
       ])
       (λ g. (goes_other moment (other i) i s.theirs.table s.trace (pair_of k e) (same-not i) g).0)
 
-  pub inv_lone_drop : (moment : ℕ) (i : GatewayId) (s : Scene) (k : Key) (e : Endpoint) → Inv r i s → Can r i s (LoneDrop k e) → Inv r i (after r i moment s (LoneDrop k e))
+  pub inv_lone_drop : (moment : ℕ) (i : GatewayId) (s : Scene) (k : Key) (e : Endpoint) → Inv r i s → Can r i s (LoneDrop k e) → Inv r i (after_act r i moment s (LoneDrop k e))
   inv_lone_drop moment i s k e v can =
       let x : Alone r i s.mine s.theirs s.trace = alone_of i s v can.0.0 can.0.1 in
       let new : Key → Slot = set_at s.mine.table k Free in

@@ -6,9 +6,9 @@ use Rattle.nat_types.specs.declared.gateways.GatewayId.TheVariants.{Zero, One}
 use Rattle.nat_types.specs.declared.notes.Note.{Note}
 use Rattle.nat_types.specs.declared.pairs.Key.{Key}
 use Rattle.pair_machine.specs.Box.{Box, Letter, In}
-use Rattle.pair_machine.specs.Invariant.{Within, Real, View, Inv}
-use Rattle.pair_machine.specs.Phase.{Phase, Matches, Talks}
-use Rattle.pair_machine.specs.Ports.{Ranges}
+use Rattle.pair_machine.proofs.Invariant.{Within, Real, View, Inv}
+use Rattle.pair_machine.proofs.Phase.{Phase, Matches, Talks}
+use Rattle.pair_machine.specs.Ownership.{Ranges}
 use Rattle.pair_machine.specs.Talk.{Slot, held, MachineRecord}
 use Rattle.pair_machine.specs.World.{Scene, flip}
 use Rattle.pair_machine.proofs.Grants.{ports_flip}

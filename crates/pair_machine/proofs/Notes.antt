@@ -9,13 +9,13 @@ use Rattle.nat_types.specs.declared.notes.Note.{Note}
 use Rattle.nat_types.specs.declared.pairs.Endpoint.{Endpoint}
 use Rattle.nat_types.specs.declared.pairs.Key.{Key}
 use Rattle.trace_words.specs.Past.{is_synced, has_let_go, Fits, Silent}
-use Rattle.pair_machine.specs.Phase.{owns, MayBy, Phase, Nothing, Proposed, Accepted, Refused, GivenUpRefused, Shared, Asked, Staying, Leaving, shared, closing, give_up, refuse, flight_at, Talks, phase_after}
-use Rattle.pair_machine.specs.Talk.{Slot, Free, Pending, Doomed, Live, Closing, Held, held, translated, MachineRecord, Install, Accept, Refuse, Ask, Yes, No, is_on, on, set_at, pair_of, Deed, Propose, Close, Use, Agree, Yield, Reject, Agreed, Rejected, Leave, Stay, Left, Stayed, Pass, Skip, taken_by, table_after, notes_by, note}
-use Rattle.pair_machine.specs.Told.{Covers, LetsGo, GoesAt}
+use Rattle.pair_machine.proofs.Phase.{owns, MayDoOwned, Phase, Nothing, Proposed, Accepted, Refused, GivenUpRefused, Shared, Asked, Staying, Leaving, shared, closing, give_up, refuse, flight_at, Talks, phase_after}
+use Rattle.pair_machine.specs.Talk.{Slot, Free, Pending, Doomed, Live, Closing, Held, held, translated, MachineRecord, Install, Accept, Refuse, Ask, Yes, No, is_on, on, set_at, pair_of, Deed, Propose, Close, Use, Agree, Yield, Reject, Agreed, Rejected, Leave, Stay, Left, Stayed, Pass, Skip, taken_by, table_after, noted_by, note}
+use Rattle.pair_machine.proofs.Traced.{Covers, LetsGo, GoesAt}
 use Rattle.pair_machine.proofs.Covers.{covers_set, covers_release, covers_agreed, covers_use, lets_go_set, lets_go_release, lets_go_retake, lets_go_use, lets_go_close, goes_quiet, goes_other, goes_in, goes_out}
-use Rattle.pair_machine.proofs.Phases.{when_free, when_live, when_install, when_refuse, when_ask, when_yes, shared_slot, translated_shared, shared-refuse, shared-give_up, closing-refuse, closing-give_up, translated_open}
+use Rattle.pair_machine.proofs.Inversions.{when_free, when_live, when_install, when_refuse, when_ask, when_yes, shared_slot, translated_shared, shared-refuse, shared-give_up, closing-refuse, closing-give_up, translated_open}
 use Rattle.pair_machine.proofs.Set.{set_same, set_other, on_here, other-owns, cases_key}
-use Rattle.pair_machine.proofs.Steps.{slot_is, self}
+use Rattle.pair_machine.proofs.Turned.{slot_is, self}
 
 module _ (owner : Key → GatewayId) (moment : ℕ) where
   some_one : (a b : Endpoint) → Some a ≡ Some b → a ≡ b
@@ -51,7 +51,7 @@ module _ (owner : Key → GatewayId) (moment : ℕ) where
         let known : Some seen.1.0 ≡ Some e = sym (slot_shared k seen.1.0 (Ask k ∷ []) t (ap shared seen.1.1)) ∙ ap held may in
         (seen.0, seen.1.1 ∙ ap (λ n. Asked n) (some_one seen.1.0 e known))
 
-    pub covers_deed : (d : Deed) (t : List Note) → Talks owner i mine out theirs (taken_by d ++ inn) ph → MayBy (owns owner i) i mine d → Covers ph t → LetsGo owner (other i) ph t → Covers (phase_after ph d) (notes_by i moment d ++ t)
+    pub covers_deed : (d : Deed) (t : List Note) → Talks owner i mine out theirs (taken_by d ++ inn) ph → MayDoOwned (owns owner i) i mine d → Covers ph t → LetsGo owner (other i) ph t → Covers (phase_after ph d) (noted_by i moment d ++ t)
     covers_deed (Propose k e) t w may c l =
         let now : ph k ≡ Nothing = when_free (ph k) (sym (slot_is owner ph i mine out k true (ph k) w.here may.0 refl) ∙ may.1) in
         covers_set ph t k (Proposed e) c (λ n h. absurd (none_some (shared (ph k)) n (ap shared now) h))
@@ -86,7 +86,7 @@ module _ (owner : Key → GatewayId) (moment : ℕ) where
     not_both : (j : GatewayId) (k : Key) → same j i ≡ false → IsTrue (owns owner i k) → IsTrue (owns owner j k) → ⊥
     not_both j k ne own its = let a : i ≡ owner k = same-eq i (owner k) own in let b : j ≡ owner k = same-eq j (owner k) its in let e : j ≡ i = b ∙ sym a in both_ways (same j i) ne (ap (λ x. same x i) e ∙ same-self i)
 
-    pub lets_deed : (j : GatewayId) (d : Deed) (t : List Note) → Talks owner i mine out theirs (taken_by d ++ inn) ph → MayBy (owns owner i) i mine d → LetsGo owner j ph t → LetsGo owner j (phase_after ph d) (notes_by i moment d ++ t)
+    pub lets_deed : (j : GatewayId) (d : Deed) (t : List Note) → Talks owner i mine out theirs (taken_by d ++ inn) ph → MayDoOwned (owns owner i) i mine d → LetsGo owner j ph t → LetsGo owner j (phase_after ph d) (noted_by i moment d ++ t)
     lets_deed j (Propose k e) t w may l = lets_go_set owner j ph t k (Proposed e) l (λ n own h. absurd (none_some None n refl h))
     lets_deed j (Close k e) t w may l = elim (cases_Bool (same j i)) [
       | inl s ↦ let ji : i ≡ j = sym (same-eq j i s) in
@@ -129,7 +129,7 @@ module _ (owner : Key → GatewayId) (moment : ℕ) where
         let own : owns owner i k ≡ true = not-false (owns owner i k) (sym (other-owns owner i k) ∙ seen.0) in
         elim seen.1.1 [ inl p ↦ ap translated (slot_is owner ph i mine out k true (Refused seen.1.0) w.here own p) | inr p ↦ ap translated (slot_is owner ph i mine out k true (GivenUpRefused seen.1.0) w.here own p) ]
 
-    pub goes_deed : (d : Deed) (t : List Note) → Talks owner i mine out theirs (taken_by d ++ inn) ph → MayBy (owns owner i) i mine d → GoesAt i mine t → GoesAt i (table_after mine d) (notes_by i moment d ++ t)
+    pub goes_deed : (d : Deed) (t : List Note) → Talks owner i mine out theirs (taken_by d ++ inn) ph → MayDoOwned (owns owner i) i mine d → GoesAt i mine t → GoesAt i (table_after mine d) (noted_by i moment d ++ t)
     goes_deed (Propose k e) t w may g = goes_quiet i mine (set_at mine k (Pending e)) t g (all_same k (Pending e) (ap translated (sym may.1)))
     goes_deed (Close k e) t w may g = goes_out moment i mine (set_at mine k (Closing e)) t k e g (ap translated may.1) (at_port k (Closing e)) (else_where k (Closing e))
     goes_deed (Use k e) t w may g = goes_in moment i mine mine t k e g may (λ q ne. refl) (λ n h. some_one n e (sym h ∙ may))
@@ -150,7 +150,7 @@ module _ (owner : Key → GatewayId) (moment : ℕ) where
     goes_deed (Pass k) t w may g = g
     goes_deed (Skip r) t w may g = g
 
-    pub fits_deed : (d : Deed) (t : List Note) → Talks owner i mine out theirs (taken_by d ++ inn) ph → MayBy (owns owner i) i mine d → Covers ph t → Fits t → Fits (notes_by i moment d ++ t)
+    pub fits_deed : (d : Deed) (t : List Note) → Talks owner i mine out theirs (taken_by d ++ inn) ph → MayDoOwned (owns owner i) i mine d → Covers ph t → Fits t → Fits (noted_by i moment d ++ t)
     fits_deed (Propose k e) t w may c f = f
     fits_deed (Close k e) t w may c f = (tt, f)
     fits_deed (Use k e) t w may c f =
@@ -173,7 +173,7 @@ module _ (owner : Key → GatewayId) (moment : ℕ) where
     fits_deed (Pass k) t w may c f = f
     fits_deed (Skip r) t w may c f = f
 
-pub silent_deed : (moment : ℕ) (i : GatewayId) (d : Deed) (t : List Note) → IsTrue (is_synced i t) → Silent t → Silent (notes_by i moment d ++ t)
+pub silent_deed : (moment : ℕ) (i : GatewayId) (d : Deed) (t : List Note) → IsTrue (is_synced i t) → Silent t → Silent (noted_by i moment d ++ t)
 silent_deed moment i (Propose k e) t s h = h
 silent_deed moment i (Close k e) t s h = (tt, h)
 silent_deed moment i (Use k e) t s h = (s, h)
@@ -189,7 +189,7 @@ silent_deed moment i (Stayed k e) t s h = (tt, h)
 silent_deed moment i (Pass k) t s h = h
 silent_deed moment i (Skip r) t s h = h
 
-pub synced_deed : (moment : ℕ) (j i : GatewayId) (d : Deed) (t : List Note) → is_synced j (notes_by i moment d ++ t) ≡ is_synced j t
+pub synced_deed : (moment : ℕ) (j i : GatewayId) (d : Deed) (t : List Note) → is_synced j (noted_by i moment d ++ t) ≡ is_synced j t
 synced_deed moment j i (Propose k e) t = refl
 synced_deed moment j i (Close k e) t = refl
 synced_deed moment j i (Use k e) t = refl
@@ -205,7 +205,7 @@ synced_deed moment j i (Stayed k e) t = refl
 synced_deed moment j i (Pass k) t = refl
 synced_deed moment j i (Skip r) t = refl
 
-pub goes_other_deed : (moment : ℕ) (j i : GatewayId) (table : Key → Slot) (d : Deed) (t : List Note) → same j i ≡ false → GoesAt j table t → GoesAt j table (notes_by i moment d ++ t)
+pub goes_other_deed : (moment : ℕ) (j i : GatewayId) (table : Key → Slot) (d : Deed) (t : List Note) → same j i ≡ false → GoesAt j table t → GoesAt j table (noted_by i moment d ++ t)
 goes_other_deed moment j i table (Propose k e) t s g = g
 goes_other_deed moment j i table (Close k e) t s g = (goes_other moment j i table t (pair_of k e) s g).1
 goes_other_deed moment j i table (Use k e) t s g = (goes_other moment j i table t (pair_of k e) s g).0

@@ -8,13 +8,13 @@ use Rattle.nat_types.specs.declared.gateways.GatewayId.TheVariants.{Zero, One}
 use Rattle.nat_types.specs.declared.notes.Happening.{Happening}
 use Rattle.nat_types.specs.declared.notes.Happening.TheVariants.{Used, Released, Retaken, Synced, Crashed, Booted}
 use Rattle.nat_types.specs.declared.notes.Note.{Note}
-use Rattle.trace_words.specs.Past.{FitsAt, Fits, SilentAt, Silent, Kept, GoesOn}
-use Rattle.pair_machine.specs.Box.{Letter, In, IsNext, nth}
-use Rattle.pair_machine.specs.Invariant.{IsWorld, Inv, View}
-use Rattle.pair_machine.specs.Ports.{Ranges}
+use Rattle.trace_words.specs.Past.{is_synced, FitsAt, Fits, SilentAt, Silent, Kept, GoesOn}
+use Rattle.pair_machine.specs.Box.{Letter, In, StandsNext, nth}
+use Rattle.pair_machine.proofs.Invariant.{Inv, View}
+use Rattle.pair_machine.specs.Ownership.{Ranges}
 use Rattle.pair_machine.specs.Talk.{MachineRecord}
-use Rattle.pair_machine.specs.World.{HasOwners, Scene, Can, Event, seen_by, flip, happens, IsKept, tables_of, start, Holds, Translates}
-use Rattle.pair_machine.proofs.Kept.{is_kept, has_owners, inv_by, inv_start}
+use Rattle.pair_machine.specs.World.{HasOwners, IsWorld, Scene, seen_by, flip, IsKept, tables_of, founding, TableHolds, TableTranslates, box_in}
+use Rattle.pair_machine.proofs.Kept.{is_kept, has_owners, inv_run, inv_start}
 use Rattle.pair_machine.proofs.Loading.{Reading, reading}
 use Rattle.pair_machine.proofs.Mirror.{inv_flip}
 use Rattle.trace_words.specs.Trace as TheTrace
@@ -47,37 +47,43 @@ module _ (r : Ranges) where
   kept_prop : (s : Scene) → IsProp (IsKept s.trace (tables_of s))
   kept_prop s = hlevel (fits_prop s.trace, silent_prop s.trace, props)
 
+  -- the invariant holds of each
+  inv_world : (s : Scene) → IsWorld r s → ∥ Inv r Zero s ∥₁
+  inv_world s w = ∥∥₁_elim w (hlevel) (λ v. ∣ subst (λ (x : Scene). Inv r Zero x) v.ends (inv_run r v.events (founding r) (inv_start r) v.allowed) ∣₁)
+
   pub promises : (s : Scene) → IsWorld r s → IsKept s.trace (tables_of s)
-  promises s w = ∥∥₁_elim w (kept_prop s) (is_kept r s)
+  promises s w = ∥∥₁_elim (inv_world s w) (kept_prop s) (is_kept r s)
 
   owners_prop : (s : Scene) → IsProp (HasOwners r s)
   owners_prop s = hlevel (props)
 
   pub promises_ports : (s : Scene) → IsWorld r s → HasOwners r s
-  promises_ports s w = ∥∥₁_elim w (owners_prop s) (has_owners r s)
+  promises_ports s w = ∥∥₁_elim (inv_world s w) (owners_prop s) (has_owners r s)
 
-  pub goes_to : (s : Scene) (e : Event) → IsWorld r s → Can r e.by (seen_by e.by s) e.act → IsWorld r (happens r s e)
-  goes_to s e w can = ∥∥₁_elim w (hlevel) (λ v. ∣ inv_by r e.moment e.by e.act s v can ∣₁)
+  -- a gateway's box is synced exactly where the trace says so
+  synced_here : (s : Scene) (i : GatewayId) → Inv r Zero s → (box_in s i).synced ≡ is_synced i s.trace
+  synced_here s Zero v = sym v.here.synced_is
+  synced_here s One v = sym v.there.synced_is
 
-  pub begins_so : IsWorld r (start r)
-  begins_so = ∣ inv_start r ∣₁
+  pub synced_in_order : (s : Scene) (trace : List Note) (i : GatewayId) → IsWorld r s → s.trace ≡ reverse trace → (box_in s i).synced ≡ is_synced i (reverse trace)
+  synced_in_order s trace i w order = ∥∥₁_elim (inv_world s w) (hlevel (props)) (synced_here s i) ∙ ap (is_synced i) order
 
   -- the trace in the order in which its notes were made
   module _ (s : Scene) (trace : List Note) (w : IsWorld r s) (order : s.trace ≡ reverse trace) where
     pub fits_in_order : TheTrace.Fits trace
     fits_in_order = subst (λ (t : List Note). Fits t) order (promises s w).fits
 
-    pub kept_in_order : TheTrace.Kept (Holds (tables_of s)) trace
-    kept_in_order = subst (λ (t : List Note). Kept (Holds (tables_of s)) t) order (promises s w).kept
+    pub kept_in_order : TheTrace.Kept (TableHolds (tables_of s)) trace
+    kept_in_order = subst (λ (t : List Note). Kept (TableHolds (tables_of s)) t) order (promises s w).kept
 
     pub silent_in_order : TheTrace.Silent trace
     silent_in_order = subst (λ (t : List Note). Silent t) order (promises s w).silent
 
-    pub goes_on_in_order : TheTrace.GoesOn (Translates (tables_of s)) trace
-    goes_on_in_order = subst (λ (t : List Note). GoesOn (Translates (tables_of s)) t) order (promises s w).goes_on
+    pub goes_on_in_order : TheTrace.GoesOn (TableTranslates (tables_of s)) trace
+    goes_on_in_order = subst (λ (t : List Note). GoesOn (TableTranslates (tables_of s)) t) order (promises s w).goes_on
 
   -- what may be taken next is what the other pushed at that place
-  next_pushed : (i : GatewayId) (s : Scene) (l : Letter) (n : ℕ) (q : MachineRecord) → Inv r i s → s.theirs.synced ≡ true → In l s.their_mail → IsNext s.mine l n q → nth s.theirs.sent s.mine.taken ≡ Some q
+  next_pushed : (i : GatewayId) (s : Scene) (l : Letter) (n : ℕ) (q : MachineRecord) → Inv r i s → s.theirs.synced ≡ true → In l s.their_mail → StandsNext s.mine l n q → nth s.theirs.sent s.mine.taken ≡ Some q
   next_pushed i s l n q v sb sent reads = elim (cases_Bool s.mine.synced) [
     | inl sa ↦
         let x : View r i s.mine s.theirs s.their_mail s.trace = elim (v.here.state sa) [ inl y ↦ absurd (both_ways s.theirs.synced y.other_out sb) | inr y ↦ y ] in
@@ -88,9 +94,9 @@ module _ (r : Ranges) where
         ap (λ z. nth z s.mine.taken) (x.view.sent ∙ ap (λ g. g ++ x.view.out) x.loads.batch_is) ∙ x.stands
   ]
 
-  pushed_by_other : (i : GatewayId) (s : Scene) (l : Letter) (n : ℕ) (q : MachineRecord) → Inv r Zero s → (seen_by i s).theirs.synced ≡ true → In l (seen_by i s).their_mail → IsNext (seen_by i s).mine l n q → nth (seen_by i s).theirs.sent (seen_by i s).mine.taken ≡ Some q
+  pushed_by_other : (i : GatewayId) (s : Scene) (l : Letter) (n : ℕ) (q : MachineRecord) → Inv r Zero s → (seen_by i s).theirs.synced ≡ true → In l (seen_by i s).their_mail → StandsNext (seen_by i s).mine l n q → nth (seen_by i s).theirs.sent (seen_by i s).mine.taken ≡ Some q
   pushed_by_other Zero s l n q v sb sent reads = next_pushed Zero s l n q v sb sent reads
   pushed_by_other One s l n q v sb sent reads = next_pushed One (flip s) l n q (inv_flip r Zero s v) sb sent reads
 
-  pub takes_in_order : (s : Scene) (i : GatewayId) (l : Letter) (n : ℕ) (q : MachineRecord) → IsWorld r s → (seen_by i s).theirs.synced ≡ true → In l (seen_by i s).their_mail → IsNext (seen_by i s).mine l n q → nth (seen_by i s).theirs.sent (seen_by i s).mine.taken ≡ Some q
-  takes_in_order s i l n q w sb sent reads = ∥∥₁_elim w (hlevel (props)) (λ v. pushed_by_other i s l n q v sb sent reads)
+  pub takes_in_order : (s : Scene) (i : GatewayId) (l : Letter) (n : ℕ) (q : MachineRecord) → IsWorld r s → (seen_by i s).theirs.synced ≡ true → In l (seen_by i s).their_mail → StandsNext (seen_by i s).mine l n q → nth (seen_by i s).theirs.sent (seen_by i s).mine.taken ≡ Some q
+  takes_in_order s i l n q w sb sent reads = ∥∥₁_elim (inv_world s w) (hlevel (props)) (λ v. pushed_by_other i s l n q v sb sent reads)

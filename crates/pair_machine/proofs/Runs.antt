@@ -9,18 +9,13 @@ use Rattle.nat_types.specs.declared.pairs.Key.{Key}
 use Rattle.nat_types.specs.declared.pairs.Pair.{Pair}
 use Rattle.pair_machine.specs.Batch.{AreThose, AreApart, LieWithin}
 use Rattle.pair_machine.specs.Box.{AreBack, is_back, revived}
-use Rattle.pair_machine.specs.Ports.{keyed, Ranges, has, in_run, left_to}
-use Rattle.pair_machine.specs.Rows.{pair_p, crossing, peer_off, using, wanting, asked_yes_notes, LeavesPorts, granting, loading_notes, granted, udp, revival_notes, asked_no_notes, pair_q, range_of, asked_no, loading, sharing, in_six, six_ports, place, two_ranges, revival, losing_notes, host, peer_off_notes, LeadsTo, crossing_notes, losing, using_notes, asked_yes, doomed_notes, doomed}
+use Rattle.pair_machine.specs.Ownership.{keyed, Ranges, has, in_run, left_to}
+use Rattle.pair_machine.specs.Rows.{pair_p, crossing, peer_off, using, wanting, asked_yes_notes, LeavesPorts, granting, loading_notes, granted, udp, revival_notes, asked_no_notes, pair_q, range_of, asked_no, loading, sharing, in_six, six_ports, slot_on, two_ranges, revival, losing_notes, host, peer_off_notes, LeadsTo, crossing_notes, losing, using_notes, asked_yes, doomed_notes, doomed}
 use Rattle.pair_machine.specs.Talk.{Slot, Live, Closing, Free, Doomed, held, Held, pair_of, Pending}
-use Rattle.pair_machine.specs.World.{Event, Scene, happens, AreAllowed, start, run}
+use Rattle.pair_machine.proofs.Worlds.{allowed_join}
+use Rattle.pair_machine.specs.World.{MachineEvent, Scene, AreAllowed, founding, after_events}
 use Rattle.pair_machine.proofs.Batches.{fixed_leaves, batch_new, batch_mirrored}
 use Rattle.pair_machine.proofs.Set.{cases_key}
-
-module _ (r : Ranges) where
-  -- one list of events behind another
-  allowed_join : (xs ys : List Event) (s : Scene) → AreAllowed r xs s → AreAllowed r ys (run r xs s) → AreAllowed r (xs ++ ys) s
-  allowed_join [] ys s a b = b
-  allowed_join (e ∷ xs) ys s a b = (a.0, allowed_join xs ys (happens r s e) a.1 b)
 
 -- a gateway that is up, with nothing promised, may send what it likes
 at_will : {n : ℕ} → (true ≡ true) × ((m : ℕ) → None ≡ Some m → n ≤ m)
@@ -82,9 +77,9 @@ revived_two false true e f = refl
 revived_two false false e f = refl
 
 abbrev pub Loaded : Scene
-Loaded = run two_ranges loading (start two_ranges)
+Loaded = after_events two_ranges loading (founding two_ranges)
 
-loading-allowed : AreAllowed two_ranges loading (start two_ranges)
+loading-allowed : AreAllowed two_ranges loading (founding two_ranges)
 unfolding same_key
 loading-allowed = (
   ((refl, lit< tt), λ l h. absurd h, tt),
@@ -135,14 +130,14 @@ using-allowed = (
 )
 
 abbrev pub Paired : Scene
-Paired = run two_ranges using Loaded
+Paired = after_events two_ranges using Loaded
 
-paired-allowed : (xs : List Event) → AreAllowed two_ranges xs Paired → AreAllowed two_ranges (loading ++ using ++ xs) (start two_ranges)
-paired-allowed xs a = allowed_join two_ranges loading (using ++ xs) (start two_ranges) loading-allowed (allowed_join two_ranges using xs Loaded using-allowed a)
+paired-allowed : (xs : List MachineEvent) → AreAllowed two_ranges xs Paired → AreAllowed two_ranges (loading ++ using ++ xs) (founding two_ranges)
+paired-allowed xs a = allowed_join two_ranges loading (using ++ xs) (founding two_ranges) loading-allowed (allowed_join two_ranges using xs Loaded using-allowed a)
 
-pub using_leads : LeadsTo two_ranges (loading ++ using) (loading_notes ++ using_notes) (place 20000 (Live (host 5000)) ∷ []) (place 20000 (Held (host 5000)) ∷ [])
+pub using_leads : LeadsTo two_ranges (loading ++ using) (loading_notes ++ using_notes) (slot_on 20000 (Live (host 5000)) ∷ []) (slot_on 20000 (Held (host 5000)) ∷ [])
 using_leads = record {
-  allowed = allowed_join two_ranges loading using (start two_ranges) loading-allowed using-allowed;
+  allowed = allowed_join two_ranges loading using (founding two_ranges) loading-allowed using-allowed;
   trace_is = refl;
   zero_is = λ k. over_one (same_key (udp 20000) k) (Live (host 5000)) (Pending (host 5000));
   one_is = λ k. refl;
@@ -185,9 +180,9 @@ crossing-allowed = (
   ),
 )
 
-pub crossing_leads : LeadsTo two_ranges (loading ++ crossing) (loading_notes ++ crossing_notes) (place 20000 (Live (host 5000)) ∷ []) (place 40000 Free ∷ place 20000 (Held (host 5000)) ∷ [])
+pub crossing_leads : LeadsTo two_ranges (loading ++ crossing) (loading_notes ++ crossing_notes) (slot_on 20000 (Live (host 5000)) ∷ []) (slot_on 40000 Free ∷ slot_on 20000 (Held (host 5000)) ∷ [])
 crossing_leads = record {
-  allowed = allowed_join two_ranges loading crossing (start two_ranges) loading-allowed crossing-allowed;
+  allowed = allowed_join two_ranges loading crossing (founding two_ranges) loading-allowed crossing-allowed;
   trace_is = refl;
   zero_is = λ k. over_one (same_key (udp 20000) k) (Live (host 5000)) (Pending (host 5000));
   one_is = λ k. over_both (same_key (udp 40000) k) (same_key (udp 20000) k) (Held (host 5000)) (Doomed (host 5000)) (Pending (host 5000));
@@ -242,7 +237,7 @@ no-allowed = (
   ),
 )
 
-pub no_leads : LeadsTo two_ranges (loading ++ using ++ asked_no) (loading_notes ++ using_notes ++ asked_no_notes) (place 20000 (Live (host 5000)) ∷ []) (place 20000 (Held (host 5000)) ∷ [])
+pub no_leads : LeadsTo two_ranges (loading ++ using ++ asked_no) (loading_notes ++ using_notes ++ asked_no_notes) (slot_on 20000 (Live (host 5000)) ∷ []) (slot_on 20000 (Held (host 5000)) ∷ [])
 no_leads = record {
   allowed = paired-allowed asked_no no-allowed;
   trace_is = refl;
@@ -308,7 +303,7 @@ revival-allowed = (
   ),
 )
 
-pub revival_leads : LeadsTo two_ranges (loading ++ using ++ revival) (loading_notes ++ using_notes ++ revival_notes) (place 20000 (Live (host 5000)) ∷ []) (place 20000 (Held (host 5000)) ∷ [])
+pub revival_leads : LeadsTo two_ranges (loading ++ using ++ revival) (loading_notes ++ using_notes ++ revival_notes) (slot_on 20000 (Live (host 5000)) ∷ []) (slot_on 20000 (Held (host 5000)) ∷ [])
 revival_leads = record {
   allowed = paired-allowed revival revival-allowed;
   trace_is = refl;
@@ -399,9 +394,9 @@ doomed-allowed = (
   ),
 )
 
-pub doomed_leads : LeadsTo two_ranges (loading ++ doomed) (loading_notes ++ doomed_notes) (place 20000 (Live (host 5000)) ∷ []) (place 20000 (Held (host 5000)) ∷ [])
+pub doomed_leads : LeadsTo two_ranges (loading ++ doomed) (loading_notes ++ doomed_notes) (slot_on 20000 (Live (host 5000)) ∷ []) (slot_on 20000 (Held (host 5000)) ∷ [])
 doomed_leads = record {
-  allowed = allowed_join two_ranges loading doomed (start two_ranges) loading-allowed doomed-allowed;
+  allowed = allowed_join two_ranges loading doomed (founding two_ranges) loading-allowed doomed-allowed;
   trace_is = refl;
   zero_is = λ k. refl;
   one_is = λ k. freed_both (same_key (udp 20000) k) (same_key (udp 40000) k) (host 5000);
@@ -442,7 +437,7 @@ off-allowed = (
   ),
 )
 
-pub off_leads : LeadsTo two_ranges (loading ++ using ++ peer_off) (loading_notes ++ using_notes ++ peer_off_notes) (place 20001 (Live (host 5001)) ∷ place 20000 (Live (host 5000)) ∷ []) []
+pub off_leads : LeadsTo two_ranges (loading ++ using ++ peer_off) (loading_notes ++ using_notes ++ peer_off_notes) (slot_on 20001 (Live (host 5001)) ∷ slot_on 20000 (Live (host 5000)) ∷ []) []
 off_leads = record {
   allowed = paired-allowed peer_off off-allowed;
   trace_is = refl;
@@ -462,7 +457,7 @@ rest_of false false = refl
 six_low : (p : ℕ) → 20000 ≤ p → p ≤ 20001 → IsTrue (in_six p)
 six_low p h g = or_left (in_run 20000 20001 p) (in_run 40000 40003 p) (in_run_is 20000 20001 p h g)
 
-sharing-allowed : AreAllowed six_ports sharing (start six_ports)
+sharing-allowed : AreAllowed six_ports sharing (founding six_ports)
 sharing-allowed = (
   ((refl, lit< tt), λ l h. absurd h, tt),
   (
@@ -496,7 +491,7 @@ sharing-allowed = (
 )
 
 abbrev pub Shared : Scene
-Shared = run six_ports sharing (start six_ports)
+Shared = after_events six_ports sharing (founding six_ports)
 
 its_own : (p : ℕ) → has p granted ≡ true → Shared.theirs.owned p ≡ true
 its_own p h = elim (cases_eq p 40003) [
@@ -523,14 +518,14 @@ wanting-allowed = (
 )
 
 abbrev pub Wanted : Scene
-Wanted = run six_ports wanting Shared
+Wanted = after_events six_ports wanting Shared
 
-wanted-allowed : (xs : List Event) → AreAllowed six_ports xs Wanted → AreAllowed six_ports (sharing ++ wanting ++ xs) (start six_ports)
-wanted-allowed xs a = allowed_join six_ports sharing (wanting ++ xs) (start six_ports) sharing-allowed (allowed_join six_ports wanting xs Shared wanting-allowed a)
+wanted-allowed : (xs : List MachineEvent) → AreAllowed six_ports xs Wanted → AreAllowed six_ports (sharing ++ wanting ++ xs) (founding six_ports)
+wanted-allowed xs a = allowed_join six_ports sharing (wanting ++ xs) (founding six_ports) sharing-allowed (allowed_join six_ports wanting xs Shared wanting-allowed a)
 
 -- in flight the two ports are nobody's
 pub wanting_leaves : LeavesPorts (sharing ++ wanting) loading_notes (20000 ∷ 20001 ∷ []) (40000 ∷ 40001 ∷ [])
-wanting_leaves = record { allowed = allowed_join six_ports sharing wanting (start six_ports) sharing-allowed wanting-allowed; trace_is = refl; zero_is = refl; one_is = refl }
+wanting_leaves = record { allowed = allowed_join six_ports sharing wanting (founding six_ports) sharing-allowed wanting-allowed; trace_is = refl; zero_is = refl; one_is = refl }
 
 granting-allowed : AreAllowed six_ports granting Wanted
 unfolding same_key

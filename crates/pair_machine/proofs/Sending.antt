@@ -5,10 +5,10 @@ use Rattle.nat_types.specs.Same.{other}
 use Rattle.nat_types.specs.declared.gateways.GatewayId.{GatewayId}
 use Rattle.pair_machine.specs.Acts.{Send}
 use Rattle.pair_machine.specs.Box.{Box, Letter, nth, letter}
-use Rattle.pair_machine.specs.Invariant.{Within, Awaits, Side, Inv}
-use Rattle.pair_machine.specs.Ports.{Ranges}
+use Rattle.pair_machine.proofs.Invariant.{Within, Awaits, Side, Inv}
+use Rattle.pair_machine.specs.Ownership.{Ranges}
 use Rattle.pair_machine.specs.Talk.{MachineRecord}
-use Rattle.pair_machine.specs.World.{Scene, Can, after}
+use Rattle.pair_machine.specs.World.{Scene, Can, after_act}
 use Rattle.pair_machine.proofs.Lists.{nth_take, nth_drop, nil_part}
 
 module _ (r : Ranges) where
@@ -27,7 +27,7 @@ module _ (r : Ranges) where
   nth_less (suc c) (x ∷ xs) zero r h = omega arith
   nth_less (suc c) (x ∷ xs) (suc n) r h = let less : n < c = nth_less c xs n r h in omega arith
 
-  pub inv_send : (moment : ℕ) (i : GatewayId) (s : Scene) (first count : ℕ) → Inv r i s → Can r i s (Send first count) → Inv r i (after r i moment s (Send first count))
+  pub inv_send : (moment : ℕ) (i : GatewayId) (s : Scene) (first count : ℕ) → Inv r i s → Can r i s (Send first count) → Inv r i (after_act r i moment s (Send first count))
   inv_send moment i s first count v can =
       let a : Box = s.mine in
       let b : Box = s.theirs in

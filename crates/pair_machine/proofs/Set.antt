@@ -7,7 +7,7 @@ use Rattle.nat_types.specs.declared.gateways.GatewayId.{GatewayId}
 use Rattle.nat_types.specs.declared.gateways.GatewayId.TheVariants.{Zero, One}
 use Rattle.nat_types.specs.declared.pairs.Endpoint.{Endpoint}
 use Rattle.nat_types.specs.declared.pairs.Key.{Key}
-use Rattle.pair_machine.specs.Phase.{owns, has_accept}
+use Rattle.pair_machine.proofs.Phase.{owns, has_accept}
 use Rattle.pair_machine.specs.Talk.{MachineRecord, Install, Accept, Refuse, Ask, Yes, No, Begin, Put, Done, Want, Grant, Owner, is_on, on, set_at}
 
 pub cases_key : (a b : Key) → (a ≡ b) ⊎ (a ≡ b → ⊥)

@@ -7,10 +7,10 @@ use Rattle.nat_types.specs.declared.pairs.Key.{Key}
 use Rattle.addresses.specs.declared.transport.Protocol.{Protocol}
 use Rattle.addresses.specs.declared.transport.Protocol.TheVariants.{Tcp, Udp}
 use Rattle.pair_machine.specs.Acts.{LosePorts, LoadOwner, GrantPorts, IsMisplaced, LoadSkip, Take, LoadDone, LoadPut, AreGot, LoadBegin, TakePorts}
-use Rattle.pair_machine.specs.Box.{Box, IsNext, Letter}
-use Rattle.pair_machine.specs.Ports.{has, Ranges, keyed}
+use Rattle.pair_machine.specs.Box.{Box, StandsNext, Letter}
+use Rattle.pair_machine.specs.Ownership.{has, Ranges, keyed}
 use Rattle.pair_machine.specs.Step.{CanTake, IsDecided}
-use Rattle.pair_machine.specs.Talk.{Grant, Owner, Pending, Want, Yes, Agreed, Held, Install, Pass, Live, No, Deed, Begin, Accept, Rejected, Refuse, Stayed, Slot, Doomed, Ask, Put, May, Reject, Closing, Skip, Stay, Free, pair_of, Left, taken_by, MachineRecord, Done}
+use Rattle.pair_machine.specs.Talk.{Grant, Owner, Pending, Want, Yes, Agreed, Held, Install, Pass, Live, No, Deed, Begin, Accept, Rejected, Refuse, Stayed, Slot, Doomed, Ask, Put, MayDo, Reject, Closing, Skip, Stay, Free, pair_of, Left, taken_by, MachineRecord, Done}
 
 -- a slot is such, or it isn't
 pending_or : (s : Slot) → ((e : Endpoint) × (s ≡ Pending e)) ⊎ ((e : Endpoint) → s ≡ Pending e → ⊥)
@@ -95,10 +95,10 @@ module _ (r : Ranges) (i : GatewayId) (a : Box) (l : Letter) (n : ℕ) where
   )
 
   module _ (synced : a.synced ≡ true) (together : a.lone ≡ false) where
-    by_deed : (q : MachineRecord) (d : Deed) → May (keyed a.owned) i a.table d → taken_by d ≡ q ∷ [] → IsNext a l n q → CanTake r i a l
+    by_deed : (q : MachineRecord) (d : Deed) → MayDo (keyed a.owned) i a.table d → taken_by d ≡ q ∷ [] → StandsNext a l n q → CanTake r i a l
     by_deed q d may is next = (Take l n q d, (synced, together, may, is, next), refl, refl)
 
-    pub takes_synced : (q : MachineRecord) → IsNext a l n q → CanTake r i a l
+    pub takes_synced : (q : MachineRecord) → StandsNext a l n q → CanTake r i a l
     takes_synced (Install k e) next = by_deed (Install k e) (Reject k e) tt refl next
     takes_synced (Accept k) next = elim (pending_or (a.table k)) [
       | inl h ↦ by_deed (Accept k) (Agreed k h.0) h.1 refl next
@@ -134,10 +134,10 @@ module _ (r : Ranges) (i : GatewayId) (a : Box) (l : Letter) (n : ℕ) where
     takes_synced (Owner first last) next = by_deed (Owner first last) (Skip (Owner first last)) tt refl next
 
   module _ (unsynced : a.synced ≡ false) (known : IsDecided r a) where
-    skips_it : (q : MachineRecord) → IsMisplaced r a q → IsNext a l n q → CanTake r i a l
+    skips_it : (q : MachineRecord) → IsMisplaced r a q → StandsNext a l n q → CanTake r i a l
     skips_it q out next = (LoadSkip l n q, (unsynced, next, out), refl, refl)
 
-    puts_it : (k : Key) (e : Endpoint) → IsNext a l n (Put k e) → CanTake r i a l
+    puts_it : (k : Key) (e : Endpoint) → StandsNext a l n (Put k e) → CanTake r i a l
     puts_it k e next = elim (cases_Bool a.loading) [
       | inr z ↦ skips_it (Put k e) (λ y inside free none. both_ways a.loading z y) next
       | inl y ↦ elim (cases_Bool (keyed r.in_ranges k)) [
@@ -152,7 +152,7 @@ module _ (r : Ranges) (i : GatewayId) (a : Box) (l : Letter) (n : ℕ) where
       ]
     ]
 
-    names_it : (first last : ℕ) → IsNext a l n (Owner first last) → CanTake r i a l
+    names_it : (first last : ℕ) → StandsNext a l n (Owner first last) → CanTake r i a l
     names_it first last next = elim (cases_Bool a.loading) [
       | inr z ↦ skips_it (Owner first last) (λ y none rises. both_ways a.loading z y) next
       | inl y ↦ elim known.is_empty [
@@ -164,7 +164,7 @@ module _ (r : Ranges) (i : GatewayId) (a : Box) (l : Letter) (n : ℕ) where
       ]
     ]
 
-    pub takes_unsynced : (q : MachineRecord) → IsNext a l n q → CanTake r i a l
+    pub takes_unsynced : (q : MachineRecord) → StandsNext a l n q → CanTake r i a l
     takes_unsynced (Install k e) next = skips_it (Install k e) tt next
     takes_unsynced (Accept k) next = skips_it (Accept k) tt next
     takes_unsynced (Refuse k) next = skips_it (Refuse k) tt next

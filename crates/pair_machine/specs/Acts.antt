@@ -7,9 +7,9 @@ use Rattle.nat_types.specs.declared.notes.Note.{Note}
 use Rattle.nat_types.specs.declared.pairs.Endpoint.{Endpoint}
 use Rattle.nat_types.specs.declared.pairs.Key.{Key}
 use Rattle.nat_types.specs.declared.pairs.Pair.{Pair}
-use Rattle.pair_machine.specs.Box.{AreNew, grants_ports, takes, booted, revived, hands_in, AreBack, put_off, does, Box, skips, retakes, holds_table, AreMirrored, begins, is_done, names, IsNext, empty, hears, wants_ports, loads_one, Letter, takes_ports, letter, hears_anew, crashed, IsVacant}
-use Rattle.pair_machine.specs.Ports.{left_to, Ranges, keyed, Run, AreRising, IsRun, has, AreDistinct, LeaveRest}
-use Rattle.pair_machine.specs.Talk.{pair_of, MachineRecord, Refuse, Owner, Grant, Yes, Install, May, Want, Accept, No, set_at, Begin, Ask, Live, Deed, Done, Free, taken_by, note, IsNew, notes_by, Put, translated}
+use Rattle.pair_machine.specs.Box.{AreLoadable, grants_ports, takes, booted, revived, hands_in, AreBack, put_off, does, Box, skips, retakes, with_table, AreMirrored, takes_begin, takes_done, takes_owner, StandsNext, empty, hears, wants_ports, takes_put, Letter, takes_ports, letter, hears_anew, crashed, IsVacant}
+use Rattle.pair_machine.specs.Ownership.{left_to, Ranges, keyed, Run, AreRising, IsRisingRun, has, AreDistinct, LeaveRest}
+use Rattle.pair_machine.specs.Talk.{pair_of, MachineRecord, Refuse, Owner, Grant, Yes, Install, MayDo, Want, Accept, No, set_at, Begin, Ask, Live, Deed, Done, Free, taken_by, note, IsUnbound, noted_by, Put, translated}
 
 -- what a gateway does, with its free choices
 pub data Act : Type 0 where
@@ -68,19 +68,19 @@ letters_by a (Send first count) = letter a first count ∷ []
 letters_by a x = []
 
 -- the notes, the newest first
-abbrev pub notes_of : GatewayId → ℕ → Act → List Note
-notes_of i moment (Do d) = notes_by i moment d
-notes_of i moment (Take l n r d) = notes_by i moment d
-notes_of i moment (Hear l back os ps part) = retakes i moment back
-notes_of i moment (PeerOff number back) = retakes i moment back
-notes_of i moment (LoadPut l n p) = note i moment (Retaken p) ∷ []
-notes_of i moment (LoadDone l n) = note i moment Synced ∷ []
-notes_of i moment (LoneNew k e) = note i moment (Retaken (pair_of k e)) ∷ []
-notes_of i moment (LoneUse k e) = note i moment (Used (pair_of k e)) ∷ []
-notes_of i moment (LoneDrop k e) = note i moment (Released (pair_of k e)) ∷ []
-notes_of i moment Crash = note i moment Crashed ∷ []
-notes_of i moment (Boot n) = note i moment (Booted n) ∷ []
-notes_of i moment x = []
+abbrev pub act_notes : GatewayId → ℕ → Act → List Note
+act_notes i moment (Do d) = noted_by i moment d
+act_notes i moment (Take l n r d) = noted_by i moment d
+act_notes i moment (Hear l back os ps part) = retakes i moment back
+act_notes i moment (PeerOff number back) = retakes i moment back
+act_notes i moment (LoadPut l n p) = note i moment (Retaken p) ∷ []
+act_notes i moment (LoadDone l n) = note i moment Synced ∷ []
+act_notes i moment (LoneNew k e) = note i moment (Retaken (pair_of k e)) ∷ []
+act_notes i moment (LoneUse k e) = note i moment (Used (pair_of k e)) ∷ []
+act_notes i moment (LoneDrop k e) = note i moment (Released (pair_of k e)) ∷ []
+act_notes i moment Crash = note i moment Crashed ∷ []
+act_notes i moment (Boot n) = note i moment (Booted n) ∷ []
+act_notes i moment x = []
 
 -- each of these ports is owned, and nothing stands at it
 abbrev pub AreSpare : Box → List ℕ → Type 0
@@ -100,34 +100,34 @@ module _ (r : Ranges) where
   IsMisplaced a (Yes k) = Unit {0}
   IsMisplaced a (No k) = Unit {0}
   IsMisplaced a Begin = ⊥
-  IsMisplaced a (Put k e) = a.loading ≡ true → IsTrue (keyed r.in_ranges k) → a.table k ≡ Free → IsNew a.table e → ⊥
+  IsMisplaced a (Put k e) = a.loading ≡ true → IsTrue (keyed r.in_ranges k) → a.table k ≡ Free → IsUnbound a.table e → ⊥
   IsMisplaced a Done = a.loading ≡ true → ⊥
   IsMisplaced a Want = Unit {0}
   IsMisplaced a (Grant ports) = Unit {0}
-  IsMisplaced a (Owner first last) = a.loading ≡ true → ((k : Key) → a.table k ≡ Free) → IsRun r.in_ranges a.named first last → ⊥
+  IsMisplaced a (Owner first last) = a.loading ≡ true → ((k : Key) → a.table k ≡ Free) → IsRisingRun r.in_ranges a.named first last → ⊥
 
   -- when gateway i, at a, may do it, by what it knows itself
   abbrev pub MayAct : GatewayId → Box → Act → Type 0
-  MayAct i a (Do d) = (a.synced ≡ true) × (a.lone ≡ false) × May (keyed a.owned) i a.table d × (taken_by d ≡ [])
-  MayAct i a (Take l n q d) = (a.synced ≡ true) × (a.lone ≡ false) × May (keyed a.owned) i a.table d × (taken_by d ≡ q ∷ []) × IsNext a l n q
+  MayAct i a (Do d) = (a.synced ≡ true) × (a.lone ≡ false) × MayDo (keyed a.owned) i a.table d × (taken_by d ≡ [])
+  MayAct i a (Take l n q d) = (a.synced ≡ true) × (a.lone ≡ false) × MayDo (keyed a.owned) i a.table d × (taken_by d ≡ q ∷ []) × StandsNext a l n q
   MayAct i a (Hear l back os ps part) = (a.synced ≡ true) × (a.peer < l.boot) × AreBack a.table back
       × AreRising r.in_ranges 0 os × LeaveRest r i a.owned os
-      × AreNew r (keyed (left_to r (other i) os)) empty ps × AreMirrored (keyed (left_to r (other i) os)) (λ k. revived (a.table k)) ps
+      × AreLoadable r (keyed (left_to r (other i) os)) empty ps × AreMirrored (keyed (left_to r (other i) os)) (λ k. revived (a.table k)) ps
   MayAct i a (HearAnew l) = (a.up ≡ true) × (a.synced ≡ false) × (a.peer < l.boot)
   MayAct i a (PeerOff number back) = (a.synced ≡ true) × AreBack a.table back
-  MayAct i a (LoadBegin l n) = (a.synced ≡ false) × IsNext a l n Begin
-  MayAct i a (LoadOwner l n first last) = (a.synced ≡ false) × (a.loading ≡ true) × ((k : Key) → a.table k ≡ Free) × IsRun r.in_ranges a.named first last × IsNext a l n (Owner first last)
-  MayAct i a (LoadPut l n p) = (a.synced ≡ false) × (a.loading ≡ true) × (a.table p.key ≡ Free) × IsNew a.table p.endpoint × IsNext a l n (Put p.key p.endpoint) × IsTrue (keyed r.in_ranges p.key)
-  MayAct i a (LoadDone l n) = (a.synced ≡ false) × (a.loading ≡ true) × IsNext a l n Done
-  MayAct i a (LoadSkip l n q) = (a.synced ≡ false) × IsNext a l n q × IsMisplaced a q
+  MayAct i a (LoadBegin l n) = (a.synced ≡ false) × StandsNext a l n Begin
+  MayAct i a (LoadOwner l n first last) = (a.synced ≡ false) × (a.loading ≡ true) × ((k : Key) → a.table k ≡ Free) × IsRisingRun r.in_ranges a.named first last × StandsNext a l n (Owner first last)
+  MayAct i a (LoadPut l n p) = (a.synced ≡ false) × (a.loading ≡ true) × (a.table p.key ≡ Free) × IsUnbound a.table p.endpoint × StandsNext a l n (Put p.key p.endpoint) × IsTrue (keyed r.in_ranges p.key)
+  MayAct i a (LoadDone l n) = (a.synced ≡ false) × (a.loading ≡ true) × StandsNext a l n Done
+  MayAct i a (LoadSkip l n q) = (a.synced ≡ false) × StandsNext a l n q × IsMisplaced a q
   MayAct i a WantPorts = (a.synced ≡ true) × (a.lone ≡ false) × (a.wants ≡ false)
-  MayAct i a (GrantPorts l n ports) = (a.synced ≡ true) × (a.lone ≡ false) × AreDistinct ports × AreSpare a ports × IsNext a l n Want
-  MayAct i a (TakePorts l n ports got) = (a.synced ≡ true) × (a.lone ≡ false) × (a.wants ≡ true) × AreGot a ports got × IsNext a l n (Grant ports)
-  MayAct i a (LosePorts l n ports) = (a.synced ≡ true) × (a.lone ≡ false) × (a.wants ≡ false) × IsNext a l n (Grant ports)
+  MayAct i a (GrantPorts l n ports) = (a.synced ≡ true) × (a.lone ≡ false) × AreDistinct ports × AreSpare a ports × StandsNext a l n Want
+  MayAct i a (TakePorts l n ports got) = (a.synced ≡ true) × (a.lone ≡ false) × (a.wants ≡ true) × AreGot a ports got × StandsNext a l n (Grant ports)
+  MayAct i a (LosePorts l n ports) = (a.synced ≡ true) × (a.lone ≡ false) × (a.wants ≡ false) × StandsNext a l n (Grant ports)
   MayAct i a HandIn = a.synced ≡ true
-  MayAct i a (Ignore l n q) = (a.synced ≡ true) × (a.lone ≡ false) × ((m : ℕ) × (a.promised ≡ Some m)) × IsNext a l n q
+  MayAct i a (Ignore l n q) = (a.synced ≡ true) × (a.lone ≡ false) × ((m : ℕ) × (a.promised ≡ Some m)) × StandsNext a l n q
   MayAct i a (Send first count) = (a.up ≡ true) × ((m : ℕ) → a.promised ≡ Some m → first + count ≤ m)
-  MayAct i a (LoneNew k e) = (a.synced ≡ true) × (a.lone ≡ true) × IsTrue (keyed a.owned k) × (a.table k ≡ Free) × IsNew a.table e
+  MayAct i a (LoneNew k e) = (a.synced ≡ true) × (a.lone ≡ true) × IsTrue (keyed a.owned k) × (a.table k ≡ Free) × IsUnbound a.table e
   MayAct i a (LoneUse k e) = (a.synced ≡ true) × (a.lone ≡ true) × (translated (a.table k) ≡ Some e)
   MayAct i a (LoneDrop k e) = (a.synced ≡ true) × (a.lone ≡ true) × (translated (a.table k) ≡ Some e)
   MayAct i a Crash = a.up ≡ true
@@ -140,10 +140,10 @@ module _ (r : Ranges) where
   box_after i a (Hear l back os ps part) = hears a l.boot os ps part
   box_after i a (HearAnew l) = hears_anew a l.boot
   box_after i a (PeerOff number back) = put_off a number
-  box_after i a (LoadBegin l n) = begins (r.at_begin i) a
-  box_after i a (LoadOwner l n first last) = names a first last
-  box_after i a (LoadPut l n p) = loads_one a p
-  box_after i a (LoadDone l n) = is_done a
+  box_after i a (LoadBegin l n) = takes_begin (r.at_begin i) a
+  box_after i a (LoadOwner l n first last) = takes_owner a first last
+  box_after i a (LoadPut l n p) = takes_put a p
+  box_after i a (LoadDone l n) = takes_done a
   box_after i a (LoadSkip l n q) = skips a
   box_after i a WantPorts = wants_ports a
   box_after i a (GrantPorts l n ports) = grants_ports a ports
@@ -152,8 +152,8 @@ module _ (r : Ranges) where
   box_after i a HandIn = hands_in a
   box_after i a (Ignore l n q) = skips a
   box_after i a (Send first count) = a
-  box_after i a (LoneNew k e) = holds_table a (set_at a.table k (Live e))
+  box_after i a (LoneNew k e) = with_table a (set_at a.table k (Live e))
   box_after i a (LoneUse k e) = a
-  box_after i a (LoneDrop k e) = holds_table a (set_at a.table k Free)
+  box_after i a (LoneDrop k e) = with_table a (set_at a.table k Free)
   box_after i a Crash = crashed a
   box_after i a (Boot n) = booted n

@@ -4,7 +4,7 @@ use Rattle.nat_types.specs.declared.pairs.Endpoint.{Endpoint}
 use Rattle.nat_types.specs.declared.pairs.Key.{Key}
 use Rattle.nat_types.specs.declared.pairs.Pair.{Pair}
 use Rattle.pair_machine.specs.Box.{In}
-use Rattle.pair_machine.specs.Ports.{Ranges, keyed}
+use Rattle.pair_machine.specs.Ownership.{Ranges, keyed}
 use Rattle.pair_machine.specs.Talk.{Slot, held}
 
 -- keys and endpoints are distinct

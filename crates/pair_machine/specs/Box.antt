@@ -6,8 +6,8 @@ use Rattle.nat_types.specs.declared.notes.Note.{Note}
 use Rattle.nat_types.specs.declared.pairs.Endpoint.{Endpoint}
 use Rattle.nat_types.specs.declared.pairs.Key.{Key}
 use Rattle.nat_types.specs.declared.pairs.Pair.{Pair}
-use Rattle.pair_machine.specs.Ports.{Ranges, keyed, Run, no_port, cut, has}
-use Rattle.pair_machine.specs.Talk.{table_after, MachineRecord, Owner, Grant, Want, set_at, Begin, Live, Doomed, Deed, Closing, Done, Free, note, IsNew, Put, Slot, held, pushed_by, Pending, Held}
+use Rattle.pair_machine.specs.Ownership.{Ranges, keyed, Run, no_port, cut, has}
+use Rattle.pair_machine.specs.Talk.{table_after, MachineRecord, Owner, Grant, Want, set_at, Begin, Live, Doomed, Deed, Closing, Done, Free, note, IsUnbound, Put, Slot, held, pushed_by, Pending, Held}
 
 -- One gateway, as the other and the trace can tell it: no timer, no packet, no reason.
 pub record Box : Type 0 where
@@ -110,9 +110,9 @@ AreMirrored own table ps = (k : Key) → load own empty ps k ≡ mirrored own k 
 
 module _ (r : Ranges) where
   -- each pair is new where it is put, and its port lies in the ranges
-  abbrev pub AreNew : (Key → Bool) → (Key → Slot) → List Pair → Type 0
-  AreNew owned table [] = Unit {0}
-  AreNew owned table (p ∷ ps) = (table p.key ≡ Free) × IsNew table p.endpoint × IsTrue (keyed r.in_ranges p.key) × AreNew owned (set_at table p.key (loaded_slot owned p.key p.endpoint)) ps
+  abbrev pub AreLoadable : (Key → Bool) → (Key → Slot) → List Pair → Type 0
+  AreLoadable owned table [] = Unit {0}
+  AreLoadable owned table (p ∷ ps) = (table p.key ≡ Free) × IsUnbound table p.endpoint × IsTrue (keyed r.in_ranges p.key) × AreLoadable owned (set_at table p.key (loaded_slot owned p.key p.endpoint)) ps
 
 -- a slot at the peer's restart: what was proposed or asked to be closed goes on translating
 abbrev pub revived : Slot → Slot
@@ -145,21 +145,47 @@ retakes i moment (p ∷ ps) = note i moment (Retaken p) ∷ retakes i moment ps
 abbrev pub IsVacant : (Key → Slot) → ℕ → Type 0
 IsVacant table p = (k : Key) → k.port.0 ≡ p → table k ≡ Free
 
+-- unsynced, with nothing
+abbrev pub bare : Bool → ℕ → Box
+bare up boot = record {
+  up = up;
+  boot = boot;
+  synced = false;
+  lone = false;
+  peer = 0;
+  table = empty;
+  sent = [];
+  taken = 0;
+  loading = false;
+  owned = no_port;
+  wants = false;
+  named = 0;
+  promised = None;
+}
+
 -- with this table, these records pushed and so many taken
-abbrev pub goes : Box → (Key → Slot) → List MachineRecord → ℕ → Box
-goes a table sent taken = record { up = a.up; boot = a.boot; synced = a.synced; lone = a.lone; peer = a.peer; table = table; sent = sent; taken = taken; loading = a.loading; owned = a.owned; wants = a.wants; named = a.named; promised = a.promised }
+abbrev pub box_with : Box → (Key → Slot) → List MachineRecord → ℕ → Box
+box_with a table sent taken = record a { table = table; sent = sent; taken = taken }
 
 -- it does a deed that takes no record
 abbrev pub does : Box → Deed → Box
-does a d = goes a (table_after a.table d) (a.sent ++ pushed_by d) a.taken
+does a d = box_with a (table_after a.table d) (a.sent ++ pushed_by d) a.taken
 
 -- it does one that takes a record
 abbrev pub takes : Box → Deed → Box
-takes a d = goes a (table_after a.table d) (a.sent ++ pushed_by d) (suc a.taken)
+takes a d = box_with a (table_after a.table d) (a.sent ++ pushed_by d) (suc a.taken)
 
 -- the peer's known boot is another: the session begins anew, and what was proposed or asked to be closed is revived
 abbrev pub resets : Box → ℕ → Bool → List MachineRecord → Option ℕ → Box
-resets a boot lone sent promised = record { up = a.up; boot = a.boot; synced = a.synced; lone = lone; peer = boot; table = λ k. revived (a.table k); sent = sent; taken = 0; loading = a.loading; owned = a.owned; wants = false; named = a.named; promised = promised }
+resets a boot lone sent promised = record a {
+  lone = lone;
+  peer = boot;
+  table = λ k. revived (a.table k);
+  sent = sent;
+  taken = 0;
+  wants = false;
+  promised = promised;
+}
 
 -- It hears a greater boot of the peer, and pushes its table. In parts: all but Done may be sent at first.
 abbrev pub hears : Box → ℕ → List Run → List Pair → Bool → Box
@@ -171,31 +197,33 @@ put_off a boot = resets a boot true [] None
 
 -- unsynced, it hears a greater boot
 abbrev pub hears_anew : Box → ℕ → Box
-hears_anew a boot = record { up = a.up; boot = a.boot; synced = a.synced; lone = a.lone; peer = boot; table = empty; sent = []; taken = 0; loading = false; owned = no_port; wants = false; named = 0; promised = None }
+hears_anew a boot = record (bare a.up a.boot) { synced = a.synced; lone = a.lone; peer = boot }
 
 -- it takes Begin, and is to own these ports
-abbrev pub begins : (ℕ → Bool) → Box → Box
-begins ranges a = record { up = a.up; boot = a.boot; synced = a.synced; lone = a.lone; peer = a.peer; table = empty; sent = a.sent; taken = suc a.taken; loading = true; owned = ranges; wants = a.wants; named = 0; promised = a.promised }
+abbrev pub takes_begin : (ℕ → Bool) → Box → Box
+takes_begin ranges a = record a {
+  table = empty;
+  taken = suc a.taken;
+  loading = true;
+  owned = ranges;
+  named = 0;
+}
 
 -- it has another table
-abbrev pub holds_table : Box → (Key → Slot) → Box
-holds_table a table = goes a table a.sent a.taken
+abbrev pub with_table : Box → (Key → Slot) → Box
+with_table a table = record a { table = table }
 
 -- a record is taken, and nothing else changes
 abbrev pub skips : Box → Box
-skips a = goes a a.table a.sent (suc a.taken)
+skips a = record a { taken = suc a.taken }
 
 -- the rest of what was promised may be sent
 abbrev pub hands_in : Box → Box
-hands_in a = record { up = a.up; boot = a.boot; synced = a.synced; lone = a.lone; peer = a.peer; table = a.table; sent = a.sent; taken = a.taken; loading = a.loading; owned = a.owned; wants = a.wants; named = a.named; promised = None }
+hands_in a = record a { promised = None }
 
 -- it takes Done
-abbrev pub is_done : Box → Box
-is_done a = record { up = a.up; boot = a.boot; synced = true; lone = false; peer = a.peer; table = a.table; sent = a.sent; taken = suc a.taken; loading = false; owned = a.owned; wants = a.wants; named = a.named; promised = None }
-
--- unsynced, with nothing
-abbrev pub bare : Bool → ℕ → Box
-bare up boot = record { up = up; boot = boot; synced = false; lone = false; peer = 0; table = empty; sent = []; taken = 0; loading = false; owned = no_port; wants = false; named = 0; promised = None }
+abbrev pub takes_done : Box → Box
+takes_done a = record a { synced = true; lone = false; taken = suc a.taken; loading = false; promised = None }
 
 -- after a crash
 abbrev pub crashed : Box → Box
@@ -207,7 +235,7 @@ booted n = bare true n
 
 -- gateway 0 as it is founded, with these ports
 abbrev pub founder : (ℕ → Bool) → Box
-founder owned = record { up = true; boot = 1; synced = true; lone = true; peer = 0; table = empty; sent = []; taken = 0; loading = false; owned = owned; wants = false; named = 0; promised = None }
+founder owned = record (bare true 1) { synced = true; lone = true; owned = owned }
 
 -- a gateway that never booted
 abbrev pub never : Box
@@ -215,11 +243,11 @@ never = bare false 0
 
 -- with these ports, records pushed and taken, an open Want or none, and this as the last port named
 abbrev pub owns_ports : Box → List MachineRecord → ℕ → (ℕ → Bool) → Bool → ℕ → Box
-owns_ports a sent taken owned wants named = record { up = a.up; boot = a.boot; synced = a.synced; lone = a.lone; peer = a.peer; table = a.table; sent = sent; taken = taken; loading = a.loading; owned = owned; wants = wants; named = named; promised = a.promised }
+owns_ports a sent taken owned wants named = record a { sent = sent; taken = taken; owned = owned; wants = wants; named = named }
 
 -- it takes an Owner: it won't own that run
-abbrev pub names : Box → ℕ → ℕ → Box
-names a first last = owns_ports a a.sent (suc a.taken) (cut first last a.owned) a.wants last
+abbrev pub takes_owner : Box → ℕ → ℕ → Box
+takes_owner a first last = owns_ports a a.sent (suc a.taken) (cut first last a.owned) a.wants last
 
 -- it asks for ports
 abbrev pub wants_ports : Box → Box
@@ -234,15 +262,15 @@ abbrev pub takes_ports : Box → List ℕ → Box
 takes_ports a got = owns_ports a a.sent (suc a.taken) (λ p. cond (has p got) true (a.owned p)) false a.named
 
 -- it takes a Put: the pair is Live on a port that it is to own, else Held
-abbrev pub loads_one : Box → Pair → Box
-loads_one a p = goes a (set_at a.table p.key (loaded_slot (keyed a.owned) p.key p.endpoint)) a.sent (suc a.taken)
+abbrev pub takes_put : Box → Pair → Box
+takes_put a p = box_with a (set_at a.table p.key (loaded_slot (keyed a.owned) p.key p.endpoint)) a.sent (suc a.taken)
 
 -- the datagram with this part of the records pushed
 abbrev pub letter : Box → ℕ → ℕ → Letter
 letter a first count = record { boot = a.boot; to = a.peer; first = first; records = take count (drop first a.sent) }
 
 -- the letter has this record at the number that is next
-pub record IsNext (a : Box) (l : Letter) (offset : ℕ) (r : MachineRecord) : Type 0 where
+pub record StandsNext (a : Box) (l : Letter) (offset : ℕ) (r : MachineRecord) : Type 0 where
   pub up : a.up ≡ true
   pub boot : l.boot ≡ a.peer
   pub to : l.to ≡ a.boot

@@ -1,11 +1,8 @@
 pub mod Talk
-pub mod Phase
-pub mod Told
-pub mod Ports
+pub mod Ownership
 pub mod Box
 pub mod Acts
 pub mod World
-pub mod Invariant
 pub mod Step
 pub mod Batch
 pub mod Rows

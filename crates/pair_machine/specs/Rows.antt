@@ -10,9 +10,9 @@ use Rattle.nat_types.specs.declared.pairs.Pair.{Pair}
 use Rattle.addresses.specs.declared.transport.Protocol.TheVariants.{Udp}
 use Rattle.pair_machine.specs.Acts.{Act, LoadOwner, HandIn, Send, WantPorts, Take, TakePorts, LoadBegin, LoadPut, PeerOff, Hear, HearAnew, LoneUse, Do, Crash, GrantPorts, Boot, LoadDone}
 use Rattle.pair_machine.specs.Box.{Letter, empty}
-use Rattle.pair_machine.specs.Ports.{Ranges, moving, in_run, Run, fixed}
+use Rattle.pair_machine.specs.Ownership.{Ranges, moving, in_run, Run, fixed}
 use Rattle.pair_machine.specs.Talk.{Owner, Agree, Begin, note, Stayed, set_at, Ask, Yield, MachineRecord, Accept, Propose, Reject, Grant, Done, Stay, Want, No, Left, Rejected, Use, Agreed, Yes, pair_of, Slot, Refuse, Install, Close, Put, Leave}
-use Rattle.pair_machine.specs.World.{Event, run, AreAllowed, start}
+use Rattle.pair_machine.specs.World.{MachineEvent, after_events, AreAllowed, founding}
 
 -- gateway 0's range is 20000 to 39999, gateway 1's 40000 to 59999
 abbrev pub range_of : ℕ → GatewayId
@@ -31,11 +31,11 @@ abbrev pub host : ℕ → Endpoint
 host port = record { protocol = Udp; address = record { 0 = 3232235786 }; port = record { 0 = port } }
 
 -- gateway 0 does this, at this moment of its clock
-abbrev pub zero_at : ℕ → Act → Event
+abbrev pub zero_at : ℕ → Act → MachineEvent
 zero_at m x = record { by = Zero; moment = m; act = x }
 
 -- and gateway 1
-abbrev pub one_at : ℕ → Act → Event
+abbrev pub one_at : ℕ → Act → MachineEvent
 one_at m x = record { by = One; moment = m; act = x }
 
 -- a letter from this boot to that one, with the records that follow so many
@@ -48,8 +48,8 @@ pub record Placed : Type 0 where
   pub slot : Slot
 
 -- what it has at a UDP port
-abbrev pub place : ℕ → Slot → Placed
-place port slot = record { key = udp port; slot = slot }
+abbrev pub slot_on : ℕ → Slot → Placed
+slot_on port slot = record { key = udp port; slot = slot }
 
 -- that table
 abbrev pub with : List Placed → Key → Slot
@@ -57,11 +57,11 @@ with [] = empty
 with (x ∷ xs) = set_at (with xs) x.key x.slot
 
 -- The events are allowed, one after another from the founding, and lead to these notes, the oldest first, and these tables.
-pub record LeadsTo (r : Ranges) (events : List Event) (trace : List Note) (zero one : List Placed) : Type 0 where
-  pub allowed : AreAllowed r events (start r)
-  pub trace_is : reverse (run r events (start r)).trace ≡ trace
-  pub zero_is : (k : Key) → (run r events (start r)).mine.table k ≡ with zero k
-  pub one_is : (k : Key) → (run r events (start r)).theirs.table k ≡ with one k
+pub record LeadsTo (r : Ranges) (events : List MachineEvent) (trace : List Note) (zero one : List Placed) : Type 0 where
+  pub allowed : AreAllowed r events (founding r)
+  pub trace_is : reverse (after_events r events (founding r)).trace ≡ trace
+  pub zero_is : (k : Key) → (after_events r events (founding r)).mine.table k ≡ with zero k
+  pub one_is : (k : Key) → (after_events r events (founding r)).theirs.table k ≡ with one k
 
 -- gateway 1's first datagram
 abbrev pub hello : Letter
@@ -72,7 +72,7 @@ abbrev pub empty_batch : Letter
 empty_batch = letter_of 1 1 0 (Begin ∷ Done ∷ [])
 
 -- gateway 1 boots, is heard, and takes the empty batch
-abbrev pub loading : List Event
+abbrev pub loading : List MachineEvent
 loading = one_at 0 (Boot 1) ∷ one_at 0 (Send 0 0) ∷ zero_at 10 (Hear hello [] [] [] false) ∷ zero_at 10 (Send 0 2)
     ∷ one_at 1 (HearAnew empty_batch) ∷ one_at 1 (LoadBegin empty_batch 0) ∷ one_at 1 (LoadDone empty_batch 1) ∷ []
 
@@ -93,7 +93,7 @@ abbrev pub accept : Letter
 accept = letter_of 1 1 0 (Accept pair_p.key ∷ [])
 
 -- gateway 0 proposes a pair; gateway 1 accepts it; gateway 0 uses it
-abbrev pub using : List Event
+abbrev pub using : List MachineEvent
 using = zero_at 20 (Do (Propose pair_p.key pair_p.endpoint)) ∷ zero_at 20 (Send 2 1) ∷ one_at 11 (Take install 0 (Install pair_p.key pair_p.endpoint) (Agree pair_p.key pair_p.endpoint)) ∷ one_at 11 (Send 0 1)
     ∷ zero_at 21 (Take accept 0 (Accept pair_p.key) (Agreed pair_p.key pair_p.endpoint)) ∷ zero_at 21 (Do (Use pair_p.key pair_p.endpoint)) ∷ []
 
@@ -118,7 +118,7 @@ abbrev pub refuse_1 : Letter
 refuse_1 = letter_of 1 1 3 (Refuse k1 ∷ [])
 
 -- Both propose for one endpoint: gateway 0's proposal wins, gateway 1 uses it, and its own is refused.
-abbrev pub crossing : List Event
+abbrev pub crossing : List MachineEvent
 crossing = zero_at 20 (Do (Propose pair_p.key pair_p.endpoint)) ∷ zero_at 20 (Send 2 1) ∷ one_at 11 (Do (Propose k1 pair_p.endpoint)) ∷ one_at 11 (Send 0 1)
     ∷ one_at 12 (Take install 0 (Install pair_p.key pair_p.endpoint) (Yield pair_p.key pair_p.endpoint k1)) ∷ one_at 12 (Do (Use pair_p.key pair_p.endpoint)) ∷ zero_at 22 (Take install_1 0 (Install k1 pair_p.endpoint) (Reject k1 pair_p.endpoint))
     ∷ one_at 12 (Send 0 2) ∷ zero_at 23 (Take accept_1 1 (Accept pair_p.key) (Agreed pair_p.key pair_p.endpoint)) ∷ zero_at 23 (Send 3 1) ∷ one_at 13 (Take refuse_1 0 (Refuse k1) (Rejected k1)) ∷ []
@@ -136,7 +136,7 @@ abbrev pub yes_letter : Letter
 yes_letter = letter_of 1 1 1 (Yes pair_p.key ∷ [])
 
 -- the idle pair is asked for; the answer is Yes, and both have let it go
-abbrev pub asked_yes : List Event
+abbrev pub asked_yes : List MachineEvent
 asked_yes = zero_at 30021 (Do (Close pair_p.key pair_p.endpoint)) ∷ zero_at 30021 (Send 3 1) ∷ one_at 30011 (Take ask_letter 0 (Ask pair_p.key) (Leave pair_p.key pair_p.endpoint)) ∷ one_at 30011 (Send 1 1)
     ∷ zero_at 30022 (Take yes_letter 0 (Yes pair_p.key) (Left pair_p.key pair_p.endpoint)) ∷ []
 
@@ -149,7 +149,7 @@ abbrev pub no_letter : Letter
 no_letter = letter_of 1 1 1 (No pair_p.key ∷ [])
 
 -- or gateway 1 used it in the meantime: the answer is No, and it goes on
-abbrev pub asked_no : List Event
+abbrev pub asked_no : List MachineEvent
 asked_no = one_at 29000 (Do (Use pair_p.key pair_p.endpoint)) ∷ zero_at 30021 (Do (Close pair_p.key pair_p.endpoint)) ∷ zero_at 30021 (Send 3 1) ∷ one_at 30011 (Take ask_letter 0 (Ask pair_p.key) (Stay pair_p.key pair_p.endpoint)) ∷ one_at 30011 (Send 1 1)
     ∷ zero_at 30022 (Take no_letter 0 (No pair_p.key) (Stayed pair_p.key pair_p.endpoint)) ∷ []
 
@@ -166,7 +166,7 @@ abbrev pub batch_2 : Letter
 batch_2 = letter_of 1 2 0 (Begin ∷ Put pair_p.key pair_p.endpoint ∷ Done ∷ [])
 
 -- The pair is asked for when gateway 1 crashes. Its next boot is heard: the pair is revived, and put into the batch.
-abbrev pub revival : List Event
+abbrev pub revival : List MachineEvent
 revival = zero_at 30021 (Do (Close pair_p.key pair_p.endpoint)) ∷ one_at 30011 Crash ∷ one_at 0 (Boot 2) ∷ one_at 0 (Send 0 0) ∷ zero_at 30031 (Hear hello_2 (pair_p ∷ []) [] (pair_p ∷ []) false) ∷ zero_at 30031 (Send 0 3)
     ∷ one_at 1 (HearAnew batch_2) ∷ one_at 1 (LoadBegin batch_2 0) ∷ one_at 1 (LoadPut batch_2 1 pair_p) ∷ one_at 1 (LoadDone batch_2 2) ∷ []
 
@@ -183,7 +183,7 @@ abbrev pub batch_0 : Letter
 batch_0 = letter_of 1 2 0 (Begin ∷ Put pair_p.key pair_p.endpoint ∷ Done ∷ [])
 
 -- Gateway 0 crashes while gateway 1's own proposal is given up. Its next boot is heard: that proposal is freed, and not revived.
-abbrev pub doomed : List Event
+abbrev pub doomed : List MachineEvent
 doomed = zero_at 20 (Do (Propose pair_p.key pair_p.endpoint)) ∷ zero_at 20 (Send 2 1) ∷ one_at 11 (Do (Propose k1 pair_p.endpoint)) ∷ one_at 12 (Take install 0 (Install pair_p.key pair_p.endpoint) (Yield pair_p.key pair_p.endpoint k1))
     ∷ one_at 12 (Do (Use pair_p.key pair_p.endpoint)) ∷ zero_at 22 Crash ∷ zero_at 0 (Boot 2) ∷ zero_at 0 (Send 0 0) ∷ one_at 13 (Hear hello_0 [] [] (pair_p ∷ []) false) ∷ one_at 13 (Send 0 3)
     ∷ zero_at 1 (HearAnew batch_0) ∷ zero_at 1 (LoadBegin batch_0 0) ∷ zero_at 1 (LoadPut batch_0 1 pair_p) ∷ zero_at 1 (LoadDone batch_0 2) ∷ []
@@ -197,7 +197,7 @@ abbrev pub pair_q : Pair
 pair_q = pair_of (udp 20001) (host 5001)
 
 -- A proposal waits when gateway 1 crashes. The operator says that its boot 1 is off: gateway 0 is alone, and uses the pair.
-abbrev pub peer_off : List Event
+abbrev pub peer_off : List MachineEvent
 peer_off = zero_at 30 (Do (Propose pair_q.key pair_q.endpoint)) ∷ one_at 30 Crash ∷ zero_at 40 (PeerOff 1 (pair_q ∷ [])) ∷ zero_at 40 (LoneUse pair_q.key pair_q.endpoint) ∷ []
 
 -- its notes
@@ -221,18 +221,18 @@ abbrev pub run_of : ℕ → ℕ → Run
 run_of first last = record { first = first; last = last }
 
 -- the events are allowed, and lead to these notes and to these owned ports of the two
-pub record LeavesPorts (events : List Event) (trace : List Note) (zero one : List ℕ) : Type 0 where
-  pub allowed : AreAllowed six_ports events (start six_ports)
-  pub trace_is : reverse (run six_ports events (start six_ports)).trace ≡ trace
-  pub zero_is : filter (run six_ports events (start six_ports)).mine.owned six ≡ zero
-  pub one_is : filter (run six_ports events (start six_ports)).theirs.owned six ≡ one
+pub record LeavesPorts (events : List MachineEvent) (trace : List Note) (zero one : List ℕ) : Type 0 where
+  pub allowed : AreAllowed six_ports events (founding six_ports)
+  pub trace_is : reverse (after_events six_ports events (founding six_ports)).trace ≡ trace
+  pub zero_is : filter (after_events six_ports events (founding six_ports)).mine.owned six ≡ zero
+  pub one_is : filter (after_events six_ports events (founding six_ports)).theirs.owned six ≡ one
 
 -- an empty table, and gateway 0's ports
 abbrev pub named_batch : Letter
 named_batch = letter_of 1 1 0 (Begin ∷ Owner 20000 20001 ∷ Done ∷ [])
 
 -- gateway 1 boots and is loaded in two parts; an Owner names gateway 0's ports
-abbrev pub sharing : List Event
+abbrev pub sharing : List MachineEvent
 sharing = one_at 0 (Boot 1) ∷ one_at 0 (Send 0 0) ∷ zero_at 10 (Hear hello [] (run_of 20000 20001 ∷ []) [] true) ∷ zero_at 10 (Send 0 2) ∷ zero_at 20 HandIn ∷ zero_at 20 (Send 0 3)
     ∷ one_at 1 (HearAnew named_batch) ∷ one_at 1 (LoadBegin named_batch 0) ∷ one_at 1 (LoadOwner named_batch 1 20000 20001) ∷ one_at 1 (LoadDone named_batch 2) ∷ []
 
@@ -249,11 +249,11 @@ abbrev pub grant : Letter
 grant = letter_of 1 1 0 (Grant granted ∷ [])
 
 -- gateway 0 asks for ports, and gateway 1 grants the two greatest
-abbrev pub wanting : List Event
+abbrev pub wanting : List MachineEvent
 wanting = zero_at 30 WantPorts ∷ zero_at 30 (Send 3 1) ∷ one_at 20 (GrantPorts want 0 granted) ∷ one_at 20 (Send 0 1) ∷ []
 
 -- they come, and a pair is proposed on one of them
-abbrev pub granting : List Event
+abbrev pub granting : List MachineEvent
 granting = zero_at 31 (TakePorts grant 0 granted granted) ∷ zero_at 31 (Do (Propose (udp 40002) pair_p.endpoint)) ∷ []
 
 -- an empty table, and what gateway 1 still owns
@@ -261,7 +261,7 @@ abbrev pub rest_batch : Letter
 rest_batch = letter_of 1 2 0 (Begin ∷ Owner 40000 40001 ∷ Done ∷ [])
 
 -- Or the Grant is lost in a crash of gateway 0: once it is loaded again it owns what gateway 1 doesn't.
-abbrev pub losing : List Event
+abbrev pub losing : List MachineEvent
 losing = zero_at 31 Crash ∷ zero_at 0 (Boot 2) ∷ zero_at 0 (Send 0 0) ∷ one_at 40 (Hear hello_0 [] (run_of 40000 40001 ∷ []) [] false) ∷ one_at 40 (Send 0 3)
     ∷ zero_at 1 (HearAnew rest_batch) ∷ zero_at 1 (LoadBegin rest_batch 0) ∷ zero_at 1 (LoadOwner rest_batch 1 40000 40001) ∷ zero_at 1 (LoadDone rest_batch 2) ∷ []
 

@@ -4,10 +4,10 @@ use Rattle.nat_types.specs.declared.gateways.GatewayId.{GatewayId}
 use Rattle.nat_types.specs.declared.notes.Note.{Note}
 use Rattle.nat_types.specs.declared.pairs.Endpoint.{Endpoint}
 use Rattle.nat_types.specs.declared.pairs.Key.{Key}
-use Rattle.pair_machine.specs.Acts.{Act, PeerOff, Crash, Boot, read_by, letters_by, notes_of, MayAct, box_after}
+use Rattle.pair_machine.specs.Acts.{Act, PeerOff, Crash, Boot, read_by, letters_by, act_notes, MayAct, box_after}
 use Rattle.pair_machine.specs.Box.{Box, Letter, In}
-use Rattle.pair_machine.specs.Ports.{Ranges, IsRun}
-use Rattle.pair_machine.specs.Talk.{IsNew, Free}
+use Rattle.pair_machine.specs.Ownership.{Ranges, IsRisingRun}
+use Rattle.pair_machine.specs.Talk.{IsUnbound, Free}
 
 -- the act is no crash and no boot, and the word is one of those that the operator said
 abbrev pub IsGiven : List ℕ → Act → Type 0
@@ -40,22 +40,22 @@ module _ (r : Ranges) where
   boxes_after i a (x ∷ xs) = boxes_after i (box_after r i a x) xs
 
   -- its notes, the newest first, before those that there were
-  abbrev pub noted : GatewayId → ℕ → List Act → List Note → List Note
-  noted i moment [] t = t
-  noted i moment (x ∷ xs) t = noted i moment xs (notes_of i moment x ++ t)
+  abbrev pub notes_after : GatewayId → ℕ → List Act → List Note → List Note
+  notes_after i moment [] t = t
+  notes_after i moment (x ∷ xs) t = notes_after i moment xs (act_notes i moment x ++ t)
 
   -- its letters likewise
-  abbrev pub mailed : GatewayId → Box → List Act → List Letter → List Letter
-  mailed i a [] mail = mail
-  mailed i a (x ∷ xs) mail = mailed i (box_after r i a x) xs (letters_by a x ++ mail)
+  abbrev pub mail_after : GatewayId → Box → List Act → List Letter → List Letter
+  mail_after i a [] mail = mail
+  mail_after i a (x ∷ xs) mail = mail_after i (box_after r i a x) xs (letters_by a x ++ mail)
 
   -- A step of gateway i at this moment: from the box old to the box new, with these notes and letters more.
   pub record IsStep (i : GatewayId) (moment : ℕ) (old new : Box) (handed : List Letter) (words : List ℕ) (t t2 : List Note) (mail mail2 : List Letter) : Type 0 where
     pub acts : List Act
     pub follows : Follows i old handed words acts
     pub box_is : new ≡ boxes_after i old acts
-    pub trace_is : t2 ≡ noted i moment acts t
-    pub mail_is : mail2 ≡ mailed i old acts mail
+    pub trace_is : t2 ≡ notes_after i moment acts t
+    pub mail_is : mail2 ≡ mail_after i old acts mail
 
 -- the next record of the letter is taken by some act
 abbrev pub CanTake : Ranges → GatewayId → Box → Letter → Type 0
@@ -64,6 +64,6 @@ CanTake r i a l = (x : Act) × MayAct r i a x × (read_by x ≡ l ∷ []) × ((b
 -- What a gateway finds out of its own table before it takes a record of a batch: whether a pair has the endpoint,
 -- whether there is any, and whether an Owner names a run.
 pub record IsDecided (r : Ranges) (a : Box) : Type 0 where
-  pub is_new : (e : Endpoint) → IsNew a.table e ⊎ (IsNew a.table e → ⊥)
+  pub is_new : (e : Endpoint) → IsUnbound a.table e ⊎ (IsUnbound a.table e → ⊥)
   pub is_empty : ((k : Key) → a.table k ≡ Free) ⊎ (((k : Key) → a.table k ≡ Free) → ⊥)
-  pub is_run : (first last : ℕ) → IsRun r.in_ranges a.named first last ⊎ (IsRun r.in_ranges a.named first last → ⊥)
+  pub is_run : (first last : ℕ) → IsRisingRun r.in_ranges a.named first last ⊎ (IsRisingRun r.in_ranges a.named first last → ⊥)

@@ -160,25 +160,25 @@ abbrev pub note : GatewayId → ℕ → Happening → Note
 note i moment what = record { by = i; at = moment; what = what }
 
 -- the notes
-abbrev pub notes_by : GatewayId → ℕ → Deed → List Note
-notes_by i moment (Propose k e) = []
-notes_by i moment (Close k e) = note i moment (Released (pair_of k e)) ∷ []
-notes_by i moment (Use k e) = note i moment (Used (pair_of k e)) ∷ []
-notes_by i moment (Agree k e) = note i moment (Retaken (pair_of k e)) ∷ []
-notes_by i moment (Yield k e q) = note i moment (Retaken (pair_of k e)) ∷ []
-notes_by i moment (Reject k e) = []
-notes_by i moment (Agreed k e) = note i moment (Retaken (pair_of k e)) ∷ []
-notes_by i moment (Rejected k) = []
-notes_by i moment (Leave k e) = note i moment (Released (pair_of k e)) ∷ []
-notes_by i moment (Stay k e) = []
-notes_by i moment (Left k e) = []
-notes_by i moment (Stayed k e) = note i moment (Retaken (pair_of k e)) ∷ []
-notes_by i moment (Pass k) = []
-notes_by i moment (Skip r) = []
+abbrev pub noted_by : GatewayId → ℕ → Deed → List Note
+noted_by i moment (Propose k e) = []
+noted_by i moment (Close k e) = note i moment (Released (pair_of k e)) ∷ []
+noted_by i moment (Use k e) = note i moment (Used (pair_of k e)) ∷ []
+noted_by i moment (Agree k e) = note i moment (Retaken (pair_of k e)) ∷ []
+noted_by i moment (Yield k e q) = note i moment (Retaken (pair_of k e)) ∷ []
+noted_by i moment (Reject k e) = []
+noted_by i moment (Agreed k e) = note i moment (Retaken (pair_of k e)) ∷ []
+noted_by i moment (Rejected k) = []
+noted_by i moment (Leave k e) = note i moment (Released (pair_of k e)) ∷ []
+noted_by i moment (Stay k e) = []
+noted_by i moment (Left k e) = []
+noted_by i moment (Stayed k e) = note i moment (Retaken (pair_of k e)) ∷ []
+noted_by i moment (Pass k) = []
+noted_by i moment (Skip r) = []
 
 -- no pair of the table has the endpoint
-abbrev pub IsNew : (Key → Slot) → Endpoint → Type 0
-IsNew table e = (q : Key) → held (table q) ≡ Some e → ⊥
+abbrev pub IsUnbound : (Key → Slot) → Endpoint → Type 0
+IsUnbound table e = (q : Key) → held (table q) ≡ Some e → ⊥
 
 -- owned says whether the gateway owns the port of a key
 module _ (owned : Key → Bool) where
@@ -198,18 +198,18 @@ module _ (owned : Key → Bool) where
   IsLost table (Owner first last) = Unit {0}
 
   -- when gateway i may do it: only an owner's slot is Pending, Doomed, Live or Closing
-  abbrev pub May : GatewayId → (Key → Slot) → Deed → Type 0
-  May i table (Propose k e) = IsTrue (owned k) × (table k ≡ Free) × IsNew table e
-  May i table (Close k e) = table k ≡ Live e
-  May i table (Use k e) = translated (table k) ≡ Some e
-  May i table (Agree k e) = (table k ≡ Free) × IsNew table e
-  May i table (Yield k e q) = (i ≡ One) × (table k ≡ Free) × (table q ≡ Pending e)
-  May i table (Reject k e) = Unit {0}
-  May i table (Agreed k e) = table k ≡ Pending e
-  May i table (Rejected k) = (e : Endpoint) × ((table k ≡ Pending e) ⊎ (table k ≡ Doomed e))
-  May i table (Leave k e) = table k ≡ Held e
-  May i table (Stay k e) = table k ≡ Held e
-  May i table (Left k e) = table k ≡ Closing e
-  May i table (Stayed k e) = table k ≡ Closing e
-  May i table (Pass k) = (e : Endpoint) → table k ≡ Held e → ⊥
-  May i table (Skip r) = IsLost table r
+  abbrev pub MayDo : GatewayId → (Key → Slot) → Deed → Type 0
+  MayDo i table (Propose k e) = IsTrue (owned k) × (table k ≡ Free) × IsUnbound table e
+  MayDo i table (Close k e) = table k ≡ Live e
+  MayDo i table (Use k e) = translated (table k) ≡ Some e
+  MayDo i table (Agree k e) = (table k ≡ Free) × IsUnbound table e
+  MayDo i table (Yield k e q) = (i ≡ One) × (table k ≡ Free) × (table q ≡ Pending e)
+  MayDo i table (Reject k e) = Unit {0}
+  MayDo i table (Agreed k e) = table k ≡ Pending e
+  MayDo i table (Rejected k) = (e : Endpoint) × ((table k ≡ Pending e) ⊎ (table k ≡ Doomed e))
+  MayDo i table (Leave k e) = table k ≡ Held e
+  MayDo i table (Stay k e) = table k ≡ Held e
+  MayDo i table (Left k e) = table k ≡ Closing e
+  MayDo i table (Stayed k e) = table k ≡ Closing e
+  MayDo i table (Pass k) = (e : Endpoint) → table k ≡ Held e → ⊥
+  MayDo i table (Skip r) = IsLost table r

@@ -3,7 +3,7 @@ use Rattle.std.proofs.Common.{◌≡◌, ℕ, ◌+◌, ◌-◌, ◌*◌, ◌/◌
 use Rattle.byteorder.specs.Endian.{big_number}
 use Rattle.sums.specs.Sum.{word_sum, ones_sum, checksum_of, IsRight, IsUpdate}
 use Rattle.sums.proofs.Words.{word_sum-replace}
-use Rattle.rewrite.specs.declared.flows.Flow.{Flow}
+use Rattle.ipv4.specs.declared.flows.Flow.{Flow}
 use Rattle.rewrite.specs.Sums.{address_sum, flow_sum}
 use Rattle.rewrite.specs.Translated.{header_unsummed, header_with, udp_sum, segment_with_ports, moved_sum, with_word, udp_field, udp_with}
 use Rattle.ipv4.specs.Header.{word_at}

@@ -4,8 +4,9 @@ use Rattle.std.proofs.lemmas.List.{drop-drop, get_or-take, get_or-drop, length-t
 use Rattle.byteorder.specs.Endian.{big_number}
 use Rattle.ipv4.specs.Header.{word_at, header_of, payload_of}
 use Rattle.ipv4.specs.Datagram.{datagram_of}
-use Rattle.rewrite.specs.declared.flows.Flow.{Flow}
-use Rattle.rewrite.specs.Translated.{header_with, udp_with, flow_of, translated}
+use Rattle.ipv4.specs.declared.flows.Flow.{Flow}
+use Rattle.ipv4.specs.Flow.{flow_of}
+use Rattle.rewrite.specs.Translated.{header_with, udp_with, translated}
 
 -- a word that lies in the first bytes
 pub word_at-take : (place n : ℕ) (bytes : List ℕ) → place + 2 ≤ n → word_at place (take n bytes) ≡ word_at place bytes

@@ -1,6 +1,6 @@
 -- The words that a translation replaces, added up.
 use Rattle.std.specs.Prelude.{ℕ, ◌+◌, ◌/◌, ◌%◌}
-use Rattle.rewrite.specs.declared.flows.Flow.{Flow}
+use Rattle.ipv4.specs.declared.flows.Flow.{Flow}
 
 -- the two words of an address
 abbrev pub address_sum : ℕ → ℕ

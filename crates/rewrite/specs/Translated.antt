@@ -4,9 +4,10 @@ use Rattle.byteorder.specs.Endian.{big_bytes}
 use Rattle.sums.specs.Sum.{word_sum, checksum_of}
 use Rattle.ipv4.specs.Header.{word_at, header_of, payload_of}
 use Rattle.ipv4.specs.Datagram.{datagram_of}
+use Rattle.ipv4.specs.Flow.{flow_of}
 use Rattle.addresses.specs.declared.internet.Ip.{Ip}
 use Rattle.addresses.specs.declared.transport.Port.{Port}
-use Rattle.rewrite.specs.declared.flows.Flow.{Flow}
+use Rattle.ipv4.specs.declared.flows.Flow.{Flow}
 
 -- bytes with another 16-bit number at a place
 abbrev pub with_word : ℕ → ℕ → List ℕ → List ℕ
@@ -61,15 +62,6 @@ udp_checksum old new segment =
 -- a UDP segment with the ports of `new` and its checksum
 abbrev pub udp_with : Flow → Flow → List ℕ → List ℕ
 udp_with old new segment = with_word 6 (udp_checksum old new segment) (segment_with_ports new segment)
-
--- from where to where a packet goes
-abbrev pub flow_of : List ℕ → Flow
-flow_of packet = record {
-  source = record { 0 = (header_of packet).source };
-  source_port = record { 0 = (datagram_of (payload_of packet)).source_port };
-  destination = record { 0 = (header_of packet).destination };
-  destination_port = record { 0 = (datagram_of (payload_of packet)).destination_port };
-}
 
 -- the header's bytes, options included
 abbrev pub header_bytes : List ℕ → List ℕ

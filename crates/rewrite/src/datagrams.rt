@@ -2,9 +2,10 @@ ghost use Rattle.std.specs.Prelude.{◌≡◌, ◌≤◌, length, drop};
 ghost use Rattle.byteorder.specs.Endian.{big_number};
 ghost use Rattle.rewrite.specs.Translated.{segment_with_ports, udp_field, udp_with, with_word};
 
-use crate::flows::{Flow, update_flow};
+use crate::flows::update_flow;
 use crate::places::read_word;
 use byteorder::{BigEndian, ByteOrder};
+use ipv4::Flow;
 
 /// Where the UDP header's fields lie (RFC 768).
 mod field {

@@ -1,40 +1,9 @@
-ghost use Rattle.std.specs.Prelude.{◌≡◌};
 ghost use Rattle.sums.specs.Sum.{IsUpdate};
-ghost use Rattle.ipv4.specs.Header.{IsIpv4};
-ghost use Rattle.ipv4.specs.Datagram.{IsUdp};
 ghost use Rattle.rewrite.specs.Sums.{address_sum, flow_sum};
-ghost use Rattle.rewrite.specs.Translated.{flow_of};
 
-use ipv4::{Ipv4View, UdpView};
-use addresses::{Ip, Port};
+use addresses::Ip;
+use ipv4::Flow;
 use sums::update;
-
-/// From where to where a packet goes.
-#[derive(Clone, Copy)]
-pub struct Flow {
-    pub source: Ip,
-    pub source_port: Port,
-    pub destination: Ip,
-    pub destination_port: Port,
-}
-
-/// The flow of a UDP packet.
-pub fn flow_of(packet: &[u8]) -> Flow
-    requires ipv4 { IsIpv4 packet.now }
-    requires udp { IsUdp packet.now }
-    ensures { result ≡ flow_of packet.now }
-{
-    let header = Ipv4View { bytes: packet };
-    let datagram = UdpView {
-        bytes: header.payload(),
-    };
-    Flow {
-        source: header.source(),
-        source_port: datagram.source_port(),
-        destination: header.destination(),
-        destination_port: datagram.destination_port(),
-    }
-}
 
 /// A checksum after one address among its words has changed.
 pub fn update_address(checksum: u16, old: Ip, new: Ip) -> u16

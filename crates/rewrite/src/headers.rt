@@ -2,9 +2,10 @@ ghost use Rattle.std.specs.Prelude.{◌≡◌, ◌<◌, ◌≤◌, length, slice
 ghost use Rattle.sums.specs.Sum.{checksum_of, IsRight};
 ghost use Rattle.rewrite.specs.Translated.{header_unsummed, header_with, with_word};
 
-use crate::flows::{Flow, update_address};
+use crate::flows::update_address;
 use crate::places::{read_address, read_word};
 use byteorder::{BigEndian, ByteOrder};
+use ipv4::Flow;
 use sums::update;
 
 /// Where the header's fields lie (RFC 791, section 3.1).

@@ -2,11 +2,12 @@
 #![tactic(auto)]
 
 ghost use Rattle.std.specs.Prelude.{◌≡◌, ℕ, ◌+◌, ◌%◌, ◌<◌, ◌≤◌, ◌↔◌, IsOk, OnOk, OnErr, List, length, slice_index};
-ghost use Rattle.rewrite.specs.declared.flows.Flow.{Flow as FlowValue};
+ghost use Rattle.ipv4.specs.declared.flows.Flow.{Flow as FlowValue};
+ghost use Rattle.ipv4.specs.Flow.{flow_of};
 ghost use Rattle.sums.specs.Sum.{IsRight};
 ghost use Rattle.ipv4.specs.Header.{header_of, payload_of, IsIpv4};
 ghost use Rattle.ipv4.specs.Datagram.{datagram_of, IsUdp};
-ghost use Rattle.rewrite.specs.Translated.{flow_of, header_with, moved_sum, translated, outward_of, inward_of};
+ghost use Rattle.rewrite.specs.Translated.{header_with, moved_sum, translated, outward_of, inward_of};
 
 mod datagrams;
 mod flows;
@@ -14,10 +15,9 @@ mod headers;
 mod places;
 
 use crate::datagrams::rewrite_udp;
-use crate::flows::{Flow, flow_of};
 use crate::headers::rewrite_header;
-use ipv4::{Ipv4View, UdpView};
 use addresses::{Ip, Port};
+use ipv4::{Flow, Ipv4View, UdpView};
 use thiserror::Error;
 
 /// Why a packet isn't translated.
@@ -36,7 +36,7 @@ pub fn outward(packet: &mut [u8], from: Ip, port: Port) -> Result<(), RewriteFau
     ensures ok { OnOk result (packet.new ≡ outward_of from port packet.old) }
     ensures err { OnErr result (packet.new ≡ packet.old) }
 {
-    let old = flow_of(packet);
+    let old = Flow::of(&Ipv4View { bytes: packet });
     let new = Flow {
         source: from,
         source_port: port,
@@ -53,7 +53,7 @@ pub fn inward(packet: &mut [u8], to: Ip, port: Port) -> Result<(), RewriteFault>
     ensures ok { OnOk result (packet.new ≡ inward_of to port packet.old) }
     ensures err { OnErr result (packet.new ≡ packet.old) }
 {
-    let old = flow_of(packet);
+    let old = Flow::of(&Ipv4View { bytes: packet });
     let new = Flow {
         destination: to,
         destination_port: port,

@@ -2,8 +2,8 @@ ghost use Rattle.std.specs.Prelude.{◌≡◌, ◌+◌, ◌≤◌, length, drop}
 ghost use Rattle.byteorder.specs.Endian.{big_number};
 ghost use Rattle.ipv4.specs.Header.{word_at};
 
-use byteorder::{BigEndian, ByteOrder};
 use addresses::Ip;
+use byteorder::{BigEndian, ByteOrder};
 
 /// The 16-bit number at a place.
 pub fn read_word(bytes: &[u8], at: usize) -> u16

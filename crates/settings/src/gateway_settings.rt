@@ -1,3 +1,4 @@
+//! What one of the two gateways is set up with.
 ghost use Rattle.std.specs.Prelude.{◌≤◌, ◌<◌};
 
 use addresses::{Ip, Mac};

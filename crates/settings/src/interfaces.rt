@@ -1,3 +1,4 @@
+//! The two networks, and the neighbours that are known beforehand.
 ghost use Rattle.std.specs.Prelude.{◌≡◌, ◌≤◌, ◌<◌};
 
 use addresses::{Ip, Mac, Prefix};

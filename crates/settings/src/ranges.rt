@@ -1,3 +1,4 @@
+//! The ranges of outside ports.
 ghost use Rattle.std.specs.Prelude.{◌≡◌, ◌≤◌};
 ghost use Rattle.settings.specs.Ranges.{of_gateway, Overlap};
 

@@ -1,3 +1,4 @@
+//! The sample settings.
 ghost use Rattle.std.specs.Prelude.{◌≡◌, ◌<◌, IfOk, codes};
 ghost use Rattle.nat_types.specs.declared.gateways.Side.TheVariants.{Inside};
 ghost use Rattle.settings.specs.Sample.{address, Spans, IsNetwork, IsGateway, IsSample, neighbour_of, sample_neighbours};

@@ -1,3 +1,4 @@
+//! All that a pair is set up with.
 ghost use Rattle.std.specs.Prelude.{◌≤◌, vec_len};
 
 use crate::{GatewaySettings, Interface, Neighbour, PortRanges};

@@ -9,7 +9,7 @@ use Rattle.nat_types.specs.declared.notes.Happening.TheVariants.{Used, Released,
 use Rattle.nat_types.specs.declared.notes.Note.{Note}
 use Rattle.nat_types.specs.Same.{same, other, same_pair}
 use Rattle.trace_words.specs.Past.{is_synced, let_go_after, has_let_go, is_agreed, open_after, is_open, DoFit, FitsAt, Fits, rest_of, UsesAt, UsedInLife, IsIdle, IdleAt, Idle}
-use Rattle.trace_words.specs.OneBox.{Map, Move, Allot, Use, Drop, IsNew, May, after, Leads, moves_at, release_after, last_release, AreTimely, IsRun, IsOneToOne}
+use Rattle.trace_words.specs.OneBox.{Map, Move, Allot, Use, Drop, IsNewTo, MayMove, map_after, Leads, moves_at, release_after, last_release, AreTimely, IsRun, IsOneToOne}
 use Rattle.nat_types.proofs.Equal.{same-eq, same-true, pair-self, pair-eq, pair-parts, pair-true, pair-false}
 
 -- the map of the open pairs
@@ -23,7 +23,7 @@ flip p q = elim (cases_Bool (same_pair p q)) [
 ]
 
 -- a pair that fits all open ones, and isn't open, is new
-new_pair : (p : Pair) (t : List Note) → FitsAt (Used p) t → is_open p t ≡ false → IsNew p (opens t)
+new_pair : (p : Pair) (t : List Note) → FitsAt (Used p) t → is_open p t ≡ false → IsNewTo p (opens t)
 new_pair p t f closed q o = let fit : DoFit q p = f q o in (
   λ h. both_ways (is_open p t) closed (subst (λ (x : Pair). IsTrue (is_open x t)) (pair-parts q p h (fit.0 h)) o),
   λ h. both_ways (is_open p t) closed (subst (λ (x : Pair). IsTrue (is_open x t)) (pair-parts q p (fit.1 h) h) o),
@@ -173,7 +173,7 @@ pub run_open : (m : Map) (t : List Note) → IsRun m t → (q : Pair) → m q �
 run_open m [] r q = r q
 run_open m (n ∷ t) r q = open_at n.by n.what r.0 t m (run_open r.0 t r.1) r.2 q
 
-one_allot : (p : Pair) (l : Map) → IsNew p l → IsOneToOne l → IsOneToOne (after l (Allot p))
+one_allot : (p : Pair) (l : Map) → IsNewTo p l → IsOneToOne l → IsOneToOne (map_after l (Allot p))
 one_allot p l new one a b ha hb =
     elim (or_cases (same_pair a p) (l a) ha) [
       | inl ea ↦ let ap_ : a ≡ p = pair-eq a p ea in elim (or_cases (same_pair b p) (l b) hb) [
@@ -186,14 +186,14 @@ one_allot p l new one a b ha hb =
       ]
     ]
 
-one_move : (x : Move) (l : Map) → May l x → IsOneToOne l → IsOneToOne (after l x)
+one_move : (x : Move) (l : Map) → MayMove l x → IsOneToOne l → IsOneToOne (map_after l x)
 one_move (Allot p) l may one = one_allot p l may one
 one_move (Use p) l may one = one
 one_move (Drop p) l may one = λ a b ha hb. one a b (and_parts (l a) (not (same_pair a p)) ha).0 (and_parts (l b) (not (same_pair b p)) hb).0
 
 one_leads : (xs : List Move) (l m : Map) → Leads l xs m → IsOneToOne l → IsOneToOne m
 one_leads [] l m h one = λ a b ha hb. one a b (sym (h a) ∙ ha) (sym (h b) ∙ hb)
-one_leads (x ∷ xs) l m h one = one_leads xs (after l x) m h.1 (one_move x l h.0 one)
+one_leads (x ∷ xs) l m h one = one_leads xs (map_after l x) m h.1 (one_move x l h.0 one)
 
 -- the map of a run is one to one
 pub run_one : (m : Map) (t : List Note) → IsRun m t → IsOneToOne m

@@ -8,7 +8,7 @@ use Rattle.trace_words.specs.declared.checker.AuditFault.{AuditFault}
 use Rattle.trace_words.specs.declared.checker.AuditFault.TheVariants.{NoMemory, NotFits, NotKept, NotSilent}
 use Rattle.trace_words.specs.Past as past
 use Rattle.trace_words.specs.Trace.{Fits, Silent, Kept}
-use Rattle.trace_words.specs.Audit.{Holds, FirstNotSilent, FirstNotFits, FaultSays, IsFound}
+use Rattle.trace_words.specs.Audit.{ListsHold, FirstNotSilent, FirstNotFits, FaultSays, IsFound}
 
 fits_end : (xs ys : List Note) → past.Fits (xs ++ ys) → past.Fits ys
 fits_end [] ys f = f
@@ -78,7 +78,7 @@ one_fault xs z o (NotSilent a) NotKept fo go f h = absurd (f.2 (silent_first a x
 one_fault xs z o (NotSilent a) (NotSilent b) fo go f h = ap (λ x. NotSilent x) (loud_loud xs a b f h)
 
 -- and none where all is well
-pub no_fault : (xs : List Note) (zero one : List Pair) (f : AuditFault) → Fits xs → Silent xs → Kept (Holds zero one) xs → IsFound f → FaultSays xs zero one f → ⊥
+pub no_fault : (xs : List Note) (zero one : List Pair) (f : AuditFault) → Fits xs → Silent xs → Kept (ListsHold zero one) xs → IsFound f → FaultSays xs zero one f → ⊥
 no_fault xs z o NoMemory fits silent kept fo f = fo
 no_fault xs z o (NotFits a) fits silent kept fo f = f.2 (fits_first a xs fits)
 no_fault xs z o NotKept fits silent kept fo f = f.2 kept

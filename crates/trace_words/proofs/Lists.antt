@@ -67,5 +67,5 @@ without_iff q p xs agreed b if_same f =
     ]
 
 -- the notes so far with one more, the newest first
-pub reverse_take : (xs : List Note) (i : ℕ) (d : Note) → i < length xs → reverse (take (i + 1) xs) ≡ get_or xs i d ∷ reverse (take i xs)
-reverse_take xs i d h = ap reverse (take_more xs i d h) ∙ reverse-append (take i xs) (get_or xs i d ∷ [])
+pub reverse_take : (xs : List Note) (i : ℕ) (n : Note) → i < length xs → n ≡ get_or xs i n → reverse (take (i + 1) xs) ≡ n ∷ reverse (take i xs)
+reverse_take xs i n h e = ap reverse (take_more xs i n h) ∙ reverse-append (take i xs) (get_or xs i n ∷ []) ∙ ap (λ (x : Note). x ∷ reverse (take i xs)) (sym e)

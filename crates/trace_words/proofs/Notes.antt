@@ -15,7 +15,7 @@ use Rattle.nat_types.proofs.Equal.{pair-eq}
 use Rattle.trace_words.specs.declared.checker.AuditFault.{AuditFault}
 use Rattle.trace_words.specs.declared.checker.AuditFault.TheVariants.{NoMemory, NotFits, NotKept, NotSilent}
 use Rattle.trace_words.specs.Past.{is_open, synced_after, is_synced, has_let_go, is_agreed, open_after, DoFit, FitsAt, SilentAt, Fits, Silent, Kept}
-use Rattle.trace_words.specs.Audit.{Holds, FirstNotFits, FirstNotSilent, FaultSays, AreOpen, Judged, Going, by_gateway}
+use Rattle.trace_words.specs.Audit.{ListsHold, FirstNotFits, FirstNotSilent, FaultSays, AreOpen, Judged, Going, by_gateway}
 use Rattle.trace_words.proofs.Lists.{push_iff, has_iff, without_iff, reverse_take}
 
 pub fits_open : (i : GatewayId) (w : Happening) (p : Pair) (xs : List Pair) (s : Bool) → w ≡ Used p → All (λ q. DoFit q p) xs → s ≡ true → (t : List Note) → AreOpen xs t → s ≡ is_synced i t → FitsAt w t × SilentAt i w t
@@ -52,40 +52,36 @@ released_stays p xs t i w opens e agreed q =
     subst (λ (x : Happening). Contains xs q ↔ IsTrue (open_after q x (is_agreed i q t) (is_open q t))) (sym e) (subst (λ b. Contains xs q ↔ IsTrue b) stays (opens q))
 
 -- the tables at the end
-pub is_kept : (opens zero one : List Pair) (z o : Bool) (t : List Note) → Going opens z o t → (IsTrue z → All (Contains zero) opens) × (IsTrue o → All (Contains one) opens) → Kept (Holds zero one) t
+pub is_kept : (opens zero one : List Pair) (z o : Bool) (t : List Note) → Going opens z o t → (IsTrue z → All (Contains zero) opens) × (IsTrue o → All (Contains one) opens) → Kept (ListsHold zero one) t
 is_kept opens zero one z o t g have p open_ Zero s = All-contains (Contains zero) opens p (have.0 (g.zero_is ∙ s)) ((g.pairs p).1 open_)
 is_kept opens zero one z o t g have p open_ One s = All-contains (Contains one) opens p (have.1 (g.one_is ∙ s)) ((g.pairs p).1 open_)
 
-pub isnt_kept : (opens zero one : List Pair) (z o : Bool) (t : List Note) → Going opens z o t → ((IsTrue z → All (Contains zero) opens) × (IsTrue o → All (Contains one) opens) → ⊥) → Kept (Holds zero one) t → ⊥
+pub isnt_kept : (opens zero one : List Pair) (z o : Bool) (t : List Note) → Going opens z o t → ((IsTrue z → All (Contains zero) opens) × (IsTrue o → All (Contains one) opens) → ⊥) → Kept (ListsHold zero one) t → ⊥
 isnt_kept opens zero one z o t g bad kept = bad (
   λ up j d lt. kept (get_or opens j d) ((g.pairs (get_or opens j d)).0 (Contains-get_or opens j d lt)) Zero (sym g.zero_is ∙ up),
   λ up j d lt. kept (get_or opens j d) ((g.pairs (get_or opens j d)).0 (Contains-get_or opens j d lt)) One (sym g.one_is ∙ up),
 )
 
 -- what a note is charged with, told of the trace
-pub charged : (xs : List Note) (i : ℕ) (d : Note) (zero one : List Pair) (f : AuditFault) → i < length xs → Fits (reverse (take i xs)) → Silent (reverse (take i xs)) → Judged (reverse (take i xs)) (get_or xs i d) (i + 1) f → FaultSays xs zero one f
-charged xs i d zero one NoMemory lt fits silent j = tt
-charged xs i d zero one (NotFits k) lt fits silent j =
+pub charged : (xs : List Note) (i : ℕ) (n : Note) (zero one : List Pair) (f : AuditFault) → i < length xs → n ≡ get_or xs i n → Fits (reverse (take i xs)) → Silent (reverse (take i xs)) → Judged (reverse (take i xs)) n (i + 1) f → FaultSays xs zero one f
+charged xs i n zero one NoMemory lt here fits silent j = tt
+charged xs i n zero one (NotFits k) lt here fits silent j =
     let before : i ≡ i + 1 - 1 = omega arith in
-    let more = reverse_take xs i d lt in
+    let more = reverse_take xs i n lt here in
     subst (FirstNotFits xs) (sym j.0) (
       subst (λ x. Fits (reverse (take x xs))) before fits,
       subst Silent (sym more) (j.1, silent),
-      λ h. let all : Fits (get_or xs i d ∷ reverse (take i xs)) = subst Fits more h in j.2 all.0,
+      λ h. let all : Fits (n ∷ reverse (take i xs)) = subst Fits more h in j.2 all.0,
     )
-charged xs i d zero one NotKept lt fits silent j = absurd j
-charged xs i d zero one (NotSilent k) lt fits silent j =
+charged xs i n zero one NotKept lt here fits silent j = absurd j
+charged xs i n zero one (NotSilent k) lt here fits silent j =
     let before : i ≡ i + 1 - 1 = omega arith in
-    let more = reverse_take xs i d lt in
+    let more = reverse_take xs i n lt here in
     subst (FirstNotSilent xs) (sym j.0) (
       subst (λ x. Fits (reverse (take x xs))) before fits,
       subst (λ x. Silent (reverse (take x xs))) before silent,
-      λ h. let all : Silent (get_or xs i d ∷ reverse (take i xs)) = subst Silent more h in j.1 all.0,
+      λ h. let all : Silent (n ∷ reverse (take i xs)) = subst Silent more h in j.1 all.0,
     )
-
--- what the kit writes for a note past the end
-abbrev pub first_note : Note
-first_note = record { by = Zero; at = 0; what = Used (record { key = record { protocol = Tcp; port = record { 0 = 0 } }; endpoint = record { protocol = Tcp; address = record { 0 = 0 }; port = record { 0 = 0 } } }) }
 
 pub gateway_is : (i : GatewayId) (zero one : Bool) (t : List Note) → zero ≡ is_synced Zero t → one ≡ is_synced One t → by_gateway i zero one ≡ is_synced i t
 gateway_is Zero zero one t a b = a
@@ -100,8 +96,8 @@ going_on opens opens2 zero one zero2 one2 n t g pairs z o ok = record {
   silent = (ok.1, g.silent);
 }
 
-pub going_next : (opens : List Pair) (zero one : Bool) (xs : List Note) (i : ℕ) → i < length xs → Going opens zero one (get_or xs i first_note ∷ reverse (take i xs)) → Going opens zero one (reverse (take (i + 1) xs))
-going_next opens zero one xs i lt g = subst (λ (t : List Note). Going opens zero one t) (sym (reverse_take xs i first_note lt)) g
+pub going_next : (opens : List Pair) (zero one : Bool) (xs : List Note) (i : ℕ) (n : Note) → i < length xs → n ≡ get_or xs i n → Going opens zero one (n ∷ reverse (take i xs)) → Going opens zero one (reverse (take (i + 1) xs))
+going_next opens zero one xs i n lt here g = subst (λ (t : List Note). Going opens zero one t) (sym (reverse_take xs i n lt here)) g
 
 -- at the end the notes so far are all
 pub going_end : (opens : List Pair) (zero one : Bool) (xs : List Note) (i : ℕ) → length xs ≤ i → Going opens zero one (reverse (take i xs)) → Going opens zero one (reverse xs)

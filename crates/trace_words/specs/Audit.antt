@@ -10,9 +10,9 @@ use Rattle.trace_words.specs.Past as past
 use Rattle.trace_words.specs.Trace.{Fits, Silent, Kept}
 
 -- the pairs of the two tables
-abbrev pub Holds : List Pair → List Pair → GatewayId → Pair → Type 0
-Holds zero one Zero pair = Contains zero pair
-Holds zero one One pair = Contains one pair
+abbrev pub ListsHold : List Pair → List Pair → GatewayId → Pair → Type 0
+ListsHold zero one Zero pair = Contains zero pair
+ListsHold zero one One pair = Contains one pair
 
 -- The notes before the position, which counts from 1, fit and are silent; with the note there they aren't silent.
 abbrev pub FirstNotSilent : List Note → ℕ → Type 0
@@ -26,7 +26,7 @@ FirstNotFits trace position = Fits (take (position - 1) trace) × Silent (take p
 abbrev pub FaultSays : List Note → List Pair → List Pair → AuditFault → Type 0
 FaultSays trace zero one NoMemory = Unit {0}
 FaultSays trace zero one (NotFits position) = FirstNotFits trace position
-FaultSays trace zero one NotKept = Fits trace × Silent trace × (Kept (Holds zero one) trace → ⊥)
+FaultSays trace zero one NotKept = Fits trace × Silent trace × (Kept (ListsHold zero one) trace → ⊥)
 FaultSays trace zero one (NotSilent position) = FirstNotSilent trace position
 
 -- a fault of the trace or of the tables

@@ -19,25 +19,25 @@ pub data Move : Type 0 where
   Drop : (pair : Pair) → Move
 
 -- key and endpoint are both new to the map
-abbrev pub IsNew : Pair → Map → Type 0
-IsNew pair map = (q : Pair) → IsTrue (map q) → (q.key ≡ pair.key → ⊥) × (q.endpoint ≡ pair.endpoint → ⊥)
+abbrev pub IsNewTo : Pair → Map → Type 0
+IsNewTo pair map = (q : Pair) → IsTrue (map q) → (q.key ≡ pair.key → ⊥) × (q.endpoint ≡ pair.endpoint → ⊥)
 
 -- a move may be made: what is allotted is new, and what is used or dropped is in the map
-abbrev pub May : Map → Move → Type 0
-May map (Allot pair) = IsNew pair map
-May map (Use pair) = IsTrue (map pair)
-May map (Drop pair) = IsTrue (map pair)
+abbrev pub MayMove : Map → Move → Type 0
+MayMove map (Allot pair) = IsNewTo pair map
+MayMove map (Use pair) = IsTrue (map pair)
+MayMove map (Drop pair) = IsTrue (map pair)
 
 -- the map after a move
-abbrev pub after : Map → Move → Map
-after map (Allot pair) q = same_pair q pair || map q
-after map (Use pair) q = map q
-after map (Drop pair) q = map q && not (same_pair q pair)
+abbrev pub map_after : Map → Move → Map
+map_after map (Allot pair) q = same_pair q pair || map q
+map_after map (Use pair) q = map q
+map_after map (Drop pair) q = map q && not (same_pair q pair)
 
 -- moves that may be made one after another lead from a map to another
 abbrev pub Leads : Map → List Move → Map → Type 0
 Leads map [] last = (q : Pair) → last q ≡ map q
-Leads map (move ∷ moves) last = May map move × Leads (after map move) moves last
+Leads map (move ∷ moves) last = MayMove map move × Leads (map_after map move) moves last
 
 -- What the box does at a note: a use, with an Allot before it where the pair isn't in the map; a Drop at an agreed deletion of a pair that is in it.
 abbrev pub moves_at : Map → GatewayId → Happening → List Note → List Move

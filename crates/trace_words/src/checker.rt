@@ -3,7 +3,7 @@ ghost use Rattle.nat_types.specs.Same.{other, same, same_pair};
 ghost use Rattle.nat_types.specs.declared.notes.Note.{Note as Noted};
 ghost use Rattle.trace_words.specs.Past as past;
 ghost use Rattle.trace_words.specs.Trace.{Fits, Silent, Kept};
-ghost use Rattle.trace_words.specs.Audit.{Holds, FaultSays, AreOpen, Judged, by_gateway};
+ghost use Rattle.trace_words.specs.Audit.{ListsHold, FaultSays, AreOpen, Judged, by_gateway};
 ghost use Rattle.trace_words.specs.declared.checker.AuditFault.TheVariants as faults;
 
 use nat_types::{GatewayId, Happening, Note, Pair};
@@ -193,7 +193,7 @@ fn follow(opens: &mut Vec<Pair>, before: &[Note], alone: bool, note: &Note) -> R
 pub fn audit(alloc: Global, trace: &[Note], zero: &[Pair], one: &[Pair]) -> Result<(), AuditFault>
     ensures fits { OnOk result (Fits trace.now) }
     ensures silent { OnOk result (Silent trace.now) }
-    ensures kept { OnOk result (Kept (Holds zero.now one.now) trace.now) }
+    ensures kept { OnOk result (Kept (ListsHold zero.now one.now) trace.now) }
     ensures fault { IfErr result (FaultSays trace.now zero.now one.now) }
 {
     let mut opens = Vec::new(alloc);

@@ -11,7 +11,7 @@ ghost use Rattle.trace_words.specs.Past as past;
 ghost use Rattle.trace_words.specs.Trace.{IsSynced, HasLetGo, IsAgreed, IsOpen, GoesOnWith, Fits, Silent, Kept, GoesOn, Idle};
 ghost use Rattle.trace_words.specs.Position.{SyncedSays, LetGoSays, AgreedSays, OpenSays, GoesOnSays, TranslatesSays, FitsSays, SilentSays, KeptSays, IdleSays};
 ghost use Rattle.trace_words.specs.OneBox.{Map, IsRun, IsOneToOne, IsOneBox};
-ghost use Rattle.trace_words.specs.Audit.{Holds, FaultSays, IsFound};
+ghost use Rattle.trace_words.specs.Audit.{ListsHold, FaultSays, IsFound};
 ghost use Rattle.trace_words.specs.declared.checker.AuditFault.{AuditFault};
 
 /// The tests on keys, endpoints and pairs by which the words are worked out are equality.
@@ -95,5 +95,5 @@ pub fn one_box_says()
 /// Of each trace and two tables no two faults can be said, and none where all is well; want of memory apart.
 pub fn one_answer()
     ensures fault { (t : List Note) (zero one : List Pair) (f g : AuditFault) → IsFound f → IsFound g → FaultSays t zero one f → FaultSays t zero one g → f ≡ g }
-    ensures none { (t : List Note) (zero one : List Pair) (f : AuditFault) → Fits t → Silent t → Kept (Holds zero one) t → IsFound f → FaultSays t zero one f → ⊥ }
+    ensures none { (t : List Note) (zero one : List Pair) (f : AuditFault) → Fits t → Silent t → Kept (ListsHold zero one) t → IsFound f → FaultSays t zero one f → ⊥ }
 {}

@@ -5,7 +5,7 @@ use Rattle.std.proofs.lemmas.Result.{err_from_is_err_and}
 use Rattle.nat_types.specs.declared.notes.Note.{Note}
 use Rattle.nat_types.specs.declared.pairs.Pair.{Pair}
 use Rattle.trace_words.specs.Audit.{AreOpen, Going}
-use Rattle.trace_words.proofs.Notes.{first_note, gateway_is, going_on, going_next, going_end, charged, isnt_kept, is_kept}
+use Rattle.trace_words.proofs.Notes.{gateway_is, going_on, going_next, going_end, charged, isnt_kept, is_kept}
 use Rattle.trace_words.proofs.checker.audit.Goals as goal
 
 pub returns-in_err-judge-clause-fault : goal.returns-in_err-judge-clause-fault
@@ -15,7 +15,7 @@ returns-in_err-judge-clause-fault c =
     let g : Going c.loop-i.opens.items c.loop-i.zero_synced c.loop-i.one_synced t = c.loop-i.invariant in
     let open_ : AreOpen c.deref.result.now t = subst (λ (ps : List Pair). AreOpen ps t) (sym c.deref.ensures.value) g.pairs in
     let lt : c.loop-i.i < length c.args.trace.now = omega arith in
-    rw (p.1, p.2) (charged c.args.trace.now c.loop-i.i first_note c.args.zero.now c.args.one.now c.in_err-judge.field-0.0 lt g.fits g.silent (c.in_err-judge.ensures.err t open_ (c.of_gateway-synced.ensures ∙ gateway_is _ c.loop-i.zero_synced c.loop-i.one_synced t g.zero_is g.one_is)))
+    rw (p.1, p.2) (charged c.args.trace.now c.loop-i.i c.index-trace-i.result c.args.zero.now c.args.one.now c.in_err-judge.field-0.0 lt c.index-trace-i.is g.fits g.silent (c.in_err-judge.ensures.err t open_ (c.of_gateway-synced.ensures ∙ gateway_is _ c.loop-i.zero_synced c.loop-i.one_synced t g.zero_is g.one_is)))
 
 pub loop-i-preserved : goal.loop-i-preserved
 loop-i-preserved c =
@@ -23,8 +23,8 @@ loop-i-preserved c =
     let g : Going c.loop-i.opens.items c.loop-i.zero_synced c.loop-i.one_synced t = c.loop-i.invariant in
     let open_ : AreOpen c.deref.result.now t = subst (λ (ps : List Pair). AreOpen ps t) (sym c.deref.ensures.value) g.pairs in
     let lt : c.loop-i.i < length c.args.trace.now = omega arith in
-    going_next _ _ _ c.args.trace.now c.loop-i.i lt
-    (going_on c.loop-i.opens.items c.follow.new.opens.items c.loop-i.zero_synced c.loop-i.one_synced c.synced_after-zero_synced.result c.synced_after-one_synced.result _ t g c.in_ok-follow.ensures.ok c.synced_after-zero_synced.ensures c.synced_after-one_synced.ensures
+    going_next _ _ _ c.args.trace.now c.loop-i.i c.index-trace-i.result lt c.index-trace-i.is
+    (going_on c.loop-i.opens.items c.follow.new.opens.items c.loop-i.zero_synced c.loop-i.one_synced c.synced_after-zero_synced.result c.synced_after-one_synced.result c.index-trace-i.result t g c.in_ok-follow.ensures.ok c.synced_after-zero_synced.ensures c.synced_after-one_synced.ensures
     (c.in_ok-judge.ensures.ok t open_ (c.of_gateway-synced.ensures ∙ gateway_is _ c.loop-i.zero_synced c.loop-i.one_synced t g.zero_is g.one_is)))
 
 pub returns-clause-fault : goal.returns-clause-fault

@@ -1,7 +1,0 @@
-use Rattle.gateway.proofs.translations.translate_body.Goals as goal
-
-pub translate-requires-clause-ipv4 : goal.translate-requires-clause-ipv4
-translate-requires-clause-ipv4 c = rw c.split_at_mut-header.ensures.back c.requires.ipv4
-
-pub translate-requires-clause-udp : goal.translate-requires-clause-udp
-translate-requires-clause-udp c = rw c.split_at_mut-header.ensures.back c.requires.udp

@@ -1,0 +1,88 @@
+-- The ports that the two may give, whose they are, and runs of them. A port is its number, owned for both protocols together.
+use Rattle.std.specs.Prelude.{Bool, IsTrue, List, [], cond, false, nat_lt, not, true, ℕ, ◌&&◌, ◌<◌, ◌==◌, ◌||◌, ◌∷◌, ◌≡◌, ◌≤◌}
+use Rattle.nat_types.specs.Same.{same, other}
+use Rattle.nat_types.specs.declared.gateways.GatewayId.{GatewayId}
+use Rattle.nat_types.specs.declared.gateways.GatewayId.TheVariants.{Zero}
+use Rattle.nat_types.specs.declared.pairs.Key.{Key}
+
+-- What the two are built with. With ports that move, a gateway that loads is to own what no Owner names, so
+-- at_begin is in_ranges for both. With fixed ranges at_begin is its own range, no Owner is sent and no Want.
+pub record Ranges : Type 0 where
+  -- the ports that may be given
+  pub in_ranges : ℕ → Bool
+  -- those that the founded gateway 0 owns
+  pub at_start : ℕ → Bool
+  -- those that a gateway is to own when it takes Begin
+  pub at_begin : GatewayId → ℕ → Bool
+
+-- fixed ranges: owner says whose each port is
+abbrev pub fixed : (ℕ → Bool) → (ℕ → GatewayId) → Ranges
+fixed in_ranges owner = record { in_ranges = in_ranges; at_start = λ p. same Zero (owner p); at_begin = λ j p. in_ranges p && same j (owner p) }
+
+-- ports that move: gateway 0 is founded with the range that at_start says
+abbrev pub moving : (ℕ → Bool) → (ℕ → Bool) → Ranges
+moving in_ranges at_start = record { in_ranges = in_ranges; at_start = at_start; at_begin = λ j. in_ranges }
+
+-- a run of ports
+pub record Run : Type 0 where
+  pub first : ℕ
+  pub last : ℕ
+
+-- a port lies between these two, or is one of them
+abbrev pub in_run : ℕ → ℕ → ℕ → Bool
+in_run first last p = not (nat_lt p first) && not (nat_lt last p)
+
+-- without a run
+abbrev pub cut : ℕ → ℕ → (ℕ → Bool) → ℕ → Bool
+cut first last owned p = cond (in_run first last p) false (owned p)
+
+-- without several
+abbrev pub cuts : (ℕ → Bool) → List Run → ℕ → Bool
+cuts owned [] = owned
+cuts owned (o ∷ os) = cuts (cut o.first o.last owned) os
+
+-- a port is in one of these runs
+abbrev pub in_runs : ℕ → List Run → Bool
+in_runs p [] = false
+in_runs p (o ∷ os) = in_run o.first o.last p || in_runs p os
+
+-- the last port of these runs, or else this one
+abbrev pub last_named : ℕ → List Run → ℕ
+last_named low [] = low
+last_named low (o ∷ os) = last_named o.last os
+
+-- a run that rises, lies in the ranges, and begins above this port
+abbrev pub IsRisingRun : (ℕ → Bool) → ℕ → ℕ → ℕ → Type 0
+IsRisingRun ranges low first last = (low < first) × (first ≤ last) × ((p : ℕ) → first ≤ p → p ≤ last → IsTrue (ranges p))
+
+-- each run is such, above the one before
+abbrev pub AreRising : (ℕ → Bool) → ℕ → List Run → Type 0
+AreRising ranges low [] = Unit {0}
+AreRising ranges low (o ∷ os) = IsRisingRun ranges low o.first o.last × AreRising ranges o.last os
+
+-- a port is among these
+abbrev pub has : ℕ → List ℕ → Bool
+has p [] = false
+has p (q ∷ qs) = cond (p == q) true (has p qs)
+
+-- no port stands twice
+abbrev pub AreDistinct : List ℕ → Type 0
+AreDistinct [] = Unit {0}
+AreDistinct (q ∷ qs) = (has q qs ≡ false) × AreDistinct qs
+
+-- what a gateway without a table owns
+abbrev pub no_port : ℕ → Bool
+no_port p = false
+
+-- whether the port of a key is among these: a port is owned for both protocols together
+abbrev pub keyed : (ℕ → Bool) → Key → Bool
+keyed owned k = owned k.port.0
+
+module _ (r : Ranges) where
+  -- what gateway j is to own, beside one that owns these runs
+  abbrev pub left_to : GatewayId → List Run → ℕ → Bool
+  left_to j os = cuts (r.at_begin j) os
+
+  -- beside gateway i, which owns these ports, the runs leave the other the rest of the ranges
+  abbrev pub LeaveRest : GatewayId → (ℕ → Bool) → List Run → Type 0
+  LeaveRest i owned os = (p : ℕ) → left_to (other i) os p ≡ (r.in_ranges p && not (owned p))
