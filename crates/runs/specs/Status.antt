@@ -6,7 +6,7 @@ use Rattle.settings.specs.declared.whole.Settings.{Settings}
 use Rattle.settings.specs.Sample.{IsSample}
 use Rattle.frame_sim.specs.declared.events.Step.{Step}
 use Rattle.frame_sim.specs.declared.events.WorldEvent.{WorldEvent}
-use Rattle.frame_sim.specs.Seen.{Seen, founded}
+use Rattle.frame_sim.specs.World.{World, founded}
 use Rattle.frame_sim.specs.Runs.{AreSteps}
 use Rattle.runs.specs.Script.{said, events_of}
 
@@ -21,7 +21,7 @@ run_status steps = if has_refusal steps then 3 else 0
 -- the status of the steps that these events take, in order, on a new world of these settings
 pub record IsRun (settings : Settings) (events : List WorldEvent) (status : ℕ) : Type 0 where
   pub steps : List Step
-  pub world : Seen
+  pub world : World
   pub answers : AreSteps (founded settings) events steps world
   pub refusals : status ≡ run_status steps
 

@@ -1,12 +1,12 @@
 use Rattle.std.proofs.Common.{subst, ◌∙◌, ap}
-use Rattle.frame_sim.specs.Seen.{Seen}
+use Rattle.frame_sim.specs.World.{World}
 use Rattle.frame_sim.specs.Runs.{AreSteps}
 use Rattle.runs.specs.Status.{run_status}
 use Rattle.runs.proofs.simulation.play.Goals as goal
 
 pub returns-clause-run : goal.returns-clause-run
 returns-clause-run g c =
-    let P : Seen → Type 0 = λ w. AreSteps w c.args.events.now c.in_ok-steps.steps.items c.run.new.self in
+    let P : World → Type 0 = λ w. AreSteps w c.args.events.now c.in_ok-steps.steps.items c.run.new.self in
     record {
       steps = c.in_ok-steps.steps.items;
       world = c.run.new.self;
