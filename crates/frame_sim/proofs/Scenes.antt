@@ -1,5 +1,5 @@
 -- An event leads from a world that can come about to one that can.
-use Rattle.std.proofs.Common.{◌≡◌, ℕ, List, [], ◌++◌, Option, Some, None, Result, Ok, Err, refl, sym, ap, ◌∙◌, subst, reverse, length, drop}
+use Rattle.std.proofs.Common.{◌≡◌, ℕ, List, [], ◌++◌, Option, Some, None, Result, Ok, Err, refl, sym, ap, ◌∙◌, subst, reverse, length, drop, ◌≤◌, arith}
 use Rattle.std.proofs.lemmas.List.{reverse-append, append-nil, drop_at}
 use Rattle.nat_types.specs.declared.gateways.GatewayId.{GatewayId}
 use Rattle.nat_types.specs.declared.gateways.GatewayId.TheVariants.{Zero, One}
@@ -9,9 +9,11 @@ use Rattle.packet_path.specs.declared.reasons.Reason.{Reason}
 use Rattle.pair_machine.specs.Box.{Box}
 use Rattle.pair_machine.specs.Ownership.{Ranges}
 use Rattle.pair_machine.specs.Step.{IsStep}
-use Rattle.pair_machine.specs.World.{IsWorld, box_in, with_step}
+use Rattle.pair_machine.specs.World.{IsWorld, box_in, mail_in, with_step}
 use Rattle.gateway.specs.declared.plans.Plan.{Plan}
-use Rattle.gateway.specs.Effects.{gateway_by, out_by, notes_by}
+use Rattle.gateway.specs.declared.choices.Choice.{Choice}
+use Rattle.gateway.specs.declared.choices.Choice.TheVariants.{Known, New}
+use Rattle.gateway.specs.Effects.{gateway_by, out_by, notes_by, notes_of}
 use Rattle.gateway.specs.Gateway.{Gateway}
 use Rattle.gateway.specs.Machine.{box_of, IsMachineStep}
 use Rattle.gateway.specs.Out.{Out, empty_out}
@@ -157,3 +159,24 @@ gateway-after w e out zero one z o = at (by_of e) z o
     at : (i : GatewayId) → zero ≡ of_gateway (effect_at w.zero e out).gateway w.zero i → one ≡ of_gateway w.one (effect_at w.one e out).gateway i → of_gateway zero one i ≡ (effect_at (gateway_at w i) e out).gateway
     at Zero z o = z
     at One z o = o
+
+-- nothing was sent yet
+pub no-mail : (w : World) (i : GatewayId) → mail_in (scene_of w) i ≡ []
+no-mail w Zero = refl
+no-mail w One = refl
+
+-- a step makes at most two notes
+few-by : (g : Gateway) (p : Result Plan Reason) → length (notes_by g p) ≤ 2
+few-by g (Ok plan) = few plan.choice
+  where
+    few : (choice : Choice) → length (notes_of g.id g.moment choice) ≤ 2
+    few (Known pair) = omega arith
+    few (New pair) = omega arith
+few-by g (Err reason) = omega arith
+
+pub few-notes : (g : Option Gateway) (e : WorldEvent) → length (effect_at g e empty_out).out.notes ≤ 2
+few-notes None e = omega arith
+few-notes (Some g) (Frame i side bytes) =
+    let plan = plan_of g side bytes.items in
+    rw (out_by-adds g bytes.items empty_out plan) (few-by g plan)
+few-notes (Some g) (Tick i now) = omega arith

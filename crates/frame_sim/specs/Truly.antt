@@ -7,8 +7,8 @@ use Rattle.gateway.specs.Machine.{IsMachineStep}
 use Rattle.frame_sim.specs.declared.events.WorldEvent.{WorldEvent}
 use Rattle.frame_sim.specs.declared.events.WorldEvent.TheVariants.{Frame, Tick}
 
--- A frame's step adds frames that are, one for one, translations of its packet by the pairs that the
--- added notes say were used. Any other step, and one of a gateway that is down, tells nothing.
+-- A frame's step adds frames that are, one for one, translations of its packet by the pairs that
+-- the added notes say were used. Any other step, and one of a gateway that is down, tells nothing.
 abbrev pub TellsTruly : Option Gateway → WorldEvent → Out → Out → Type 0
 TellsTruly None e before now = now ≡ before
 TellsTruly (Some g) (Frame i side bytes) before now = FrameTold g side bytes.items before now

@@ -80,7 +80,8 @@ fn notes_since(out: &Out, told: usize) -> &[Note]
 /// The step of a gateway that is up.
 fn step_up(gateway: &mut Gateway, event: &WorldEvent, out: &mut Out) -> Result<Outcome, NoMemory>
     ensures outcome { IfOk result (λ o. o ≡ (effect_up gateway.old event.now out.old).outcome) }
-    ensures gateway { OnOk result (gateway.new ≡ (effect_up gateway.old event.now out.old).gateway) }
+    ensures gateway { OnOk result (
+        gateway.new ≡ (effect_up gateway.old event.now out.old).gateway) }
     ensures out { OnOk result (out.new ≡ (effect_up gateway.old event.now out.old).out) }
     ensures truly { OnOk result (TellsTruly (Some gateway.old) event.now out.old out.new) }
     ensures machine { OnOk result (IsMachineStep gateway.old gateway.new out.old out.new) }
@@ -103,7 +104,8 @@ fn step_of(
     out: &mut Out,
 ) -> Result<Outcome, NoMemory>
     ensures outcome { IfOk result (λ o. o ≡ (effect_at gateway.old event.now out.old).outcome) }
-    ensures gateway { OnOk result (gateway.new ≡ (effect_at gateway.old event.now out.old).gateway) }
+    ensures gateway { OnOk result (
+        gateway.new ≡ (effect_at gateway.old event.now out.old).gateway) }
     ensures out { OnOk result (out.new ≡ (effect_at gateway.old event.now out.old).out) }
     ensures truly { OnOk result (TellsTruly gateway.old event.now out.old out.new) }
     ensures machine { OnOk result (StepsAsMachine gateway.old gateway.new out.old out.new) }
@@ -126,7 +128,8 @@ fn recall_table(gateway: &Option<Gateway>)
 }
 
 fn pairs_of(alloc: Global, gateway: &Option<Gateway>) -> Result<Vec<Pair>, NoMemory>
-    ensures all { IfOk result (λ v. IsPermutation (pairs_in is_pair (entries_of gateway.now)) v.items) }
+    ensures all { IfOk result (λ v.
+        IsPermutation (pairs_in is_pair (entries_of gateway.now)) v.items) }
     ensures sorted { IfOk result (λ v. IsNonDecreasingBy place_of v.items) }
 {
     match gateway {
@@ -227,7 +230,7 @@ impl World {
         ensures untold { OnErr result (out.new ≡ out.old) }
     {
         self.recall();
-        let outcome = self.take(event, out)?;
+        let outcome = self.step_gateway(event, out)?;
         self.recall();
         Ok(outcome)
     }
@@ -274,8 +277,8 @@ impl World {
         self.trace.as_slice()
     }
 
-    /// The pairs of a gateway's table by protocol (tcp first) and port, without proposals given up; none
-    /// while it is down.
+    /// The pairs of a gateway's table by protocol (tcp first) and port, without proposals given up;
+    /// none while it is down.
     pub fn table(&self, id: GatewayId) -> Result<Vec<Pair>, NoMemory>
         ensures all { IfOk result (λ v.
             IsPermutation (pairs_in is_pair (entries_of (gateway_at self.now id))) v.items) }
@@ -316,7 +319,7 @@ impl World {
     }
 
     /// The step of the gateway that the event happens to, whose notes come behind the trace.
-    fn take(&mut self, event: &WorldEvent, out: &mut Out) -> Result<Outcome, NoMemory>
+    fn step_gateway(&mut self, event: &WorldEvent, out: &mut Out) -> Result<Outcome, NoMemory>
         ensures outcome { IfOk result (λ o. o ≡ (effect_in self.old event.now out.old).outcome) }
         ensures world { OnOk result (self.new ≡ world_after self.old event.now) }
         ensures out { OnOk result (out.new ≡ (effect_in self.old event.now out.old).out) }

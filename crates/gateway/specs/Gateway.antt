@@ -13,7 +13,8 @@ use Rattle.bindings.specs.declared.entries.Entry.{Entry}
 use Rattle.bindings.specs.declared.entries.PortBounds.{PortBounds}
 use Rattle.packet_path.specs.declared.networks.Networks.{Networks}
 
--- who it is and in which life, what it is set up with, whether it is synced, its clock's moment, its table
+-- who it is and in which life, what it is set up with, whether it is synced, its clock's moment,
+-- its table
 pub record Gateway : Type 0 where
   pub id : GatewayId
   pub boot : ℕ
@@ -59,8 +60,16 @@ empty_table settings id = record {
 -- the networks as one gateway stands in them
 abbrev pub networks_of : Settings → GatewayId → Networks
 networks_of settings id = record {
-  inside = record { interface = settings.inside; own_mac = (gateway_of settings id).inside_mac; own_ip = (gateway_of settings id).inside_ip };
-  outside = record { interface = settings.outside; own_mac = (gateway_of settings id).outside_mac; own_ip = (gateway_of settings id).outside_ip };
+  inside = record {
+    interface = settings.inside;
+    own_mac = (gateway_of settings id).inside_mac;
+    own_ip = (gateway_of settings id).inside_ip;
+  };
+  outside = record {
+    interface = settings.outside;
+    own_mac = (gateway_of settings id).outside_mac;
+    own_ip = (gateway_of settings id).outside_ip;
+  };
   router = settings.router;
 }
 

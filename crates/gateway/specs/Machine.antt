@@ -26,8 +26,8 @@ slots_of entries key = machine_slot (slot_of entries key)
 abbrev pub ports_of : PortBounds → ℕ → Bool
 ports_of own port = in_run own.lowest.0 own.highest.0 port
 
--- A gateway that no peer was heard by: it is alone where it is synced, it owns its range then, and it has sent
--- and taken no record.
+-- A gateway that no peer was heard by: it is alone where it is synced, it owns its range then, and
+-- it has sent and taken no record.
 abbrev pub box_of : Gateway → Box
 box_of g = record {
   up = true;

@@ -1,4 +1,5 @@
--- What is told truly: the frames that a step sends are translations of the packet at hand by the pairs that it notes.
+-- Told truly: the frames that a step sends are translations of the packet at hand by the pairs that
+-- it notes.
 use Rattle.std.specs.Prelude.{◌≡◌, ℕ, List, [], ◌∷◌, ◌++◌, take, Some}
 use Rattle.addresses.specs.declared.ethernet.Mac.{Mac}
 use Rattle.nat_types.specs.declared.gateways.Side.{Side}
@@ -36,9 +37,10 @@ abbrev pub unpadded : List ℕ → List ℕ → List ℕ
 unpadded packet translated = take (header_of packet).total_length translated
 
 -- outward: the pair is the one whose endpoint is the packet's source. The frame goes out at the
--- outside, to the destination or the router, and its packet comes from the outside virtual address and
--- the pair's port
-pub record IsSentOutward (g : Gateway) (bytes : List ℕ) (pair : Pair) (sent : SentFrame) : Type 0 where
+-- outside, to the destination or the router, and its packet comes from the outside virtual address
+-- and the pair's port
+pub record IsSentOutward (g : Gateway) (bytes : List ℕ) (pair : Pair) (sent : SentFrame)
+    : Type 0 where
   pub endpoint : pair.endpoint ≡ source_of (flow_in bytes)
   pub side : sent.side ≡ Outside
   pub next : Mac
@@ -48,9 +50,10 @@ pub record IsSentOutward (g : Gateway) (bytes : List ℕ) (pair : Pair) (sent : 
       sent.bytes ≡ header_bytes next.0 g.networks.outside.own_mac.0 2048
       ++ unpadded packet (outward_of g.networks.outside.interface.virtual_ip pair.key.port packet)
 
--- inward: the pair is the one whose key is the packet's protocol and destination port. The frame goes
--- out at the inside, to the pair's endpoint, and so does its packet
-pub record IsSentInward (g : Gateway) (bytes : List ℕ) (pair : Pair) (sent : SentFrame) : Type 0 where
+-- inward: the pair is the one whose key is the packet's protocol and destination port. The frame
+-- goes out at the inside, to the pair's endpoint, and so does its packet
+pub record IsSentInward (g : Gateway) (bytes : List ℕ) (pair : Pair) (sent : SentFrame)
+    : Type 0 where
   pub key : pair.key ≡ target_of (flow_in bytes)
   pub side : sent.side ≡ Inside
   pub next : Mac
@@ -70,8 +73,8 @@ AreTranslations g side bytes [] [] = Unit {0}
 AreTranslations g side bytes (pair ∷ []) (sent ∷ []) = IsTranslation g side bytes pair sent
 AreTranslations g side bytes _ _ = ⊥
 
--- what is told of a frame: frames that are, one for one, translations of its packet by the pairs that
--- the added notes say were used
+-- what is told of a frame: frames that are, one for one, translations of its packet by the pairs
+-- that the added notes say were used
 pub record FrameTold (g : Gateway) (side : Side) (bytes : List ℕ) (before now : Out) : Type 0 where
   pub frames : List SentFrame
   pub notes : List Note

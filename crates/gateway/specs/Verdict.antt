@@ -24,7 +24,8 @@ use Rattle.gateway.specs.Gateway.{Gateway}
 
 -- a packet to a next hop whose Ethernet address isn't known can't wait for it
 abbrev pub plan_to : Direction → Choice → Option Mac → Result Plan Reason
-plan_to direction choice (Some mac) = Ok (record { direction = direction; choice = choice; next_mac = mac })
+plan_to direction choice (Some mac) =
+    Ok (record { direction = direction; choice = choice; next_mac = mac })
 plan_to direction choice None = Err CannotWait
 
 -- outward: by the endpoint's pair or a new one, to the destination or the router

@@ -104,8 +104,8 @@ fn table_for(alloc: Global, settings: &Settings, id: GatewayId) -> Result<Table,
 }
 
 impl Gateway {
-    /// A gateway in the life of that number. Gateway 0 of a pair that is founded anew is synced at once, any
-    /// other isn't until it is loaded.
+    /// A gateway in the life of that number. Gateway 0 of a pair that is founded anew is synced at
+    /// once, any other isn't until it is loaded.
     #[tactic(auto, unfolding(crate::specs::Gateway::started))]
     pub fn new(
         alloc: Global,
@@ -147,7 +147,8 @@ impl Gateway {
 
     /// All pairs of its table, by protocol (tcp first) and port.
     pub fn pairs(&self) -> Result<Vec<Pair>, NoMemory>
-        ensures all { IfOk result (λ v. IsPermutation (pairs_in is_pair self.now.table.entries) v.items) }
+        ensures all { IfOk result (λ v.
+            IsPermutation (pairs_in is_pair self.now.table.entries) v.items) }
         ensures sorted { IfOk result (λ v. IsNonDecreasingBy place_of v.items) }
     {
         Ok(self.table.pairs()?)
@@ -155,18 +156,22 @@ impl Gateway {
 
     /// The pairs that translate, by protocol (tcp first) and port.
     pub fn translating(&self) -> Result<Vec<Pair>, NoMemory>
-        ensures all { IfOk result (λ v. IsPermutation (pairs_in translates self.now.table.entries) v.items) }
+        ensures all { IfOk result (λ v.
+            IsPermutation (pairs_in translates self.now.table.entries) v.items) }
         ensures sorted { IfOk result (λ v. IsNonDecreasingBy place_of v.items) }
     {
         Ok(self.table.translating()?)
     }
 
-    /// One step: takes an event, and appends to `out` what is sent and noted with it. At an `Err`, which
-    /// stands for a refused growth, nothing has changed.
+    /// One step: takes an event, and appends to `out` what is sent and noted with it. An `Err`
+    /// stands for a refused growth; nothing has changed then.
     pub fn step(&mut self, event: Event<'_>, out: &mut Out) -> Result<Outcome, NoMemory>
-        ensures outcome { IfOk result (λ o. o ≡ (effect_on self.old event.entry out.old).outcome) }
-        ensures gateway { OnOk result (self.new ≡ (effect_on self.old event.entry out.old).gateway) }
-        ensures out { OnOk result (out.new ≡ (effect_on self.old event.entry out.old).out) }
+        ensures outcome { IfOk result (λ o.
+            o ≡ (effect_on self.old event.entry out.old).outcome) }
+        ensures gateway { OnOk result (
+            self.new ≡ (effect_on self.old event.entry out.old).gateway) }
+        ensures out { OnOk result (
+            out.new ≡ (effect_on self.old event.entry out.old).out) }
         ensures truly { OnOk result (TellsTruly self.old event.entry out.old out.new) }
         ensures machine { OnOk result (IsMachineStep self.old self.new out.old out.new) }
         ensures err { OnErr result (self.new ≡ self.old) }
@@ -205,9 +210,12 @@ impl Gateway {
     }
 
     fn take_frame(&mut self, side: Side, bytes: &[u8], out: &mut Out) -> Result<Outcome, NoMemory>
-        ensures outcome { IfOk result (λ o. o ≡ (frame_effect self.old side bytes.now out.old).outcome) }
-        ensures gateway { OnOk result (self.new ≡ (frame_effect self.old side bytes.now out.old).gateway) }
-        ensures out { OnOk result (out.new ≡ (frame_effect self.old side bytes.now out.old).out) }
+        ensures outcome { IfOk result (λ o.
+            o ≡ (frame_effect self.old side bytes.now out.old).outcome) }
+        ensures gateway { OnOk result (
+            self.new ≡ (frame_effect self.old side bytes.now out.old).gateway) }
+        ensures out { OnOk result (
+            out.new ≡ (frame_effect self.old side bytes.now out.old).out) }
         ensures err { OnErr result (self.new ≡ self.old) }
         ensures untold { OnErr result (out.new ≡ out.old) }
     {
@@ -223,7 +231,8 @@ impl Gateway {
 
     /// Tells of a translation: its frame and its notes.
     fn tell(&self, plan: &Plan, frame: Vec<u8>, out: &mut Out) -> Result<(), NoMemory>
-        ensures ok { OnOk result (out.new ≡ with_sent out.old (exit_of plan.now.direction) frame.items
+        ensures ok { OnOk result (
+            out.new ≡ with_sent out.old (exit_of plan.now.direction) frame.items
             (notes_of self.now.id self.now.moment plan.now.choice)) }
         ensures err { OnErr result (out.new ≡ out.old) }
     {
@@ -244,7 +253,8 @@ impl Gateway {
     /// A packet's new pair comes into the table.
     fn keep(&mut self, plan: &Plan)
         requires { IsAllowed self.old.table plan.now.choice }
-        ensures { self.new ≡ record self.old { table = table_after self.old.table plan.now.choice } }
+        ensures { self.new
+            ≡ record self.old { table = table_after self.old.table plan.now.choice } }
     {
         if let Choice::New(pair) = &plan.choice {
             self.add_live(*pair);
@@ -253,7 +263,8 @@ impl Gateway {
 
     fn add_live(&mut self, pair: Pair)
         requires { CanAllot self.old.table pair }
-        ensures { self.new ≡ record self.old { table = with_entry self.old.table (entry_in Live pair) } }
+        ensures { self.new
+            ≡ record self.old { table = with_entry self.old.table (entry_in Live pair) } }
     {
         self.table.audit();
         match self.table.add(pair, EntryState::Live) {

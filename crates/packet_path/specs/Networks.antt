@@ -1,4 +1,4 @@
--- The two networks: who is addressed, where an address lies, which way a packet goes, and to whom next.
+-- The two networks: who is addressed, where an address lies, which way a packet goes, and to whom.
 use Rattle.std.specs.Prelude.{ℕ, ◌-◌, ◌/◌, ◌^◌, Bool, true, false, not, ◌==◌, ◌&&◌, ◌||◌, Option, Result, Ok, Err, List, [], ◌∷◌, if◌then◌else◌}
 use Rattle.std.specs.List.{find}
 use Rattle.std.specs.Option.{option_map}
@@ -37,10 +37,14 @@ vrrp_mac = 1 ∷ 0 ∷ 94 ∷ 0 ∷ 0 ∷ 18 ∷ []
 unfoldable pub is_virtual : Network → List ℕ → Bool
 is_virtual network mac = bytes_eq mac (virtual_mac network.interface.virtual_router)
 
--- the destination is one that a gateway takes: its own address, all, the VRRP routers, the virtual router
+-- the destination is one that a gateway takes: its own address, all, the VRRP routers, the virtual
+-- router
 unfoldable pub is_addressed : Network → List ℕ → Bool
 is_addressed network mac =
-    bytes_eq mac network.own_mac.0 || bytes_eq mac broadcast_mac || bytes_eq mac vrrp_mac || is_virtual network mac
+    bytes_eq mac network.own_mac.0
+    || bytes_eq mac broadcast_mac
+    || bytes_eq mac vrrp_mac
+    || is_virtual network mac
 
 -- an address lies in the network
 unfoldable pub lies_in : ℕ → Interface → Bool
@@ -48,7 +52,8 @@ lies_in address interface =
     let hosts = 2 ^ (32 - interface.prefix_length) in
     address / hosts == interface.virtual_ip.0 / hosts
 
--- no host has the address: this network (0/8), loopback (127/8), multicast (224/4), limited broadcast
+-- no host has the address: this network (0/8), loopback (127/8), multicast (224/4), limited
+-- broadcast
 unfoldable pub is_special : ℕ → Bool
 is_special address = let first = address / 2 ^ 24 in
     (first == 0) || (first == 127) || (address / 2 ^ 28 == 14) || (address == 4294967295)
@@ -56,17 +61,20 @@ is_special address = let first = address / 2 ^ 24 in
 -- the way of a packet from the inside
 unfoldable pub inside_direction : Networks → ℕ → ℕ → Result Direction Reason
 inside_direction networks source destination =
-    (if not (lies_in source networks.inside.interface) || (source == networks.inside.interface.virtual_ip.0) then Err NoBinding
+    (if not (lies_in source networks.inside.interface)
+    || (source == networks.inside.interface.virtual_ip.0) then Err NoBinding
     -- from one inside host to another by the outside address: not yet translated
     else (if destination == networks.outside.interface.virtual_ip.0 then Err NoBinding
-    else (if lies_in destination networks.inside.interface || is_special destination then Err NoBinding
+    else (if lies_in destination networks.inside.interface
+    || is_special destination then Err NoBinding
     else Ok Outward)))
 
 -- the way of a packet from the outside
 unfoldable pub outside_direction : Networks → ℕ → ℕ → Result Direction Reason
 outside_direction networks source destination =
     (if not (destination == networks.outside.interface.virtual_ip.0) then Err NoBinding
-    else (if lies_in source networks.inside.interface || (source == networks.outside.interface.virtual_ip.0) then Err NoBinding
+    else (if lies_in source networks.inside.interface
+    || (source == networks.outside.interface.virtual_ip.0) then Err NoBinding
     else Ok Inward))
 
 -- the way of a packet
@@ -74,7 +82,8 @@ abbrev pub direction_of : Networks → Side → ℕ → ℕ → Result Direction
 direction_of networks Inside source destination = inside_direction networks source destination
 direction_of networks Outside source destination = outside_direction networks source destination
 
--- the next hop of a packet that leaves: its destination where that lies in the outside network, else the router
+-- the next hop of a packet that leaves: its destination where that lies in the outside network,
+-- else the router
 unfoldable pub outside_hop : Networks → ℕ → ℕ
 outside_hop networks destination =
     (if lies_in destination networks.outside.interface then destination else networks.router.0)

@@ -26,7 +26,9 @@ reason_of fault.TheVariants.BadTransport = BadTransport
 
 -- 1. a frame has 14 to 1,514 bytes
 unfoldable pub size_refusal : List ℕ → Option Reason
-size_refusal bytes = (if nat_le 14 (length bytes) && nat_le (length bytes) LONGEST_FRAME then None else Some ShortFrame)
+size_refusal bytes =
+    (if nat_le 14 (length bytes) && nat_le (length bytes) LONGEST_FRAME then None
+    else Some ShortFrame)
 
 -- 1. the gateway is synced
 unfoldable pub up_refusal : Bool → Option Reason
@@ -34,7 +36,8 @@ up_refusal synced = (if synced then None else Some NotUp)
 
 -- 2. the frame is for the gateway, and carries IPv4
 unfoldable pub destination_refusal : Network → Frame → Option Reason
-destination_refusal network frame = (if is_addressed network frame.dst && (frame.ethertype == 2048) then None else Some NotMine)
+destination_refusal network frame =
+    (if is_addressed network frame.dst && (frame.ethertype == 2048) then None else Some NotMine)
 
 -- 4. its body begins with an IPv4 packet
 unfoldable pub header_refusal : List ℕ → Option Reason
@@ -80,10 +83,12 @@ is_arp network frame = is_addressed network frame.dst && (frame.ethertype == 205
 abbrev pub arp_reading : List ℕ → Result ArpPacket Reason
 arp_reading body = (if is_none (arp_refusal body) then Ok (packet_of body) else Err BadArp)
 
--- 3. what goes to ARP: None of any frame that an earlier step refuses, or that carries something else
+-- 3. what goes to ARP: None of any frame that an earlier step refuses, or that carries something
+-- else
 unfoldable pub arp_in : Network → Bool → List ℕ → Option (Result ArpPacket Reason)
 arp_in network synced bytes =
-    (if is_none (size_refusal bytes) && (synced && is_arp network (frame_of bytes)) then Some (arp_reading (frame_of bytes).body) else None)
+    (if is_none (size_refusal bytes) && (synced && is_arp network (frame_of bytes))
+    then Some (arp_reading (frame_of bytes).body) else None)
 
 -- the next step, where this one doesn't refuse
 abbrev pub and_then : {X Y : Type 0} → Result X Reason → (X → Result Y Reason) → Result Y Reason

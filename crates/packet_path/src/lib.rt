@@ -1,5 +1,5 @@
-//! The packet path without state: whom a frame addresses, what refuses it, which way its packet goes, and the frame
-//! by which it is sent on.
+//! The packet path without state: whom a frame addresses, what refuses it, which way its packet
+//! goes, and the frame by which it is sent on.
 #![tactic(auto)]
 
 mod arping;

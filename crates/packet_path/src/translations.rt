@@ -51,7 +51,8 @@ fn translate_body(frame: &mut [u8], networks: &Networks, direction: Direction, p
     requires ipv4 { IsIpv4 (frame_of frame.old).body }
     requires udp { IsUdp (frame_of frame.old).body }
     requires ttl { 2 ≤ (header_of (frame_of frame.old).body).ttl }
-    ensures { frame.new ≡ take 14 frame.old ++ translated_by networks.now direction pair (drop 14 frame.old) }
+    ensures { frame.new
+        ≡ take 14 frame.old ++ translated_by networks.now direction pair (drop 14 frame.old) }
 {
     let (_header, packet) = frame.split_at_mut(14);
     translate(packet, networks, direction, pair);
@@ -68,7 +69,8 @@ fn readdress(frame: &mut [u8], networks: &Networks, direction: Direction, next_m
     write_header(frame, next_mac, own_mac, EtherType::IPV4);
 }
 
-/// Makes of a frame that came the one by which its packet is sent on, with the padding still behind it.
+/// Makes of a frame that came the one by which its packet is sent on, with the padding still behind
+/// it.
 #[tactic(auto, using(crate::proofs::Cut::drop_kept))]
 fn translate_frame(
     frame: &mut [u8],
@@ -81,7 +83,8 @@ fn translate_frame(
     requires ipv4 { IsIpv4 (frame_of frame.old).body }
     requires udp { IsUdp (frame_of frame.old).body }
     requires ttl { 2 ≤ (header_of (frame_of frame.old).body).ttl }
-    ensures bytes { frame.new ≡ sent_header networks.now direction next_mac ++ translated_by networks.now direction pair (drop 14 frame.old) }
+    ensures bytes { frame.new ≡ sent_header networks.now direction next_mac
+        ++ translated_by networks.now direction pair (drop 14 frame.old) }
     ensures fourteen { length (sent_header networks.now direction next_mac) ≡ 14 }
 {
     translate_body(frame, networks, direction, pair);
@@ -116,7 +119,8 @@ pub fn append_sent(
     requires ipv4 { IsIpv4 (frame_of bytes.now).body }
     requires udp { IsUdp (frame_of bytes.now).body }
     requires ttl { 2 ≤ (header_of (frame_of bytes.now).body).ttl }
-    ensures items { list.new.items ≡ list.old.items ++ sent_frame networks.now direction pair next_mac bytes.now }
+    ensures items { list.new.items
+        ≡ list.old.items ++ sent_frame networks.now direction pair next_mac bytes.now }
     ensures len { vec_len list.new ≤ vec_len list.old + length bytes.now }
     ensures capacity { vec_capacity list.old ≤ vec_capacity list.new }
 {
@@ -139,7 +143,9 @@ fn translate_tail(
     requires ipv4 { IsIpv4 (frame_of (drop start list.old.items)).body }
     requires udp { IsUdp (frame_of (drop start list.old.items)).body }
     requires ttl { 2 ≤ (header_of (frame_of (drop start list.old.items)).body).ttl }
-    ensures items { list.new.items ≡ take start list.old.items ++ (sent_header networks.now direction next_mac ++ translated_by networks.now direction pair (drop 14 (drop start list.old.items))) }
+    ensures items { list.new.items ≡ take start list.old.items
+        ++ (sent_header networks.now direction next_mac
+        ++ translated_by networks.now direction pair (drop 14 (drop start list.old.items))) }
     ensures fourteen { length (sent_header networks.now direction next_mac) ≡ 14 }
     ensures len { vec_len list.new ≡ vec_len list.old }
     ensures capacity { vec_capacity list.new ≡ vec_capacity list.old }

@@ -44,7 +44,8 @@ pub record IsGateway (gateway : GatewaySettings) (id priority : ℕ) (boot_file 
 
 -- a static neighbour
 abbrev pub neighbour_of : Side → ℕ → ℕ → Neighbour
-neighbour_of side ip last = record { side = side; ip = record { 0 = ip }; mac = record { 0 = station 0 last } }
+neighbour_of side ip last =
+    record { side = side; ip = record { 0 = ip }; mac = record { 0 = station 0 last } }
 
 -- two inside hosts and the router
 abbrev pub sample_neighbours : List Neighbour

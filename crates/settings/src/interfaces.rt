@@ -7,7 +7,8 @@ use nat_types::Side;
 /// One of the two networks, and the virtual router on it (RFC 9568).
 #[derive(Clone, Copy, Debug, PartialEq, Eq)]
 pub struct Interface {
-    /// The address that the virtual router answers for. The outside one is the NAT's outside address.
+    /// The address that the virtual router answers for. The outside one is the NAT's outside
+    /// address.
     pub virtual_ip: Ip,
     /// How many first bits the network's addresses share, from 8 to 30.
     pub prefix_length: u8,

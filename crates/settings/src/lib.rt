@@ -1,4 +1,5 @@
-//! What a pair of gateways is set up with: port ranges, interfaces, the two gateways, static neighbours.
+//! What a pair of gateways is set up with: port ranges, networks, the two gateways, static
+//! neighbours.
 #![tactic(auto)]
 
 mod gateway_settings;

@@ -5,7 +5,8 @@ ghost use Rattle.settings.specs.Ranges.{of_gateway, Overlap};
 use addresses::Port;
 use nat_types::GatewayId;
 
-/// Outside ports that one gateway gives to inside endpoints, from the lowest to the highest, both included.
+/// Outside ports that one gateway gives to inside endpoints, from the lowest to the highest, both
+/// included.
 #[derive(Clone, Copy, Debug, PartialEq, Eq)]
 pub struct PortRange {
     pub lowest: Port,

@@ -105,7 +105,8 @@ fn neighbours(alloc: Global) -> Result<Vec<Neighbour>, AllocError>
 }
 
 impl Settings {
-    /// Ports from 20000 and from 40000, 192.168.1.0/24 inside, 192.0.2.0/24 outside, two inside hosts and the router.
+    /// Ports from 20000 and from 40000, 192.168.1.0/24 inside, 192.0.2.0/24 outside, two inside
+    /// hosts and the router.
     pub fn sample(alloc: Global) -> Result<Settings, AllocError>
         ensures { IfOk result IsSample }
     {

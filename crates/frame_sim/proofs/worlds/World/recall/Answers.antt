@@ -17,4 +17,4 @@ returns-clause-goes_on c =
 pub returns-clause-synced : goal.returns-clause-synced
 returns-clause-synced c =
     let w : World = record { ports = c.self.inside.ports; zero = c.self.inside.gateways.zero; one = c.self.inside.gateways.one; trace = c.self.inside.trace.items } in
-    rw (← c.self.view_is) (shows-synced w (c.promises_in_order.ensures.synced (ranges_of w.ports) (scene_of w) w.trace c.self.invariant.scene refl))
+    rw (← c.self.view_is) (shows-synced w (λ i. c.promises_in_order.ensures.synced (ranges_of w.ports) (scene_of w) w.trace i c.self.invariant.scene refl))
