@@ -111,7 +111,7 @@ def run_gate(kept):
     for line in gate.stdout:
         lines.append(line.rstrip("\n"))
         if line.startswith("rt: ") or re.match(r"\d+ passed, \d+ failed", line):
-            print(f"{time.monotonic() - began:7.0f} s  {line}", end="", flush=True)
+            print(f"{time.monotonic() - began:7.0f} s  {line.rstrip()[:140]}", flush=True)
     status = gate.wait()
     sampler.over.set()
     sampler.join()
