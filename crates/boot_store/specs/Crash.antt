@@ -36,7 +36,7 @@ pub record IsReady (place : ℕ) (moment : Moment) : Type 0 where
   pub steady : synced moment ≡ moment
   pub long : 32 ≤ length moment
   pub beside : ((place ≡ 0) × (slot_at 16 (bytes_of moment) ≡ number_of (bytes_of moment)))
-    ⊎ ((place ≡ 16) × (slot_at 0 (bytes_of moment) ≡ number_of (bytes_of moment)))
+      ⊎ ((place ≡ 16) × (slot_at 0 (bytes_of moment) ≡ number_of (bytes_of moment)))
 
 -- the 32 bytes that were read, or none where there are fewer
 abbrev pub WholeFile : List ℕ → Option (List ℕ) → Type 0
