@@ -7,7 +7,10 @@ use Rattle.boot_store.specs.Moment.{put}
 
 -- a slot's number, where the slot is valid
 unfoldable pub slot_number : List ℕ → Option ℕ
-slot_number slot = if big_number 8 slot + big_number 8 (drop 8 slot) == 18446744073709551615 then Some (big_number 8 slot) else None
+slot_number slot =
+    if big_number 8 slot + big_number 8 (drop 8 slot) == 18446744073709551615
+    then Some (big_number 8 slot)
+    else None
 
 -- the number of the slot at that place, 0 or 16
 abbrev pub slot_at : ℕ → List ℕ → Option ℕ
@@ -21,14 +24,18 @@ greater (Some a) (Some b) = Some (max a b)
 
 -- the file's number: the greater valid slot, or none
 abbrev pub number_of : List ℕ → Option ℕ
-number_of file = if nat_lt (length file) 32 then None else greater (slot_at 0 file) (slot_at 16 file)
+number_of file =
+    if nat_lt (length file) 32 then None else greater (slot_at 0 file) (slot_at 16 file)
 
 -- what a start answers at a file of this number, where no device call fails
 abbrev pub boot_answer : Bool → Option ℕ → Result ℕ BootFault
 boot_answer found None = Err Damaged
-boot_answer found (Some n) = if found && not (n == 0) then Err FoundTwice else (if n == 18446744073709551615 then Err BootsUsedUp else Ok (n + 1))
+boot_answer found (Some n) =
+    if found && not (n == 0) then Err FoundTwice
+    else (if n == 18446744073709551615 then Err BootsUsedUp else Ok (n + 1))
 
--- where the next number goes: over the invalid slot, else over the lower one; over the first when equal or when only it is invalid
+-- where the next number goes: over the invalid slot, else over the lower one; over the first when equal or when only it
+-- is invalid
 abbrev pub next_place : Option ℕ → Option ℕ → ℕ
 next_place None b = 0
 next_place (Some a) None = 16

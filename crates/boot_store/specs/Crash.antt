@@ -23,17 +23,20 @@ Since before after P = (since : List Moment) × (after ≡ before ++ since) × P
 
 -- whatever a crash at the start leaves at least, a crash at each moment since and at the end leaves at least
 abbrev pub Keeps : Moment → Moment → List Moment → Type 0
-Keeps start end since = (m : ℕ) → LeavesAtLeast m start → AllByRecursion (LeavesAtLeast m) since × LeavesAtLeast m end
+Keeps start end since = (m : ℕ)
+    → LeavesAtLeast m start → AllByRecursion (LeavesAtLeast m) since × LeavesAtLeast m end
 
 -- an answered number is greater than that, and a crash at the end leaves at least the answered one
 abbrev pub Rises : Moment → Moment → Result ℕ BootFault → Type 0
-Rises start end answer = (m : ℕ) → LeavesAtLeast m start → IfOk answer (λ n. (m < n) × LeavesAtLeast n end)
+Rises start end answer = (m : ℕ)
+    → LeavesAtLeast m start → IfOk answer (λ n. (m < n) × LeavesAtLeast n end)
 
 -- all is on the disk, and the slot beside the place has the file's number
 pub record IsReady (place : ℕ) (moment : Moment) : Type 0 where
   pub steady : synced moment ≡ moment
   pub long : 32 ≤ length moment
-  pub beside : ((place ≡ 0) × (slot_at 16 (bytes_of moment) ≡ number_of (bytes_of moment))) ⊎ ((place ≡ 16) × (slot_at 0 (bytes_of moment) ≡ number_of (bytes_of moment)))
+  pub beside : ((place ≡ 0) × (slot_at 16 (bytes_of moment) ≡ number_of (bytes_of moment)))
+      ⊎ ((place ≡ 16) × (slot_at 0 (bytes_of moment) ≡ number_of (bytes_of moment)))
 
 -- the 32 bytes that were read, or none where there are fewer
 abbrev pub WholeFile : List ℕ → Option (List ℕ) → Type 0

@@ -15,7 +15,8 @@ abbrev pub MayLeave : Moment → List ℕ → Type 0
 MayLeave [] [] = Unit {0}
 MayLeave [] (byte ∷ file) = ⊥
 MayLeave (cell ∷ moment) [] = ⊥
-MayLeave (cell ∷ moment) (byte ∷ file) = (cell.loose ≡ false → byte ≡ cell.byte) × MayLeave moment file
+MayLeave (cell ∷ moment) (byte ∷ file) =
+    (cell.loose ≡ false → byte ≡ cell.byte) × MayLeave moment file
 
 -- these items in the place of those from `at` on
 abbrev pub put : {X : Type 0} → ℕ → List X → List X → List X
@@ -39,7 +40,8 @@ within_write at n moment = written at (take n (drop at (bytes_of moment))) momen
 
 -- after a write of n bytes there that failed: it had not begun, or they are any
 abbrev pub FailedWrite : ℕ → ℕ → Moment → Moment → Type 0
-FailedWrite at n old new = (new ≡ old) ⊎ ((bytes : List ℕ) × (length bytes ≡ n) × (new ≡ written at bytes old))
+FailedWrite at n old new =
+    (new ≡ old) ⊎ ((bytes : List ℕ) × (length bytes ≡ n) × (new ≡ written at bytes old))
 
 -- after a sync that succeeded
 abbrev pub synced : Moment → Moment

@@ -22,8 +22,11 @@ IsAmong moment (first ∷ moments) = (moment ≡ first) ⊎ IsAmong moment momen
 -- each start keeps what it has to, and each crash leaves what it may
 abbrev pub IsRun : Moment → List BootEvent → Type 0
 IsRun now [] = Unit {0}
-IsRun now (Answered since end answer ∷ events) = Keeps now end since × Rises now end answer × IsRun end events
-IsRun now (CutShort since end crashed left ∷ events) = Keeps now end since × IsAmong crashed (since ++ end ∷ []) × MayLeave crashed left × IsRun (left_by_crash left) events
+IsRun now (Answered since end answer ∷ events) =
+    Keeps now end since × Rises now end answer × IsRun end events
+IsRun now (CutShort since end crashed left ∷ events) =
+    Keeps now end since × IsAmong crashed (since ++ end ∷ []) × MayLeave crashed left
+    × IsRun (left_by_crash left) events
 IsRun now (Crashed left ∷ events) = MayLeave now left × IsRun (left_by_crash left) events
 IsRun now (Opened ∷ events) = IsRun now events
 

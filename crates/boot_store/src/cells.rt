@@ -1,4 +1,4 @@
-// The cells of a modelled disk.
+//! The cells of a modelled disk.
 ghost use Rattle.std.specs.Prelude.{◌≡◌, ◌≤◌, ◌+◌, length};
 ghost use Rattle.boot_store.specs.Moment.{bytes_of, kept_cell, written, synced};
 ghost use Rattle.boot_store.specs.Cells.{torn, torn_cell};

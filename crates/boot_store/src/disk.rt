@@ -1,4 +1,4 @@
-// A boot file's disk: what a read shows, what a crash may leave, and how often it failed.
+//! A boot file's disk: what a read shows, what a crash may leave, and how often it failed.
 ghost use Rattle.std.specs.Prelude.{◌≡◌, ◌+◌, ◌<◌, ◌≤◌, ◌↔◌, ℕ, List, [], ◌∷◌, ◌++◌, length, take, OnErr, OnOk, IfOk};
 ghost use Rattle.boot_store.specs.Moment.{Moment, bytes_of, written, within_write, FailedWrite, synced};
 
@@ -33,7 +33,8 @@ pub trait Disk {
     /// Fills the room with the first 32 bytes, and says how many of them are there.
     fn read(&mut self, room: &mut [u8; 32]) -> Result<usize, DeviceFault>
         ensures count { IfOk result (λ n. n ≤ 32) }
-        ensures filled { honest self.old → IfOk result (λ n. take n room.new ≡ take 32 (bytes_of (now self.old))) }
+        ensures filled { honest self.old
+            → IfOk result (λ n. take n room.new ≡ take 32 (bytes_of (now self.old))) }
         ensures same { honest self.old → now self.new ≡ now self.old }
         ensures passes { honest self.old → past self.new ≡ past self.old ++ now self.old ∷ [] }
         ensures honesty { honest self.old ↔ honest self.new }
@@ -44,9 +45,13 @@ pub trait Disk {
     fn write_at(&mut self, at: usize, bytes: &[u8]) -> Result<(), DeviceFault>
         requires within { at + length bytes.now ≤ 32 }
         requires no_hole { honest self.old → at ≤ length (now self.old) }
-        ensures written { honest self.old → OnOk result (now self.new ≡ written at bytes.now (now self.old)) }
-        ensures torn { honest self.old → OnErr result (FailedWrite at (length bytes.now) (now self.old) (now self.new)) }
-        ensures passes { honest self.old → past self.new ≡ past self.old ++ now self.old ∷ within_write at (length bytes.now) (now self.old) ∷ [] }
+        ensures written { honest self.old
+            → OnOk result (now self.new ≡ written at bytes.now (now self.old)) }
+        ensures torn { honest self.old
+            → OnErr result (FailedWrite at (length bytes.now) (now self.old) (now self.new)) }
+        ensures passes { honest self.old
+            → past self.new ≡ past self.old ++ now self.old
+            ∷ within_write at (length bytes.now) (now self.old) ∷ [] }
         ensures honesty { honest self.old ↔ honest self.new }
         ensures ok { OnOk result (failures self.new ≡ failures self.old) }
         ensures failed { OnErr result (failures self.old < failures self.new) };

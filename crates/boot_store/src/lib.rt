@@ -15,6 +15,3 @@ pub use faults::BootFault;
 pub use laws::boot_numbers_rise;
 pub use model::{ModelDisk, Trouble};
 pub use starts::{init, next_boot};
-
-#[cfg(test)]
-mod tests;

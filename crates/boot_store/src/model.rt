@@ -1,4 +1,4 @@
-// A disk in memory, which stops, tears writes and fails as it is told.
+//! A disk in memory, which stops, tears writes and fails as it is told.
 ghost use Rattle.std.specs.Prelude.{◌≡◌, ◌+◌};
 ghost use Rattle.boot_store.specs.Moment.{MayLeave, bytes_of, left_by_crash};
 
@@ -64,7 +64,8 @@ impl ModelDisk {
     pub fn set_trouble(&mut self, good_calls: u64, trouble: Trouble, any: &[u8; 32])
         ensures now { ⟦<ModelDisk as Disk>⟧.now self.new ≡ ⟦<ModelDisk as Disk>⟧.now self.old }
         ensures past { ⟦<ModelDisk as Disk>⟧.past self.new ≡ ⟦<ModelDisk as Disk>⟧.past self.old }
-        ensures failures { ⟦<ModelDisk as Disk>⟧.failures self.new ≡ ⟦<ModelDisk as Disk>⟧.failures self.old }
+        ensures failures { ⟦<ModelDisk as Disk>⟧.failures self.new
+            ≡ ⟦<ModelDisk as Disk>⟧.failures self.old }
     {
         self.good_calls = good_calls;
         self.trouble = trouble;
@@ -74,9 +75,12 @@ impl ModelDisk {
     /// A crash, after which nothing goes wrong. Where a byte was written since the last sync that succeeded, the one in
     /// `any` is left.
     pub fn crash(&mut self, any: &[u8; 32])
-        ensures may { MayLeave (⟦<ModelDisk as Disk>⟧.now self.old) (bytes_of (⟦<ModelDisk as Disk>⟧.now self.new)) }
-        ensures picked { MayLeave (⟦<ModelDisk as Disk>⟧.now self.old) any.now → bytes_of (⟦<ModelDisk as Disk>⟧.now self.new) ≡ any.now }
-        ensures kept { ⟦<ModelDisk as Disk>⟧.now self.new ≡ left_by_crash (bytes_of (⟦<ModelDisk as Disk>⟧.now self.new)) }
+        ensures may { MayLeave (⟦<ModelDisk as Disk>⟧.now self.old)
+            (bytes_of (⟦<ModelDisk as Disk>⟧.now self.new)) }
+        ensures picked { MayLeave (⟦<ModelDisk as Disk>⟧.now self.old) any.now
+            → bytes_of (⟦<ModelDisk as Disk>⟧.now self.new) ≡ any.now }
+        ensures kept { ⟦<ModelDisk as Disk>⟧.now self.new
+            ≡ left_by_crash (bytes_of (⟦<ModelDisk as Disk>⟧.now self.new)) }
     {
         tear_cells(&mut self.cells, any);
         sync_cells(&mut self.cells);

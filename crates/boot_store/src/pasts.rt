@@ -1,4 +1,4 @@
-// A modelled disk's past and its count of failures. Clauses read them; they take no bytes.
+//! A modelled disk's past and its count of failures. Clauses read them; they take no bytes.
 ghost use Rattle.std.specs.Prelude.{◌≡◌, ◌+◌, [], ◌∷◌, ◌++◌};
 
 use crate::Cell;

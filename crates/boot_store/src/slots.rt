@@ -1,4 +1,4 @@
-// The two slots of a boot file, 16 bytes each.
+//! The two slots of a boot file, 16 bytes each.
 ghost use Rattle.std.specs.Prelude.{◌≡◌, ◌≤◌, ◌<◌, ◌^◌, length, IfOk};
 ghost use Rattle.boot_store.specs.BootFile.{slot_number, greater, boot_answer, next_place, slot_bytes};
 

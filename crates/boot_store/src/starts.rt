@@ -1,4 +1,4 @@
-// A start reads the boot file and writes the next number, so that a crash at any moment leaves one.
+//! A start reads the boot file and writes the next number, so that a crash at any moment leaves one.
 ghost use Rattle.std.specs.Prelude.{◌≡◌, ◌≤◌, ◌<◌, ◌+◌, ◌↔◌, ◌-◌, ◌++◌, Option, Some, None, Result, OnOk, OnErr, IfOk, IsErrOf};
 ghost use Rattle.boot_store.specs.Moment.{bytes_of, written, synced};
 ghost use Rattle.boot_store.specs.BootFile.{number_of, boot_answer, with_number, slot_bytes};
@@ -34,7 +34,8 @@ fn zero_file() -> [u8; 32]
 
 /// The file as a crash from now on leaves it, where it has 32 bytes.
 fn settled_file<D: Disk>(disk: &mut D) -> Result<Option<[u8; 32]>, DeviceFault>
-    ensures any_moment { D.honest disk.old → Since (D.past disk.old) (D.past disk.new) (Keeps (D.now disk.old) (D.now disk.new)) }
+    ensures any_moment { D.honest disk.old
+        → Since (D.past disk.old) (D.past disk.new) (Keeps (D.now disk.old) (D.now disk.new)) }
     ensures synced { D.honest disk.old → OnOk result (D.now disk.new ≡ synced (D.now disk.old)) }
     ensures whole { D.honest disk.old → IfOk result (WholeFile (bytes_of (D.now disk.old))) }
     ensures honesty { D.honest disk.old ↔ D.honest disk.new }
@@ -54,8 +55,10 @@ fn settled_file<D: Disk>(disk: &mut D) -> Result<Option<[u8; 32]>, DeviceFault>
 fn store<D: Disk>(disk: &mut D, place: usize, boot: u64) -> Result<(), DeviceFault>
     requires place { place + 16 ≤ 32 }
     requires ready { D.honest disk.old → IsReady place (D.now disk.old) }
-    ensures any_moment { D.honest disk.old → Since (D.past disk.old) (D.past disk.new) (Keeps (D.now disk.old) (D.now disk.new)) }
-    ensures stored { D.honest disk.old → OnOk result (D.now disk.new ≡ synced (written place (slot_bytes boot) (D.now disk.old))) }
+    ensures any_moment { D.honest disk.old
+        → Since (D.past disk.old) (D.past disk.new) (Keeps (D.now disk.old) (D.now disk.new)) }
+    ensures stored { D.honest disk.old
+        → OnOk result (D.now disk.new ≡ synced (written place (slot_bytes boot) (D.now disk.old))) }
     ensures honesty { D.honest disk.old ↔ D.honest disk.new }
     ensures ok { OnOk result (D.failures disk.new ≡ D.failures disk.old) }
     ensures failed { OnErr result (D.failures disk.old < D.failures disk.new) }
@@ -69,12 +72,15 @@ fn store<D: Disk>(disk: &mut D, place: usize, boot: u64) -> Result<(), DeviceFau
 /// of a pair, which wants a file of number 0.
 pub fn next_boot<D: Disk>(disk: &mut D, found: bool) -> Result<u64, BootFault>
     ensures rises { D.honest disk.old → Rises (D.now disk.old) (D.now disk.new) result }
-    ensures any_moment { D.honest disk.old → Since (D.past disk.old) (D.past disk.new) (Keeps (D.now disk.old) (D.now disk.new)) }
-    ensures decided { D.honest disk.old → D.failures disk.new ≡ D.failures disk.old → result ≡ boot_answer found (number_of (bytes_of (D.now disk.old))) }
+    ensures any_moment { D.honest disk.old
+        → Since (D.past disk.old) (D.past disk.new) (Keeps (D.now disk.old) (D.now disk.new)) }
+    ensures decided { D.honest disk.old → D.failures disk.new ≡ D.failures disk.old
+        → result ≡ boot_answer found (number_of (bytes_of (D.now disk.old))) }
     ensures device { D.failures disk.old < D.failures disk.new → IsErrOf result BootFault.Device }
     ensures failed { IsErrOf result BootFault.Device → D.failures disk.old < D.failures disk.new }
     ensures later { D.failures disk.old ≤ D.failures disk.new }
-    ensures file { D.honest disk.old → IfOk result (λ n. bytes_of (D.now disk.new) ≡ with_number n (bytes_of (D.now disk.old))) }
+    ensures file { D.honest disk.old
+        → IfOk result (λ n. bytes_of (D.now disk.new) ≡ with_number n (bytes_of (D.now disk.old))) }
     ensures honesty { D.honest disk.old ↔ D.honest disk.new }
 {
     let Some(file) = settled_file(disk)? else {

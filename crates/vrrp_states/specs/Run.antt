@@ -12,7 +12,8 @@ pub record Told : Type 0 where
 -- steps one after another, from a router to what it is afterwards
 abbrev pub Runs : Router → List Told → Router → Type 0
 Runs router [] last = last ≡ router
-Runs router (told ∷ more) last = (next : Router) × IsStep router told.event told.now told.action next × Runs next more last
+Runs router (told ∷ more) last = (next : Router)
+    × IsStep router told.event told.now told.action next × Runs next more last
 
 -- hearing the advertisement of a router, from its primary address
 abbrev pub hears : Router → Event

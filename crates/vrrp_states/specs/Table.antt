@@ -68,7 +68,12 @@ timer_of Active router = router.adver_timer
 
 -- an advertisement is of higher priority, or of equal priority from a greater address (section 6.4.3)
 abbrev pub Outranks : ℕ → ℕ → Router → Type 0
-Outranks priority source router = (router.priority < priority) ⊎ ((priority ≡ router.priority) × (router.address < source))
+Outranks priority source router =
+    (router.priority < priority) ⊎ ((priority ≡ router.priority) × (router.address < source))
+
+-- a router in Backup stays behind one of this priority (section 6.4.2)
+abbrev pub Follows : Router → ℕ → Type 0
+Follows router priority = (router.preempt ≡ false) ⊎ (router.priority ≤ priority)
 
 -- the lines of the table
 pub data Line : Type 0 where
@@ -88,10 +93,15 @@ pub data Line : Type 0 where
 
 -- What a line says: the router before, the event, the moment, what is sent, the router afterwards.
 abbrev pub Says : Line → Router → Event → ℕ → Action → Router → Type 0
--- Initialize, start: Active_Adver_Interval := own interval; Active_Down_Timer := Active_Down_Interval; Backup (section 6.4.1).
+-- Initialize, start: Active_Adver_Interval := own interval; Active_Down_Timer := Active_Down_Interval; Backup
+-- (section 6.4.1).
 Says InitializeStart router event now action after =
     (router.state ≡ Initialize) × (event ≡ Start) × (action ≡ Nothing)
-    × (after ≡ record router { state = Backup; active_interval = router.interval; active_down_timer = Some (now + active_down_interval router.priority router.interval) })
+    × (after ≡ record router {
+      state = Backup;
+      active_interval = router.interval;
+      active_down_timer = Some (now + active_down_interval router.priority router.interval);
+    })
 -- Initialize, all others: nothing.
 Says InitializeOther router event now action after =
     (router.state ≡ Initialize) × (event ≡ Start → ⊥) × (action ≡ Nothing) × (after ≡ router)
@@ -101,42 +111,67 @@ Says BackupStop router event now action after =
     × (after ≡ record router { state = Initialize; active_down_timer = None })
 -- Backup, Active_Down_Timer due: advertise; gratuitous ARP; Adver_Timer := own interval; Active.
 Says BackupTimer router event now action after =
-    (router.state ≡ Backup) × (event ≡ Tick) × IsDue router.active_down_timer now × (action ≡ AdvertiseAndArp router.priority)
-    × (after ≡ record router { state = Active; active_down_timer = None; adver_timer = Some (now + router.interval) })
+    (router.state ≡ Backup) × (event ≡ Tick) × IsDue router.active_down_timer now
+    × (action ≡ AdvertiseAndArp router.priority)
+    × (after ≡ record router {
+      state = Active;
+      active_down_timer = None;
+      adver_timer = Some (now + router.interval);
+    })
 -- Backup, advertisement of priority 0: Active_Down_Timer := Skew_Time.
 Says BackupPriorityZero router event now action after = (interval source : ℕ)
     × (router.state ≡ Backup) × (event ≡ Heard 0 interval source) × (action ≡ Nothing)
-    × (after ≡ record router { active_down_timer = Some (now + skew_time router.priority router.active_interval) })
--- Backup, advertisement of a priority above 0, and preempt is false or its priority is at least the own: Active_Adver_Interval := its interval; Active_Down_Timer := Active_Down_Interval.
+    × (after ≡ record router {
+      active_down_timer = Some (now + skew_time router.priority router.active_interval);
+    })
+-- Backup, advertisement of a priority above 0, and preempt is false or its priority is at least the own:
+-- Active_Adver_Interval := its interval; Active_Down_Timer := Active_Down_Interval.
 Says BackupFollows router event now action after = (priority interval source : ℕ)
-    × (router.state ≡ Backup) × (event ≡ Heard priority interval source) × (0 < priority) × ((router.preempt ≡ false) ⊎ (router.priority ≤ priority)) × (action ≡ Nothing)
-    × (after ≡ record router { active_interval = interval; active_down_timer = Some (now + active_down_interval router.priority interval) })
+    × (router.state ≡ Backup) × (event ≡ Heard priority interval source) × (0 < priority)
+    × Follows router priority × (action ≡ Nothing)
+    × (after ≡ record router {
+      active_interval = interval;
+      active_down_timer = Some (now + active_down_interval router.priority interval);
+    })
 -- Backup, other advertisement: nothing.
 Says BackupOther router event now action after = (priority interval source : ℕ)
-    × (router.state ≡ Backup) × (event ≡ Heard priority interval source) × (0 < priority) × ((router.preempt ≡ false) ⊎ (router.priority ≤ priority) → ⊥) × (action ≡ Nothing) × (after ≡ router)
+    × (router.state ≡ Backup) × (event ≡ Heard priority interval source) × (0 < priority)
+    × (Follows router priority → ⊥) × (action ≡ Nothing) × (after ≡ router)
 -- Active, stop: cancel the timer; advertise priority 0; Initialize (section 6.4.3, as the lines on Active below).
 Says ActiveStop router event now action after =
     (router.state ≡ Active) × (event ≡ Stop) × (action ≡ Advertise 0)
     × (after ≡ record router { state = Initialize; adver_timer = None })
 -- Active, Adver_Timer due: advertise; Adver_Timer := own interval.
 Says ActiveTimer router event now action after =
-    (router.state ≡ Active) × (event ≡ Tick) × IsDue router.adver_timer now × (action ≡ Advertise router.priority)
+    (router.state ≡ Active) × (event ≡ Tick) × IsDue router.adver_timer now
+    × (action ≡ Advertise router.priority)
     × (after ≡ record router { adver_timer = Some (now + router.interval) })
 -- Active, advertisement of priority 0: advertise; Adver_Timer := own interval.
 Says ActivePriorityZero router event now action after = (interval source : ℕ)
-    × (router.state ≡ Active) × (event ≡ Heard 0 interval source) × (action ≡ Advertise router.priority)
+    × (router.state ≡ Active) × (event ≡ Heard 0 interval source)
+    × (action ≡ Advertise router.priority)
     × (after ≡ record router { adver_timer = Some (now + router.interval) })
--- Active, advertisement of higher priority, or of equal priority from a greater address: cancel Adver_Timer; Active_Adver_Interval := its interval; Active_Down_Timer := Active_Down_Interval; Backup.
+-- Active, advertisement of higher priority, or of equal priority from a greater address: cancel Adver_Timer;
+-- Active_Adver_Interval := its interval; Active_Down_Timer := Active_Down_Interval; Backup.
 Says ActiveYields router event now action after = (priority interval source : ℕ)
-    × (router.state ≡ Active) × (event ≡ Heard priority interval source) × (0 < priority) × Outranks priority source router × (action ≡ Nothing)
-    × (after ≡ record router { state = Backup; adver_timer = None; active_interval = interval; active_down_timer = Some (now + active_down_interval router.priority interval) })
+    × (router.state ≡ Active) × (event ≡ Heard priority interval source) × (0 < priority)
+    × Outranks priority source router × (action ≡ Nothing)
+    × (after ≡ record router {
+      state = Backup;
+      adver_timer = None;
+      active_interval = interval;
+      active_down_timer = Some (now + active_down_interval router.priority interval);
+    })
 -- Active, other advertisement: discard it; advertise; Adver_Timer := own interval.
 Says ActiveOther router event now action after = (priority interval source : ℕ)
-    × (router.state ≡ Active) × (event ≡ Heard priority interval source) × (0 < priority) × (Outranks priority source router → ⊥) × (action ≡ Advertise router.priority)
+    × (router.state ≡ Active) × (event ≡ Heard priority interval source) × (0 < priority)
+    × (Outranks priority source router → ⊥) × (action ≡ Advertise router.priority)
     × (after ≡ record router { adver_timer = Some (now + router.interval) })
 -- Backup, Active: start, or a tick at which its timer isn't due: nothing.
 Says NothingDue router event now action after =
-    (router.state ≡ Initialize → ⊥) × ((event ≡ Start) ⊎ ((event ≡ Tick) × (IsDue (timer_of router.state router) now → ⊥))) × (action ≡ Nothing) × (after ≡ router)
+    (router.state ≡ Initialize → ⊥)
+    × ((event ≡ Start) ⊎ ((event ≡ Tick) × (IsDue (timer_of router.state router) now → ⊥)))
+    × (action ≡ Nothing) × (after ≡ router)
 
 -- A step is a line of the table.
 abbrev pub IsStep : Router → Event → ℕ → Action → Router → Type 0

@@ -23,6 +23,3 @@ pub enum Action {
     /// An advertisement with this priority, then a gratuitous ARP for the virtual address.
     AdvertiseAndArp(u8),
 }
-
-#[cfg(test)]
-mod tests;

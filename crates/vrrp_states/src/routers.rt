@@ -1,3 +1,4 @@
+//! A router, whose calls are lines of the state table.
 ghost use Rattle.std.specs.Prelude.{◌≡◌, ℕ, ◌+◌, ◌<◌, ◌≤◌, ◌↔◌, ◌⊎◌, IsTrue, false};
 ghost use Rattle.vrrp_states.specs.declared.State.TheVariants as states;
 ghost use Rattle.vrrp_states.specs.declared.Action.TheVariants as actions;
@@ -44,7 +45,11 @@ fn active_down_interval(own: Own, interval: u16) -> u32
 /// Backup behind a router that advertises at this interval.
 fn behind(own: Own, interval: u16, now: u64) -> Status
     requires { IsMoment now }
-    ensures { result ≡ record { state = states.Backup; active_interval = interval; due = now + active_down_interval own.priority interval } }
+    ensures { result ≡ record {
+      state = states.Backup;
+      active_interval = interval;
+      due = now + active_down_interval own.priority interval;
+    } }
 {
     Status {
         state: State::Backup,
@@ -56,7 +61,11 @@ fn behind(own: Own, interval: u16, now: u64) -> Status
 /// Active, with its advertisement just sent.
 fn ahead(own: Own, status: Status, now: u64) -> Status
     requires { IsMoment now }
-    ensures { result ≡ record { state = states.Active; active_interval = status.active_interval; due = now + own.interval } }
+    ensures { result ≡ record {
+      state = states.Active;
+      active_interval = status.active_interval;
+      due = now + own.interval;
+    } }
 {
     Status {
         state: State::Active,
@@ -74,7 +83,8 @@ fn is_followed(advert: Advert, own: Own) -> bool
 
 /// Whether an advertisement is of higher priority, or of equal priority from a greater address (RFC 9568, section 6.4.3).
 fn outranks(advert: Advert, from: Ip, own: Own) -> bool
-    ensures { IsTrue result ↔ (own.priority < advert.priority) ⊎ ((advert.priority ≡ own.priority) × (own.address.0 < from.0)) }
+    ensures { IsTrue result ↔ (own.priority < advert.priority)
+        ⊎ ((advert.priority ≡ own.priority) × (own.address.0 < from.0)) }
 {
     advert.priority > own.priority || advert.priority == own.priority && from > own.address
 }
@@ -123,7 +133,9 @@ fn ticked(own: Own, status: Status, now: u64) -> (Status, Action)
 fn heard_in_backup(own: Own, status: Status, advert: Advert, now: u64) -> Status
     requires moment { IsMoment now }
     requires state { status.state ≡ states.Backup }
-    ensures { (source : ℕ) → IsStep (router_of own status) (Heard advert.priority advert.interval source) now actions.Nothing (router_of own result) }
+    ensures { (source : ℕ)
+        → IsStep (router_of own status) (Heard advert.priority advert.interval source) now
+        actions.Nothing (router_of own result) }
 {
     if advert.priority == 0 {
         let skew_time = u64::from(skew_time(own, status.active_interval));
@@ -141,7 +153,8 @@ fn heard_in_backup(own: Own, status: Status, advert: Advert, now: u64) -> Status
 fn heard_in_active(own: Own, status: Status, advert: Advert, from: Ip, now: u64) -> (Status, Action)
     requires moment { IsMoment now }
     requires state { status.state ≡ states.Active }
-    ensures { IsStep (router_of own status) (Heard advert.priority advert.interval from.0) now result.1 (router_of own result.0) }
+    ensures { IsStep (router_of own status) (Heard advert.priority advert.interval from.0) now
+        result.1 (router_of own result.0) }
 {
     if advert.priority > 0 && outranks(advert, from, own) {
         (behind(own, advert.interval, now), Action::Nothing)
@@ -152,7 +165,8 @@ fn heard_in_active(own: Own, status: Status, advert: Advert, from: Ip, now: u64)
 
 fn heard(own: Own, status: Status, advert: Advert, from: Ip, now: u64) -> (Status, Action)
     requires { IsMoment now }
-    ensures { IsStep (router_of own status) (Heard advert.priority advert.interval from.0) now result.1 (router_of own result.0) }
+    ensures { IsStep (router_of own status) (Heard advert.priority advert.interval from.0) now
+        result.1 (router_of own result.0) }
 {
     match status.state {
         State::Initialize => (status, Action::Nothing),
@@ -221,7 +235,8 @@ impl Router {
     /// An advertisement for this virtual router, from another router's primary address.
     pub fn heard(&mut self, advert: &Advert, from: Ip, now: u64) -> Action
         requires { IsMoment now }
-        ensures { IsStep self.old (Heard advert.now.priority advert.now.interval from.0) now result self.new }
+        ensures { IsStep self.old (Heard advert.now.priority advert.now.interval from.0) now
+            result self.new }
     {
         let (status, action) = heard(self.own, self.status, *advert, from, now);
         self.status = status;

@@ -1,0 +1,28 @@
+//! A writer that takes a number of bytes, and then no more.
+
+use std::io::{self, ErrorKind, Write};
+
+#[derive(Drop)]
+pub struct Narrow {
+    room: usize,
+}
+
+impl Narrow {
+    pub fn new(room: usize) -> Narrow {
+        Narrow { room }
+    }
+}
+
+impl Write for Narrow {
+    fn write(&mut self, bytes: &[u8]) -> io::Result<usize> {
+        if bytes.len() > self.room {
+            return Err(io::Error::from(ErrorKind::BrokenPipe));
+        }
+        self.room -= bytes.len();
+        Ok(bytes.len())
+    }
+
+    fn flush(&mut self) -> io::Result<()> {
+        Ok(())
+    }
+}

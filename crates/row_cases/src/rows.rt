@@ -1,0 +1,127 @@
+//! A line of the list: which script is run, and on what.
+
+use crate::alone;
+use crate::narrow::Narrow;
+use anyhow::{Context, Result, bail};
+use frame_sim::{World, WorldEvent, audit};
+use nat_types::GatewayId;
+use runs::{play, read, simulate, text_of};
+use settings::Settings;
+use std::alloc::Global;
+use std::io::Write;
+use std::rt::Files;
+
+/// Prints what the run of a line prints.
+///
+/// - `script NAME` runs the file NAME.script, and audits its trace; `fault NAME` runs one that isn't read
+/// - `line TEXT` runs a script of that one line, `times COUNT TEXT` one of so many
+/// - `settings WORD` runs an empty script with this word for the settings
+/// - `room COUNT TEXT` runs a script of one line, whose output has room for so many bytes
+/// - `file NAME` reads a script's file
+/// - `narrow NAME`, `other NAME`, `unsynced NAME` run a script with one port, at gateway 1 of the world, and on a
+///   gateway alone that isn't synced
+pub fn print<R: Files + AllocGlobal, O: Write>(rt: &R, row: &str, output: &mut O) -> Result<()> {
+    let (alloc, (verb, rest)) = (rt.alloc(), row.split_once(' ').context("no verb")?);
+    match verb {
+        "line" => simulated(alloc, "S", rest, output),
+        "settings" => simulated(alloc, rest, "", output),
+        "times" => repeated(alloc, rest, output),
+        "room" => crowded(alloc, rest, output),
+        "file" => opened(rt, rest, output),
+        _ => scripted(rt, verb, rest, output),
+    }
+}
+
+/// The lines whose last word is the name of a script's file.
+fn scripted<R: Files + AllocGlobal, O: Write>(
+    rt: &R,
+    verb: &str,
+    name: &str,
+    output: &mut O,
+) -> Result<()> {
+    let alloc = rt.alloc();
+    let text = text_of(rt, format!(in alloc; "{name}.script")?.as_str())?;
+    let script = text.as_str();
+    match verb {
+        "script" => {
+            simulated(alloc, "S", script, output)?;
+            audited(alloc, script, output)
+        }
+        "fault" => simulated(alloc, "S", script, output),
+        "narrow" => alone::narrow(alloc, script, output),
+        "other" => other(alloc, script, output),
+        "unsynced" => alone::unsynced(alloc, script, output),
+        _ => bail!("no verb {verb}"),
+    }
+}
+
+/// Output, faults and status of a script.
+fn simulated<O: Write>(alloc: Global, settings: &str, script: &str, output: &mut O) -> Result<()> {
+    let mut errors = Vec::new(alloc);
+    let status = simulate(alloc, settings, script, output, &mut errors);
+    output.write_all(errors.as_slice())?;
+    writeln!(output, "status {status}")?;
+    Ok(())
+}
+
+/// Whether the trace and the tables of a script's run are those of a pair that keeps its promises.
+fn audited<O: Write>(alloc: Global, script: &str, output: &mut O) -> Result<()> {
+    let settings = Settings::sample(alloc)?;
+    let mut world = World::new(alloc, &settings)?;
+    world.run(read(alloc, script)?.as_slice())?;
+    let (zero, one) = (world.table(GatewayId::Zero)?, world.table(GatewayId::One)?);
+    match audit(alloc, world.trace(), zero.as_slice(), one.as_slice()) {
+        Ok(()) => writeln!(output, "audit passed")?,
+        Err(fault) => writeln!(output, "audit: {fault}")?,
+    }
+    Ok(())
+}
+
+/// A script whose events happen to gateway 1.
+fn other<O: Write>(alloc: Global, script: &str, output: &mut O) -> Result<()> {
+    let mut events = Vec::new(alloc);
+    for event in read(alloc, script)? {
+        events.push(match event {
+            WorldEvent::Frame(_, side, bytes) => WorldEvent::Frame(GatewayId::One, side, bytes),
+            WorldEvent::Tick(_, moment) => WorldEvent::Tick(GatewayId::One, moment),
+        })?;
+    }
+    let settings = Settings::sample(alloc)?;
+    let status = play(alloc, &settings, events.as_slice(), output)?;
+    writeln!(output, "status {status}")?;
+    Ok(())
+}
+
+/// A script of the same line many times.
+fn repeated<O: Write>(alloc: Global, rest: &str, output: &mut O) -> Result<()> {
+    let (count, line) = rest.split_once(' ').context("no count")?;
+    let mut script = String::new(alloc);
+    for _ in 0..count.parse::<u32>()? {
+        script.push_str(line)?;
+        script.push_str("\n")?;
+    }
+    simulated(alloc, "S", script.as_str(), output)
+}
+
+/// A script whose output is refused once so many bytes are written.
+fn crowded<O: Write>(alloc: Global, rest: &str, output: &mut O) -> Result<()> {
+    let (room, script) = rest.split_once(' ').context("no room")?;
+    let mut errors = Vec::new(alloc);
+    let mut narrow = Narrow::new(room.parse::<usize>()?);
+    let status = simulate(alloc, "S", script, &mut narrow, &mut errors);
+    output.write_all(errors.as_slice())?;
+    writeln!(output, "status {status}")?;
+    Ok(())
+}
+
+/// A script's file that may not be one.
+fn opened<R: Files + AllocGlobal, O: Write>(rt: &R, name: &str, output: &mut O) -> Result<()> {
+    match text_of(rt, name) {
+        Ok(text) => writeln!(output, "{} bytes", text.len())?,
+        Err(fault) => {
+            let status = fault.tell(output);
+            writeln!(output, "status {status}")?;
+        }
+    }
+    Ok(())
+}

@@ -1,0 +1,3 @@
+pub mod Script
+pub mod Faults
+pub mod Status

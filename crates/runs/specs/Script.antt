@@ -1,0 +1,120 @@
+-- The grammar of a script, on its bytes.
+use Rattle.std.specs.Prelude.{ℕ, ◌+◌, ◌-◌, ◌*◌, ◌^◌, ◌==◌, ◌&&◌, ◌||◌, nat_le, nat_lt, nat_eq, Bool, if◌then◌else◌, List, [], ◌∷◌, length, codes, Option, Some, None, is_none, option_map}
+use Rattle.std.specs.List.{slice_split, starts_with, list_all, filter_map}
+use Rattle.std.specs.Result.{result_ok}
+use Rattle.std.specs.Char.{is_ascii_digit}
+use Rattle.std.specs.Str.{bytes_eq}
+use Rattle.std.specs.Str.Lines.{lines}
+use Rattle.std.specs.Str.Parse.{digits_value}
+use Rattle.hex.specs.Hex.{decode_of}
+use Rattle.nat_types.specs.declared.gateways.GatewayId.{GatewayId}
+use Rattle.nat_types.specs.declared.gateways.GatewayId.TheVariants.{Zero}
+use Rattle.nat_types.specs.declared.gateways.Side.{Side}
+use Rattle.nat_types.specs.declared.gateways.Side.TheVariants.{Inside, Outside}
+use Rattle.runs.specs.declared.scripts.TheConstants.{EVENTS, FRAME}
+use Rattle.frame_sim.specs.declared.events.WorldEvent.{WorldEvent}
+use Rattle.frame_sim.specs.declared.events.WorldEvent.TheVariants.{Frame, Tick}
+
+-- an event in a script's words: a frame's bytes, or a moment
+pub data Said : Type 0 where
+  frame : GatewayId → Side → List ℕ → Said
+  tick : GatewayId → ℕ → Said
+
+-- what a script says for an event
+abbrev pub said : WorldEvent → Said
+said (Frame id side bytes) = frame id side bytes.items
+said (Tick id moment) = tick id moment
+
+-- the words of a line stand apart by single spaces
+abbrev pub words : List ℕ → List (List ℕ)
+words line = slice_split (λ b. b == 32) line
+
+-- blanks and tabs alone
+abbrev pub is_blank : List ℕ → Bool
+is_blank line = list_all (λ b. b == 32 || b == 9) line
+
+-- a line that begins with `#`
+abbrev pub is_comment : List ℕ → Bool
+is_comment line = starts_with nat_eq line (codes "#")
+
+-- a line that says nothing
+abbrev pub is_silent : List ℕ → Bool
+is_silent line = is_comment line || is_blank line
+
+-- decimal digits alone
+abbrev pub is_decimal : List ℕ → Bool
+is_decimal word = list_all is_ascii_digit word
+
+-- a decimal number below 2^64
+abbrev pub is_number : List ℕ → Bool
+is_number word =
+    is_decimal word && (nat_lt 0 (length word) && nat_lt (digits_value 10 word) (2 ^ 64))
+
+-- the number that a word is
+abbrev pub number_named : List ℕ → Option ℕ
+number_named word = if is_number word then Some (digits_value 10 word) else None
+
+-- the side that a word is
+abbrev pub side_named : List ℕ → Option Side
+side_named word =
+    if bytes_eq word (codes "inside") then Some Inside
+    else if bytes_eq word (codes "outside") then Some Outside
+    else None
+
+-- one byte to the most of a frame, two digits each
+abbrev pub fits_frame : List ℕ → Bool
+fits_frame word = nat_lt 0 (length word) && nat_le (length word) (2 * FRAME)
+
+-- the bytes that a word is: `-` for none, or pairs of hexadecimal digits
+abbrev pub bytes_named : List ℕ → Option (List ℕ)
+bytes_named word =
+    if bytes_eq word (codes "-") then Some []
+    else if fits_frame word then result_ok (decode_of word)
+    else None
+
+-- `tick 0 M`
+abbrev pub tick_named : List ℕ → List ℕ → List ℕ → Option Said
+tick_named verb gateway moment =
+    if bytes_eq verb (codes "tick") && bytes_eq gateway (codes "0")
+    then option_map (λ n. tick Zero n) (number_named moment)
+    else None
+
+-- a frame at a side
+abbrev pub frame_at : Option Side → Option (List ℕ) → Option Said
+frame_at (Some side) (Some bytes) = Some (frame Zero side bytes)
+frame_at (Some side) None = None
+frame_at None bytes = None
+
+-- `frame 0 inside HEX` or `frame 0 outside HEX`
+abbrev pub frame_named : List ℕ → List ℕ → List ℕ → List ℕ → Option Said
+frame_named verb gateway side text =
+    if bytes_eq verb (codes "frame") && bytes_eq gateway (codes "0")
+    then frame_at (side_named side) (bytes_named text)
+    else None
+
+-- the event that these words name, if they name one
+abbrev pub words_event : List (List ℕ) → Option Said
+words_event (verb ∷ gateway ∷ moment ∷ []) = tick_named verb gateway moment
+words_event (verb ∷ gateway ∷ side ∷ text ∷ []) = frame_named verb gateway side text
+words_event others = None
+
+-- the event that a line names, if it isn't silent and names one
+abbrev pub line_event : List ℕ → Option Said
+line_event line = if is_silent line then None else words_event (words line)
+
+-- the events of the lines, in order
+abbrev pub events_of : List (List ℕ) → List Said
+events_of ls = filter_map line_event ls
+
+-- of these lines, the first of which has number n, the first that is none of a script's or names an event too many,
+-- where room more may come
+abbrev pub first_bad_from : ℕ → ℕ → List (List ℕ) → Option ℕ
+first_bad_from n room [] = None
+first_bad_from n room (line ∷ more) =
+    if is_silent line then first_bad_from (n + 1) room more
+    else if is_none (line_event line) || room == 0 then Some n
+    else first_bad_from (n + 1) (room - 1) more
+
+-- the number of a script's first bad line, counted from 1
+abbrev pub first_bad_line : List ℕ → Option ℕ
+first_bad_line script = first_bad_from 1 EVENTS (lines script)

@@ -1,0 +1,34 @@
+-- The exit status of a run.
+use Rattle.std.specs.Prelude.{◌≡◌, ℕ, Bool, if◌then◌else◌, List, map, is_err}
+use Rattle.std.specs.List.{list_any}
+use Rattle.std.specs.Str.Lines.{lines}
+use Rattle.settings.specs.declared.whole.Settings.{Settings}
+use Rattle.settings.specs.Sample.{IsSample}
+use Rattle.frame_sim.specs.declared.events.Step.{Step}
+use Rattle.frame_sim.specs.declared.events.WorldEvent.{WorldEvent}
+use Rattle.frame_sim.specs.World.{World, founded}
+use Rattle.frame_sim.specs.Runs.{AreSteps}
+use Rattle.runs.specs.Script.{said, events_of}
+
+-- an event was refused
+abbrev pub has_refusal : List Step → Bool
+has_refusal steps = list_any (λ s. is_err s.answer) steps
+
+-- 3 where an event was refused, else 0
+abbrev pub run_status : List Step → ℕ
+run_status steps = if has_refusal steps then 3 else 0
+
+-- the status of the steps that these events take, in order, on a new world of these settings
+pub record IsRun (settings : Settings) (events : List WorldEvent) (status : ℕ) : Type 0 where
+  pub steps : List Step
+  pub world : World
+  pub answers : AreSteps (founded settings) events steps world
+  pub refusals : status ≡ run_status steps
+
+-- the status of a run of a script's events on a new world of the built-in settings
+pub record RunsScript (script : List ℕ) (status : ℕ) : Type 0 where
+  pub settings : Settings
+  pub sample : IsSample settings
+  pub events : List WorldEvent
+  pub read : map said events ≡ events_of (lines script)
+  pub run : IsRun settings events status

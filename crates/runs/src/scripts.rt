@@ -1,0 +1,209 @@
+//! Reads a script: a list of world events, a line each.
+
+ghost use Rattle.std.specs.Prelude.{◌≡◌, map, option_map, IfOk, IfErr, OnOk};
+ghost use Rattle.std.specs.Str.Lines.{lines};
+ghost use Rattle.runs.specs.Script.{said, words, is_comment, is_blank, is_silent, is_decimal, number_named, side_named, bytes_named, tick_named, frame_named, words_event, events_of, first_bad_from, first_bad_line};
+ghost use Rattle.runs.specs.Faults.{IsTold};
+ghost use Rattle.runs.specs.declared.scripts.TheConstants.{EVENTS};
+
+use frame_sim::WorldEvent;
+use nat_types::{GatewayId, Side};
+use std::alloc::{AllocError, AllocFailed, Global};
+use thiserror::Error;
+
+/// The most events that a script may have.
+const EVENTS: usize = 1_000_000;
+
+/// The longest frame that a script may hand in, in bytes.
+const FRAME: usize = 2_000;
+
+/// Why a script isn't read.
+#[derive(Clone, Copy, Debug, PartialEq, Eq, Error)]
+pub enum ScriptFault {
+    /// The line with this number, from 1, is none of a script's.
+    #[error("line {0} is none of a script's")]
+    BadLine(usize),
+    #[error("out of memory")]
+    NoMemory,
+}
+
+impl From<AllocError> for ScriptFault {
+    ghost use Rattle.std.specs.Prelude.{◌≡◌};
+    ghost use Rattle.runs.specs.declared.scripts.ScriptFault.TheVariants as faults;
+
+    ghost from_gives = { λ _ fault. fault ≡ faults.NoMemory };
+
+    fn from(_: AllocError) -> ScriptFault {
+        ScriptFault::NoMemory
+    }
+}
+
+impl<T: Drop> From<AllocFailed<T>> for ScriptFault {
+    ghost use Rattle.std.specs.Prelude.{◌≡◌};
+    ghost use Rattle.runs.specs.declared.scripts.ScriptFault.TheVariants as faults;
+
+    ghost from_gives = { λ _ fault. fault ≡ faults.NoMemory };
+
+    fn from(_: AllocFailed<T>) -> ScriptFault {
+        ScriptFault::NoMemory
+    }
+}
+
+/// All events of a script, or the first fault in it.
+pub fn read(alloc: Global, script: &str) -> Result<Vec<WorldEvent>, ScriptFault>
+    ensures told { IfErr result (IsTold (lines script.now)) }
+    ensures good { OnOk result (first_bad_line script.now ≡ None) }
+    ensures events { IfOk result (λ v. map said v.items ≡ events_of (lines script.now)) }
+{
+    let lines = lines_of(alloc, script)?;
+    events_in(alloc, lines.as_slice())
+}
+
+fn lines_of(alloc: Global, script: &str) -> Result<Vec<&str>, AllocError>
+    ensures { IfOk result (λ v. map (λ line. line.now) v.items ≡ lines script.now) }
+{
+    script.lines().collect(alloc)
+}
+
+fn events_in(alloc: Global, lines: &[&str]) -> Result<Vec<WorldEvent>, ScriptFault>
+    ensures told { IfErr result (IsTold (map (λ line. line.now) lines.now)) }
+    ensures good { OnOk result (first_bad_from 1 EVENTS (map (λ line. line.now) lines.now)
+        ≡ None) }
+    ensures events { IfOk result (λ v. map said v.items
+        ≡ events_of (map (λ line. line.now) lines.now)) }
+{
+    let mut events = Vec::new(alloc);
+    for (above, line) in lines.iter().enumerate() {
+        if is_silent(line) {
+            continue;
+        }
+        let event = event_of(alloc, line)?.ok_or(ScriptFault::BadLine(above + 1))?;
+        if events.len() == EVENTS {
+            return Err(ScriptFault::BadLine(above + 1));
+        }
+        events.push(event)?;
+    }
+    Ok(events)
+}
+
+/// A line that says nothing.
+fn is_silent(line: &str) -> bool
+    ensures { result ≡ is_silent line.now }
+{
+    is_comment(line) || is_blank(line)
+}
+
+fn is_comment(line: &str) -> bool
+    ensures { result ≡ is_comment line.now }
+{
+    line.starts_with("#")
+}
+
+/// Blanks and tabs alone.
+fn is_blank(line: &str) -> bool
+    ensures { result ≡ is_blank line.now }
+{
+    line.bytes().all(|byte| byte == b' ' || byte == b'\t')
+}
+
+/// The event that a line names, if it names one.
+fn event_of(alloc: Global, line: &str) -> Result<Option<WorldEvent>, AllocError>
+    ensures { IfOk result (λ event. option_map said event ≡ words_event (words line.now)) }
+{
+    let words = words_of(alloc, line)?;
+    event_named(alloc, words.as_slice())
+}
+
+/// The words of a line, which stand apart by single spaces.
+fn words_of(alloc: Global, line: &str) -> Result<Vec<&str>, AllocError>
+    ensures { IfOk result (λ v. map (λ word. word.now) v.items ≡ words line.now) }
+{
+    line.split(' ').collect(alloc)
+}
+
+fn event_named(alloc: Global, words: &[&str]) -> Result<Option<WorldEvent>, AllocError>
+    ensures { IfOk result (λ event. option_map said event
+        ≡ words_event (map (λ word. word.now) words.now)) }
+{
+    match words {
+        [verb, gateway, moment] => Ok(tick_of(verb, gateway, moment)),
+        [verb, gateway, side, text] => frame_of(alloc, verb, gateway, side, text),
+        _ => Ok(None),
+    }
+}
+
+fn tick_of(verb: &str, gateway: &str, moment: &str) -> Option<WorldEvent>
+    ensures { option_map said result ≡ tick_named verb.now gateway.now moment.now }
+{
+    if verb != "tick" || gateway != "0" {
+        return None;
+    }
+    let moment = number_of(moment)?;
+    Some(WorldEvent::Tick(GatewayId::Zero, moment))
+}
+
+fn frame_of(
+    alloc: Global,
+    verb: &str,
+    gateway: &str,
+    side: &str,
+    text: &str,
+) -> Result<Option<WorldEvent>, AllocError>
+    ensures { IfOk result (λ event. option_map said event
+        ≡ frame_named verb.now gateway.now side.now text.now) }
+{
+    if verb != "frame" || gateway != "0" {
+        return Ok(None);
+    }
+    let Some(side) = side_of(side) else {
+        return Ok(None);
+    };
+    let Some(bytes) = bytes_of(alloc, text)? else {
+        return Ok(None);
+    };
+    Ok(Some(WorldEvent::Frame(GatewayId::Zero, side, bytes)))
+}
+
+fn side_of(word: &str) -> Option<Side>
+    ensures { result ≡ side_named word.now }
+{
+    match word {
+        "inside" => Some(Side::Inside),
+        "outside" => Some(Side::Outside),
+        _ => None,
+    }
+}
+
+/// A decimal number below 2^64, of digits alone.
+fn number_of(word: &str) -> Option<u64>
+    ensures { result ≡ number_named word.now }
+{
+    if is_decimal(word) {
+        word.parse::<u64>().ok()
+    } else {
+        None
+    }
+}
+
+fn is_decimal(word: &str) -> bool
+    ensures { result ≡ is_decimal word.now }
+{
+    word.bytes().all(|byte| byte.is_ascii_digit())
+}
+
+/// The bytes that pairs of hexadecimal digits spell, or none for `-`.
+fn bytes_of(alloc: Global, word: &str) -> Result<Option<Vec<u8>>, AllocError>
+    ensures { IfOk result (λ bytes. option_map (λ v. v.items) bytes ≡ bytes_named word.now) }
+{
+    if word == "-" {
+        return Ok(Some(Vec::new(alloc)));
+    }
+    if word.is_empty() || word.len() > 2 * FRAME {
+        return Ok(None);
+    }
+    match hex::decode(alloc, word) {
+        Ok(bytes) => Ok(Some(bytes)),
+        Err(hex::FromHexError::OutOfMemory) => Err(AllocError),
+        Err(_) => Ok(None),
+    }
+}

@@ -1,0 +1,91 @@
+//! A script's run: its events on a new world, their steps and the tables at its end printed.
+ghost use Rattle.std.specs.Prelude.{◌≡◌, ◌≢◌, ◌↔◌, ◌⊎◌, ◌≤◌, codes, IfOk, IfErr, OnOk, IsSome};
+ghost use Rattle.runs.specs.Faults.{status_of};
+ghost use Rattle.runs.specs.Script.{first_bad_line};
+ghost use Rattle.runs.specs.Status.{has_refusal, run_status, IsRun, RunsScript};
+ghost use Rattle.runs.specs.declared.faults.Fault.TheVariants as faults;
+
+use crate::{Fault, printing, scripts};
+use frame_sim::{Step, World, WorldEvent};
+use settings::Settings;
+use std::alloc::Global;
+use std::io::Write;
+
+/// Runs a script on a new world of these settings, for now the word `S`, and prints its steps and tables.
+///
+/// The answer is the exit status: 0, 3 where an event was refused, or that of a fault, which is told on `errors`.
+pub fn simulate<O: Write, E: Write>(
+    alloc: Global,
+    settings: &str,
+    script: &str,
+    output: &mut O,
+    errors: &mut E,
+) -> u8
+    ensures usage { (result ≡ 2) ↔ (settings.now ≢ codes "S") }
+    ensures bad { settings.now ≡ codes "S" → IsSome (first_bad_line script.now) → result ≡ 1 }
+    ensures good { (result ≡ 0) ⊎ (result ≡ 3) → first_bad_line script.now ≡ None }
+    ensures run { (result ≡ 0) ⊎ (result ≡ 3) → RunsScript script.now result }
+    ensures most { result ≤ 3 }
+{
+    match simulated(alloc, settings, script, output) {
+        Ok(status) => status,
+        Err(fault) => fault.tell(errors),
+    }
+}
+
+fn simulated<O: Write>(
+    alloc: Global,
+    settings: &str,
+    script: &str,
+    output: &mut O,
+) -> Result<u8, Fault>
+    ensures usage { settings.now ≢ codes "S" → result ≡ Err faults.Usage }
+    ensures known { settings.now ≡ codes "S" → IfErr result (λ fault. status_of fault ≡ 1) }
+    ensures good { OnOk result (first_bad_line script.now ≡ None) }
+    ensures run { IfOk result (RunsScript script.now) }
+    ensures status { IfOk result (λ status. (status ≡ 0) ⊎ (status ≡ 3)) }
+{
+    if settings != "S" {
+        return Err(Fault::Usage);
+    }
+    let settings = Settings::sample(alloc)?;
+    let events = scripts::read(alloc, script)?;
+    play(alloc, &settings, events.as_slice(), output)
+}
+
+/// Runs events on a new world of these settings, and prints their steps and its tables. The answer is the exit status.
+///
+/// # Errors
+///
+/// `NotWritten` where output is refused, `NoMemory`.
+pub fn play<O: Write>(
+    alloc: Global,
+    settings: &Settings,
+    events: &[WorldEvent],
+    output: &mut O,
+) -> Result<u8, Fault>
+    ensures run { IfOk result (IsRun settings.now events.now) }
+    ensures status { IfOk result (λ status. (status ≡ 0) ⊎ (status ≡ 3)) }
+    ensures fault { IfErr result
+        (λ fault. (fault ≡ faults.NotWritten) ⊎ (fault ≡ faults.NoMemory)) }
+{
+    let mut world = World::new(alloc, settings)?;
+    let steps = world.run(events)?;
+    printing::steps(output, events, steps.as_slice())?;
+    printing::tables(output, &world)?;
+    output.flush()?;
+    Ok(status_of(steps.as_slice()))
+}
+
+/// 3 where an event was refused, else 0.
+fn status_of(steps: &[Step]) -> u8
+    ensures { result ≡ run_status steps.now }
+{
+    if has_refusal(steps) { 3 } else { 0 }
+}
+
+fn has_refusal(steps: &[Step]) -> bool
+    ensures { result ≡ has_refusal steps.now }
+{
+    steps.iter().any(|step| step.answer.is_err())
+}
