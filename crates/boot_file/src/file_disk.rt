@@ -9,8 +9,8 @@ use std::io::{Read, Seek, SeekFrom, Write};
 /// The length of a boot file, in bytes.
 const LENGTH: usize = 32;
 
-/// A boot file that is open, with its folder. No clause can say what a real file does, so it doesn't claim to be honest;
-/// a call of the system that fails is counted.
+/// A boot file that is open, with its folder. No clause can say what a real file does, so it
+/// doesn't claim to be honest; a call of the system that fails is counted.
 #[derive(Drop)]
 pub struct FileDisk<F> {
     file: F,

@@ -1,4 +1,5 @@
-//! The boot file on a real disk: made new, written at an offset, read past the kernel's cache, synced with its folder.
+//! The boot file on a real disk: made new, written at an offset, read past the kernel's cache,
+//! synced with its folder.
 #![tactic(auto)]
 
 mod cache;

@@ -22,8 +22,9 @@ fn not_made(error: io::Error) -> FileFault {
     }
 }
 
-/// Makes a boot file of number 0, on which a gateway can be founded. A file that is there is left as it is. The file
-/// and its name outlast a crash from the answer on. After NotWritten a part of the file may be there.
+/// Makes a boot file of number 0, on which a gateway can be founded. A file that is there is left
+/// as it is. The file and its name outlast a crash from the answer on. After NotWritten a part of
+/// the file may be there.
 pub fn create<R: Files>(rt: &R, path: &str) -> Result<(), FileFault>
 where
     R::File: Uncached,

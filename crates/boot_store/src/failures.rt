@@ -1,10 +1,12 @@
-// How often a device has failed. Clauses read the count; it takes no bytes, so that it can rise without bound.
+// How often a device has failed. Clauses read the count; it takes no bytes, so that it can rise
+// without bound.
 ghost use Rattle.std.specs.Prelude.{◌≡◌, ◌+◌};
 
 use std::marker::Model;
 use std::snapshot::Snapshot;
 
-/// How often a call has failed: the count for which [`Disk`](crate::Disk) asks, for any device that can fail.
+/// How often a call has failed: the count for which [`Disk`](crate::Disk) asks, for any device that
+/// can fail.
 #[derive(Drop)]
 pub struct Failures {
     before: Option<Snapshot<Failures>>,

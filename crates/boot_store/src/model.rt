@@ -11,8 +11,8 @@ use crate::{Cell, DeviceFault, Disk, Failures, Hold};
 pub enum Trouble {
     /// Nothing.
     None,
-    /// One call fails. A sync that fails loses what was written since the last one: later syncs succeed and don't
-    /// write it.
+    /// One call fails. A sync that fails loses what was written since the last one: later syncs
+    /// succeed and don't write it.
     FailsOnce,
     /// The disk stops before a call.
     StopsBefore,
@@ -60,12 +60,14 @@ impl ModelDisk {
         }
     }
 
-    /// After so many good calls there is trouble. A write that fails, or in which the disk stops, leaves the bytes
-    /// that stand at its place in `any`. So does a sync that fails, once the disk is read or has crashed.
+    /// After so many good calls there is trouble. A write that fails, or in which the disk stops,
+    /// leaves the bytes that stand at its place in `any`. So does a sync that fails, once the disk
+    /// is read or has crashed.
     pub fn set_trouble(&mut self, good_calls: u64, trouble: Trouble, any: &[u8; 32])
         ensures now { ⟦<ModelDisk as Disk>⟧.now self.new ≡ ⟦<ModelDisk as Disk>⟧.now self.old }
         ensures past { ⟦<ModelDisk as Disk>⟧.past self.new ≡ ⟦<ModelDisk as Disk>⟧.past self.old }
-        ensures failures { ⟦<ModelDisk as Disk>⟧.failures self.new ≡ ⟦<ModelDisk as Disk>⟧.failures self.old }
+        ensures failures { ⟦<ModelDisk as Disk>⟧.failures self.new
+            ≡ ⟦<ModelDisk as Disk>⟧.failures self.old }
     {
         self.good_calls = good_calls;
         self.trouble = trouble;
@@ -74,9 +76,12 @@ impl ModelDisk {
 
     /// A crash, after which nothing goes wrong. Where a byte isn't kept, the one in `any` is left.
     pub fn crash(&mut self, any: &[u8; 32])
-        ensures may { MayLeave (⟦<ModelDisk as Disk>⟧.now self.old) (bytes_of (⟦<ModelDisk as Disk>⟧.now self.new)) }
-        ensures picked { MayLeave (⟦<ModelDisk as Disk>⟧.now self.old) any.now → bytes_of (⟦<ModelDisk as Disk>⟧.now self.new) ≡ any.now }
-        ensures kept { ⟦<ModelDisk as Disk>⟧.now self.new ≡ left_by_crash (bytes_of (⟦<ModelDisk as Disk>⟧.now self.new)) }
+        ensures may { MayLeave (⟦<ModelDisk as Disk>⟧.now self.old)
+            (bytes_of (⟦<ModelDisk as Disk>⟧.now self.new)) }
+        ensures picked { MayLeave (⟦<ModelDisk as Disk>⟧.now self.old) any.now
+            → bytes_of (⟦<ModelDisk as Disk>⟧.now self.new) ≡ any.now }
+        ensures kept { ⟦<ModelDisk as Disk>⟧.now self.new
+            ≡ left_by_crash (bytes_of (⟦<ModelDisk as Disk>⟧.now self.new)) }
     {
         crash_cells(&mut self.cells, any);
         self.trouble = Trouble::None;

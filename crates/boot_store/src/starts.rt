@@ -1,5 +1,5 @@
 // A start reads the boot file and writes the next number, so that a crash at any moment leaves one.
-ghost use Rattle.std.specs.Prelude.{◌≡◌, ◌≢◌, ◌≤◌, ◌<◌, ◌+◌, ◌↔◌, ◌++◌, Err, OnOk, OnErr, IfOk, IsErrOf};
+ghost use Rattle.std.specs.Prelude.{◌≡◌, ◌≢◌, ◌≤◌, ◌<◌, ◌+◌, ◌↔◌, ◌++◌, OnOk, OnErr, IfOk, IfErr, IsErrOf};
 ghost use Rattle.boot_store.specs.Moment.{MayShow, bytes_of, written, synced};
 ghost use Rattle.boot_store.specs.BootFile.{slot_bytes};
 ghost use Rattle.boot_store.specs.Crash.{LeavesNumber, Since, Keeps, Rises, Decides, Settled, IsReady, WholeFile};
@@ -34,7 +34,8 @@ fn zero_file() -> [u8; 32]
 
 /// The file as the device has it and a crash from now on leaves it, where it has 32 bytes.
 fn settled_file<D: Disk>(disk: &mut D) -> Result<Option<[u8; 32]>, DeviceFault>
-    ensures any_moment { D.honest disk.old → Since (D.past disk.old) (D.past disk.new) (Keeps (D.now disk.old) (D.now disk.new)) }
+    ensures any_moment { D.honest disk.old
+        → Since (D.past disk.old) (D.past disk.new) (Keeps (D.now disk.old) (D.now disk.new)) }
     ensures settled { D.honest disk.old → OnOk result (Settled (D.now disk.old) (D.now disk.new)) }
     ensures whole { D.honest disk.old → IfOk result (WholeFile (bytes_of (D.now disk.new))) }
     ensures honesty { D.honest disk.old ↔ D.honest disk.new }
@@ -54,8 +55,10 @@ fn settled_file<D: Disk>(disk: &mut D) -> Result<Option<[u8; 32]>, DeviceFault>
 fn store<D: Disk>(disk: &mut D, place: usize, boot: u64) -> Result<(), DeviceFault>
     requires place { place + 16 ≤ 32 }
     requires ready { D.honest disk.old → IsReady place (D.now disk.old) }
-    ensures any_moment { D.honest disk.old → Since (D.past disk.old) (D.past disk.new) (Keeps (D.now disk.old) (D.now disk.new)) }
-    ensures stored { D.honest disk.old → OnOk result (D.now disk.new ≡ synced (written place (slot_bytes boot) (D.now disk.old))) }
+    ensures any_moment { D.honest disk.old
+        → Since (D.past disk.old) (D.past disk.new) (Keeps (D.now disk.old) (D.now disk.new)) }
+    ensures stored { D.honest disk.old
+        → OnOk result (D.now disk.new ≡ synced (written place (slot_bytes boot) (D.now disk.old))) }
     ensures honesty { D.honest disk.old ↔ D.honest disk.new }
     ensures ok { OnOk result (D.failures disk.new ≡ D.failures disk.old) }
     ensures failed { OnErr result (D.failures disk.old < D.failures disk.new) }
@@ -65,14 +68,18 @@ fn store<D: Disk>(disk: &mut D, place: usize, boot: u64) -> Result<(), DeviceFau
     Ok(())
 }
 
-/// The next boot number, once it is on the disk: above 0, and greater than each that was answered before. `found` is
-/// the founding of a pair, which wants a file of number 0. A refusal other than Device writes nothing.
+/// The next boot number, once it is on the disk: above 0, and greater than each that was answered
+/// before. `found` is the founding of a pair, which wants a file of number 0. A refusal other than
+/// Device writes nothing.
 pub fn next_boot<D: Disk>(disk: &mut D, found: bool) -> Result<u64, BootFault>
     ensures rises { D.honest disk.old → Rises (D.now disk.old) (D.now disk.new) result }
-    ensures any_moment { D.honest disk.old → Since (D.past disk.old) (D.past disk.new) (Keeps (D.now disk.old) (D.now disk.new)) }
+    ensures any_moment { D.honest disk.old
+        → Since (D.past disk.old) (D.past disk.new) (Keeps (D.now disk.old) (D.now disk.new)) }
     ensures above_zero { IfOk result (λ n. 0 < n) }
-    ensures decided { D.honest disk.old → D.failures disk.new ≡ D.failures disk.old → Decides found (D.now disk.old) (D.now disk.new) result }
-    ensures err { D.honest disk.old → OnErr result (result ≢ Err BootFault.Device → MayShow (D.now disk.old) (bytes_of (D.now disk.new))) }
+    ensures decided { D.honest disk.old → D.failures disk.new ≡ D.failures disk.old
+        → Decides found (D.now disk.old) (D.now disk.new) result }
+    ensures err { D.honest disk.old → IfErr result (λ fault. fault ≢ BootFault.Device
+        → MayShow (D.now disk.old) (bytes_of (D.now disk.new))) }
     ensures device { D.failures disk.old < D.failures disk.new → IsErrOf result BootFault.Device }
     ensures failed { IsErrOf result BootFault.Device → D.failures disk.old < D.failures disk.new }
     ensures later { D.failures disk.old ≤ D.failures disk.new }
