@@ -68,7 +68,14 @@ fn written(rt: &HostRuntime, path: &str, hex: &str) -> Result<String> {
 /// The file isn't there afterwards, whether it was or not.
 fn removed(rt: &HostRuntime, path: &str) -> Result<String> {
     let _ = fs::remove_file(rt, path);
-    Ok(format!(in rt.alloc(); "{}", if fs::exists(rt, path)? { "there" } else { "gone" })?)
+    Ok(format!(in rt.alloc();
+        "{}",
+        if fs::exists(rt, path)? {
+            "there"
+        } else {
+            "gone"
+        }
+    )?)
 }
 
 /// What a crash leaves of a file that `init` made on a modelled device.

@@ -51,7 +51,8 @@ impl Device {
 
     fn sync_file(&self) -> io::Result<()> {
         let fails = self.good_syncs.get();
-        self.good_syncs.set(fails.and_then(|left| left.checked_sub(1)));
+        self.good_syncs
+            .set(fails.and_then(|left| left.checked_sub(1)));
         if fails == Some(0) {
             self.dirty.set(false);
             return Err(ErrorKind::Other.into());
