@@ -1,4 +1,5 @@
 mod Answered
+mod Crashes
 mod Joins
 mod Leaves
 mod Loops

@@ -1,10 +1,10 @@
 -- One more cell in the loops of a modelled disk.
-use Rattle.std.proofs.Common.{◌≡◌, ℕ, zero, suc, ◌+◌, ◌<◌, ◌≤◌, Bool, true, false, cond, List, [], ◌∷◌, ◌++◌, length, get_or, take, drop, set, map, refl, sym, ◌∙◌, ap, arith, append_assoc, length-append}
+use Rattle.std.proofs.Common.{◌≡◌, ℕ, zero, suc, ◌+◌, ◌<◌, ◌≤◌, List, [], ◌∷◌, ◌++◌, length, get_or, take, drop, set, map, refl, sym, ◌∙◌, ap, arith, append_assoc, length-append}
 use Rattle.std.proofs.lemmas.List.{append-nil, drop_all, drop_more, length-map, length-take, map-append, take_more}
 use Rattle.boot_store.specs.declared.disk.Cell.{Cell}
-use Rattle.boot_store.specs.Moment.{Moment, bytes_of, MayLeave, loose_cell, kept_cell, put, written, synced, left_by_crash}
-use Rattle.boot_store.proofs.Leaves.{bytes-synced, bytes-written}
-use Rattle.boot_store.specs.Cells.{torn, torn_cell}
+use Rattle.boot_store.specs.Moment.{Moment, bytes_of, loose_cell, put, written, synced, left_by_crash}
+use Rattle.boot_store.proofs.Leaves.{synced-loose}
+use Rattle.boot_store.specs.Cells.{each_with}
 
 -- the item behind a front
 pub set_behind : {X : Type 0} (front rest : List X) (old new : X) → set (front ++ old ∷ rest) (length front) new ≡ front ++ new ∷ rest
@@ -30,16 +30,18 @@ write_more at i bytes s d within more =
     put_more at (at + i) (map loose_cell (take i bytes)) s (loose_cell (get_or bytes i d)) (loose_cell 0) (omega (arith, size)) (omega (arith, size))
     ∙ ap (λ l. put at l s) (sym (map-append loose_cell (take i bytes) (get_or bytes i d ∷ [])) ∙ ap (map loose_cell) (sym (take_more bytes i d more)))
 
-pub sync_more : (s : Moment) (i : ℕ) (d : Cell) → i < length s → set (synced (take i s) ++ drop i s) i (kept_cell (get_or (synced (take i s) ++ drop i s) i d).byte) ≡ synced (take (suc i) s) ++ drop (suc i) s
-sync_more [] i d h = absurd (omega arith)
-sync_more (cell ∷ s) zero d h = refl
-sync_more (cell ∷ s) (suc i) d h = ap (λ (l : Moment). kept_cell cell.byte ∷ l) (sync_more s i d (omega arith))
+-- each cell changed
+pub map_more : (f : Cell → Cell) (s : Moment) (i : ℕ) (d : Cell) → i < length s → set (map f (take i s) ++ drop i s) i (f (get_or (map f (take i s) ++ drop i s) i d)) ≡ map f (take (suc i) s) ++ drop (suc i) s
+map_more f [] i d h = absurd (omega arith)
+map_more f (cell ∷ s) zero d h = refl
+map_more f (cell ∷ s) (suc i) d h = ap (λ (l : Moment). f cell ∷ l) (map_more f s i d (omega arith))
 
-pub tear_more : (any : List ℕ) (s : Moment) (i n : ℕ) (d : Cell) → i < length s → i < length any → set (torn (take i any) s) i (torn_cell (get_or any i n) (get_or (torn (take i any) s) i d)) ≡ torn (take (suc i) any) s
-tear_more [] s i n d h k = absurd (omega arith)
-tear_more (b ∷ any) [] i n d h k = absurd (omega arith)
-tear_more (b ∷ any) (cell ∷ s) zero n d h k = refl
-tear_more (b ∷ any) (cell ∷ s) (suc i) n d h k = ap (λ (l : Moment). torn_cell b cell ∷ l) (tear_more any s i n d (omega arith) (omega arith))
+-- each cell changed with the byte at its place
+pub each_more : (f : ℕ → Cell → Cell) (any : List ℕ) (s : Moment) (i n : ℕ) (d : Cell) → i < length s → i < length any → set (each_with f (take i any) s) i (f (get_or any i n) (get_or (each_with f (take i any) s) i d)) ≡ each_with f (take (suc i) any) s
+each_more f [] s i n d h k = absurd (omega arith)
+each_more f (b ∷ any) [] i n d h k = absurd (omega arith)
+each_more f (b ∷ any) (cell ∷ s) zero n d h k = refl
+each_more f (b ∷ any) (cell ∷ s) (suc i) n d h k = ap (λ (l : Moment). f b cell ∷ l) (each_more f any s i n d (omega arith) (omega arith))
 
 pub read_more : (s : Moment) (room : List ℕ) (i : ℕ) (d : Cell) → i < length s → length room ≡ length s → set (bytes_of (take i s) ++ drop i room) i (get_or s i d).byte ≡ bytes_of (take (suc i) s) ++ drop (suc i) room
 read_more [] room i d h e = absurd (omega arith)
@@ -47,34 +49,8 @@ read_more (cell ∷ s) [] i d h e = absurd (omega arith)
 read_more (cell ∷ s) (b ∷ room) zero d h e = refl
 read_more (cell ∷ s) (b ∷ room) (suc i) d h e = ap (λ (l : List ℕ). cell.byte ∷ l) (read_more s room i d (omega arith) (omega arith))
 
--- a crash may leave what is torn
-pub torn_may : (any : List ℕ) (s : Moment) → MayLeave s (bytes_of (synced (torn any s)))
-torn_may [] [] = tt
-torn_may [] (cell ∷ s) = ((λ _. refl), torn_may [] s)
-torn_may (b ∷ any) [] = tt
-torn_may (b ∷ any) (cell ∷ s) = ((λ kept. ap (λ l. cond l b cell.byte) kept), torn_may any s)
-
--- and each outcome can be picked
-pub torn_picked : (any : List ℕ) (s : Moment) → MayLeave s any → bytes_of (synced (torn any s)) ≡ any
-torn_picked [] [] may = refl
-torn_picked [] (cell ∷ s) may = absurd may
-torn_picked (b ∷ any) [] may = absurd may
-torn_picked (b ∷ any) (cell ∷ s) may =
-    let first = picked cell.loose b cell.byte may.0 in
-    ap (λ x. x ∷ bytes_of (synced (torn any s))) first ∙ ap (λ (l : List ℕ). b ∷ l) (torn_picked any s may.1)
-  where
-    picked : (loose : Bool) (b byte : ℕ) → (loose ≡ false → b ≡ byte) → cond loose b byte ≡ b
-    picked true b byte may = refl
-    picked false b byte may = sym (may refl)
-
--- then all is kept
-pub synced-left : (s : Moment) → synced s ≡ left_by_crash (bytes_of (synced s))
-synced-left [] = refl
-synced-left (cell ∷ s) = ap (λ (l : Moment). kept_cell cell.byte ∷ l) (synced-left s)
-
 -- a file that was written whole and synced
 pub synced_whole : (file : List ℕ) (s : Moment) → length s ≡ length file → synced (written 0 file s) ≡ left_by_crash file
 synced_whole file s same =
-    let rest : drop (0 + length file) (bytes_of s) ≡ [] = drop_all (0 + length file) (bytes_of s) (omega (arith, same, length-map s (λ cell. cell.byte))) in
-    synced-left (written 0 file s)
-    ∙ ap left_by_crash (bytes-synced (written 0 file s) ∙ bytes-written 0 file s ∙ ap (λ (l : List ℕ). file ++ l) rest ∙ append-nil file)
+    let rest : drop (0 + length (map loose_cell file)) s ≡ [] = drop_all (0 + length (map loose_cell file)) s (omega (arith, same, length-map file loose_cell)) in
+    ap (λ (l : Moment). synced (map loose_cell file ++ l)) rest ∙ ap synced (append-nil (map loose_cell file)) ∙ synced-loose file

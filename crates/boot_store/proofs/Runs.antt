@@ -1,21 +1,16 @@
 -- Over every run the answered numbers rise.
-use Rattle.std.proofs.Common.{◌≡◌, ⊎_elim, ℕ, List, [], ◌∷◌, ◌++◌, Ok, Err, refl, sym, subst, arith}
-use Rattle.std.proofs.Math.Path.{ap₂}
+use Rattle.std.proofs.Common.{⊎_elim, ℕ, List, [], ◌∷◌, ◌++◌, Ok, Err, sym, subst, arith}
 use Rattle.std.specs.List.{AllByRecursion}
 use Rattle.boot_store.specs.Moment.{Moment, MayLeave, left_by_crash}
 use Rattle.boot_store.specs.Crash.{HasAtLeast, LeavesAtLeast, LeavesNumber}
 use Rattle.boot_store.specs.Run.{BootEvent, Answered, CutShort, Crashed, Opened, IsAmong, IsRun, numbers_of, RiseFrom}
 use Rattle.boot_store.proofs.Joins.{all_append}
-
-left_leaves : (file c : List ℕ) → MayLeave (left_by_crash file) c → c ≡ file
-left_leaves [] [] l = refl
-left_leaves [] (b ∷ c) l = absurd l
-left_leaves (x ∷ file) [] l = absurd l
-left_leaves (x ∷ file) (b ∷ c) l = ap₂ (λ (y : ℕ) (ys : List ℕ). y ∷ ys) (l.0 refl) (left_leaves file c l.1)
+use Rattle.boot_store.proofs.Leaves.{kept_leaves}
+use Rattle.boot_store.proofs.Stored.{keeps_still}
 
 -- what a crash left has what it may leave
 after_crash : (m : ℕ) (s : Moment) (file : List ℕ) → LeavesAtLeast m s → MayLeave s file → LeavesAtLeast m (left_by_crash file)
-after_crash m s file leaves left c l = subst (HasAtLeast m) (sym (left_leaves file c l)) (leaves file left)
+after_crash m s file leaves left c l = subst (HasAtLeast m) (sym (kept_leaves file c l)) (leaves file left)
 
 among : (P : Moment → Type 0) (s : Moment) (moments : List Moment) → AllByRecursion P moments → IsAmong s moments → P s
 among P s [] all is = absurd is
@@ -33,7 +28,7 @@ rises_over m start (CutShort since end crashed left ∷ events) leaves run =
     rises_over m (left_by_crash left) events (after_crash m crashed left (among (LeavesAtLeast m) crashed (since ++ end ∷ []) all run.1) run.2) run.3
 rises_over m start (Crashed left ∷ events) leaves run =
     rises_over m (left_by_crash left) events (after_crash m start left leaves run.0) run.1
-rises_over m start (Opened ∷ events) leaves run = rises_over m start events leaves run
+rises_over m start (Opened found ∷ events) leaves run = rises_over m found events (keeps_still start found run.0 m leaves) run.1
 
 pub zero_leaves : (s : Moment) → LeavesNumber 0 s → LeavesAtLeast 0 s
 zero_leaves s is c l = (0, is c l, omega arith)

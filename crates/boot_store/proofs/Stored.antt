@@ -2,17 +2,24 @@
 use Rattle.std.proofs.Common.{◌≡◌, ⊎_elim, ℕ, ◌+◌, ◌<◌, ◌≤◌, ◌^◌, List, [], ◌++◌, length, take, drop, map, Some, sym, ◌∙◌, ap, subst, arith, append_assoc, length-append, length-drop}
 use Rattle.std.proofs.Math.Path.{ap₂}
 use Rattle.std.proofs.lemmas.List.{append-nil, drop-map, take-map, length-map, length-take, take_at, drop_at}
-use Rattle.boot_store.specs.Moment.{Moment, bytes_of, MayLeave, put, loose_cell, written, within_write, synced}
+use Rattle.boot_store.specs.Moment.{Moment, bytes_of, MayLeave, StillKept, AfterRead, put, loose_cell, kept_cell, left_by_crash, written, within_write, synced}
 use Rattle.boot_store.specs.BootFile.{slot_number, slot_at, greater, slot_bytes}
-use Rattle.boot_store.specs.Crash.{HasAtLeast, LeavesAtLeast, LeavesNumber, IsReady}
-use Rattle.boot_store.proofs.Leaves.{as_read, leaves_length, leaves_take, leaves_drop, synced_leaves, steady_leaves, bytes-written, length-put, drop-put, take-put}
+use Rattle.boot_store.specs.Crash.{LeavesAtLeast, LeavesNumber, IsReady}
+use Rattle.boot_store.proofs.Leaves.{as_read, leaves_length, leaves_take, leaves_drop, leaves_front, kept_leaves, synced_leaves, still_leaves, read_keeps, steady_leaves, synced-loose, synced-written, map-put, length-put, drop-put, take-put}
 use Rattle.boot_store.proofs.Numbers.{number_is, has_first, has_second, length-slot, slot_reads}
 
 -- what a sync keeps
 pub keeps_synced : (s : Moment) (m : ℕ) → LeavesAtLeast m s → LeavesAtLeast m (synced s)
-keeps_synced s m leaves c l = subst (HasAtLeast m) (sym (synced_leaves s c l)) (leaves (bytes_of s) (as_read s))
+keeps_synced s m leaves c l = leaves c (synced_leaves s c l)
 
-module _ (x : List ℕ) (s : Moment) (size : length x ≡ 16) (steady : synced s ≡ s) (long : 32 ≤ length s) where
+-- and what a call that failed, or a read
+pub keeps_still : (s t : Moment) → StillKept s t → (m : ℕ) → LeavesAtLeast m s → LeavesAtLeast m t
+keeps_still s t still m leaves c l = leaves c (still_leaves s t c still l)
+
+pub keeps_read : (s t : Moment) → AfterRead s t → (m : ℕ) → LeavesAtLeast m s → LeavesAtLeast m t
+keeps_read s t read = keeps_still s t (read_keeps s t read)
+
+module _ (x : List ℕ) (s : Moment) (size : length x ≡ 16) (steady : left_by_crash (bytes_of s) ≡ s) (long : 32 ≤ length s) where
   sized : length (map loose_cell x) ≡ 16
   sized = length-map x loose_cell ∙ size
 
@@ -27,7 +34,7 @@ module _ (x : List ℕ) (s : Moment) (size : length x ≡ 16) (steady : synced s
   low_leaves c l =
       let kept = drop-put 0 (map loose_cell x) s 16 (omega (arith, sized)) (omega (arith, sized)) in
       let rest : MayLeave (drop 16 s) (drop 16 c) = subst (λ t. MayLeave t (drop 16 c)) kept (leaves_drop 16 _ c l) in
-      let still : synced (drop 16 s) ≡ drop 16 s = sym (drop-map _ 16 s) ∙ ap (λ (t : Moment). drop 16 t) steady in
+      let still : left_by_crash (bytes_of (drop 16 s)) ≡ drop 16 s = ap left_by_crash (sym (drop-map _ 16 s)) ∙ sym (drop-map kept_cell 16 (bytes_of s)) ∙ ap (λ (t : Moment). drop 16 t) steady in
       let is : drop 16 c ≡ drop 16 (bytes_of s) = steady_leaves (drop 16 s) (drop 16 c) still rest ∙ sym (drop-map (λ cell. cell.byte) 16 s) in
       ap (λ (f : List ℕ). slot_number (take 16 f)) is
 
@@ -36,7 +43,7 @@ module _ (x : List ℕ) (s : Moment) (size : length x ≡ 16) (steady : synced s
   high_leaves c l =
       let kept = take-put 16 (map loose_cell x) s (omega arith) in
       let rest : MayLeave (take 16 s) (take 16 c) = subst (λ t. MayLeave t (take 16 c)) kept (leaves_take 16 _ c l) in
-      let still : synced (take 16 s) ≡ take 16 s = sym (take-map _ 16 s) ∙ ap (λ (t : Moment). take 16 t) steady in
+      let still : left_by_crash (bytes_of (take 16 s)) ≡ take 16 s = ap left_by_crash (sym (take-map _ 16 s)) ∙ sym (take-map kept_cell 16 (bytes_of s)) ∙ ap (λ (t : Moment). take 16 t) steady in
       let is : take 16 c ≡ take 16 (bytes_of s) = steady_leaves (take 16 s) (take 16 c) still rest ∙ sym (take-map (λ cell. cell.byte) 16 s) in
       ap slot_number is
 
@@ -59,7 +66,7 @@ new_number place n s fits ready c l =
     let size = length-slot n in
     let file = bytes_of s in
     let long : 32 ≤ length file = omega (arith, length-map s (λ cell. cell.byte), ready.long) in
-    let is : c ≡ put place (slot_bytes n) file = synced_leaves (written place (slot_bytes n) s) c l ∙ bytes-written place (slot_bytes n) s in
+    let is : c ≡ put place (slot_bytes n) file = kept_leaves _ c (subst (λ t. MayLeave t c) (synced-written place (slot_bytes n) s ready.steady) l) in
     ⊎_elim
     (λ low.
     let is0 : c ≡ put 0 (slot_bytes n) file = is ∙ ap (λ p. put p (slot_bytes n) file) low.0 in
@@ -89,8 +96,11 @@ pub zero_number : (s : Moment) → LeavesNumber 0 (synced (written 0 (slot_bytes
 zero_number s c l =
     let zero_slot = slot_bytes 0 in
     let size = length-slot 0 in
-    let rest = drop (0 + length (zero_slot ++ zero_slot)) (bytes_of s) in
-    let is : c ≡ zero_slot ++ (zero_slot ++ rest) = synced_leaves (written 0 (zero_slot ++ zero_slot) s) c l ∙ bytes-written 0 (zero_slot ++ zero_slot) s ∙ append_assoc zero_slot zero_slot rest in
+    let front : synced (written 0 (zero_slot ++ zero_slot) s) ≡ left_by_crash (zero_slot ++ zero_slot) ++ _ =
+    map-put _ 0 (map loose_cell (zero_slot ++ zero_slot)) s ∙ ap (λ (t : Moment). put 0 t (synced s)) (synced-loose (zero_slot ++ zero_slot)) in
+    let left = leaves_front (zero_slot ++ zero_slot) _ c (subst (λ t. MayLeave t c) front l) in
+    let rest = left.0 in
+    let is : c ≡ zero_slot ++ (zero_slot ++ rest) = left.1 ∙ append_assoc zero_slot zero_slot rest in
     let long : 32 ≤ length c = omega (arith, ap length is, length-append zero_slot (zero_slot ++ rest), length-append zero_slot rest, size) in
     let low : slot_at 0 c ≡ Some 0 = ap (slot_at 0) is ∙ cut_zero (zero_slot ++ rest) in
     let high : slot_at 16 c ≡ Some 0 = ap (λ (f : List ℕ). slot_number (take 16 f)) (ap (λ (f : List ℕ). drop 16 f) is ∙ drop_at zero_slot (zero_slot ++ rest) 16 size) ∙ cut_zero rest in

@@ -1,14 +1,51 @@
 -- What a modelled disk does to its cells.
-use Rattle.std.specs.Prelude.{ℕ, List, [], ◌∷◌, cond}
+use Rattle.std.specs.Prelude.{ℕ, List, [], ◌∷◌, map}
 use Rattle.boot_store.specs.declared.disk.Cell.{Cell}
-use Rattle.boot_store.specs.Moment.{Moment}
+use Rattle.boot_store.specs.declared.disk.Hold.{Hold}
+use Rattle.boot_store.specs.declared.disk.Hold.TheVariants.{Kept, Loose, Lost}
+use Rattle.boot_store.specs.Moment.{Moment, kept_cell}
 
--- a cell whose byte is another one, where it is loose
-abbrev pub torn_cell : ℕ → Cell → Cell
-torn_cell byte cell = record { byte = cond cell.loose byte cell.byte; loose = cell.loose }
+-- each cell with the byte that stands at its place
+abbrev pub each_with : (ℕ → Cell → Cell) → List ℕ → Moment → Moment
+each_with change [] moment = moment
+each_with change (byte ∷ any) [] = []
+each_with change (byte ∷ any) (cell ∷ moment) = change byte cell ∷ each_with change any moment
 
--- the loose cells have these bytes
-abbrev pub torn : List ℕ → Moment → Moment
-torn [] moment = moment
-torn (byte ∷ bytes) [] = []
-torn (byte ∷ bytes) (cell ∷ moment) = torn_cell byte cell ∷ torn bytes moment
+-- what a crash leaves of a byte, where `any` may stand in its place
+abbrev pub crashed_byte : Hold → ℕ → ℕ → ℕ
+crashed_byte Kept any byte = byte
+crashed_byte Loose any byte = any
+crashed_byte Lost any byte = any
+
+abbrev pub crashed_cell : ℕ → Cell → Cell
+crashed_cell any cell = kept_cell (crashed_byte cell.hold any cell.byte)
+
+-- after a crash, where the bytes of `any` stand for those that it may change
+abbrev pub crashed : List ℕ → Moment → Moment
+crashed any moment = each_with crashed_cell any moment
+
+-- what a read makes of a cell, where the device has `any` in place of a lost byte
+abbrev pub shown : Hold → ℕ → Cell → Cell
+shown Kept any cell = cell
+shown Loose any cell = cell
+shown Lost any cell = kept_cell any
+
+abbrev pub shown_cell : ℕ → Cell → Cell
+shown_cell any cell = shown cell.hold any cell
+
+-- after a read, where the device has the bytes of `any` in place of those that are lost
+abbrev pub read_once : List ℕ → Moment → Moment
+read_once any moment = each_with shown_cell any moment
+
+-- a sync that fails loses what was written since the last one
+abbrev pub lost_hold : Hold → Hold
+lost_hold Kept = Kept
+lost_hold Loose = Lost
+lost_hold Lost = Lost
+
+abbrev pub lost_cell : Cell → Cell
+lost_cell cell = record { byte = cell.byte; hold = lost_hold cell.hold }
+
+-- after a sync that failed
+abbrev pub lost : Moment → Moment
+lost moment = map lost_cell moment

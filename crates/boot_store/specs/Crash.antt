@@ -1,9 +1,9 @@
 -- What crashes leave of a boot file's number.
-use Rattle.std.specs.Prelude.{◌≡◌, ◌⊎◌, ◌≤◌, ◌<◌, ℕ, List, ◌++◌, length, Option, Some, None, take, Result, IfOk}
+use Rattle.std.specs.Prelude.{◌≡◌, ◌⊎◌, ◌≤◌, ◌<◌, ℕ, List, Bool, ◌++◌, length, Option, Some, None, take, Result, Ok, Err, IfOk}
 use Rattle.std.specs.List.{AllByRecursion}
 use Rattle.boot_store.specs.declared.faults.BootFault.{BootFault}
-use Rattle.boot_store.specs.Moment.{Moment, MayLeave, bytes_of, synced}
-use Rattle.boot_store.specs.BootFile.{number_of, slot_at}
+use Rattle.boot_store.specs.Moment.{Moment, MayLeave, MayShow, bytes_of, left_by_crash}
+use Rattle.boot_store.specs.BootFile.{number_of, slot_at, boot_answer, with_number}
 
 -- the file's number is at least m
 abbrev pub HasAtLeast : ℕ → List ℕ → Type 0
@@ -31,9 +31,23 @@ abbrev pub Rises : Moment → Moment → Result ℕ BootFault → Type 0
 Rises start end answer = (m : ℕ)
     → LeavesAtLeast m start → IfOk answer (λ n. (m < n) × LeavesAtLeast n end)
 
+-- the file once a start has settled this answer on it: an answered number is written, a refusal writes nothing
+abbrev pub answered_file : Result ℕ BootFault → List ℕ → List ℕ
+answered_file (Ok n) file = with_number n file
+answered_file (Err fault) file = file
+
+-- what a start does where no device call fails: the bytes that it reads decide, and then all is kept
+abbrev pub Decides : Bool → Moment → Moment → Result ℕ BootFault → Type 0
+Decides found start end answer =
+    (file : List ℕ) × MayShow start file × (answer ≡ boot_answer found (number_of file)) × (end ≡ left_by_crash (answered_file answer file))
+
+-- the disk once it was synced and read: all of it is kept
+abbrev pub Settled : Moment → Moment → Type 0
+Settled start end = MayShow start (bytes_of end) × (left_by_crash (bytes_of end) ≡ end)
+
 -- all is on the disk, and the slot beside the place has the file's number
 pub record IsReady (place : ℕ) (moment : Moment) : Type 0 where
-  pub steady : synced moment ≡ moment
+  pub steady : left_by_crash (bytes_of moment) ≡ moment
   pub long : 32 ≤ length moment
   pub beside : ((place ≡ 0) × (slot_at 16 (bytes_of moment) ≡ number_of (bytes_of moment)))
       ⊎ ((place ≡ 16) × (slot_at 0 (bytes_of moment) ≡ number_of (bytes_of moment)))

@@ -1,4 +1,4 @@
--- A modelled disk's past and its count of failures, which take no bytes.
+-- A modelled disk's past, and a device's count of failures. Neither takes bytes.
 use Rattle.std.specs.Prelude.{ℕ, ◌+◌, List, [], ◌∷◌, ◌++◌, Option, Some, None}
 use Rattle.std.specs.declared.snapshot.Snapshot.{Snapshot}
 use Rattle.boot_store.specs.Moment.{Moment}

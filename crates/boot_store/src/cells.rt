@@ -1,9 +1,9 @@
 //! The cells of a modelled disk.
 ghost use Rattle.std.specs.Prelude.{◌≡◌, ◌≤◌, ◌+◌, length};
-ghost use Rattle.boot_store.specs.Moment.{bytes_of, kept_cell, written, synced};
-ghost use Rattle.boot_store.specs.Cells.{torn, torn_cell};
+ghost use Rattle.boot_store.specs.Moment.{bytes_of, kept_cell, synced, synced_cell, written};
+ghost use Rattle.boot_store.specs.Cells.{crashed, crashed_cell, lost, lost_cell, read_once, shown_cell};
 
-use crate::Cell;
+use crate::{Cell, Hold};
 
 /// Writes bytes from a place on.
 pub fn write_cells(cells: &mut [Cell], at: usize, bytes: &[u8])
@@ -13,46 +13,94 @@ pub fn write_cells(cells: &mut [Cell], at: usize, bytes: &[u8])
     for (i, byte) in bytes.iter().enumerate() {
         cells[at + i] = Cell {
             byte: *byte,
-            loose: true,
+            hold: Hold::Loose,
         };
     }
 }
 
-fn kept_cell(cell: Cell) -> Cell
-    ensures { result ≡ kept_cell cell.byte }
+fn kept_cell(byte: u8) -> Cell
+    ensures { result ≡ kept_cell byte }
 {
     Cell {
-        byte: cell.byte,
-        loose: false,
+        byte,
+        hold: Hold::Kept,
     }
 }
 
-fn torn_cell(cell: Cell, byte: u8) -> Cell
-    ensures { result ≡ torn_cell byte cell }
+fn synced_cell(cell: Cell) -> Cell
+    ensures { result ≡ synced_cell cell }
 {
-    if cell.loose {
-        Cell { byte, loose: true }
-    } else {
-        cell
+    match cell.hold {
+        Hold::Kept | Hold::Loose => kept_cell(cell.byte),
+        Hold::Lost => cell,
     }
 }
 
-/// Every byte outlasts a crash.
+fn lost_cell(cell: Cell) -> Cell
+    ensures { result ≡ lost_cell cell }
+{
+    match cell.hold {
+        Hold::Kept => cell,
+        Hold::Loose | Hold::Lost => Cell {
+            byte: cell.byte,
+            hold: Hold::Lost,
+        },
+    }
+}
+
+fn crashed_cell(any: u8, cell: Cell) -> Cell
+    ensures { result ≡ crashed_cell any cell }
+{
+    match cell.hold {
+        Hold::Kept => cell,
+        Hold::Loose | Hold::Lost => kept_cell(any),
+    }
+}
+
+fn shown_cell(any: u8, cell: Cell) -> Cell
+    ensures { result ≡ shown_cell any cell }
+{
+    match cell.hold {
+        Hold::Kept | Hold::Loose => cell,
+        Hold::Lost => kept_cell(any),
+    }
+}
+
+/// A sync that succeeds.
 pub fn sync_cells(cells: &mut [Cell])
     ensures { cells.new ≡ synced cells.old }
 {
     for cell in cells.iter_mut() {
-        *cell = kept_cell(*cell);
+        *cell = synced_cell(*cell);
     }
 }
 
-/// Each loose byte becomes the one that stands at its place in `any`.
-pub fn tear_cells(cells: &mut [Cell], any: &[u8])
+/// A sync that fails.
+pub fn lose_cells(cells: &mut [Cell])
+    ensures { cells.new ≡ lost cells.old }
+{
+    for cell in cells.iter_mut() {
+        *cell = lost_cell(*cell);
+    }
+}
+
+/// A crash, which leaves the bytes of `any` where it may change one.
+pub fn crash_cells(cells: &mut [Cell], any: &[u8])
     requires { length cells.old ≡ length any.now }
-    ensures { cells.new ≡ torn any.now cells.old }
+    ensures { cells.new ≡ crashed any.now cells.old }
 {
     for (i, cell) in cells.iter_mut().enumerate() {
-        *cell = torn_cell(*cell, any[i]);
+        *cell = crashed_cell(any[i], *cell);
+    }
+}
+
+/// What is lost is found to be as in `any`.
+pub fn show_cells(cells: &mut [Cell], any: &[u8])
+    requires { length cells.old ≡ length any.now }
+    ensures { cells.new ≡ read_once any.now cells.old }
+{
+    for (i, cell) in cells.iter_mut().enumerate() {
+        *cell = shown_cell(any[i], *cell);
     }
 }
 

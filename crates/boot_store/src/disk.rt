@@ -1,12 +1,25 @@
-//! A boot file's disk: what a read shows, what a crash may leave, and how often it failed.
+// A boot file's disk: what a read shows, what a crash may leave, and how often it failed.
 ghost use Rattle.std.specs.Prelude.{◌≡◌, ◌+◌, ◌<◌, ◌≤◌, ◌↔◌, ℕ, List, [], ◌∷◌, ◌++◌, length, take, OnErr, OnOk, IfOk};
-ghost use Rattle.boot_store.specs.Moment.{Moment, bytes_of, written, within_write, FailedWrite, synced};
+ghost use Rattle.boot_store.specs.Moment.{Moment, bytes_of, written, within_write, FailedWrite, synced, StillKept, AfterRead};
 
-/// A byte of a file, and whether it was written since the last sync that succeeded.
+/// How a byte of a file is held.
+#[derive(Clone, Copy, Debug, PartialEq, Eq)]
+pub enum Hold {
+    /// It outlasts a crash.
+    Kept,
+    /// It was written since the last sync: a crash may leave any byte in its place, the next sync
+    /// keeps it.
+    Loose,
+    /// It was written before a sync that failed. No later sync keeps it, though it succeeds: a
+    /// crash, and the next read of the device, may find any byte in its place.
+    Lost,
+}
+
+/// A byte of a file.
 #[derive(Clone, Copy, Debug, PartialEq, Eq)]
 pub struct Cell {
     pub byte: u8,
-    pub loose: bool,
+    pub hold: Hold,
 }
 
 /// A device call failed.
@@ -15,13 +28,14 @@ pub struct DeviceFault;
 
 /// The disk of a boot file of 32 bytes.
 ///
-/// What is said of its bytes and of crashes is said of an honest disk alone; a disk may claim that it isn't one.
+/// What is said of its bytes and of crashes is said of an honest disk alone; a disk may claim that
+/// it isn't one.
 pub trait Disk {
     /// The file at this moment.
     ghost now: { Self → Moment };
 
-    /// The moments that have passed, in order. Within a read, and within a sync until it has succeeded, the disk
-    /// stands as before it.
+    /// The moments that have passed, in order. Within a read or a sync, until it has returned, the
+    /// disk stands as before it.
     ghost past: { Self → List Moment };
 
     /// How often a call has failed.
@@ -30,12 +44,14 @@ pub trait Disk {
     /// Whether it does what the clauses say of an honest disk.
     ghost honest: { Self → Type 0 };
 
-    /// Fills the room with the first 32 bytes, and says how many of them are there.
+    /// Fills the room with the first 32 bytes, and says how many of them are there. They are the
+    /// device's: what a cache holds since a sync failed isn't read.
     fn read(&mut self, room: &mut [u8; 32]) -> Result<usize, DeviceFault>
         ensures count { IfOk result (λ n. n ≤ 32) }
         ensures filled { honest self.old
-            → IfOk result (λ n. take n room.new ≡ take 32 (bytes_of (now self.old))) }
-        ensures same { honest self.old → now self.new ≡ now self.old }
+            → IfOk result (λ n. take n room.new ≡ take 32 (bytes_of (now self.new))) }
+        ensures read { honest self.old → OnOk result (AfterRead (now self.old) (now self.new)) }
+        ensures unread { honest self.old → OnErr result (StillKept (now self.old) (now self.new)) }
         ensures passes { honest self.old → past self.new ≡ past self.old ++ now self.old ∷ [] }
         ensures honesty { honest self.old ↔ honest self.new }
         ensures ok { OnOk result (failures self.new ≡ failures self.old) }
@@ -49,17 +65,18 @@ pub trait Disk {
             → OnOk result (now self.new ≡ written at bytes.now (now self.old)) }
         ensures torn { honest self.old
             → OnErr result (FailedWrite at (length bytes.now) (now self.old) (now self.new)) }
-        ensures passes { honest self.old
-            → past self.new ≡ past self.old ++ now self.old
-            ∷ within_write at (length bytes.now) (now self.old) ∷ [] }
+        ensures passes { honest self.old → past self.new ≡ past self.old
+            ++ now self.old ∷ within_write at (length bytes.now) (now self.old) ∷ [] }
         ensures honesty { honest self.old ↔ honest self.new }
         ensures ok { OnOk result (failures self.new ≡ failures self.old) }
         ensures failed { OnErr result (failures self.old < failures self.new) };
 
-    /// Makes the bytes written so far outlast a crash.
+    /// Makes the bytes written since the last sync outlast a crash. Where it fails they may be
+    /// lost.
     fn sync(&mut self) -> Result<(), DeviceFault>
         ensures synced { honest self.old → OnOk result (now self.new ≡ synced (now self.old)) }
-        ensures as_before { honest self.old → OnErr result (now self.new ≡ now self.old) }
+        ensures unsynced { honest self.old
+            → OnErr result (StillKept (now self.old) (now self.new)) }
         ensures passes { honest self.old → past self.new ≡ past self.old ++ now self.old ∷ [] }
         ensures honesty { honest self.old ↔ honest self.new }
         ensures ok { OnOk result (failures self.new ≡ failures self.old) }

@@ -3,6 +3,7 @@
 
 mod cells;
 mod disk;
+mod failures;
 mod faults;
 mod laws;
 mod model;
@@ -10,7 +11,8 @@ mod pasts;
 mod slots;
 mod starts;
 
-pub use disk::{Cell, DeviceFault, Disk};
+pub use disk::{Cell, DeviceFault, Disk, Hold};
+pub use failures::Failures;
 pub use faults::BootFault;
 pub use laws::boot_numbers_rise;
 pub use model::{ModelDisk, Trouble};

@@ -2,16 +2,17 @@
 ghost use Rattle.std.specs.Prelude.{◌≡◌, ◌+◌};
 ghost use Rattle.boot_store.specs.Moment.{MayLeave, bytes_of, left_by_crash};
 
-use crate::cells::{read_cells, sync_cells, tear_cells, write_cells};
-use crate::pasts::{Failures, Past};
-use crate::{Cell, DeviceFault, Disk};
+use crate::cells::{crash_cells, lose_cells, read_cells, show_cells, sync_cells, write_cells};
+use crate::pasts::Past;
+use crate::{Cell, DeviceFault, Disk, Failures, Hold};
 
 /// What goes wrong with a modelled disk, once its good calls are used up.
 #[derive(Clone, Copy, Debug, PartialEq, Eq)]
 pub enum Trouble {
     /// Nothing.
     None,
-    /// One call fails.
+    /// One call fails. A sync that fails loses what was written since the last one: later syncs
+    /// succeed and don't write it.
     FailsOnce,
     /// The disk stops before a call.
     StopsBefore,
@@ -45,7 +46,7 @@ impl ModelDisk {
     {
         let mut cells = [Cell {
             byte: 0,
-            loose: false,
+            hold: Hold::Kept,
         }; 32];
         write_cells(&mut cells, 0, file);
         sync_cells(&mut cells);
@@ -59,8 +60,9 @@ impl ModelDisk {
         }
     }
 
-    /// After so many good calls there is trouble. A write that fails, or in which the disk stops, leaves the bytes
-    /// that stand at its place in `any`.
+    /// After so many good calls there is trouble. A write that fails, or in which the disk stops,
+    /// leaves the bytes that stand at its place in `any`. So does a sync that fails, once the disk
+    /// is read or has crashed.
     pub fn set_trouble(&mut self, good_calls: u64, trouble: Trouble, any: &[u8; 32])
         ensures now { ⟦<ModelDisk as Disk>⟧.now self.new ≡ ⟦<ModelDisk as Disk>⟧.now self.old }
         ensures past { ⟦<ModelDisk as Disk>⟧.past self.new ≡ ⟦<ModelDisk as Disk>⟧.past self.old }
@@ -72,8 +74,7 @@ impl ModelDisk {
         self.any = *any;
     }
 
-    /// A crash, after which nothing goes wrong. Where a byte was written since the last sync that succeeded, the one in
-    /// `any` is left.
+    /// A crash, after which nothing goes wrong. Where a byte isn't kept, the one in `any` is left.
     pub fn crash(&mut self, any: &[u8; 32])
         ensures may { MayLeave (⟦<ModelDisk as Disk>⟧.now self.old)
             (bytes_of (⟦<ModelDisk as Disk>⟧.now self.new)) }
@@ -82,12 +83,11 @@ impl ModelDisk {
         ensures kept { ⟦<ModelDisk as Disk>⟧.now self.new
             ≡ left_by_crash (bytes_of (⟦<ModelDisk as Disk>⟧.now self.new)) }
     {
-        tear_cells(&mut self.cells, any);
-        sync_cells(&mut self.cells);
+        crash_cells(&mut self.cells, any);
         self.trouble = Trouble::None;
     }
 
-    /// The bytes as they are read.
+    /// The bytes as they stand.
     pub fn bytes(&self) -> [u8; 32]
         ensures { result ≡ bytes_of (⟦<ModelDisk as Disk>⟧.now self.now) }
     {
@@ -143,6 +143,8 @@ impl Disk for ModelDisk {
     fn read(&mut self, room: &mut [u8; 32]) -> Result<usize, DeviceFault> {
         self.past.keep(&self.cells);
         if self.fate() == Fate::Done {
+            let any = self.any;
+            show_cells(&mut self.cells, &any);
             read_cells(&self.cells, room);
             return Ok(32);
         }
@@ -170,9 +172,13 @@ impl Disk for ModelDisk {
 
     fn sync(&mut self) -> Result<(), DeviceFault> {
         self.past.keep(&self.cells);
-        if self.fate() == Fate::Done {
-            sync_cells(&mut self.cells);
-            return Ok(());
+        match self.fate() {
+            Fate::Done => {
+                sync_cells(&mut self.cells);
+                return Ok(());
+            }
+            Fate::Torn => lose_cells(&mut self.cells),
+            Fate::Undone => {}
         }
         Err(self.failed())
     }

@@ -1,5 +1,5 @@
-//! A modelled disk's past and its count of failures. Clauses read them; they take no bytes.
-ghost use Rattle.std.specs.Prelude.{◌≡◌, ◌+◌, [], ◌∷◌, ◌++◌};
+// A modelled disk's past. Clauses read it; it takes no bytes.
+ghost use Rattle.std.specs.Prelude.{◌≡◌, [], ◌∷◌, ◌++◌};
 
 use crate::Cell;
 use std::marker::Model;
@@ -38,40 +38,5 @@ impl Past {
     {
         let last = Some((Snapshot::of(cells), Snapshot::of(self)));
         *self = Past { last };
-    }
-}
-
-/// How often a call has failed.
-#[derive(Drop)]
-pub struct Failures {
-    before: Option<Snapshot<Failures>>,
-}
-
-impl Model for Failures {
-    ghost use Rattle.std.specs.Prelude.{ℕ};
-
-    ghost Value = { ℕ };
-
-    ghost use Rattle.boot_store.specs.Past.{counted};
-
-    ghost view = { λ f. counted f.before };
-
-    ghost size = { λ n. n };
-}
-
-impl Failures {
-    /// Never.
-    pub fn none() -> Self
-        ensures { result ≡ 0 }
-    {
-        Failures { before: None }
-    }
-
-    /// Counts one more.
-    pub fn count(&mut self)
-        ensures { self.new ≡ self.old + 1 }
-    {
-        let before = Some(Snapshot::of(self));
-        *self = Failures { before };
     }
 }

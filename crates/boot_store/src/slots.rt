@@ -35,6 +35,7 @@ fn greater(first: Option<u64>, second: Option<u64>) -> Option<u64>
 pub fn next_number(first: Option<u64>, second: Option<u64>, found: bool) -> Result<u64, BootFault>
     ensures answer { result ≡ boot_answer found (greater first second) }
     ensures fits { IfOk result (λ n. n < 2 ^ 64) }
+    ensures above_zero { IfOk result (λ n. 0 < n) }
 {
     let Some(number) = greater(first, second) else {
         return Err(BootFault::Damaged);

@@ -1,8 +1,8 @@
-//! A start reads the boot file and writes the next number, so that a crash at any moment leaves one.
-ghost use Rattle.std.specs.Prelude.{◌≡◌, ◌≤◌, ◌<◌, ◌+◌, ◌↔◌, ◌-◌, ◌++◌, Option, Some, None, Result, OnOk, OnErr, IfOk, IsErrOf};
-ghost use Rattle.boot_store.specs.Moment.{bytes_of, written, synced};
-ghost use Rattle.boot_store.specs.BootFile.{number_of, boot_answer, with_number, slot_bytes};
-ghost use Rattle.boot_store.specs.Crash.{LeavesNumber, Since, Keeps, Rises, IsReady, WholeFile};
+// A start reads the boot file and writes the next number, so that a crash at any moment leaves one.
+ghost use Rattle.std.specs.Prelude.{◌≡◌, ◌≢◌, ◌≤◌, ◌<◌, ◌+◌, ◌↔◌, ◌++◌, OnOk, OnErr, IfOk, IfErr, IsErrOf};
+ghost use Rattle.boot_store.specs.Moment.{MayShow, bytes_of, written, synced};
+ghost use Rattle.boot_store.specs.BootFile.{slot_bytes};
+ghost use Rattle.boot_store.specs.Crash.{LeavesNumber, Since, Keeps, Rises, Decides, Settled, IsReady, WholeFile};
 
 use crate::slots::{next_number, next_place, slot_number, slot_of};
 use crate::{BootFault, DeviceFault, Disk};
@@ -32,12 +32,12 @@ fn zero_file() -> [u8; 32]
     file
 }
 
-/// The file as a crash from now on leaves it, where it has 32 bytes.
+/// The file as the device has it and a crash from now on leaves it, where it has 32 bytes.
 fn settled_file<D: Disk>(disk: &mut D) -> Result<Option<[u8; 32]>, DeviceFault>
     ensures any_moment { D.honest disk.old
         → Since (D.past disk.old) (D.past disk.new) (Keeps (D.now disk.old) (D.now disk.new)) }
-    ensures synced { D.honest disk.old → OnOk result (D.now disk.new ≡ synced (D.now disk.old)) }
-    ensures whole { D.honest disk.old → IfOk result (WholeFile (bytes_of (D.now disk.old))) }
+    ensures settled { D.honest disk.old → OnOk result (Settled (D.now disk.old) (D.now disk.new)) }
+    ensures whole { D.honest disk.old → IfOk result (WholeFile (bytes_of (D.now disk.new))) }
     ensures honesty { D.honest disk.old ↔ D.honest disk.new }
     ensures ok { OnOk result (D.failures disk.new ≡ D.failures disk.old) }
     ensures failed { OnErr result (D.failures disk.old < D.failures disk.new) }
@@ -68,19 +68,21 @@ fn store<D: Disk>(disk: &mut D, place: usize, boot: u64) -> Result<(), DeviceFau
     Ok(())
 }
 
-/// The next boot number, once it is on the disk: greater than each that was answered before. `found` is the founding
-/// of a pair, which wants a file of number 0.
+/// The next boot number, once it is on the disk: above 0, and greater than each that was answered
+/// before. `found` is the founding of a pair, which wants a file of number 0. A refusal other than
+/// Device writes nothing.
 pub fn next_boot<D: Disk>(disk: &mut D, found: bool) -> Result<u64, BootFault>
     ensures rises { D.honest disk.old → Rises (D.now disk.old) (D.now disk.new) result }
     ensures any_moment { D.honest disk.old
         → Since (D.past disk.old) (D.past disk.new) (Keeps (D.now disk.old) (D.now disk.new)) }
+    ensures above_zero { IfOk result (λ n. 0 < n) }
     ensures decided { D.honest disk.old → D.failures disk.new ≡ D.failures disk.old
-        → result ≡ boot_answer found (number_of (bytes_of (D.now disk.old))) }
+        → Decides found (D.now disk.old) (D.now disk.new) result }
+    ensures err { D.honest disk.old → IfErr result (λ fault. fault ≢ BootFault.Device
+        → MayShow (D.now disk.old) (bytes_of (D.now disk.new))) }
     ensures device { D.failures disk.old < D.failures disk.new → IsErrOf result BootFault.Device }
     ensures failed { IsErrOf result BootFault.Device → D.failures disk.old < D.failures disk.new }
     ensures later { D.failures disk.old ≤ D.failures disk.new }
-    ensures file { D.honest disk.old
-        → IfOk result (λ n. bytes_of (D.now disk.new) ≡ with_number n (bytes_of (D.now disk.old))) }
     ensures honesty { D.honest disk.old ↔ D.honest disk.new }
 {
     let Some(file) = settled_file(disk)? else {

@@ -3,7 +3,7 @@ use Rattle.boot_store.specs.Moment.{written, synced}
 use Rattle.boot_store.specs.Crash.{LeavesAtLeast}
 use Rattle.boot_store.proofs.Joins.{one_passed, two_passed, then_passed}
 use Rattle.boot_store.proofs.Numbers.{length-slot}
-use Rattle.boot_store.proofs.Stored.{keeps_synced, keeps_written, keeps_within}
+use Rattle.boot_store.proofs.Stored.{keeps_synced, keeps_still, keeps_written, keeps_within}
 use Rattle.boot_store.proofs.starts.store.Goals as goal
 
 pub returns-in_err-write_at-clause-any_moment : goal.returns-in_err-write_at-clause-any_moment
@@ -22,7 +22,7 @@ returns-in_err-sync-clause-any_moment g c h =
     let h2 = c.write_at.ensures.honesty.0 h in
     then_passed _ _ _ _ (g.D.Disk.now c.write_at.new.self) _
     (two_passed _ _ _ _ _ (c.write_at.ensures.passes h) (keeps_within _ _ _ size ready) (λ m l. subst (LeavesAtLeast m) (sym (c.in_ok-write_at.ensures.written h)) (keeps_written _ _ _ size ready m l)))
-    (one_passed _ _ _ _ (c.sync.ensures.passes h2) (λ m l. subst (LeavesAtLeast m) (sym (c.in_err-sync.ensures.as_before h2)) l))
+    (one_passed _ _ _ _ (c.sync.ensures.passes h2) (keeps_still _ _ (c.in_err-sync.ensures.unsynced h2)))
 
 pub returns-clause-any_moment : goal.returns-clause-any_moment
 returns-clause-any_moment g c h =

@@ -1,0 +1,49 @@
+// Where a boot file lies.
+use crate::{FileDisk, FileFault, Uncached};
+use boot_store::init;
+use std::fs::{File, Files, OpenOptions};
+use std::io::{self, ErrorKind};
+
+/// The folder that has a path's name.
+fn folder_of(path: &str) -> &str {
+    match path.rsplit_once('/') {
+        None => ".",
+        Some(("", _)) => "/",
+        Some((folder, _)) => folder,
+    }
+}
+
+/// Why a file wasn't made.
+fn not_made(error: io::Error) -> FileFault {
+    if error.kind() == ErrorKind::AlreadyExists {
+        FileFault::Exists
+    } else {
+        FileFault::NoFile
+    }
+}
+
+/// Makes a boot file of number 0, on which a gateway can be founded. A file that is there is left
+/// as it is. The file and its name outlast a crash from the answer on. After NotWritten a part of
+/// the file may be there.
+pub fn create<R: Files>(rt: &R, path: &str) -> Result<(), FileFault>
+where
+    R::File: Uncached,
+{
+    let folder = File::open(rt, folder_of(path)).map_err(|_| FileFault::NoFile)?;
+    let file = File::create_new(rt, path).map_err(not_made)?;
+    init(&mut FileDisk::new(file, folder)).map_err(|_| FileFault::NotWritten)
+}
+
+/// Opens a boot file.
+pub fn open<R: Files>(rt: &R, path: &str) -> Result<FileDisk<R::File>, FileFault>
+where
+    R::File: Uncached,
+{
+    let folder = File::open(rt, folder_of(path)).map_err(|_| FileFault::NoFile)?;
+    let file = OpenOptions::new()
+        .read(true)
+        .write(true)
+        .open(rt, path)
+        .map_err(|_| FileFault::NoFile)?;
+    Ok(FileDisk::new(file, folder))
+}
