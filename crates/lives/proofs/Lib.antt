@@ -1,0 +1,3 @@
+pub mod Items
+pub mod Segments
+pub mod Pasts

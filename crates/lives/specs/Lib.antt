@@ -1,0 +1,5 @@
+pub mod Packets
+pub mod Sessions
+pub mod Places
+pub mod Kept
+pub mod Lives
