@@ -118,6 +118,13 @@ impl Range {
         choose_port(&self.free, &self.owned, self.lowest, self.highest, parity)
     }
 
+    /// Whether a port lies in the range.
+    pub fn holds(&self, port: Port) -> bool
+        ensures { result ≡ is_within self.now.lowest self.now.highest port.0 }
+    {
+        self.lowest.0 <= port.0 && port.0 <= self.highest.0
+    }
+
     /// Whether a port of the range is free.
     pub fn is_free(&self, port: Port) -> bool
         ensures { result ≡ is_free self.now port.0 }

@@ -1,0 +1,35 @@
+-- The lives of a table's entries: the first entry has the first life, and so on.
+use Rattle.std.specs.Prelude.{◌≡◌, ℕ, Bool, true, false, ◌&&◌, List, [], ◌∷◌, Option, Some, None, slice_index_or, slice_set, if◌then◌else◌}
+use Rattle.nat_types.specs.declared.pairs.Key.{Key}
+use Rattle.nat_types.specs.Same.{same_key}
+use Rattle.addresses.specs.declared.transport.Protocol.{Protocol}
+use Rattle.lives.specs.Lives.{Past, Life, Agrees}
+use Rattle.bindings.specs.declared.entries.Entry.{Entry}
+use Rattle.bindings.specs.Entries.{has_key}
+
+-- the life of a key's entry
+abbrev pub life_in : List Entry → List Life → Key → Option Life
+life_in [] ls key = None
+life_in (e ∷ es) [] key = None
+life_in (e ∷ es) (l ∷ ls) key = (if has_key key e then Some l else life_in es ls key)
+
+-- the lives but that of the key
+abbrev pub lives_without : Key → List Entry → List Life → List Life
+lives_without key [] ls = ls
+lives_without key (e ∷ es) [] = []
+lives_without key (e ∷ es) (l ∷ ls) = (if has_key key e then ls else l ∷ lives_without key es ls)
+
+-- the entry of a key agrees with a past
+abbrev pub HasPast : List Entry → List Life → Key → Past → Type 0
+HasPast es ls key past = (life : Life) × (life_in es ls key ≡ Some life) × Agrees key.protocol past life
+
+-- Entry by entry, what stood at a key's entry stands there still, but for this key.
+abbrev pub KeepsOthers : Key → List Entry → List Life → List Entry → List Life → Type 0
+KeepsOthers key es ls es2 ls2 =
+    (q : Key) (past : Past) → same_key key q ≡ false → HasPast es ls q past → HasPast es2 ls2 q past
+
+-- the life at a place was written, and its past went on
+pub record IsLifeSet (protocol : Protocol) (goes : Past → Past) (old new : List Life) (i : ℕ) : Type 0 where
+  pub life : Life
+  pub written : new ≡ slice_set old i life
+  pub agrees : (past : Past) → Agrees protocol past (slice_index_or old i life) → Agrees protocol (goes past) life
