@@ -8,3 +8,4 @@ pub mod Turned
 pub mod Pasts
 pub mod Holding
 pub mod Owning
+pub mod Resting

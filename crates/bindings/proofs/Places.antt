@@ -5,7 +5,9 @@ use Rattle.std.proofs.lemmas.Bool.{ltb-false, cond-true, cond-false}
 use Rattle.std.proofs.lemmas.Option.{slice_get_past}
 use Rattle.std.proofs.lemmas.List.Folds.{find_at}
 use Rattle.std.proofs.lemmas.List.Quantifiers.{position-Some}
+use Rattle.addresses.specs.declared.transport.Protocol.TheVariants.{Tcp}
 use Rattle.nat_types.specs.declared.pairs.EntryState.{EntryState}
+use Rattle.nat_types.specs.declared.pairs.EntryState.TheVariants.{Doomed}
 use Rattle.nat_types.specs.declared.pairs.Key.{Key}
 use Rattle.nat_types.specs.declared.pairs.Pair.{Pair}
 use Rattle.nat_types.proofs.Equal.{key-eq}
@@ -67,6 +69,12 @@ length-keep p (x ∷ xs) = at (p x) (length-keep p xs)
     at false ih = omega arith
 
 -- ---- the place of a key's entry
+
+-- an entry to be read past the end of a list
+pub any_entry : Entry
+any_entry =
+    let pair : Pair = record { key = record { protocol = Tcp; port = record { 0 = 0 } }; endpoint = record { protocol = Tcp; address = record { 0 = 0 }; port = record { 0 = 0 } } } in
+    entry_in Doomed pair
 
 -- the key's entry stands there, and is the first one that has the key
 pub record IsAt (key : Key) (es : List Entry) (i : ℕ) (d : Entry) : Type 0 where

@@ -3,9 +3,10 @@ use Rattle.std.specs.Prelude.{◌≡◌, ℕ, Bool, true, false, ◌&&◌, List,
 use Rattle.nat_types.specs.declared.pairs.Key.{Key}
 use Rattle.nat_types.specs.Same.{same_key}
 use Rattle.addresses.specs.declared.transport.Protocol.{Protocol}
-use Rattle.lives.specs.Lives.{Past, Life, Agrees}
+use Rattle.lives.specs.Lives.{Past, Life, Agrees, looks_idle}
+use Rattle.std.specs.List.{list_any}
 use Rattle.bindings.specs.declared.entries.Entry.{Entry}
-use Rattle.bindings.specs.Entries.{has_key}
+use Rattle.bindings.specs.Entries.{has_key, translates}
 
 -- the life of a key's entry
 abbrev pub life_in : List Entry → List Life → Key → Option Life
@@ -33,3 +34,20 @@ pub record IsLifeSet (protocol : Protocol) (goes : Past → Past) (old new : Lis
   pub life : Life
   pub written : new ≡ slice_set old i life
   pub agrees : (past : Past) → Agrees protocol past (slice_index_or old i life) → Agrees protocol (goes past) life
+
+-- ---- idle pairs
+
+-- an entry with this life translates and is idle
+abbrev pub is_idle_row : ℕ → Entry → Life → Bool
+is_idle_row now e l = translates e.state && looks_idle e.pair.key.protocol l now
+
+-- the keys of the idle Live and Held entries, in the order of the list
+abbrev pub idle_keys_in : ℕ → List Entry → List Life → List Key
+idle_keys_in now [] ls = []
+idle_keys_in now (e ∷ es) [] = []
+idle_keys_in now (e ∷ es) (l ∷ ls) =
+    (if is_idle_row now e l then e.pair.key ∷ idle_keys_in now es ls else idle_keys_in now es ls)
+
+-- a key stands among these
+abbrev pub is_among : Key → List Key → Bool
+is_among key keys = list_any (λ k. same_key k key) keys

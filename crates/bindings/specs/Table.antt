@@ -11,7 +11,7 @@ use Rattle.bindings.specs.declared.ports.Ports.{Ports}
 use Rattle.bindings.specs.Entries.{HasDistinctKeys, HasDistinctEndpoints}
 use Rattle.bindings.specs.Lists.{AreInOrder, IsOneToOne, place_in, put_in, without, with_state}
 use Rattle.bindings.specs.Ports.{AreBounds, AreAlike, AreFree, in_either, lowest_of, highest_of, key_count}
-use Rattle.bindings.specs.Lives.{HasPast, lives_without}
+use Rattle.bindings.specs.Lives.{HasPast, lives_without, idle_keys_in}
 
 -- A table: its entries by protocol (tcp first) and port, their lives, the ports that the gateway owns, the ranges of
 -- both gateways, how many entries it has room for, and for how many more adds it is ready.
@@ -31,6 +31,10 @@ owns t port = is_listed port t.owned
 -- the entry of a key agrees with a past
 abbrev pub IsPast : Table → Key → Past → Type 0
 IsPast t key past = HasPast t.entries t.lives key past
+
+-- the keys of its idle Live and Held entries, by protocol and port
+abbrev pub idle_keys_of : Table → ℕ → List Key
+idle_keys_of t now = idle_keys_in now t.entries t.lives
 
 -- what each table keeps
 pub record IsTable (t : Table) : Type 0 where

@@ -1,13 +1,13 @@
 //! Changes of a table's two lists, of which one has the life of each entry of the other.
-ghost use Rattle.std.specs.Prelude.{◌≡◌, ◌+◌, ◌<◌, ◌≤◌, length, vec_len, vec_capacity};
+ghost use Rattle.std.specs.Prelude.{◌≡◌, ◌+◌, ◌<◌, ◌≤◌, ◌++◌, length, slice_index_or, vec_len, vec_capacity};
 ghost use Rattle.std.specs.List.{insert};
 ghost use Rattle.bindings.specs.Entries.{HasDistinctKeys, slot_of};
 ghost use Rattle.bindings.specs.Lists.{without, with_state};
-ghost use Rattle.bindings.specs.Lives.{lives_without, IsLifeSet};
-ghost use Rattle.lives.specs.Lives.{with_packet, renewed};
+ghost use Rattle.bindings.specs.Lives.{lives_without, IsLifeSet, is_idle_row, idle_keys_in};
+ghost use Rattle.lives.specs.Lives.{Life as Seen, with_packet, renewed, looks_idle};
 
 use crate::Entry;
-use crate::entries::position_of;
+use crate::entries::{is_translating, position_of};
 use addresses::Protocol;
 use lives::{Life, Packet};
 use nat_types::{EntryState, Key};
@@ -72,4 +72,57 @@ pub(crate) fn renew(lives: &mut Vec<Life>, i: usize, protocol: Protocol, now: u6
     let _ = protocol;
     let life = &mut lives[i];
     life.renew(now);
+}
+
+/// Whether the pair there is idle.
+pub(crate) fn is_idle_at(lives: &[Life], i: usize, protocol: Protocol, now: u64) -> bool
+    requires { i < length lives.now }
+    ensures { (life : Seen) → life ≡ slice_index_or lives.now i life → result ≡ looks_idle protocol life now }
+{
+    let life = &lives[i];
+    life.is_idle(protocol, now)
+}
+
+/// Whether the pair there came by Install and carried nothing since.
+pub(crate) fn is_unused_at(lives: &[Life], i: usize) -> bool
+    requires { i < length lives.now }
+    ensures { (life : Seen) → life ≡ slice_index_or lives.now i life → result ≡ life.is_unused }
+{
+    let life = &lives[i];
+    life.is_unused()
+}
+
+/// Whether the entry there translates and is idle.
+fn is_idle_entry(entry: Entry, lives: &[Life], i: usize, now: u64) -> bool
+    requires { i < length lives.now }
+    ensures { (life : Seen) → life ≡ slice_index_or lives.now i life → result ≡ is_idle_row now entry life }
+{
+    is_translating(entry.state) && is_idle_at(lives, i, entry.pair.key.protocol, now)
+}
+
+/// How many entries translate and are idle.
+pub(crate) fn count_idle(entries: &[Entry], lives: &[Life], now: u64) -> usize
+    requires { length lives.now ≡ length entries.now }
+    ensures { result ≡ length (idle_keys_in now entries.now lives.now) }
+{
+    let mut count = 0;
+    for (i, entry) in entries.iter().enumerate() {
+        if is_idle_entry(*entry, lives, i, now) {
+            count += 1;
+        }
+    }
+    count
+}
+
+/// Lists the keys of the entries that translate and are idle.
+pub(crate) fn list_idle(entries: &[Entry], lives: &[Life], now: u64, out: &mut Vec<Key>)
+    requires alike { length lives.now ≡ length entries.now }
+    requires room { vec_len out.old + length (idle_keys_in now entries.now lives.now) ≤ vec_capacity out.old }
+    ensures { out.new.items ≡ out.old.items ++ idle_keys_in now entries.now lives.now }
+{
+    for (i, entry) in entries.iter().enumerate() {
+        if is_idle_entry(*entry, lives, i, now) {
+            out.push_reserved(entry.pair.key);
+        }
+    }
 }

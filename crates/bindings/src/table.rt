@@ -1,23 +1,26 @@
 //! The table of a gateway.
-ghost use Rattle.std.specs.Prelude.{◌≡◌, ◌+◌, ◌-◌, ◌<◌, ◌≤◌, ℕ, [], None, Some, true, false, ◌==◌, nat_lt, length, if◌then◌else◌, IfOk, IfErr, OnOk, OnErr};
+ghost use Rattle.std.specs.Prelude.{◌≡◌, ◌+◌, ◌-◌, ◌<◌, ◌≤◌, ℕ, [], None, Some, true, false, ◌==◌, ◌++◌, ◌&&◌, nat_lt, length, vec_len, vec_capacity, IsOk, if◌then◌else◌, IfOk, IfErr, OnOk, OnErr};
 ghost use Rattle.nat_types.specs.declared.pairs.Key.{Key as OutsidePort};
 ghost use Rattle.lives.specs.Lives.{Past, came, with_packet, renewed, is_idle, is_unused};
 ghost use Rattle.bindings.specs.declared.entries.Entry.{Entry as Row};
+ghost use Rattle.lives.specs.declared.packets.Packet.{Packet as Carried};
 ghost use Rattle.bindings.specs.Entries.{is_pair, translates, slot_of, entry_of, set_at, refusal_of, entry_in, pairs_in};
 ghost use Rattle.bindings.specs.Lists.{put_in};
 ghost use Rattle.addresses.specs.declared.transport.Protocol.TheVariants.{Tcp, Udp};
-ghost use Rattle.bindings.specs.Lives.{KeepsOthers};
+ghost use Rattle.bindings.specs.Lives.{KeepsOthers, is_among};
 ghost use Rattle.bindings.specs.Ports.{AreBounds, in_either, key_count, is_free_in, is_open_in, chosen_port, ports_in};
-ghost use Rattle.bindings.specs.Table.{IsTable, IsPast, owns, with_entry_state, without_entry};
+ghost use Rattle.bindings.specs.Table.{IsTable, IsPast, owns, idle_keys_of, with_entry_state, without_entry};
 
 use crate::entries::{
-    find_endpoint, find_key, pairs_of, place_among, refusal, translating_pairs_of,
+    find_endpoint, find_key, pairs_of, place_among, position_of, refusal, translating_pairs_of,
 };
 use crate::ports::Ports;
-use crate::rows::{insert_reserved, take_out, turn};
+use crate::rows::{
+    carry, count_idle, insert_reserved, is_idle_at, is_unused_at, list_idle, renew, take_out, turn,
+};
 use crate::{Entry, PortBounds, TableFault};
-use addresses::{Parity, Port, Protocol};
-use lives::Life;
+use addresses::{Parity, Port, Protocol, TcpFlags};
+use lives::{Life, Packet, Remote, Way};
 use nat_types::{Endpoint, EntryState, Key, Pair};
 use std::alloc::{AllocError, Global};
 use std::marker::Model;
@@ -220,5 +223,68 @@ impl Table {
         ensures same { self.new ≡ record self.old { owned = self.new.owned } }
     {
         self.ports.disown(port);
+    }
+
+    /// The pair of a key carried a packet, to or from a remote host. The flags of a UDP packet aren't read. A key without
+    /// an entry changes nothing.
+    pub fn carried(&mut self, key: Key, remote: Remote, way: Way, flags: TcpFlags, now: u64)
+        ensures longer { let packet : Carried = record { remote = remote; way = way; flags = flags; at = now } in (past : Past) → IsPast self.old key past → IsPast self.new key (with_packet packet past) }
+        ensures others { KeepsOthers key self.old.entries self.old.lives self.new.entries self.new.lives }
+        ensures same { self.new ≡ record self.old { lives = self.new.lives } }
+    {
+        let at = now;
+        if let Some(i) = position_of(&self.entries, key) {
+            let packet = Packet {
+                remote,
+                way,
+                flags,
+                at,
+            };
+            carry(&mut self.lives, i, key.protocol, packet);
+        }
+    }
+
+    /// The list of packets of a key's pair begins empty. A key without an entry changes nothing.
+    pub fn renew(&mut self, key: Key, now: u64)
+        ensures renewed { (past : Past) → IsPast self.old key past → IsPast self.new key (renewed now past) }
+        ensures others { KeepsOthers key self.old.entries self.old.lives self.new.entries self.new.lives }
+        ensures same { self.new ≡ record self.old { lives = self.new.lives } }
+    {
+        if let Some(i) = position_of(&self.entries, key) {
+            renew(&mut self.lives, i, key.protocol, now);
+        }
+    }
+
+    /// Whether a key's pair is idle at a moment.
+    pub fn idle(&self, key: Key, now: u64) -> bool
+        ensures { (past : Past) → IsPast self.now key past → result ≡ is_idle key.protocol past now }
+    {
+        match position_of(&self.entries, key) {
+            Some(i) => is_idle_at(&self.lives, i, key.protocol, now),
+            None => false,
+        }
+    }
+
+    /// Whether a key's pair came by Install and carried nothing since.
+    pub fn unused(&self, key: Key) -> bool
+        ensures { (past : Past) → IsPast self.now key past → result ≡ is_unused past }
+    {
+        match position_of(&self.entries, key) {
+            Some(i) => is_unused_at(&self.lives, i),
+            None => false,
+        }
+    }
+
+    /// Appends the keys of the idle Live and Held entries, each once, by protocol (tcp first) and port.
+    pub fn idle_keys(&mut self, now: u64, out: &mut Vec<Key>) -> Result<(), AllocError>
+        ensures keys { OnOk result (out.new.items ≡ out.old.items ++ idle_keys_of self.old now) }
+        ensures listed { (key : OutsidePort) → (entry : Row) → (past : Past) → slot_of self.old.entries key ≡ Some entry → IsPast self.old key past → is_among key (idle_keys_of self.old now) ≡ (translates entry.state && is_idle key.protocol past now) }
+        ensures same { self.new ≡ self.old }
+        ensures err { OnErr result (out.new.items ≡ out.old.items) }
+        ensures room { vec_len out.old + length (idle_keys_of self.old now) ≤ vec_capacity out.old → IsOk result }
+    {
+        out.reserve(count_idle(&self.entries, &self.lives, now))?;
+        list_idle(&self.entries, &self.lives, now, out);
+        Ok(())
     }
 }

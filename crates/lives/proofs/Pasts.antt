@@ -7,12 +7,12 @@ use Rattle.addresses.specs.declared.transport.Protocol.{Protocol}
 use Rattle.addresses.specs.declared.transport.Protocol.TheVariants.{Tcp, Udp}
 use Rattle.lives.specs.declared.packets.Packet.{Packet}
 use Rattle.lives.specs.declared.sessions.Session.{Session}
-use Rattle.lives.specs.declared.TheConstants.{ESTABLISHED_REST}
+use Rattle.lives.specs.declared.TheConstants.{ESTABLISHED_REST, UDP_REST}
 use Rattle.lives.specs.Packets.{same_remote}
 use Rattle.lives.specs.Sessions.{stepped, begun_session, has_passed_by, has_rested}
 use Rattle.lives.specs.Places.{place_by, put_at, is_nowhere}
 use Rattle.lives.specs.Kept.{session_place, with_session, all_passed}
-use Rattle.lives.specs.Lives.{Course, Past, Life, Agrees, with_packet, is_unused, last_of, courses, course_place, is_crowded, is_empty, is_idle, has_passed, first_course, longer, session_of}
+use Rattle.lives.specs.Lives.{Course, Past, Life, Agrees, with_packet, is_unused, last_of, courses, course_place, is_crowded, is_empty, is_idle, looks_idle, has_passed, first_course, longer, session_of}
 use Rattle.lives.specs.declared.places.Place.TheVariants.{Known, Passed}
 use Rattle.lives.proofs.Items.{put-map, place-map, refilled, known-within, passed-within, set-changed, set-new}
 use Rattle.lives.proofs.Segments.{stepped-is, begun-is}
@@ -64,6 +64,11 @@ idle-tcp past life now a =
     ∙ ap (λ b. cond (is_crowded past.packets || b) (has_rested ESTABLISHED_REST life.last now) (all_passed now (map session_of (courses past.packets)))) (none-kept (courses past.packets))
     ∙ ap (λ n. cond (is_crowded past.packets || is_empty (courses past.packets)) (has_rested ESTABLISHED_REST n now) (all_passed now (map session_of (courses past.packets)))) a.last
     ∙ ap (cond (is_crowded past.packets || is_empty (courses past.packets)) (has_rested ESTABLISHED_REST (last_of past) now)) (list_all-map (has_passed_by now) session_of (courses past.packets))
+
+-- whether a pair is idle
+pub looks-is : (protocol : Protocol) (past : Past) (life : Life) (now : ℕ) → Agrees protocol past life → looks_idle protocol life now ≡ is_idle protocol past now
+looks-is Udp past life now a = ap (λ n. has_rested UDP_REST n now) a.last
+looks-is Tcp past life now a = idle-tcp past life now a
 
 -- ---- what is written
 

@@ -17,6 +17,7 @@ use Rattle.lives.specs.declared.TheConstants.{UDP_REST, ESTABLISHED_REST}
 use Rattle.lives.specs.Packets.{same_way, same_remote, is_fin, is_plain}
 use Rattle.lives.specs.Sessions.{is_closed, is_opening, first_class, rest_of, has_rested}
 use Rattle.lives.specs.Places.{place_by, put_at, is_nowhere}
+use Rattle.lives.specs.Kept.{all_passed}
 
 -- ---- one session: its segments, the newest first
 
@@ -138,6 +139,14 @@ pub record Life : Type 0 where
   pub is_unused : Bool
   pub is_crowded : Bool
   pub sessions : List Session
+
+-- the rule on what is kept
+abbrev pub looks_idle : Protocol → Life → ℕ → Bool
+looks_idle Udp life now = has_rested UDP_REST life.last now
+looks_idle Tcp life now =
+    (if life.is_crowded || is_empty life.sessions
+    then has_rested ESTABLISHED_REST life.last now
+    else all_passed now life.sessions)
 
 -- which ways a kind of segment went
 abbrev pub marks_of : (TcpFlags → Bool) → List Packet → Marks

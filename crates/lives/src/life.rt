@@ -1,7 +1,7 @@
 //! The life of a pair in a table: what it needs to know whether the pair is idle.
 ghost use Rattle.std.specs.Prelude.{◌≡◌, ◌||◌, if◌then◌else◌};
 ghost use Rattle.addresses.specs.declared.transport.Protocol.{Protocol as Transport};
-ghost use Rattle.lives.specs.Lives.{Past, Agrees, came, with_packet, renewed, is_idle, is_unused, is_empty};
+ghost use Rattle.lives.specs.Lives.{Past, Agrees, came, with_packet, renewed, is_idle, looks_idle, is_unused, is_empty};
 ghost use Rattle.lives.specs.Sessions.{has_rested};
 ghost use Rattle.lives.specs.Kept.{all_passed};
 
@@ -79,7 +79,8 @@ impl Life {
 
     /// Whether the pair is idle at a moment.
     pub fn is_idle(&self, protocol: Protocol, now: u64) -> bool
-        ensures { (past : Past) → Agrees protocol past self.now → result ≡ is_idle protocol past now }
+        ensures idle { (past : Past) → Agrees protocol past self.now → result ≡ is_idle protocol past now }
+        ensures exact { result ≡ looks_idle protocol self.now now }
     {
         match protocol {
             Protocol::Udp => has_rested_since(UDP_REST, self.last, now),
@@ -89,7 +90,8 @@ impl Life {
 
     /// Whether the pair came by Install and carried nothing since.
     pub fn is_unused(&self) -> bool
-        ensures { (protocol : Transport) → (past : Past) → Agrees protocol past self.now → result ≡ is_unused past }
+        ensures unused { (protocol : Transport) → (past : Past) → Agrees protocol past self.now → result ≡ is_unused past }
+        ensures exact { result ≡ self.now.is_unused }
     {
         self.is_unused
     }

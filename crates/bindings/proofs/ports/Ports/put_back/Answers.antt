@@ -13,4 +13,4 @@ pub returns-in-Udp-clause-free : goal.returns-in-Udp-clause-free
 returns-in-Udp-clause-free c =
     λ q. range-set Udp c.args.self.now _ c.args.key _ c.in-Udp.is c.put_back_in-in-Udp.ensures.free (udp-rest c.args.self.now _ refl) q
     ∙ ap (λ b. cond (same_key c.args.key q) b (is_free_at c.args.self.now q))
-      (ap (λ n. is_within n c.args.self.now.udp.highest c.args.key.port.0) c.requires.udp_low ∙ ap (λ n. is_within c.args.self.now.tcp.lowest n c.args.key.port.0) c.requires.udp_high)
+    (ap (λ n. is_within n c.args.self.now.udp.highest c.args.key.port.0) c.requires.udp_low ∙ ap (λ n. is_within c.args.self.now.tcp.lowest n c.args.key.port.0) c.requires.udp_high)

@@ -24,9 +24,9 @@ invariant_of-self c =
     let taken = λ (q : Key). c.take.ensures.free q ∙ ap (λ (k : Key). cond (same_key k q) false (is_free_at i.ports q)) (ap (λ p. p.key) c.pair.view_is) in
     rw (put, alive)
     (stored-put i.entries.items i.lives.items i.ports _ i.zero i.one i.capacity _ _ _ _ entry c.begin.result c.self.invariant fits
-      (let a = c.self.invariant.entries_fit in let b = c.insert_reserved.ensures.capacity in omega arith)
-      (let a = c.self.invariant.lives_fit in let b = c.insert_reserved-2.ensures.capacity in omega arith)
-      taken c.take.ensures.bounds c.take.ensures.owned)
+    (let a = c.self.invariant.entries_fit in let b = c.insert_reserved.ensures.capacity in omega arith)
+    (let a = c.self.invariant.lives_fit in let b = c.insert_reserved-2.ensures.capacity in omega arith)
+    taken c.take.ensures.bounds c.take.ensures.owned)
 
 pub returns-clause-entries : goal.returns-clause-entries
 returns-clause-entries c =

@@ -9,9 +9,9 @@ invariant_of-self c =
     let i = c.self.inside in
     rw (c.take_out.ensures.entries, c.take_out.ensures.lives)
     (stored-drop i.entries.items i.lives.items i.ports _ i.zero i.one i.capacity _ _ _ _ c.args.key c.self.invariant
-      (let a = c.self.invariant.entries_fit in let b = c.take_out.ensures.entries_capacity in omega arith)
-      (let a = c.self.invariant.lives_fit in let b = c.take_out.ensures.lives_capacity in omega arith)
-      c.put_back.ensures.free c.put_back.ensures.bounds c.put_back.ensures.owned)
+    (let a = c.self.invariant.entries_fit in let b = c.take_out.ensures.entries_capacity in omega arith)
+    (let a = c.self.invariant.lives_fit in let b = c.take_out.ensures.lives_capacity in omega arith)
+    c.put_back.ensures.free c.put_back.ensures.bounds c.put_back.ensures.owned)
 
 pub returns-clause-slots : goal.returns-clause-slots
 returns-clause-slots c = rw (c.take_out.ensures.entries, ← c.self.view_is) (λ q. slot-without c.args.key c.self.inside.entries.items q)

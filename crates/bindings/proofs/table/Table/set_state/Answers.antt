@@ -13,7 +13,7 @@ invariant_of-self c =
     let pair : IsPairAt c.args.key i.entries.items = λ x held. c.requires x (ap (λ t. slot_of t.entries c.args.key) (sym c.self.view_is) ∙ held) in
     rw c.turn.ensures.items
     (stored-turn i.entries.items i.lives.items i.ports i.zero i.one i.capacity _ _ _ c.args.key c.args.state c.self.invariant pair
-      (let a = c.self.invariant.entries_fit in let b = c.turn.ensures.capacity in omega arith))
+    (let a = c.self.invariant.entries_fit in let b = c.turn.ensures.capacity in omega arith))
 
 pub returns-clause-slots : goal.returns-clause-slots
 returns-clause-slots c =

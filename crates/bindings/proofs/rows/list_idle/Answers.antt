@@ -1,0 +1,21 @@
+use Rattle.std.proofs.Common.{◌≡◌, ◌+◌, ◌++◌, ◌∷◌, [], length, drop, sym, ap, ◌∙◌, cond, arith, append_assoc, vec_len, vec_capacity}
+use Rattle.bindings.specs.Lives.{idle_keys_in}
+use Rattle.bindings.proofs.Resting.{idle-step}
+use Rattle.bindings.proofs.rows.list_idle.Goals as goal
+use Rattle.bindings.proofs.rows.list_idle.Goals.{then-is_idle_entry, else-is_idle_entry}
+
+pub push_reserved-requires : goal.push_reserved-requires
+push_reserved-requires c =
+    let i = c.loop-i.i in
+    let step = idle-step c.args.now c.args.entries.now c.args.lives.now i c.index-entries-i.result c.is_idle_entry.result c.loop-i-test.true c.requires.alike c.index-entries-i.is c.is_idle_entry.ensures in
+    let rest = idle_keys_in c.args.now (drop (i + 1) c.args.entries.now) (drop (i + 1) c.args.lives.now) in
+    let more = ap length (step ∙ ap (λ b. cond b (c.index-entries-i.result.pair.key ∷ rest) rest) c.if-is_idle_entry.true) in
+    let room = c.loop-i.invariant.room in
+    omega (arith, more)
+
+pub loop-i-preserved : goal.loop-i-preserved
+loop-i-preserved c =
+    let i = c.loop-i.i in
+    let step = idle-step c.args.now c.args.entries.now c.args.lives.now i c.index-entries-i.result c.is_idle_entry.result c.loop-i-test.true c.requires.alike c.index-entries-i.is c.is_idle_entry.ensures in
+    let rest = idle_keys_in c.args.now (drop (i + 1) c.args.entries.now) (drop (i + 1) c.args.lives.now) in
+    ?
