@@ -114,6 +114,12 @@ pub(crate) fn count_idle(entries: &[Entry], lives: &[Life], now: u64) -> usize
     count
 }
 
+fn key_of_entry(entry: Entry) -> Key
+    ensures { result ≡ entry.pair.key }
+{
+    entry.pair.key
+}
+
 /// Lists the keys of the entries that translate and are idle.
 pub(crate) fn list_idle(entries: &[Entry], lives: &[Life], now: u64, out: &mut Vec<Key>)
     requires alike { length lives.now ≡ length entries.now }
@@ -122,7 +128,7 @@ pub(crate) fn list_idle(entries: &[Entry], lives: &[Life], now: u64, out: &mut V
 {
     for (i, entry) in entries.iter().enumerate() {
         if is_idle_entry(*entry, lives, i, now) {
-            out.push_reserved(entry.pair.key);
+            out.push_reserved(key_of_entry(*entry));
         }
     }
 }
