@@ -9,3 +9,4 @@ pub mod Pasts
 pub mod Holding
 pub mod Owning
 pub mod Resting
+pub mod Rooms

@@ -1,5 +1,5 @@
 -- What callers see of a table.
-use Rattle.std.specs.Prelude.{◌≡◌, ℕ, ◌≤◌, Bool, true, List, [], length}
+use Rattle.std.specs.Prelude.{◌≡◌, ℕ, ◌≤◌, Bool, true, Some, List, [], length}
 use Rattle.std.specs.List.{insert}
 use Rattle.nat_types.specs.declared.pairs.EntryState.{EntryState}
 use Rattle.nat_types.specs.declared.pairs.Key.{Key}
@@ -8,7 +8,7 @@ use Rattle.port_range.specs.Ports.{is_listed}
 use Rattle.bindings.specs.declared.entries.Entry.{Entry}
 use Rattle.bindings.specs.declared.entries.PortBounds.{PortBounds}
 use Rattle.bindings.specs.declared.ports.Ports.{Ports}
-use Rattle.bindings.specs.Entries.{HasDistinctKeys, HasDistinctEndpoints}
+use Rattle.bindings.specs.Entries.{slot_of, HasDistinctKeys, HasDistinctEndpoints}
 use Rattle.bindings.specs.Lists.{AreInOrder, IsOneToOne, place_in, put_in, without, with_state}
 use Rattle.bindings.specs.Ports.{AreBounds, AreAlike, AreFree, in_either, lowest_of, highest_of, key_count}
 use Rattle.bindings.specs.Lives.{HasPast, lives_without, idle_keys_in}
@@ -46,6 +46,10 @@ pub record IsTable (t : Table) : Type 0 where
   pub within : length t.entries ≤ t.capacity
   pub room : t.capacity ≡ key_count t.zero t.one
   pub owned : (port : ℕ) → owns t port ≡ true → in_either t.zero t.one port ≡ true
+
+-- each entry's port lies in one of the ranges
+abbrev pub AreInRanges : Table → Type 0
+AreInRanges t = (key : Key) (entry : Entry) → slot_of t.entries key ≡ Some entry → in_either t.zero t.one key.port.0 ≡ true
 
 -- the table with one more entry and its life
 abbrev pub with_entry : Table → Entry → Life → Table

@@ -2,9 +2,11 @@
 #![tactic(auto)]
 
 mod entries;
+mod laws;
 mod ports;
 mod rows;
 mod table;
 
 pub use entries::{Entry, PortBounds, TableFault};
+pub use laws::room_law;
 pub use table::Table;

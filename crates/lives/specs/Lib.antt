@@ -3,3 +3,4 @@ pub mod Sessions
 pub mod Places
 pub mod Kept
 pub mod Lives
+pub mod Rests

@@ -2,11 +2,13 @@
 //! RFC 5382, section 5). It knows no table.
 #![tactic(auto)]
 
+mod laws;
 mod life;
 mod packets;
 mod places;
 mod sessions;
 
+pub use laws::idle_rests_law;
 pub use life::Life;
 pub use packets::{Packet, Remote, Way};
 pub use sessions::{Class, Marks, Session};

@@ -26,7 +26,7 @@ loop-i-preserved c =
           rw (w.out-is) (record {
             room = (let len = w.push_reserved.ensures.len in let same = w.push_reserved.ensures.capacity in let room = c.loop-i.invariant.room in omega (arith, fewer));
             found = ap (λ xs. xs ++ rest) w.push_reserved.ensures.items ∙ append_assoc out (w.key_of_entry.result ∷ []) rest
-              ∙ ap (λ k. out ++ (k ∷ rest)) w.key_of_entry.ensures ∙ ap (λ r. out ++ r) (sym more) ∙ c.loop-i.invariant.found;
+                ∙ ap (λ k. out ++ (k ∷ rest)) w.key_of_entry.ensures ∙ ap (λ r. out ++ r) (sym more) ∙ c.loop-i.invariant.found;
           }))
       | else-is_idle_entry w ↦
           (let more = step ∙ ap (λ b. cond b (c.index-entries-i.result.pair.key ∷ rest) rest) w.if-is_idle_entry.false in
