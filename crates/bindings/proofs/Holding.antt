@@ -1,5 +1,5 @@
 -- What a table keeps, after each change.
-use Rattle.std.proofs.Common.{◌≡◌, ℕ, zero, suc, ◌+◌, ◌-◌, ◌*◌, ◌<◌, ◌≤◌, ◌==◌, Bool, true, false, cond, ◌&&◌, ◌||◌, not, is_none, nat_le, nat_lt, Option, Some, None, List, [], ◌∷◌, length, get_or, refl, sym, ap, ◌∙◌, arith}
+use Rattle.std.proofs.Common.{◌≡◌, ℕ, zero, suc, ◌<◌, ◌≤◌, ◌==◌, Bool, true, false, cond, ◌||◌, not, is_none, nat_le, nat_lt, Option, Some, None, List, [], ◌∷◌, length, get_or, refl, sym, ap, ◌∙◌, arith}
 use Rattle.std.specs.List.{insert}
 use Rattle.std.specs.Option.{option_map}
 use Rattle.std.proofs.lemmas.Bool.{eqb-true, and_parts, and_from, le-leb, leb-true, ltb-true, ltb-false}
@@ -13,11 +13,11 @@ use Rattle.port_range.specs.Ports.{is_free, is_owned, is_within, is_listed}
 use Rattle.bindings.specs.declared.entries.Entry.{Entry}
 use Rattle.bindings.specs.declared.entries.PortBounds.{PortBounds}
 use Rattle.bindings.specs.declared.ports.Ports.{Ports}
-use Rattle.bindings.specs.Entries.{is_pair, has_key, slot_of, set_at, HasDistinctKeys, HasDistinctEndpoints}
+use Rattle.bindings.specs.Entries.{has_key, slot_of}
 use Rattle.bindings.specs.Lists.{place_in, put_in, without, with_state}
-use Rattle.bindings.specs.Ports.{range_of, is_free_at, AreAlike, AreFree, SameBounds, SameOwned, SameFree, AreBounds, in_bounds, in_either, lowest_of, highest_of, key_count}
+use Rattle.bindings.specs.Ports.{range_of, is_free_at, SameBounds, SameOwned, SameFree, in_bounds, in_either, lowest_of, highest_of}
 use Rattle.bindings.specs.Lives.{lives_without}
-use Rattle.bindings.specs.Table.{Table, IsTable, IsStored}
+use Rattle.bindings.specs.Table.{IsTable, IsStored}
 use Rattle.bindings.proofs.Slots.{IsWelcome, slot-put, keys-put, keys-filter, endpoints-put, endpoints-filter, one-to-one}
 use Rattle.bindings.proofs.Edits.{restated, either_slot, slot-without}
 use Rattle.bindings.proofs.Orders.{order-put, order-turn, order-drop}

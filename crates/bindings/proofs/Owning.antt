@@ -1,13 +1,13 @@
 -- The free and owned ports after a change.
-use Rattle.std.proofs.Common.{◌≡◌, ℕ, ◌≤◌, Bool, true, false, cond, ◌&&◌, ◌||◌, ◌==◌, is_none, nat_le, nat_lt, Option, Some, None, List, [], ◌∷◌, inl, inr, ◌⊎◌, refl, sym, ap, ◌∙◌, arith, eq-eqb}
-use Rattle.std.proofs.lemmas.Bool.{cond-true, cond-false, cases_Bool, both_ways, eqb-true, false_from_ne_true, and_parts, and_from, and_left}
+use Rattle.std.proofs.Common.{◌≡◌, ℕ, Bool, true, false, cond, ◌&&◌, ◌==◌, is_none, Option, Some, None, List, inl, inr, refl, sym, ap, ◌∙◌, eq-eqb}
+use Rattle.std.proofs.lemmas.Bool.{cond-true, cond-false, cases_Bool, both_ways, eqb-true, false_from_ne_true}
 use Rattle.addresses.specs.declared.transport.Protocol.{Protocol}
 use Rattle.addresses.specs.declared.transport.Protocol.TheVariants.{Tcp, Udp}
 use Rattle.addresses.specs.declared.transport.Parity.{Parity}
 use Rattle.nat_types.specs.declared.pairs.Key.{Key}
 use Rattle.nat_types.specs.Same.{same_key}
-use Rattle.nat_types.proofs.Equal.{key-eq, key-true, key-false}
-use Rattle.port_range.specs.Ports.{Range, is_free, is_owned, is_within, is_available, is_listed, chosen_port as chosen_of, IsRange}
+use Rattle.nat_types.proofs.Equal.{key-eq, key-true}
+use Rattle.port_range.specs.Ports.{is_free, is_owned, is_within, is_available, is_listed, chosen_port as chosen_of, IsRange}
 use Rattle.bindings.specs.declared.ports.Ports.{Ports}
 use Rattle.port_range.specs.Ports.{chosen_open}
 use Rattle.port_range.proofs.Choice.{chosen-same}

@@ -1,7 +1,7 @@
 -- The lives of the entries after a change of the list.
-use Rattle.std.proofs.Common.{◌≡◌, ℕ, zero, suc, ◌<◌, Bool, true, false, cond, not, nat_lt, Option, Some, None, List, [], ◌∷◌, length, map, get_or, set, inl, inr, refl, sym, ap, ◌∙◌, arith}
-use Rattle.std.specs.List.{insert, remove, filter}
-use Rattle.std.proofs.lemmas.Bool.{cond-true, cond-false, cases_Bool, both_ways}
+use Rattle.std.proofs.Common.{◌≡◌, ℕ, zero, suc, Bool, true, false, cond, not, nat_lt, Some, None, List, [], ◌∷◌, length, get_or, set, refl, sym, ap, ◌∙◌, arith}
+use Rattle.std.specs.List.{insert, remove}
+use Rattle.std.proofs.lemmas.Bool.{cond-true, cond-false, both_ways}
 use Rattle.nat_types.specs.declared.pairs.EntryState.{EntryState}
 use Rattle.nat_types.specs.declared.pairs.Key.{Key}
 use Rattle.nat_types.specs.declared.pairs.Pair.{Pair}
@@ -9,7 +9,7 @@ use Rattle.nat_types.specs.Same.{same_key}
 use Rattle.nat_types.proofs.Equal.{key-eq, key-true, key-self}
 use Rattle.lives.specs.Lives.{Life, Past, Agrees}
 use Rattle.bindings.specs.declared.entries.Entry.{Entry}
-use Rattle.bindings.specs.Entries.{has_key, slot_of, entry_in, place_of, HasDistinctKeys}
+use Rattle.bindings.specs.Entries.{has_key, slot_of, place_of, HasDistinctKeys}
 use Rattle.bindings.specs.Lists.{place_in, put_in, without, with_state}
 use Rattle.bindings.specs.Lives.{life_in, lives_without, HasPast, KeepsOthers}
 use Rattle.bindings.proofs.Found.{find-none}

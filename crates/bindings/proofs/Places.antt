@@ -1,6 +1,6 @@
 -- The place of an entry in the list.
-use Rattle.std.proofs.Common.{◌≡◌, ℕ, zero, suc, ◌+◌, ◌<◌, ◌≤◌, Bool, true, false, cond, not, nat_lt, Option, Some, None, List, [], ◌∷◌, ◌++◌, length, map, get_or, set, take, drop, position, refl, sym, ap, ◌∙◌, arith}
-use Rattle.std.specs.List.{insert, remove, filter, find, position_or_len}
+use Rattle.std.proofs.Common.{◌≡◌, ℕ, zero, suc, ◌+◌, ◌<◌, ◌≤◌, Bool, true, false, cond, not, nat_lt, Some, None, List, [], ◌∷◌, length, get_or, set, drop, position, refl, sym, ap, ◌∙◌, arith}
+use Rattle.std.specs.List.{insert, remove, filter, position_or_len}
 use Rattle.std.proofs.lemmas.Bool.{ltb-false, cond-true, cond-false}
 use Rattle.std.proofs.lemmas.Option.{slice_get_past}
 use Rattle.std.proofs.lemmas.List.Folds.{find_at}

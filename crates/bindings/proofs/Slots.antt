@@ -1,8 +1,8 @@
 -- The slots of a table: by key, and by endpoint.
-use Rattle.std.proofs.Common.{◌≡◌, ℕ, ◌<◌, ◌≤◌, Bool, true, false, cond, Option, Some, None, inl, inr, ◌&&◌, List, [], ◌∷◌, length, map, nat_lt, refl, ap, ◌∙◌, sym, nat_le, arith}
+use Rattle.std.proofs.Common.{◌≡◌, ℕ, ◌<◌, Bool, true, false, cond, Some, None, inl, inr, ◌&&◌, List, [], ◌∷◌, length, map, nat_lt, refl, ap, ◌∙◌, sym, nat_le}
 use Rattle.std.specs.List.{find, filter}
 use Rattle.std.specs.Option.{is_some}
-use Rattle.std.proofs.lemmas.Bool.{cond-true, cond-false, both_ways, and_parts, and_from, and_right, and_cases, false_from_ne_true, lt-leb, leb-false, cases_Bool}
+use Rattle.std.proofs.lemmas.Bool.{cond-true, cond-false, both_ways, and_parts, and_from, and_cases, false_from_ne_true, lt-leb, leb-false}
 use Rattle.nat_types.specs.declared.pairs.Endpoint.{Endpoint}
 use Rattle.nat_types.specs.declared.pairs.Key.{Key}
 use Rattle.nat_types.specs.Same.{same_key, same_endpoint}

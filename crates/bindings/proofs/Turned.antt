@@ -1,5 +1,5 @@
 -- What an entry in another state leaves of the list's rules.
-use Rattle.std.proofs.Common.{◌≡◌, ℕ, suc, Bool, true, false, cond, ◌&&◌, Some, None, List, [], ◌∷◌, length, map, refl, sym, ap, ◌∙◌}
+use Rattle.std.proofs.Common.{◌≡◌, Bool, true, false, cond, ◌&&◌, Some, None, List, [], ◌∷◌, length, refl, ap, ◌∙◌}
 use Rattle.std.proofs.lemmas.Bool.{cond-true, cond-false, and_right}
 use Rattle.std.proofs.lemmas.List.{length-map}
 use Rattle.nat_types.specs.declared.pairs.EntryState.{EntryState}

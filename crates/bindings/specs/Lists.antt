@@ -1,8 +1,7 @@
 -- Lists of entries by protocol (tcp first) and port, and what a change makes of them.
-use Rattle.std.specs.Prelude.{◌≡◌, ℕ, ◌≤◌, zero, suc, Bool, true, false, cond, not, nat_lt, List, [], ◌∷◌, map, if◌then◌else◌, Option, Some}
+use Rattle.std.specs.Prelude.{◌≡◌, ℕ, ◌≤◌, zero, suc, true, cond, not, nat_lt, List, [], ◌∷◌, map, if◌then◌else◌, Some}
 use Rattle.std.specs.List.{filter}
 use Rattle.nat_types.specs.declared.pairs.EntryState.{EntryState}
-use Rattle.nat_types.specs.declared.pairs.EntryState.TheVariants.{Pending, Doomed, Live, Closing, Held}
 use Rattle.nat_types.specs.declared.pairs.Key.{Key}
 use Rattle.nat_types.specs.declared.pairs.Pair.{Pair}
 use Rattle.bindings.specs.declared.entries.Entry.{Entry}

@@ -1,5 +1,5 @@
 -- What callers see of a table.
-use Rattle.std.specs.Prelude.{◌≡◌, ℕ, ◌≤◌, Bool, true, Some, List, [], length}
+use Rattle.std.specs.Prelude.{◌≡◌, ℕ, ◌≤◌, Bool, true, Some, List, length}
 use Rattle.std.specs.List.{insert}
 use Rattle.nat_types.specs.declared.pairs.EntryState.{EntryState}
 use Rattle.nat_types.specs.declared.pairs.Key.{Key}
@@ -10,7 +10,7 @@ use Rattle.bindings.specs.declared.entries.PortBounds.{PortBounds}
 use Rattle.bindings.specs.declared.ports.Ports.{Ports}
 use Rattle.bindings.specs.Entries.{slot_of, HasDistinctKeys, HasDistinctEndpoints}
 use Rattle.bindings.specs.Lists.{AreInOrder, IsOneToOne, place_in, put_in, without, with_state}
-use Rattle.bindings.specs.Ports.{AreBounds, AreAlike, AreFree, in_either, lowest_of, highest_of, key_count}
+use Rattle.bindings.specs.Ports.{AreAlike, AreFree, in_either, lowest_of, highest_of, key_count}
 use Rattle.bindings.specs.Lives.{HasPast, lives_without, idle_keys_in}
 
 -- A table: its entries by protocol (tcp first) and port, their lives, the ports that the gateway owns, the ranges of

@@ -7,5 +7,7 @@ ghost use Rattle.bindings.specs.Table.{Table as Seen, IsTable, AreInRanges};
 
 /// Where all entries lie in the ranges, a key of the ranges without an entry never meets Full.
 pub fn room_law()
-    ensures { (t : Seen) → IsTable t → AreInRanges t → (key : OutsidePort) → in_either t.zero t.one key.port.0 ≡ true → slot_of t.entries key ≡ None → length t.entries < t.capacity }
+    ensures { (t : Seen) → IsTable t → AreInRanges t → (key : OutsidePort)
+        → in_either t.zero t.one key.port.0 ≡ true → slot_of t.entries key ≡ None
+        → length t.entries < t.capacity }
 {}

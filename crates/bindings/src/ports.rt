@@ -22,7 +22,8 @@ fn unowned(alloc: Global, lowest: Port, highest: Port) -> Result<Range, AllocErr
     requires { is_bad lowest.0 highest.0 ≡ false }
     ensures lowest { IfOk result (λ r. r.lowest ≡ lowest.0) }
     ensures highest { IfOk result (λ r. r.highest ≡ highest.0) }
-    ensures free { IfOk result (λ r. (port : ℕ) → is_free r port ≡ is_within lowest.0 highest.0 port) }
+    ensures free { IfOk result (λ r. (port : ℕ) → is_free r port
+        ≡ is_within lowest.0 highest.0 port) }
     ensures owned { IfOk result (λ r. (port : ℕ) → is_owned r port ≡ false) }
 {
     match Range::unowned(alloc, lowest, highest) {
@@ -34,7 +35,8 @@ fn unowned(alloc: Global, lowest: Port, highest: Port) -> Result<Range, AllocErr
 
 /// Makes a port of the range free.
 fn put_back_in(range: &mut Range, port: Port)
-    ensures free { let within = is_within range.old.lowest range.old.highest port.0 in (p : ℕ) → is_free range.new p ≡ (if p == port.0 then within else is_free range.old p) }
+    ensures free { let within = is_within range.old.lowest range.old.highest port.0 in (p : ℕ)
+        → is_free range.new p ≡ (if p == port.0 then within else is_free range.old p) }
     ensures owned { range.new.owned ≡ range.old.owned }
     ensures lowest { range.new.lowest ≡ range.old.lowest }
     ensures highest { range.new.highest ≡ range.old.highest }
@@ -50,7 +52,8 @@ impl Ports {
     pub(crate) fn new(alloc: Global, lowest: Port, highest: Port) -> Result<Ports, AllocError>
         requires { is_bad lowest.0 highest.0 ≡ false }
         ensures alike { IfOk result (AreAlike lowest.0 highest.0) }
-        ensures free { IfOk result (λ p. (q : OutsidePort) → is_free_at p q ≡ is_within lowest.0 highest.0 q.port.0) }
+        ensures free { IfOk result (λ p. (q : OutsidePort) → is_free_at p q
+            ≡ is_within lowest.0 highest.0 q.port.0) }
         ensures owned { IfOk result (λ p. (port : ℕ) → is_owned p.tcp port ≡ false) }
     {
         let tcp = unowned(alloc, lowest, highest)?;
@@ -60,7 +63,8 @@ impl Ports {
 
     /// Takes a key that is free, and leaves another one.
     pub(crate) fn take(&mut self, key: Key)
-        ensures free { (q : OutsidePort) → is_free_at self.new q ≡ (if same_key key q then false else is_free_at self.old q) }
+        ensures free { (q : OutsidePort) → is_free_at self.new q ≡ (if same_key key q then false
+            else is_free_at self.old q) }
         ensures owned { SameOwned self.old self.new }
         ensures bounds { SameBounds self.old self.new }
     {
@@ -81,7 +85,9 @@ impl Ports {
     /// Makes a key of the ranges free.
     pub(crate) fn put_back(&mut self, key: Key)
         requires { AreAlike self.old.tcp.lowest self.old.tcp.highest self.old }
-        ensures free { let within = is_within self.old.tcp.lowest self.old.tcp.highest key.port.0 in (q : OutsidePort) → is_free_at self.new q ≡ (if same_key key q then within else is_free_at self.old q) }
+        ensures free { let within = is_within self.old.tcp.lowest self.old.tcp.highest key.port.0
+            in (q : OutsidePort) → is_free_at self.new q ≡ (if same_key key q then within
+            else is_free_at self.old q) }
         ensures owned { SameOwned self.old self.new }
         ensures bounds { SameBounds self.old self.new }
     {
@@ -96,8 +102,10 @@ impl Ports {
         requires alike { AreAlike self.old.tcp.lowest self.old.tcp.highest self.old }
         requires within { is_within self.old.tcp.lowest self.old.tcp.highest port.0 ≡ true }
         requires foreign { is_owned self.old.tcp port.0 ≡ false }
-        ensures tcp { (p : ℕ) → is_owned self.new.tcp p ≡ (if p == port.0 then true else is_owned self.old.tcp p) }
-        ensures udp { (p : ℕ) → is_owned self.new.udp p ≡ (if p == port.0 then true else is_owned self.old.udp p) }
+        ensures tcp { (p : ℕ) → is_owned self.new.tcp p ≡ (if p == port.0 then true
+            else is_owned self.old.tcp p) }
+        ensures udp { (p : ℕ) → is_owned self.new.udp p ≡ (if p == port.0 then true
+            else is_owned self.old.udp p) }
         ensures free { SameFree self.old self.new }
         ensures bounds { SameBounds self.old self.new }
     {
@@ -111,8 +119,10 @@ impl Ports {
         requires owned { is_owned self.old.tcp port.0 ≡ true }
         requires tcp_free { is_free self.old.tcp port.0 ≡ true }
         requires udp_free { is_free self.old.udp port.0 ≡ true }
-        ensures tcp { (p : ℕ) → is_owned self.new.tcp p ≡ (if p == port.0 then false else is_owned self.old.tcp p) }
-        ensures udp { (p : ℕ) → is_owned self.new.udp p ≡ (if p == port.0 then false else is_owned self.old.udp p) }
+        ensures tcp { (p : ℕ) → is_owned self.new.tcp p ≡ (if p == port.0 then false
+            else is_owned self.old.tcp p) }
+        ensures udp { (p : ℕ) → is_owned self.new.udp p ≡ (if p == port.0 then false
+            else is_owned self.old.udp p) }
         ensures free { SameFree self.old self.new }
         ensures bounds { SameBounds self.old self.new }
     {

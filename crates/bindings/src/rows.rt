@@ -77,7 +77,8 @@ pub(crate) fn renew(lives: &mut Vec<Life>, i: usize, protocol: Protocol, now: u6
 /// Whether the pair there is idle.
 pub(crate) fn is_idle_at(lives: &[Life], i: usize, protocol: Protocol, now: u64) -> bool
     requires { i < length lives.now }
-    ensures { (life : Seen) → life ≡ slice_index_or lives.now i life → result ≡ looks_idle protocol life now }
+    ensures { (life : Seen) → life ≡ slice_index_or lives.now i life → result
+        ≡ looks_idle protocol life now }
 {
     let life = &lives[i];
     life.is_idle(protocol, now)
@@ -95,7 +96,8 @@ pub(crate) fn is_unused_at(lives: &[Life], i: usize) -> bool
 /// Whether the entry there translates and is idle.
 fn is_idle_entry(entry: Entry, lives: &[Life], i: usize, now: u64) -> bool
     requires { i < length lives.now }
-    ensures { (life : Seen) → life ≡ slice_index_or lives.now i life → result ≡ is_idle_row now entry life }
+    ensures { (life : Seen) → life ≡ slice_index_or lives.now i life → result
+        ≡ is_idle_row now entry life }
 {
     is_translating(entry.state) && is_idle_at(lives, i, entry.pair.key.protocol, now)
 }
@@ -123,7 +125,8 @@ fn key_of_entry(entry: Entry) -> Key
 /// Lists the keys of the entries that translate and are idle.
 pub(crate) fn list_idle(entries: &[Entry], lives: &[Life], now: u64, out: &mut Vec<Key>)
     requires alike { length lives.now ≡ length entries.now }
-    requires room { vec_len out.old + length (idle_keys_in now entries.now lives.now) ≤ vec_capacity out.old }
+    requires room { vec_len out.old + length (idle_keys_in now entries.now lives.now) ≤ vec_capacity
+        out.old }
     ensures { out.new.items ≡ out.old.items ++ idle_keys_in now entries.now lives.now }
 {
     for (i, entry) in entries.iter().enumerate() {

@@ -42,11 +42,21 @@ impl Model for Table {
 
     ghost Value = { Seen };
 
-    ghost view = { λ t. record { entries = t.entries.items; lives = t.lives.items; owned = t.ports.tcp.owned; zero = t.zero; one = t.one; capacity = t.capacity; ready = t.ready } };
+    ghost view = { λ t. record {
+      entries = t.entries.items;
+      lives = t.lives.items;
+      owned =
+          t.ports.tcp.owned;
+      zero = t.zero;
+      one = t.one;
+      capacity = t.capacity;
+      ready = t.ready;
+    } };
 
     ghost use Rattle.std.specs.Prelude.{vec_capacity};
 
-    ghost invariant = { λ t. IsStored t.entries.items t.lives.items t.ports t.zero t.one t.capacity (vec_capacity t.entries) (vec_capacity t.lives) };
+    ghost invariant = { λ t. IsStored t.entries.items t.lives.items t.ports t.zero t.one t.capacity
+        (vec_capacity t.entries) (vec_capacity t.lives) };
 }
 
 fn port_count(bounds: PortBounds) -> usize
@@ -135,13 +145,23 @@ impl Table {
         now: u64,
     ) -> Result<(), TableFault>
         requires { 0 < self.old.ready }
-        ensures ok { OnOk result (refusal_of self.old.capacity self.old.entries (entry_in state pair) ≡ None) }
-        ensures refused { IfErr result (λ fault. refusal_of self.old.capacity self.old.entries (entry_in state pair) ≡ Some fault) }
-        ensures entries { OnOk result (self.new.entries ≡ put_in (entry_in state pair) self.old.entries) }
-        ensures slots { OnOk result ((q : OutsidePort) → slot_of self.new.entries q ≡ set_at (slot_of self.old.entries) pair.key (Some (entry_in state pair)) q) }
+        ensures ok { OnOk result (refusal_of self.old.capacity self.old.entries (entry_in state
+            pair) ≡ None) }
+        ensures refused { IfErr result (λ fault. refusal_of self.old.capacity self.old.entries
+            (entry_in state pair) ≡ Some fault) }
+        ensures entries { OnOk result (self.new.entries
+            ≡ put_in (entry_in state pair) self.old.entries) }
+        ensures slots { OnOk result ((q : OutsidePort) → slot_of self.new.entries q
+            ≡ set_at (slot_of self.old.entries) pair.key (Some (entry_in state pair)) q) }
         ensures begins { OnOk result (IsPast self.new pair.key (came by_install now)) }
-        ensures others { OnOk result (KeepsOthers pair.key self.old.entries self.old.lives self.new.entries self.new.lives) }
-        ensures same { OnOk result (self.new ≡ record self.old { entries = self.new.entries; lives = self.new.lives; ready = self.old.ready - 1 }) }
+        ensures others { OnOk result (KeepsOthers pair.key self.old.entries self.old.lives
+            self.new.entries self.new.lives) }
+        ensures same { OnOk result (self.new ≡ record self.old {
+          entries = self.new.entries;
+          lives =
+              self.new.lives;
+          ready = self.old.ready - 1;
+        }) }
         ensures err { OnErr result (self.new ≡ self.old) }
     {
         let entry = Entry { pair, state };
@@ -158,10 +178,14 @@ impl Table {
 
     /// Puts a key's entry into another state. It is no Doomed one; a key without an entry changes nothing.
     pub fn set_state(&mut self, key: Key, state: EntryState)
-        requires { (entry : Row) → slot_of self.old.entries key ≡ Some entry → is_pair entry.state ≡ true }
+        requires { (entry : Row) → slot_of self.old.entries key ≡ Some entry → is_pair entry.state
+            ≡ true }
         ensures entries { self.new ≡ with_entry_state self.old key state }
-        ensures slots { (entry : Row) → slot_of self.old.entries key ≡ Some entry → (q : OutsidePort) → slot_of self.new.entries q ≡ set_at (slot_of self.old.entries) key (Some (entry_in state entry.pair)) q }
-        ensures pasts { (q : OutsidePort) → (past : Past) → IsPast self.old q past → IsPast self.new q past }
+        ensures slots { (entry : Row) → slot_of self.old.entries key ≡ Some entry
+            → (q : OutsidePort) → slot_of self.new.entries q
+            ≡ set_at (slot_of self.old.entries) key (Some (entry_in state entry.pair)) q }
+        ensures pasts { (q : OutsidePort) → (past : Past) → IsPast self.old q past
+            → IsPast self.new q past }
     {
         turn(&mut self.entries, key, state);
     }
@@ -169,8 +193,10 @@ impl Table {
     /// Takes a key's entry out. A key without an entry changes nothing.
     pub fn remove(&mut self, key: Key)
         ensures entries { self.new ≡ without_entry self.old key }
-        ensures slots { (q : OutsidePort) → slot_of self.new.entries q ≡ set_at (slot_of self.old.entries) key None q }
-        ensures others { KeepsOthers key self.old.entries self.old.lives self.new.entries self.new.lives }
+        ensures slots { (q : OutsidePort) → slot_of self.new.entries q
+            ≡ set_at (slot_of self.old.entries) key None q }
+        ensures others { KeepsOthers key self.old.entries self.old.lives self.new.entries
+            self.new.lives }
     {
         take_out(&mut self.entries, &mut self.lives, key);
         self.ports.put_back(key);
@@ -192,7 +218,8 @@ impl Table {
 
     /// The lowest owned free port with that parity, else the lowest owned free one (RFC 4787, section 4.2.2).
     pub fn free_like(&self, protocol: Protocol, parity: Parity) -> Option<Port>
-        ensures { result ≡ chosen_port self.now.entries self.now.owned self.now.zero self.now.one protocol parity }
+        ensures { result ≡ chosen_port self.now.entries self.now.owned self.now.zero self.now.one
+            protocol parity }
     {
         self.ports.free_like(protocol, parity)
     }
@@ -208,7 +235,8 @@ impl Table {
     pub fn own(&mut self, port: Port)
         requires within { in_either self.old.zero self.old.one port.0 ≡ true }
         requires foreign { owns self.old port.0 ≡ false }
-        ensures owned { (p : ℕ) → owns self.new p ≡ (if p == port.0 then true else owns self.old p) }
+        ensures owned { (p : ℕ) → owns self.new p ≡ (if p == port.0 then true
+            else owns self.old p) }
         ensures same { self.new ≡ record self.old { owned = self.new.owned } }
     {
         self.ports.own(port);
@@ -219,7 +247,8 @@ impl Table {
         requires owned { owns self.old port.0 ≡ true }
         requires tcp { is_free_in self.old.entries Tcp port.0 ≡ true }
         requires udp { is_free_in self.old.entries Udp port.0 ≡ true }
-        ensures owned { (p : ℕ) → owns self.new p ≡ (if p == port.0 then false else owns self.old p) }
+        ensures owned { (p : ℕ) → owns self.new p ≡ (if p == port.0 then false
+            else owns self.old p) }
         ensures same { self.new ≡ record self.old { owned = self.new.owned } }
     {
         self.ports.disown(port);
@@ -228,8 +257,16 @@ impl Table {
     /// The pair of a key carried a packet, to or from a remote host. The flags of a UDP packet aren't read. A key without
     /// an entry changes nothing.
     pub fn carried(&mut self, key: Key, remote: Remote, way: Way, flags: TcpFlags, now: u64)
-        ensures longer { let packet : Carried = record { remote = remote; way = way; flags = flags; at = now } in (past : Past) → IsPast self.old key past → IsPast self.new key (with_packet packet past) }
-        ensures others { KeepsOthers key self.old.entries self.old.lives self.new.entries self.new.lives }
+        ensures longer { let packet : Carried = record {
+          remote = remote;
+          way = way;
+          flags = flags;
+          at = now;
+        }
+            in (past : Past) → IsPast self.old key past
+            → IsPast self.new key (with_packet packet past) }
+        ensures others { KeepsOthers key self.old.entries self.old.lives self.new.entries
+            self.new.lives }
         ensures same { self.new ≡ record self.old { lives = self.new.lives } }
     {
         let at = now;
@@ -246,8 +283,10 @@ impl Table {
 
     /// The list of packets of a key's pair begins empty. A key without an entry changes nothing.
     pub fn renew(&mut self, key: Key, now: u64)
-        ensures renewed { (past : Past) → IsPast self.old key past → IsPast self.new key (renewed now past) }
-        ensures others { KeepsOthers key self.old.entries self.old.lives self.new.entries self.new.lives }
+        ensures renewed { (past : Past) → IsPast self.old key past
+            → IsPast self.new key (renewed now past) }
+        ensures others { KeepsOthers key self.old.entries self.old.lives self.new.entries
+            self.new.lives }
         ensures same { self.new ≡ record self.old { lives = self.new.lives } }
     {
         if let Some(i) = position_of(&self.entries, key) {
@@ -257,7 +296,8 @@ impl Table {
 
     /// Whether a key's pair is idle at a moment.
     pub fn idle(&self, key: Key, now: u64) -> bool
-        ensures { (past : Past) → IsPast self.now key past → result ≡ is_idle key.protocol past now }
+        ensures { (past : Past) → IsPast self.now key past → result
+            ≡ is_idle key.protocol past now }
     {
         match position_of(&self.entries, key) {
             Some(i) => is_idle_at(&self.lives, i, key.protocol, now),
@@ -278,10 +318,14 @@ impl Table {
     /// Appends the keys of the idle Live and Held entries, each once, by protocol (tcp first) and port.
     pub fn idle_keys(&mut self, now: u64, out: &mut Vec<Key>) -> Result<(), AllocError>
         ensures keys { OnOk result (out.new.items ≡ out.old.items ++ idle_keys_of self.old now) }
-        ensures listed { (key : OutsidePort) → (entry : Row) → (past : Past) → slot_of self.old.entries key ≡ Some entry → IsPast self.old key past → is_among key (idle_keys_of self.old now) ≡ (translates entry.state && is_idle key.protocol past now) }
+        ensures listed { (key : OutsidePort) → (entry : Row) → (past : Past)
+            → slot_of self.old.entries key ≡ Some entry → IsPast self.old key past
+            → is_among key (idle_keys_of self.old now)
+            ≡ (translates entry.state && is_idle key.protocol past now) }
         ensures same { self.new ≡ self.old }
         ensures err { OnErr result (out.new.items ≡ out.old.items) }
-        ensures room { vec_len out.old + length (idle_keys_of self.old now) ≤ vec_capacity out.old → IsOk result }
+        ensures room { vec_len out.old + length (idle_keys_of self.old now) ≤ vec_capacity out.old
+            → IsOk result }
     {
         out.reserve(count_idle(&self.entries, &self.lives, now))?;
         list_idle(&self.entries, &self.lives, now, out);

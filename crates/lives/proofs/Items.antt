@@ -1,7 +1,7 @@
 -- Lists of which one item is changed, and their images.
-use Rattle.std.proofs.Common.{◌≡◌, ℕ, zero, suc, ◌+◌, ◌<◌, Bool, true, false, cond, not, nat_lt, Option, Some, None, List, [], ◌∷◌, ◌++◌, length, map, get_or, set, take, drop, position, refl, ap, ◌∙◌, sym, arith}
+use Rattle.std.proofs.Common.{◌≡◌, ℕ, zero, suc, ◌+◌, ◌<◌, Bool, true, false, cond, not, nat_lt, Option, Some, None, List, [], ◌∷◌, length, map, get_or, set, position, refl, ap, ◌∙◌, sym, arith}
 use Rattle.std.specs.List.{position_or_len, prefix_len, refill}
-use Rattle.std.proofs.lemmas.List.{length-map, map_push, length-set}
+use Rattle.std.proofs.lemmas.List.{length-map, map_push}
 use Rattle.std.proofs.lemmas.List.Quantifiers.{position-Some}
 use Rattle.lives.specs.declared.TheConstants.{MAX_SESSIONS}
 use Rattle.lives.specs.declared.places.Place.{Place}

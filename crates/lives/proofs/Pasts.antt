@@ -1,6 +1,6 @@
 -- What is kept of a life agrees with its past.
-use Rattle.std.proofs.Common.{◌≡◌, ℕ, ◌<◌, length, get_or, set, Bool, true, false, cond, ◌&&◌, ◌||◌, List, [], ◌∷◌, map, refl, ap, ◌∙◌, sym}
-use Rattle.std.specs.List.{list_all, refill}
+use Rattle.std.proofs.Common.{◌≡◌, ℕ, ◌<◌, length, get_or, set, Bool, true, false, cond, ◌&&◌, ◌||◌, List, [], ◌∷◌, map, refl, ap, ◌∙◌}
+use Rattle.std.specs.List.{refill}
 use Rattle.std.proofs.lemmas.List.{length-set}
 use Rattle.std.proofs.lemmas.List.Folds.{list_all-map}
 use Rattle.addresses.specs.declared.transport.Protocol.{Protocol}
@@ -10,9 +10,9 @@ use Rattle.lives.specs.declared.sessions.Session.{Session}
 use Rattle.lives.specs.declared.TheConstants.{ESTABLISHED_REST, UDP_REST}
 use Rattle.lives.specs.Packets.{same_remote}
 use Rattle.lives.specs.Sessions.{stepped, begun_session, has_passed_by, has_rested}
-use Rattle.lives.specs.Places.{place_by, put_at, is_nowhere}
+use Rattle.lives.specs.Places.{put_at, is_nowhere}
 use Rattle.lives.specs.Kept.{session_place, with_session, all_passed}
-use Rattle.lives.specs.Lives.{Course, Past, Life, Agrees, with_packet, is_unused, last_of, courses, course_place, is_crowded, is_empty, is_idle, looks_idle, has_passed, first_course, longer, session_of}
+use Rattle.lives.specs.Lives.{Course, Past, Life, Agrees, with_packet, last_of, courses, course_place, is_crowded, is_empty, is_idle, looks_idle, first_course, longer, session_of}
 use Rattle.lives.specs.declared.places.Place.TheVariants.{Known, Passed}
 use Rattle.lives.proofs.Items.{put-map, place-map, refilled, known-within, passed-within, set-changed, set-new}
 use Rattle.lives.proofs.Segments.{stepped-is, begun-is}

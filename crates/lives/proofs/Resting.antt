@@ -1,7 +1,7 @@
 -- An idle pair has rested since each use.
-use Rattle.std.proofs.Common.{◌≡◌, ℕ, zero, suc, ◌+◌, ◌-◌, ◌<◌, ◌≤◌, Bool, true, false, cond, ◌&&◌, ◌||◌, nat_le, List, [], ◌∷◌, ◌++◌, length, map, get_or, inl, inr, refl, ap, ◌∙◌, sym, arith}
+use Rattle.std.proofs.Common.{◌≡◌, ℕ, zero, suc, ◌+◌, ◌-◌, ◌<◌, ◌≤◌, Bool, true, false, cond, ◌||◌, List, [], ◌∷◌, ◌++◌, length, map, get_or, refl, arith}
 use Rattle.std.specs.List.{list_all}
-use Rattle.std.proofs.lemmas.Bool.{leb-true, and_parts, both_ways}
+use Rattle.std.proofs.lemmas.Bool.{leb-true, and_parts}
 use Rattle.addresses.specs.declared.transport.Protocol.{Protocol}
 use Rattle.addresses.specs.declared.transport.Protocol.TheVariants.{Tcp, Udp}
 use Rattle.lives.specs.declared.packets.Packet.{Packet}
@@ -11,7 +11,7 @@ use Rattle.lives.specs.declared.sessions.Class.{Class}
 use Rattle.lives.specs.declared.sessions.Class.TheVariants.{Opening, Established, Closed}
 use Rattle.lives.specs.declared.TheConstants.{UDP_REST, TRANSITORY_REST, ESTABLISHED_REST}
 use Rattle.lives.specs.Packets.{same_remote}
-use Rattle.lives.specs.Places.{place_by, changed_at, put_at, is_nowhere}
+use Rattle.lives.specs.Places.{changed_at, put_at, is_nowhere}
 use Rattle.lives.specs.Sessions.{has_rested, rest_of}
 use Rattle.lives.specs.Lives.{Course, Past, courses, course_place, is_crowded, is_empty, is_idle, is_unused, has_passed, first_course, longer, class_of, last_of}
 use Rattle.lives.specs.Rests.{least_rest, CameBy, AllRested, AllBefore}

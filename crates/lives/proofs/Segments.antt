@@ -5,7 +5,6 @@ use Rattle.lives.specs.declared.packets.Packet.{Packet}
 use Rattle.lives.specs.declared.packets.Remote.{Remote}
 use Rattle.lives.specs.declared.packets.Way.{Way}
 use Rattle.lives.specs.declared.packets.Way.TheVariants.{Outward, Inward}
-use Rattle.lives.specs.declared.sessions.Class.{Class}
 use Rattle.lives.specs.declared.sessions.Class.TheVariants.{Opening, Established, Closed}
 use Rattle.lives.specs.declared.sessions.Marks.{Marks}
 use Rattle.lives.specs.declared.sessions.Session.{Session}

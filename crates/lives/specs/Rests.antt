@@ -1,10 +1,9 @@
 -- What the rule of idle pairs gives to those who see uses and releases alone.
-use Rattle.std.specs.Prelude.{◌≡◌, ℕ, ◌+◌, ◌≤◌, Bool, true, List, [], ◌∷◌}
+use Rattle.std.specs.Prelude.{ℕ, ◌+◌, ◌≤◌, List, [], ◌∷◌}
 use Rattle.addresses.specs.declared.transport.Protocol.{Protocol}
 use Rattle.addresses.specs.declared.transport.Protocol.TheVariants.{Tcp, Udp}
 use Rattle.lives.specs.declared.packets.Packet.{Packet}
 use Rattle.lives.specs.declared.TheConstants.{UDP_REST, TRANSITORY_REST}
-use Rattle.lives.specs.Lives.{Past, is_unused}
 
 -- how long a pair of a protocol rests at least before it is idle, in centiseconds
 abbrev pub least_rest : Protocol → ℕ

@@ -9,8 +9,13 @@ ghost use Rattle.lives.specs.Rests.{least_rest, CameBy, AllRested, AllBefore};
 /// before it, which had rested when the list began: so each of them lies at least the protocol's rest before a release
 /// where the pair is idle, or unused; and the next list begins with all of them rested.
 pub fn idle_rests_law()
-    ensures idle { (protocol : Protocol) → (past : Past) → (now : ℕ) → CameBy now past.packets → is_idle protocol past now ≡ true → AllRested (least_rest protocol) now past.packets }
-    ensures unused { (past : Past) → (rest now : ℕ) → is_unused past ≡ true → AllRested rest now past.packets }
-    ensures earlier { (rest since now : ℕ) → (uses : List ℕ) → since ≤ now → AllBefore rest since uses → AllBefore rest now uses }
-    ensures together { (rest now : ℕ) → (packets : List Carried) → (uses : List ℕ) → AllRested rest now packets → AllBefore rest now uses → AllBefore rest now (map (λ p. p.at) packets ++ uses) }
+    ensures idle { (protocol : Protocol) → (past : Past) → (now : ℕ) → CameBy now past.packets
+        → is_idle protocol past now ≡ true → AllRested (least_rest protocol) now past.packets }
+    ensures unused { (past : Past) → (rest now : ℕ) → is_unused past ≡ true
+        → AllRested rest now past.packets }
+    ensures earlier { (rest since now : ℕ) → (uses : List ℕ) → since ≤ now
+        → AllBefore rest since uses → AllBefore rest now uses }
+    ensures together { (rest now : ℕ) → (packets : List Carried) → (uses : List ℕ)
+        → AllRested rest now packets → AllBefore rest now uses → AllBefore rest now (map
+        (λ p. p.at) packets ++ uses) }
 {}

@@ -26,12 +26,18 @@ impl Model for Life {
 
     ghost Value = { Seen };
 
-    ghost view = { λ l. record { last = l.last; is_unused = l.is_unused; is_crowded = l.is_crowded; sessions = l.sessions.items } };
+    ghost view = { λ l. record {
+      last = l.last;
+      is_unused = l.is_unused;
+      is_crowded = l.is_crowded;
+      sessions = l.sessions.items;
+    } };
 }
 
 /// Whether a TCP pair with these sessions is idle.
 fn is_tcp_idle(sessions: &[Session], is_crowded: bool, last: u64, now: u64) -> bool
-    ensures { result ≡ (if is_crowded || is_empty sessions.now then has_rested ESTABLISHED_REST last now else all_passed now sessions.now) }
+    ensures { result ≡ (if is_crowded || is_empty sessions.now then has_rested ESTABLISHED_REST last
+        now else all_passed now sessions.now) }
 {
     if is_crowded || sessions.is_empty() {
         has_rested_since(ESTABLISHED_REST, last, now)
@@ -55,7 +61,8 @@ impl Life {
 
     /// The pair carried a packet.
     pub fn carried(&mut self, protocol: Protocol, packet: Packet)
-        ensures { (past : Past) → Agrees protocol past self.old → Agrees protocol (with_packet packet past) self.new }
+        ensures { (past : Past) → Agrees protocol past self.old
+            → Agrees protocol (with_packet packet past) self.new }
     {
         self.last = packet.at;
         self.is_unused = false;
@@ -70,7 +77,8 @@ impl Life {
 
     /// The list of packets begins empty.
     pub fn renew(&mut self, now: u64)
-        ensures { (protocol : Transport) → (past : Past) → Agrees protocol past self.old → Agrees protocol (renewed now past) self.new }
+        ensures { (protocol : Transport) → (past : Past) → Agrees protocol past self.old
+            → Agrees protocol (renewed now past) self.new }
     {
         self.last = now;
         self.is_crowded = false;
@@ -79,7 +87,8 @@ impl Life {
 
     /// Whether the pair is idle at a moment.
     pub fn is_idle(&self, protocol: Protocol, now: u64) -> bool
-        ensures idle { (past : Past) → Agrees protocol past self.now → result ≡ is_idle protocol past now }
+        ensures idle { (past : Past) → Agrees protocol past self.now → result
+            ≡ is_idle protocol past now }
         ensures exact { result ≡ looks_idle protocol self.now now }
     {
         match protocol {
@@ -90,7 +99,8 @@ impl Life {
 
     /// Whether the pair came by Install and carried nothing since.
     pub fn is_unused(&self) -> bool
-        ensures unused { (protocol : Transport) → (past : Past) → Agrees protocol past self.now → result ≡ is_unused past }
+        ensures unused { (protocol : Transport) → (past : Past) → Agrees protocol past self.now
+            → result ≡ is_unused past }
         ensures exact { result ≡ self.now.is_unused }
     {
         self.is_unused

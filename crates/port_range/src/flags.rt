@@ -42,7 +42,8 @@ fn find_lowest(
     wanted: Option<Parity>,
 ) -> Option<Port>
     requires { HasFlags lowest.0 highest.0 free.now owned.now }
-    ensures { let range = flagged lowest.0 highest.0 free.now owned.now in result ≡ lowest_open (is_available range) lowest.0 highest.0 wanted }
+    ensures { let range = flagged lowest.0 highest.0 free.now owned.now in result
+        ≡ lowest_open (is_available range) lowest.0 highest.0 wanted }
 {
     for (offset, flag) in free.iter().enumerate() {
         let port = Port(lowest.0 + offset as u16);
@@ -61,7 +62,8 @@ pub(crate) fn choose_port(
     parity: Parity,
 ) -> Option<Port>
     requires { HasFlags lowest.0 highest.0 free.now owned.now }
-    ensures { let range = flagged lowest.0 highest.0 free.now owned.now in result ≡ chosen_open (is_available range) lowest.0 highest.0 parity }
+    ensures { let range = flagged lowest.0 highest.0 free.now owned.now in result
+        ≡ chosen_open (is_available range) lowest.0 highest.0 parity }
 {
     match find_lowest(free, owned, lowest, highest, Some(parity)) {
         Some(port) => Some(port),

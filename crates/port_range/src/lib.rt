@@ -61,8 +61,10 @@ impl Range {
         ensures refused { IfErr result (IsReason lowest.0 highest.0) }
         ensures lowest { IfOk result (λ r. r.lowest ≡ lowest.0) }
         ensures highest { IfOk result (λ r. r.highest ≡ highest.0) }
-        ensures free { IfOk result (λ r. (port : ℕ) → is_free r port ≡ is_within lowest.0 highest.0 port) }
-        ensures owned { IfOk result (λ r. (port : ℕ) → is_owned r port ≡ (owned && is_within lowest.0 highest.0 port)) }
+        ensures free { IfOk result (λ r. (port : ℕ) → is_free r port
+            ≡ is_within lowest.0 highest.0 port) }
+        ensures owned { IfOk result (λ r. (port : ℕ) → is_owned r port
+            ≡ (owned && is_within lowest.0 highest.0 port)) }
     {
         if lowest.0 < FIRST_PORT.0 || highest.0 < lowest.0 {
             return Err(RangeFault::BadRange);
@@ -84,8 +86,10 @@ impl Range {
         ensures refused { IfErr result (IsReason lowest.0 highest.0) }
         ensures lowest { IfOk result (λ r. r.lowest ≡ lowest.0) }
         ensures highest { IfOk result (λ r. r.highest ≡ highest.0) }
-        ensures free { IfOk result (λ r. (port : ℕ) → is_free r port ≡ is_within lowest.0 highest.0 port) }
-        ensures owned { IfOk result (λ r. (port : ℕ) → is_owned r port ≡ is_within lowest.0 highest.0 port) }
+        ensures free { IfOk result (λ r. (port : ℕ) → is_free r port
+            ≡ is_within lowest.0 highest.0 port) }
+        ensures owned { IfOk result (λ r. (port : ℕ) → is_owned r port
+            ≡ is_within lowest.0 highest.0 port) }
     {
         Range::begin(alloc, lowest, highest, true)
     }
@@ -96,7 +100,8 @@ impl Range {
         ensures refused { IfErr result (IsReason lowest.0 highest.0) }
         ensures lowest { IfOk result (λ r. r.lowest ≡ lowest.0) }
         ensures highest { IfOk result (λ r. r.highest ≡ highest.0) }
-        ensures free { IfOk result (λ r. (port : ℕ) → is_free r port ≡ is_within lowest.0 highest.0 port) }
+        ensures free { IfOk result (λ r. (port : ℕ) → is_free r port
+            ≡ is_within lowest.0 highest.0 port) }
         ensures owned { IfOk result (λ r. (port : ℕ) → is_owned r port ≡ false) }
     {
         Range::begin(alloc, lowest, highest, false)
@@ -142,7 +147,8 @@ impl Range {
     /// Takes a free port, owned or not.
     pub fn take(&mut self, port: Port)
         requires { is_free self.old port.0 ≡ true }
-        ensures free { (p : ℕ) → is_free self.new p ≡ (if p == port.0 then false else is_free self.old p) }
+        ensures free { (p : ℕ) → is_free self.new p ≡ (if p == port.0 then false
+            else is_free self.old p) }
         ensures owned { self.new.owned ≡ self.old.owned }
         ensures lowest { self.new.lowest ≡ self.old.lowest }
         ensures highest { self.new.highest ≡ self.old.highest }
@@ -154,7 +160,8 @@ impl Range {
     pub fn put_back(&mut self, port: Port)
         requires within { is_within self.old.lowest self.old.highest port.0 ≡ true }
         requires taken { is_free self.old port.0 ≡ false }
-        ensures free { (p : ℕ) → is_free self.new p ≡ (if p == port.0 then true else is_free self.old p) }
+        ensures free { (p : ℕ) → is_free self.new p ≡ (if p == port.0 then true
+            else is_free self.old p) }
         ensures owned { self.new.owned ≡ self.old.owned }
         ensures lowest { self.new.lowest ≡ self.old.lowest }
         ensures highest { self.new.highest ≡ self.old.highest }
@@ -166,7 +173,8 @@ impl Range {
     pub fn own(&mut self, port: Port)
         requires within { is_within self.old.lowest self.old.highest port.0 ≡ true }
         requires foreign { is_owned self.old port.0 ≡ false }
-        ensures owned { (p : ℕ) → is_owned self.new p ≡ (if p == port.0 then true else is_owned self.old p) }
+        ensures owned { (p : ℕ) → is_owned self.new p ≡ (if p == port.0 then true
+            else is_owned self.old p) }
         ensures free { self.new.free ≡ self.old.free }
         ensures lowest { self.new.lowest ≡ self.old.lowest }
         ensures highest { self.new.highest ≡ self.old.highest }
@@ -178,7 +186,8 @@ impl Range {
     pub fn disown(&mut self, port: Port)
         requires owned { is_owned self.old port.0 ≡ true }
         requires free { is_free self.old port.0 ≡ true }
-        ensures owned { (p : ℕ) → is_owned self.new p ≡ (if p == port.0 then false else is_owned self.old p) }
+        ensures owned { (p : ℕ) → is_owned self.new p ≡ (if p == port.0 then false
+            else is_owned self.old p) }
         ensures free { self.new.free ≡ self.old.free }
         ensures lowest { self.new.lowest ≡ self.old.lowest }
         ensures highest { self.new.highest ≡ self.old.highest }

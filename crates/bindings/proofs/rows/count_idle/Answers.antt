@@ -1,4 +1,4 @@
-use Rattle.std.proofs.Common.{◌+◌, length, drop, sym, ap, ◌∙◌, cond, ◌∷◌, arith}
+use Rattle.std.proofs.Common.{◌+◌, length, drop, ap, ◌∙◌, cond, ◌∷◌, arith}
 use Rattle.bindings.specs.Lives.{idle_keys_in}
 use Rattle.bindings.proofs.Resting.{idle-step}
 use Rattle.bindings.proofs.rows.count_idle.Goals as goal

@@ -1,4 +1,4 @@
-use Rattle.std.proofs.Common.{◌≡◌, ◌+◌, ◌++◌, ◌∷◌, [], length, drop, sym, ap, ◌∙◌, cond, arith, append_assoc, vec_len, vec_capacity}
+use Rattle.std.proofs.Common.{◌+◌, ◌++◌, ◌∷◌, [], length, drop, sym, ap, ◌∙◌, cond, arith, append_assoc}
 use Rattle.bindings.specs.Lives.{idle_keys_in}
 use Rattle.bindings.proofs.Resting.{idle-step}
 use Rattle.bindings.proofs.rows.list_idle.Goals as goal

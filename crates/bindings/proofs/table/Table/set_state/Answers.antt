@@ -1,6 +1,5 @@
 use Rattle.std.proofs.Common.{ap, sym, ◌∙◌, arith}
 use Rattle.bindings.specs.Entries.{slot_of}
-use Rattle.bindings.specs.declared.entries.Entry.{Entry}
 use Rattle.bindings.proofs.Turned.{IsPairAt}
 use Rattle.bindings.proofs.Edits.{slot-with_state}
 use Rattle.bindings.proofs.Pasts.{life-turned}
