@@ -1,6 +1,6 @@
 -- The slots after an entry is taken out, or its state is changed.
-use Rattle.std.proofs.Common.{◌≡◌, Bool, true, false, cond, Option, Some, None, inl, inr, not, List, [], ◌∷◌, map, refl, ap, ◌∙◌, sym}
-use Rattle.std.specs.List.{find, filter}
+use Rattle.std.proofs.Common.{◌≡◌, Bool, true, false, cond, Option, Some, None, inl, inr, not, List, [], ◌∷◌, refl, ap, ◌∙◌, sym}
+use Rattle.std.specs.List.{find}
 use Rattle.std.specs.Option.{option_map}
 use Rattle.std.proofs.lemmas.Bool.{cond-true, cond-false, cases_Bool}
 use Rattle.nat_types.specs.declared.pairs.EntryState.{EntryState}
@@ -9,18 +9,11 @@ use Rattle.nat_types.specs.Same.{same_key}
 use Rattle.nat_types.proofs.Equal.{key-eq, key-true}
 use Rattle.bindings.specs.declared.entries.Entry.{Entry}
 use Rattle.bindings.specs.Entries.{has_key, slot_of, set_at, entry_in}
+use Rattle.bindings.specs.Lists.{without, with_state}
 use Rattle.bindings.proofs.Slots.{other_way}
-
--- the entries but that of the key
-abbrev pub without : Key → List Entry → List Entry
-without key es = filter (λ e. not (has_key key e)) es
 
 abbrev pub restated : EntryState → Entry → Entry
 restated state e = entry_in state e.pair
-
--- the entries, that of the key in another state
-abbrev pub with_state : Key → EntryState → List Entry → List Entry
-with_state key state es = map (λ e. cond (has_key key e) (restated state e) e) es
 
 -- where an entry has one key and not another, the two keys differ
 apart : (q key : Key) (e : Entry) → has_key q e ≡ true → has_key key e ≡ false → same_key key q ≡ false
@@ -55,7 +48,7 @@ moves q key state e o es false true mine here h =
     ∙ sym (cond-false (same_key key q) (Some (restated state e)) (Some e) (apart q key e here mine))
 moves q key state e o es false false mine here h = cond-false (has_key q e) (Some e) (find (has_key q) es) here ∙ h
 
-either_slot : (key : Key) (state : EntryState) (es : List Entry) (q : Key) → slot_of (with_state key state es) q ≡ cond (same_key key q) (option_map (restated state) (slot_of es q)) (slot_of es q)
+pub either_slot : (key : Key) (state : EntryState) (es : List Entry) (q : Key) → slot_of (with_state key state es) q ≡ cond (same_key key q) (option_map (restated state) (slot_of es q)) (slot_of es q)
 either_slot key state [] q = sym (cond_same (same_key key q))
 either_slot key state (e ∷ es) q = moves q key state e (slot_of es q) (with_state key state es) (has_key key e) (has_key q e) refl refl (either_slot key state es q)
 

@@ -1,5 +1,12 @@
 pub mod Found
 pub mod Slots
-pub mod Choice
-pub mod Members
 pub mod Edits
+pub mod Members
+pub mod Orders
+pub mod Places
+pub mod Turned
+pub mod Pasts
+pub mod Holding
+pub mod Owning
+pub mod Resting
+pub mod Rooms

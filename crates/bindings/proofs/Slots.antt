@@ -1,47 +1,91 @@
 -- The slots of a table: by key, and by endpoint.
-use Rattle.std.proofs.Common.{◌≡◌, ℕ, ◌<◌, ◌≤◌, Bool, true, false, cond, Some, None, inl, inr, ◌&&◌, List, [], ◌∷◌, ◌++◌, length, refl, ap, ◌∙◌, sym, nat_le, arith}
-use Rattle.std.specs.List.{find}
-use Rattle.std.proofs.lemmas.List.{length_push}
+use Rattle.std.proofs.Common.{◌≡◌, ℕ, ◌<◌, Bool, true, false, cond, Some, None, inl, inr, ◌&&◌, List, [], ◌∷◌, length, map, nat_lt, refl, ap, ◌∙◌, sym, nat_le}
+use Rattle.std.specs.List.{find, filter}
 use Rattle.std.specs.Option.{is_some}
-use Rattle.std.proofs.lemmas.Bool.{cond-true, cond-false, both_ways, and_parts, and_from, and_right, and_cases, false_from_ne_true, lt-leb, leb-false, cases_Bool}
+use Rattle.std.proofs.lemmas.Bool.{cond-true, cond-false, both_ways, and_parts, and_from, and_cases, false_from_ne_true, lt-leb, leb-false}
 use Rattle.nat_types.specs.declared.pairs.Endpoint.{Endpoint}
 use Rattle.nat_types.specs.declared.pairs.Key.{Key}
 use Rattle.nat_types.specs.Same.{same_key, same_endpoint}
 use Rattle.nat_types.proofs.Equal.{key-eq, key-true, key-false, endpoint-eq, endpoint-true, endpoint-self}
 use Rattle.bindings.specs.declared.entries.Entry.{Entry}
 use Rattle.bindings.specs.declared.entries.TableFault.TheVariants.{Full, PortTaken, EndpointTaken}
-use Rattle.bindings.specs.Entries.{is_pair, has_key, serves, slot_of, entry_of, set_at, HasDistinctKeys, HasDistinctEndpoints, refusal_of, IsStored}
-use Rattle.bindings.proofs.Found.{cond_none, none_from_is_some, find-none, find-push_none, find-push_other, find-some, find-passes}
+use Rattle.bindings.specs.Entries.{is_pair, has_key, serves, slot_of, entry_of, set_at, HasDistinctKeys, HasDistinctEndpoints, refusal_of, place_of}
+use Rattle.bindings.specs.Lists.{put_in, IsOneToOne}
+use Rattle.bindings.proofs.Found.{cond_none, none_from_is_some, find-none, find-some, find-passes}
+
+pub swap_choices : {A : Type 0} (b c : Bool) (x y o : A) → (b ≡ true → c ≡ true → ⊥) → cond b x (cond c y o) ≡ cond c y (cond b x o)
+swap_choices true true x y o h = absurd (h refl refl)
+swap_choices true false x y o h = refl
+swap_choices false true x y o h = refl
+swap_choices false false x y o h = refl
+
+-- nothing is found either once one more is put in that doesn't pass
+pub find-put_none : (p : Entry → Bool) (e : Entry) (es : List Entry) → find p es ≡ None → p e ≡ false → find p (put_in e es) ≡ None
+find-put_none p e [] h fails = cond-false (p e) (Some e) None fails
+find-put_none p e (x ∷ xs) h fails = at (nat_lt (place_of e.pair) (place_of x.pair)) (find-put_none p e xs (find-none p x xs h).1 fails)
+  where
+    at : (b : Bool) → find p (put_in e xs) ≡ None → find p (cond b (e ∷ x ∷ xs) (x ∷ put_in e xs)) ≡ None
+    at true ih = cond-false (p e) (Some e) (find p (x ∷ xs)) fails ∙ h
+    at false ih = cond-false (p x) (Some x) (find p (put_in e xs)) (find-none p x xs h).0 ∙ ih
+
+-- nor once entries are left out
+pub find-filter_none : (p q : Entry → Bool) (es : List Entry) → find p es ≡ None → find p (filter q es) ≡ None
+find-filter_none p q [] h = refl
+find-filter_none p q (x ∷ xs) h = at (q x) (find-filter_none p q xs (find-none p x xs h).1)
+  where
+    at : (b : Bool) → find p (filter q xs) ≡ None → find p (cond b (x ∷ filter q xs) (filter q xs)) ≡ None
+    at true ih = cond-false (p x) (Some x) (find p (filter q xs)) (find-none p x xs h).0 ∙ ih
+    at false ih = ih
 
 -- the slots after one more entry, whose key had none
-pub slot-push : (es : List Entry) (e : Entry) (q : Key) → slot_of es e.pair.key ≡ None → slot_of (es ++ e ∷ []) q ≡ set_at (slot_of es) e.pair.key (Some e) q
-slot-push es e q h =
-    elim (cases_Bool (same_key e.pair.key q)) [
-      | inl s ↦
-          (let free : slot_of es q ≡ None = ap (slot_of es) (sym (key-eq e.pair.key q s)) ∙ h in
-          find-push_none (has_key q) es e free ∙ cond-true (same_key e.pair.key q) (Some e) None s ∙ sym (cond-true (same_key e.pair.key q) (Some e) (slot_of es q) s))
-      | inr s ↦ find-push_other (has_key q) es e s ∙ sym (cond-false (same_key e.pair.key q) (Some e) (slot_of es q) s)
-    ]
+pub slot-put : (e : Entry) (es : List Entry) (q : Key) → slot_of es e.pair.key ≡ None → slot_of (put_in e es) q ≡ set_at (slot_of es) e.pair.key (Some e) q
+slot-put e [] q h = refl
+slot-put e (x ∷ xs) q h = at (nat_lt (place_of e.pair) (place_of x.pair)) (slot-put e xs q (find-none (has_key e.pair.key) x xs h).1)
+  where
+    parts : (has_key e.pair.key x ≡ false) × (slot_of xs e.pair.key ≡ None)
+    parts = find-none (has_key e.pair.key) x xs h
 
--- the entries by endpoint after one more pair, whose endpoint had none
-pub entry-push : (es : List Entry) (e : Entry) (x : Endpoint) → is_pair e.state ≡ true → entry_of es e.pair.endpoint ≡ None → entry_of (es ++ e ∷ []) x ≡ cond (same_endpoint e.pair.endpoint x) (Some e) (entry_of es x)
-entry-push es e x live h =
-    elim (cases_Bool (same_endpoint e.pair.endpoint x)) [
-      | inl s ↦
-          (let free : entry_of es x ≡ None = ap (entry_of es) (sym (endpoint-eq e.pair.endpoint x s)) ∙ h in
-          find-push_none (serves x) es e free ∙ cond-true (serves x e) (Some e) None (and_from (is_pair e.state) (same_endpoint e.pair.endpoint x) live s) ∙ sym (cond-true (same_endpoint e.pair.endpoint x) (Some e) (entry_of es x) s))
-      | inr s ↦ find-push_other (serves x) es e (and_right (is_pair e.state) (same_endpoint e.pair.endpoint x) s) ∙ sym (cond-false (same_endpoint e.pair.endpoint x) (Some e) (entry_of es x) s)
-    ]
+    clash : same_key x.pair.key q ≡ true → same_key e.pair.key q ≡ true → ⊥
+    clash a b = both_ways (same_key x.pair.key e.pair.key) parts.0 (key-true x.pair.key e.pair.key (key-eq x.pair.key q a ∙ sym (key-eq e.pair.key q b)))
+
+    at : (b : Bool) → slot_of (put_in e xs) q ≡ set_at (slot_of xs) e.pair.key (Some e) q → slot_of (cond b (e ∷ x ∷ xs) (x ∷ put_in e xs)) q ≡ set_at (slot_of (x ∷ xs)) e.pair.key (Some e) q
+    at true ih = refl
+    at false ih =
+        ap (cond (same_key x.pair.key q) (Some x)) ih
+        ∙ swap_choices (same_key x.pair.key q) (same_key e.pair.key q) (Some x) (Some e) (slot_of xs q) clash
 
 -- the test on keys fails either way
 pub other_way : (a b : Key) → same_key a b ≡ false → same_key b a ≡ false
 other_way a b fails = key-false b a (λ e. both_ways (same_key a b) fails (key-true a b (sym e)))
 
-pub distinct_keys-push : (es : List Entry) (e : Entry) → HasDistinctKeys es → slot_of es e.pair.key ≡ None → HasDistinctKeys (es ++ e ∷ [])
-distinct_keys-push [] e d h = (refl, tt)
-distinct_keys-push (x ∷ xs) e d h =
-    let parts = find-none (has_key e.pair.key) x xs h in
-    (find-push_other (has_key x.pair.key) xs e (other_way x.pair.key e.pair.key parts.0) ∙ d.0, distinct_keys-push xs e d.1 parts.1)
+pub keys-put : (e : Entry) (es : List Entry) → HasDistinctKeys es → slot_of es e.pair.key ≡ None → HasDistinctKeys (put_in e es)
+keys-put e [] d h = (refl, tt)
+keys-put e (x ∷ xs) d h = at (nat_lt (place_of e.pair) (place_of x.pair)) (keys-put e xs d.1 (find-none (has_key e.pair.key) x xs h).1)
+  where
+    parts : (has_key e.pair.key x ≡ false) × (slot_of xs e.pair.key ≡ None)
+    parts = find-none (has_key e.pair.key) x xs h
+
+    at : (b : Bool) → HasDistinctKeys (put_in e xs) → HasDistinctKeys (cond b (e ∷ x ∷ xs) (x ∷ put_in e xs))
+    at true ih = (h, d)
+    at false ih = (find-put_none (has_key x.pair.key) e xs d.0 (other_way x.pair.key e.pair.key parts.0), ih)
+
+pub keys-filter : (p : Entry → Bool) (es : List Entry) → HasDistinctKeys es → HasDistinctKeys (filter p es)
+keys-filter p [] d = tt
+keys-filter p (x ∷ xs) d = at (p x) (keys-filter p xs d.1)
+  where
+    at : (b : Bool) → HasDistinctKeys (filter p xs) → HasDistinctKeys (cond b (x ∷ filter p xs) (filter p xs))
+    at true ih = (find-filter_none (has_key x.pair.key) p xs d.0, ih)
+    at false ih = ih
+
+pub none-map : (f : Entry → Entry) (es : List Entry) (q : Key) → ((x : Entry) → (f x).pair.key ≡ x.pair.key) → slot_of es q ≡ None → slot_of (map f es) q ≡ None
+none-map f [] q same h = refl
+none-map f (x ∷ xs) q same h =
+    let parts = find-none (has_key q) x xs h in
+    cond-false (has_key q (f x)) (Some (f x)) (slot_of (map f xs) q) (ap (λ (k : Key). same_key k q) (same x) ∙ parts.0) ∙ none-map f xs q same parts.1
+
+pub keys-map : (f : Entry → Entry) (es : List Entry) → ((x : Entry) → (f x).pair.key ≡ x.pair.key) → HasDistinctKeys es → HasDistinctKeys (map f es)
+keys-map f [] same d = tt
+keys-map f (x ∷ xs) same d = (ap (slot_of (map f xs)) (same x) ∙ none-map f xs x.pair.key same d.0, keys-map f xs same d.1)
 
 -- of two pairs, if the one doesn't serve the other's endpoint, the other doesn't serve the one's
 serves_not : (x e : Entry) → is_pair x.state ≡ true → (is_pair e.state ≡ true → serves e.pair.endpoint x ≡ false) → serves x.pair.endpoint e ≡ false
@@ -52,12 +96,24 @@ serves_not x e live fails =
     both_ways (serves e.pair.endpoint x) (fails parts.0)
     (and_from (is_pair x.state) (same_endpoint x.pair.endpoint e.pair.endpoint) live (endpoint-true x.pair.endpoint e.pair.endpoint (sym same))))
 
-pub distinct_endpoints-push : (es : List Entry) (e : Entry) → HasDistinctEndpoints es → (is_pair e.state ≡ true → entry_of es e.pair.endpoint ≡ None) → HasDistinctEndpoints (es ++ e ∷ [])
-distinct_endpoints-push [] e d h = (λ live. refl, tt)
-distinct_endpoints-push (x ∷ xs) e d h = (
-  λ live. find-push_other (serves x.pair.endpoint) xs e (serves_not x e live (λ pair. (find-none (serves e.pair.endpoint) x xs (h pair)).0)) ∙ d.0 live,
-  distinct_endpoints-push xs e d.1 (λ pair. (find-none (serves e.pair.endpoint) x xs (h pair)).1),
-)
+pub endpoints-put : (e : Entry) (es : List Entry) → HasDistinctEndpoints es → (is_pair e.state ≡ true → entry_of es e.pair.endpoint ≡ None) → HasDistinctEndpoints (put_in e es)
+endpoints-put e [] d h = (λ live. refl, tt)
+endpoints-put e (x ∷ xs) d h = at (nat_lt (place_of e.pair) (place_of x.pair)) (endpoints-put e xs d.1 (λ live. (find-none (serves e.pair.endpoint) x xs (h live)).1))
+  where
+    at : (b : Bool) → HasDistinctEndpoints (put_in e xs) → HasDistinctEndpoints (cond b (e ∷ x ∷ xs) (x ∷ put_in e xs))
+    at true ih = (h, d)
+    at false ih = (
+      λ live. find-put_none (serves x.pair.endpoint) e xs (d.0 live) (serves_not x e live (λ pair. (find-none (serves e.pair.endpoint) x xs (h pair)).0)),
+      ih,
+    )
+
+pub endpoints-filter : (p : Entry → Bool) (es : List Entry) → HasDistinctEndpoints es → HasDistinctEndpoints (filter p es)
+endpoints-filter p [] d = tt
+endpoints-filter p (x ∷ xs) d = at (p x) (endpoints-filter p xs d.1)
+  where
+    at : (b : Bool) → HasDistinctEndpoints (filter p xs) → HasDistinctEndpoints (cond b (x ∷ filter p xs) (filter p xs))
+    at true ih = (λ live. find-filter_none (serves x.pair.endpoint) p xs (d.0 live), ih)
+    at false ih = ih
 
 -- what holds where no reason stands against an entry
 pub record IsWelcome (capacity : ℕ) (es : List Entry) (e : Entry) : Type 0 where
@@ -86,15 +142,6 @@ refusal-none capacity es e room key endpoint =
     cond-false (nat_le capacity (length es)) (Some Full) _ (lt-leb capacity (length es) room)
     ∙ cond-false (is_some (slot_of es e.pair.key)) (Some PortTaken) _ (ap is_some key)
     ∙ cond-false (is_pair e.state && is_some (entry_of es e.pair.endpoint)) (Some EndpointTaken) None quiet
-
--- what a table's fields keep with one more entry
-pub stored-push : (capacity room : ℕ) (es : List Entry) (e : Entry) → IsStored es capacity room → IsWelcome capacity es e → (more : ℕ) → room ≤ more → IsStored (es ++ e ∷ []) capacity more
-stored-push capacity room es e s w more grown = record {
-  keys = distinct_keys-push es e s.keys w.key;
-  endpoints = distinct_endpoints-push es e s.endpoints w.endpoint;
-  within = rw length_push (omega arith);
-  reserved = omega arith;
-}
 
 -- the entry of a key has the key
 pub slot-key : (es : List Entry) (q : Key) (e : Entry) → slot_of es q ≡ Some e → e.pair.key ≡ q
@@ -131,3 +178,12 @@ found-entry p (x ∷ xs) e d live h =
           let clash : entry_of xs e.pair.endpoint ≡ None = ap (entry_of xs) (sym (endpoint-eq x.pair.endpoint e.pair.endpoint parts.1)) ∙ d.0 parts.0 in cc) in
           cond-false (serves e.pair.endpoint x) (Some x) (entry_of xs e.pair.endpoint) differs ∙ rest)
     ]
+
+-- no two keys serve one endpoint
+pub one-to-one : (es : List Entry) → HasDistinctKeys es → HasDistinctEndpoints es → IsOneToOne es
+one-to-one es keys ends k q x y hx hy px py same =
+    let ex : entry_of es x.pair.endpoint ≡ Some x = found-entry (has_key k) es x ends px hx in
+    let ey : entry_of es y.pair.endpoint ≡ Some y = found-entry (has_key q) es y ends py hy in
+    let both : Some x ≡ Some y = sym ex ∙ ap (entry_of es) same ∙ ey in
+    let one : x ≡ y = cc in
+    sym (slot-key es k x hx) ∙ ap (λ (e : Entry). e.pair.key) one ∙ slot-key es q y hy

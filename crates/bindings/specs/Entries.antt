@@ -1,5 +1,5 @@
--- A table of pairs: a list of entries with distinct keys, and distinct endpoints except Doomed ones.
-use Rattle.std.specs.Prelude.{◌≡◌, ℕ, ◌+◌, ◌*◌, ◌≤◌, Bool, true, false, ◌&&◌, Option, Some, None, is_some, nat_le, List, [], ◌∷◌, ◌++◌, length, map, if◌then◌else◌}
+-- Entries of a table: distinct keys, and distinct endpoints except Doomed ones.
+use Rattle.std.specs.Prelude.{◌≡◌, ℕ, ◌+◌, ◌*◌, Bool, true, false, ◌&&◌, Option, Some, None, is_some, nat_le, List, [], ◌∷◌, length, map, if◌then◌else◌}
 use Rattle.std.specs.List.{find, filter}
 use Rattle.nat_types.specs.declared.pairs.EntryState.{EntryState}
 use Rattle.nat_types.specs.declared.pairs.EntryState.TheVariants.{Pending, Doomed, Live, Closing, Held}
@@ -11,7 +11,6 @@ use Rattle.nat_types.specs.Same.{same_key, same_endpoint}
 use Rattle.bindings.specs.declared.entries.Entry.{Entry}
 use Rattle.bindings.specs.declared.entries.TableFault.{TableFault}
 use Rattle.bindings.specs.declared.entries.TableFault.TheVariants.{Full, PortTaken, EndpointTaken}
-use Rattle.bindings.specs.declared.entries.PortBounds.{PortBounds}
 
 -- a proposal given up is no pair of the table
 abbrev pub is_pair : EntryState → Bool
@@ -59,24 +58,6 @@ abbrev pub HasDistinctEndpoints : List Entry → Type 0
 HasDistinctEndpoints [] = Unit {0}
 HasDistinctEndpoints (e ∷ es) = (is_pair e.state ≡ true → entry_of es e.pair.endpoint ≡ None) × HasDistinctEndpoints es
 
--- what callers see of a table: its entries in the order in which they came, how many it has room for, and the own range
-pub record Bindings : Type 0 where
-  pub entries : List Entry
-  pub capacity : ℕ
-  pub own : PortBounds
-
-pub record IsTable (t : Bindings) : Type 0 where
-  pub keys : HasDistinctKeys t.entries
-  pub endpoints : HasDistinctEndpoints t.entries
-  pub within : length t.entries ≤ t.capacity
-
--- the fields keep the same, with room in the list for all that may come
-pub record IsStored (entries : List Entry) (capacity room : ℕ) : Type 0 where
-  pub keys : HasDistinctKeys entries
-  pub endpoints : HasDistinctEndpoints entries
-  pub within : length entries ≤ capacity
-  pub reserved : capacity ≤ room
-
 -- why an entry can't come into a table of that capacity: the first reason that holds
 abbrev pub refusal_of : ℕ → List Entry → Entry → Option TableFault
 refusal_of capacity entries e =
@@ -88,10 +69,6 @@ refusal_of capacity entries e =
 -- a pair's entry in that state
 abbrev pub entry_in : EntryState → Pair → Entry
 entry_in state pair = record { pair = pair; state = state }
-
--- the table with one more entry
-abbrev pub with_entry : Bindings → Entry → Bindings
-with_entry t e = record t { entries = t.entries ++ e ∷ [] }
 
 -- the pairs of those entries whose state passes a test
 abbrev pub pairs_in : (EntryState → Bool) → List Entry → List Pair

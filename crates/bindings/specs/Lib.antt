@@ -1,2 +1,5 @@
 pub mod Entries
+pub mod Lists
 pub mod Ports
+pub mod Lives
+pub mod Table

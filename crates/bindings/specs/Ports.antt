@@ -1,52 +1,95 @@
--- Which port of a range is chosen.
-use Rattle.std.specs.Prelude.{ℕ, zero, suc, ◌+◌, ◌-◌, Bool, true, false, ◌&&◌, Option, Some, None, is_none, List, if◌then◌else◌}
+-- The ports of a table: which are free, which are owned, and which of them is chosen.
+use Rattle.std.specs.Prelude.{◌≡◌, ℕ, ◌+◌, ◌-◌, ◌*◌, ◌≤◌, Bool, ◌&&◌, ◌||◌, Option, is_none, List, nat_lt, if◌then◌else◌}
 use Rattle.addresses.specs.declared.transport.Protocol.{Protocol}
+use Rattle.addresses.specs.declared.transport.Protocol.TheVariants.{Tcp, Udp}
 use Rattle.addresses.specs.declared.transport.Parity.{Parity}
-use Rattle.addresses.specs.declared.transport.Parity.TheVariants.{Even, Odd}
 use Rattle.addresses.specs.declared.transport.Port.{Port}
 use Rattle.nat_types.specs.declared.pairs.Key.{Key}
-use Rattle.addresses.specs.Transport.{parity_of}
+use Rattle.port_range.specs.Ports.{Range, is_free, is_owned, is_within, is_listed, chosen_open}
+use Rattle.port_range.specs.declared.TheConstants.{FIRST_PORT}
 use Rattle.bindings.specs.declared.entries.Entry.{Entry}
 use Rattle.bindings.specs.declared.entries.PortBounds.{PortBounds}
+use Rattle.bindings.specs.declared.ports.Ports.{Ports}
 use Rattle.bindings.specs.Entries.{slot_of}
-
-abbrev pub same_parity : Parity → Parity → Bool
-same_parity Even Even = true
-same_parity Even Odd = false
-same_parity Odd Even = false
-same_parity Odd Odd = true
-
--- the parity is the wanted one, if one is wanted
-abbrev pub fits : Option Parity → ℕ → Bool
-fits None port = true
-fits (Some parity) port = same_parity (parity_of port) parity
 
 abbrev pub key_of : Protocol → ℕ → Key
 key_of protocol port = record { protocol = protocol; port = record { 0 = port } }
 
 -- no entry of that protocol has the port, a Doomed or Pending one neither
-abbrev pub is_free : List Entry → Protocol → ℕ → Bool
-is_free entries protocol port = is_none (slot_of entries (key_of protocol port))
+abbrev pub is_free_in : List Entry → Protocol → ℕ → Bool
+is_free_in entries protocol port = is_none (slot_of entries (key_of protocol port))
 
--- the port is free, and of the wanted parity
-abbrev pub is_open : List Entry → Protocol → Option Parity → ℕ → Bool
-is_open entries protocol wanted port = is_free entries protocol port && fits wanted port
+-- a port that may be given out: owned, and with no entry of the protocol
+abbrev pub is_open_in : List Entry → List ℕ → Protocol → ℕ → Bool
+is_open_in entries owned protocol port = is_listed port owned && is_free_in entries protocol port
 
--- the first of so many ports from a start that passes a test
-abbrev pub first_where : (ℕ → Bool) → ℕ → ℕ → Option Port
-first_where test start zero = None
-first_where test start (suc count) = (if test start then Some (record { 0 = start }) else first_where test (start + 1) count)
+-- ---- ranges
 
--- the lowest free port of a range, of the wanted parity
-abbrev pub lowest_free : List Entry → PortBounds → Protocol → Option Parity → Option Port
-lowest_free entries own protocol wanted =
-    first_where (is_open entries protocol wanted) own.lowest.0 (own.highest.0 + 1 - own.lowest.0)
+-- a range that isn't bad
+pub record AreBounds (b : PortBounds) : Type 0 where
+  pub low : FIRST_PORT.0 ≤ b.lowest.0
+  pub order : b.lowest.0 ≤ b.highest.0
 
-abbrev pub or_else : Option Port → Option Port → Option Port
-or_else None second = second
-or_else (Some port) second = Some port
+abbrev pub in_bounds : PortBounds → ℕ → Bool
+in_bounds b port = is_within b.lowest.0 b.highest.0 port
 
--- the lowest free port of a range with that parity, else its lowest free port
-abbrev pub chosen_port : List Entry → PortBounds → Protocol → Parity → Option Port
-chosen_port entries own protocol parity =
-    or_else (lowest_free entries own protocol (Some parity)) (lowest_free entries own protocol None)
+abbrev pub in_either : PortBounds → PortBounds → ℕ → Bool
+in_either zero one port = in_bounds zero port || in_bounds one port
+
+-- how many ports a range has, and how many keys both have
+abbrev pub ports_in : PortBounds → ℕ
+ports_in b = b.highest.0 + 1 - b.lowest.0
+
+abbrev pub key_count : PortBounds → PortBounds → ℕ
+key_count zero one = 2 * (ports_in zero + ports_in one)
+
+-- the lowest and the highest port of both ranges
+abbrev pub lowest_of : PortBounds → PortBounds → ℕ
+lowest_of zero one = (if nat_lt zero.lowest.0 one.lowest.0 then zero.lowest.0 else one.lowest.0)
+
+abbrev pub highest_of : PortBounds → PortBounds → ℕ
+highest_of zero one = (if nat_lt zero.highest.0 one.highest.0 then one.highest.0 else zero.highest.0)
+
+-- the lowest owned free port with that parity, else the lowest owned free port
+abbrev pub chosen_port : List Entry → List ℕ → PortBounds → PortBounds → Protocol → Parity → Option Port
+chosen_port entries owned zero one protocol parity =
+    chosen_open (is_open_in entries owned protocol) (lowest_of zero one) (highest_of zero one) parity
+
+-- ---- what the code keeps: a range for each protocol
+
+abbrev pub range_of : Ports → Protocol → Range
+range_of ports Tcp = ports.tcp
+range_of ports Udp = ports.udp
+
+abbrev pub is_free_at : Ports → Key → Bool
+is_free_at ports key = is_free (range_of ports key.protocol) key.port.0
+
+-- both ranges go from the one port to the other, and the same ports are owned
+pub record AreAlike (lowest highest : ℕ) (ports : Ports) : Type 0 where
+  pub tcp_low : ports.tcp.lowest ≡ lowest
+  pub tcp_high : ports.tcp.highest ≡ highest
+  pub udp_low : ports.udp.lowest ≡ lowest
+  pub udp_high : ports.udp.highest ≡ highest
+  pub owned : (port : ℕ) → is_owned ports.udp port ≡ is_owned ports.tcp port
+
+-- the bounds stay
+pub record SameBounds (old new : Ports) : Type 0 where
+  pub tcp_low : new.tcp.lowest ≡ old.tcp.lowest
+  pub tcp_high : new.tcp.highest ≡ old.tcp.highest
+  pub udp_low : new.udp.lowest ≡ old.udp.lowest
+  pub udp_high : new.udp.highest ≡ old.udp.highest
+
+-- which ports are owned stays
+pub record SameOwned (old new : Ports) : Type 0 where
+  pub tcp : new.tcp.owned ≡ old.tcp.owned
+  pub udp : new.udp.owned ≡ old.udp.owned
+
+-- which ports are free stays
+pub record SameFree (old new : Ports) : Type 0 where
+  pub tcp : new.tcp.free ≡ old.tcp.free
+  pub udp : new.udp.free ≡ old.udp.free
+
+-- a key is free where its port lies in a range and it has no entry
+abbrev pub AreFree : ℕ → ℕ → List Entry → Ports → Type 0
+AreFree lowest highest entries ports =
+    (q : Key) → is_free_at ports q ≡ (is_within lowest highest q.port.0 && is_none (slot_of entries q))

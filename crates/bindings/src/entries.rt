@@ -1,6 +1,8 @@
-ghost use Rattle.std.specs.Prelude.{◌≡◌, ◌<◌, IfOk};
-ghost use Rattle.std.specs.List.Sorted.{IsPermutation, IsNonDecreasingBy};
-ghost use Rattle.bindings.specs.Entries.{is_pair, translates, has_key, serves, slot_of, entry_of, refusal_of, pairs_in, place_of};
+//! Entries of a table, and lists of them by protocol (tcp first) and port.
+ghost use Rattle.std.specs.Prelude.{◌≡◌, ◌+◌, ◌<◌, ◌≤◌, nat_lt, length, vec_len, vec_capacity, position, IfOk, IsSome, if◌then◌else◌};
+ghost use Rattle.std.specs.List.{insert};
+ghost use Rattle.bindings.specs.Entries.{is_pair, translates, has_key, serves, slot_of, entry_of, entry_in, refusal_of, pairs_in, place_of};
+ghost use Rattle.bindings.specs.Lists.{place_in, put_in, without, with_state};
 
 use addresses::Port;
 use nat_types::{Endpoint, EntryState, Key, Pair};
@@ -41,7 +43,7 @@ fn is_pair_state(state: EntryState) -> bool
     }
 }
 
-fn is_translating(state: EntryState) -> bool
+pub(crate) fn is_translating(state: EntryState) -> bool
     ensures { result ≡ translates state }
 {
     match state {
@@ -103,11 +105,30 @@ fn place(pair: Pair) -> u32
     65536 * u32::from(pair.key.protocol.number()) + u32::from(pair.key.port.0)
 }
 
-pub(crate) fn sort_pairs(pairs: &mut Vec<Pair>)
-    ensures permutation { IsPermutation pairs.old.items pairs.new.items }
-    ensures sorted { IsNonDecreasingBy place_of pairs.new.items }
+fn stands_before(pair: Pair, other: Pair) -> bool
+    ensures { result ≡ nat_lt (place_of pair) (place_of other) }
 {
-    pairs.sort_unstable_by_key(|pair| place(*pair))
+    place(pair) < place(other)
+}
+
+/// How many entries stand before a pair's place.
+pub(crate) fn place_among(entries: &[Entry], pair: Pair) -> usize
+    ensures place { result ≡ place_in pair entries.now }
+    ensures within { result ≤ length entries.now }
+{
+    for (i, entry) in entries.iter().enumerate() {
+        if stands_before(pair, entry.pair) {
+            return i;
+        }
+    }
+    entries.len()
+}
+
+/// The place of a key's entry.
+pub(crate) fn position_of(entries: &[Entry], key: Key) -> Option<usize>
+    ensures { result ≡ position (has_key key) entries.now }
+{
+    entries.iter().position(|entry| has_that_key(*entry, key))
 }
 
 pub(crate) fn pairs_of(alloc: Global, entries: &[Entry]) -> Result<Vec<Pair>, AllocError>

@@ -1,12 +1,12 @@
-//! The gateway's table of pairs.
+//! The gateway's table of pairs: entries by protocol and port, what they carried, and the ports that it owns.
 #![tactic(auto)]
 
-mod chosen;
 mod entries;
+mod laws;
+mod ports;
+mod rows;
 mod table;
 
 pub use entries::{Entry, PortBounds, TableFault};
+pub use laws::room_law;
 pub use table::Table;
-
-#[cfg(test)]
-mod tests;

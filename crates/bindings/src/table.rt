@@ -1,57 +1,113 @@
-ghost use Rattle.std.specs.Prelude.{◌≡◌, ◌<◌, [], None, Some, IfOk, IfErr, OnOk, OnErr};
-ghost use Rattle.std.specs.List.Sorted.{IsPermutation, IsNonDecreasingBy};
+//! The table of a gateway.
+ghost use Rattle.std.specs.Prelude.{◌≡◌, ◌+◌, ◌-◌, ◌<◌, ◌≤◌, ℕ, [], None, Some, true, false, ◌==◌, ◌++◌, ◌&&◌, nat_lt, length, vec_len, vec_capacity, IsOk, if◌then◌else◌, IfOk, IfErr, OnOk, OnErr};
 ghost use Rattle.nat_types.specs.declared.pairs.Key.{Key as OutsidePort};
-ghost use Rattle.bindings.specs.Entries.{IsTable, is_pair, translates, slot_of, entry_of, set_at, refusal_of, entry_in, with_entry, pairs_in, place_of};
-ghost use Rattle.bindings.specs.Ports.{chosen_port};
+ghost use Rattle.lives.specs.Lives.{Past, came, with_packet, renewed, is_idle, is_unused};
+ghost use Rattle.bindings.specs.declared.entries.Entry.{Entry as Row};
+ghost use Rattle.lives.specs.declared.packets.Packet.{Packet as Carried};
+ghost use Rattle.bindings.specs.Entries.{is_pair, translates, slot_of, entry_of, set_at, refusal_of, entry_in, pairs_in};
+ghost use Rattle.bindings.specs.Lists.{put_in};
+ghost use Rattle.addresses.specs.declared.transport.Protocol.TheVariants.{Tcp, Udp};
+ghost use Rattle.bindings.specs.Lives.{KeepsOthers, is_among};
+ghost use Rattle.bindings.specs.Ports.{AreBounds, in_either, key_count, is_free_in, is_open_in, chosen_port, ports_in};
+ghost use Rattle.bindings.specs.Table.{IsTable, IsPast, owns, idle_keys_of, with_entry_state, without_entry};
 
-use crate::chosen::choose_port;
 use crate::entries::{
-    find_endpoint, find_key, pairs_of, refusal, sort_pairs, translating_pairs_of,
+    find_endpoint, find_key, pairs_of, place_among, position_of, refusal, translating_pairs_of,
+};
+use crate::ports::Ports;
+use crate::rows::{
+    carry, count_idle, insert_reserved, is_idle_at, is_unused_at, list_idle, renew, take_out, turn,
 };
 use crate::{Entry, PortBounds, TableFault};
-use addresses::{Parity, Port, Protocol};
+use addresses::{Parity, Port, Protocol, TcpFlags};
+use lives::{Life, Packet, Remote, Way};
 use nat_types::{Endpoint, EntryState, Key, Pair};
-use reserved::put_reserved;
 use std::alloc::{AllocError, Global};
 use std::marker::Model;
 
-/// Entries with distinct keys, and distinct endpoints except Doomed ones.
+/// Entries by protocol (tcp first) and port: distinct keys, and distinct endpoints except Doomed ones.
 #[derive(Drop)]
 pub struct Table {
     entries: Vec<Entry>,
+    lives: Vec<Life>,
+    ports: Ports,
+    zero: PortBounds,
+    one: PortBounds,
     capacity: usize,
-    own: PortBounds,
+    ready: usize,
 }
 
 impl Model for Table {
-    ghost use Rattle.bindings.specs.Entries.{Bindings, IsStored};
+    ghost use Rattle.bindings.specs.Table.{Table as Seen, IsStored};
 
-    ghost Value = { Bindings };
+    ghost Value = { Seen };
 
-    ghost view = { λ t. record { entries = t.entries.items; capacity = t.capacity; own = t.own } };
+    ghost view = { λ t. record {
+      entries = t.entries.items;
+      lives = t.lives.items;
+      owned =
+          t.ports.tcp.owned;
+      zero = t.zero;
+      one = t.one;
+      capacity = t.capacity;
+      ready = t.ready;
+    } };
 
     ghost use Rattle.std.specs.Prelude.{vec_capacity};
 
-    ghost invariant = { λ t. IsStored t.entries.items t.capacity (vec_capacity t.entries) };
+    ghost invariant = { λ t. IsStored t.entries.items t.lives.items t.ports t.zero t.one t.capacity
+        (vec_capacity t.entries) (vec_capacity t.lives) };
+}
+
+fn port_count(bounds: PortBounds) -> usize
+    requires { bounds.lowest.0 ≤ bounds.highest.0 }
+    ensures { result ≡ ports_in bounds }
+{
+    usize::from(bounds.highest.0 - bounds.lowest.0) + 1
+}
+
+fn lower(a: Port, b: Port) -> Port
+    ensures { result.0 ≡ (if nat_lt a.0 b.0 then a.0 else b.0) }
+{
+    if a.0 < b.0 { a } else { b }
+}
+
+fn higher(a: Port, b: Port) -> Port
+    ensures { result.0 ≡ (if nat_lt a.0 b.0 then b.0 else a.0) }
+{
+    if a.0 < b.0 { b } else { a }
 }
 
 impl Table {
-    /// An empty table with room for so many entries. `own` is the range from which ports are chosen.
-    pub fn new(alloc: Global, own: PortBounds, capacity: usize) -> Result<Table, AllocError>
+    /// An empty table for the ranges of both gateways, with room for all their ports for both protocols. It owns no port.
+    pub fn new(alloc: Global, zero: PortBounds, one: PortBounds) -> Result<Table, AllocError>
+        requires zero { AreBounds zero }
+        requires one { AreBounds one }
         ensures entries { IfOk result (λ t. t.entries ≡ []) }
-        ensures capacity { IfOk result (λ t. t.capacity ≡ capacity) }
-        ensures own { IfOk result (λ t. t.own ≡ own) }
+        ensures owned { IfOk result (λ t. (port : ℕ) → owns t port ≡ false) }
+        ensures zero { IfOk result (λ t. t.zero ≡ zero) }
+        ensures one { IfOk result (λ t. t.one ≡ one) }
+        ensures capacity { IfOk result (λ t. t.capacity ≡ key_count zero one) }
     {
+        let capacity = 2 * (port_count(zero) + port_count(one));
         let entries = Vec::with_capacity(alloc, capacity)?;
+        let lives = Vec::with_capacity(alloc, capacity)?;
+        let lowest = lower(zero.lowest, one.lowest);
+        let highest = higher(zero.highest, one.highest);
+        let ports = Ports::new(alloc, lowest, highest)?;
         Ok(Table {
             entries,
+            lives,
+            ports,
+            zero,
+            one,
             capacity,
-            own,
+            ready: 0,
         })
     }
 
-    /// What each table keeps.
-    pub fn audit(&self)
+    /// Reminds the prover of what each table keeps; it does nothing when it runs.
+    pub fn recall(&self)
         ensures { IsTable self.now }
     {
         let _ = &self.entries;
@@ -71,46 +127,208 @@ impl Table {
         find_endpoint(&self.entries, endpoint)
     }
 
-    /// Adds a pair in that state.
-    pub fn add(&mut self, pair: Pair, state: EntryState) -> Result<(), TableFault>
-        ensures ok { OnOk result (refusal_of self.old.capacity self.old.entries (entry_in state pair) ≡ None) }
-        ensures refused { IfErr result (λ fault. refusal_of self.old.capacity self.old.entries (entry_in state pair) ≡ Some fault) }
-        ensures added { OnOk result (self.new ≡ with_entry self.old (entry_in state pair)) }
-        ensures slots { OnOk result ((q : OutsidePort) → slot_of self.new.entries q ≡ set_at (slot_of self.old.entries) pair.key (Some (entry_in state pair)) q) }
+    /// Makes the table ready for an `add` of each of these endpoints, until the next call.
+    pub fn ready(&mut self, endpoints: &[Endpoint]) -> Result<(), AllocError>
+        ensures ok { OnOk result (self.new ≡ record self.old { ready = length endpoints.now }) }
+        ensures err { OnErr result (self.new ≡ self.old) }
+    {
+        self.ready = endpoints.len();
+        Ok(())
+    }
+
+    /// Adds a pair in that state, whose life begins now.
+    pub fn add(
+        &mut self,
+        pair: Pair,
+        state: EntryState,
+        by_install: bool,
+        now: u64,
+    ) -> Result<(), TableFault>
+        requires { 0 < self.old.ready }
+        ensures ok { OnOk result (refusal_of self.old.capacity self.old.entries (entry_in state
+            pair) ≡ None) }
+        ensures refused { IfErr result (λ fault. refusal_of self.old.capacity self.old.entries
+            (entry_in state pair) ≡ Some fault) }
+        ensures entries { OnOk result (self.new.entries
+            ≡ put_in (entry_in state pair) self.old.entries) }
+        ensures slots { OnOk result ((q : OutsidePort) → slot_of self.new.entries q
+            ≡ set_at (slot_of self.old.entries) pair.key (Some (entry_in state pair)) q) }
+        ensures begins { OnOk result (IsPast self.new pair.key (came by_install now)) }
+        ensures others { OnOk result (KeepsOthers pair.key self.old.entries self.old.lives
+            self.new.entries self.new.lives) }
+        ensures same { OnOk result (self.new ≡ record self.old {
+          entries = self.new.entries;
+          lives =
+              self.new.lives;
+          ready = self.old.ready - 1;
+        }) }
         ensures err { OnErr result (self.new ≡ self.old) }
     {
         let entry = Entry { pair, state };
         if let Some(fault) = refusal(&self.entries, self.capacity, entry) {
             return Err(fault);
         }
-        put_reserved(&mut self.entries, Entry { pair, state });
+        let place = place_among(&self.entries, pair);
+        insert_reserved(&mut self.entries, place, Entry { pair, state });
+        insert_reserved(&mut self.lives, place, Life::begin(by_install, now));
+        self.ports.take(pair.key);
+        self.ready -= 1;
         Ok(())
+    }
+
+    /// Puts a key's entry into another state. It is no Doomed one; a key without an entry changes nothing.
+    pub fn set_state(&mut self, key: Key, state: EntryState)
+        requires { (entry : Row) → slot_of self.old.entries key ≡ Some entry → is_pair entry.state
+            ≡ true }
+        ensures entries { self.new ≡ with_entry_state self.old key state }
+        ensures slots { (entry : Row) → slot_of self.old.entries key ≡ Some entry
+            → (q : OutsidePort) → slot_of self.new.entries q
+            ≡ set_at (slot_of self.old.entries) key (Some (entry_in state entry.pair)) q }
+        ensures pasts { (q : OutsidePort) → (past : Past) → IsPast self.old q past
+            → IsPast self.new q past }
+    {
+        turn(&mut self.entries, key, state);
+    }
+
+    /// Takes a key's entry out. A key without an entry changes nothing.
+    pub fn remove(&mut self, key: Key)
+        ensures entries { self.new ≡ without_entry self.old key }
+        ensures slots { (q : OutsidePort) → slot_of self.new.entries q
+            ≡ set_at (slot_of self.old.entries) key None q }
+        ensures others { KeepsOthers key self.old.entries self.old.lives self.new.entries
+            self.new.lives }
+    {
+        take_out(&mut self.entries, &mut self.lives, key);
+        self.ports.put_back(key);
     }
 
     /// All pairs but Doomed ones, by protocol (tcp first) and port.
     pub fn pairs(&self) -> Result<Vec<Pair>, AllocError>
-        ensures all { IfOk result (λ v. IsPermutation (pairs_in is_pair self.now.entries) v.items) }
-        ensures sorted { IfOk result (λ v. IsNonDecreasingBy place_of v.items) }
+        ensures { IfOk result (λ v. v.items ≡ pairs_in is_pair self.now.entries) }
     {
-        let mut pairs = pairs_of(*self.entries.allocator(), &self.entries)?;
-        sort_pairs(&mut pairs);
-        Ok(pairs)
+        pairs_of(*self.entries.allocator(), &self.entries)
     }
 
     /// The Live and Held pairs, by protocol (tcp first) and port.
     pub fn translating(&self) -> Result<Vec<Pair>, AllocError>
-        ensures all { IfOk result (λ v. IsPermutation (pairs_in translates self.now.entries) v.items) }
-        ensures sorted { IfOk result (λ v. IsNonDecreasingBy place_of v.items) }
+        ensures { IfOk result (λ v. v.items ≡ pairs_in translates self.now.entries) }
     {
-        let mut pairs = translating_pairs_of(*self.entries.allocator(), &self.entries)?;
-        sort_pairs(&mut pairs);
-        Ok(pairs)
+        translating_pairs_of(*self.entries.allocator(), &self.entries)
     }
 
-    /// The lowest free port of the own range with that parity, else the lowest free one (RFC 4787, section 4.2.2).
+    /// The lowest owned free port with that parity, else the lowest owned free one (RFC 4787, section 4.2.2).
     pub fn free_like(&self, protocol: Protocol, parity: Parity) -> Option<Port>
-        ensures { result ≡ chosen_port self.now.entries self.now.own protocol parity }
+        ensures { result ≡ chosen_port self.now.entries self.now.owned self.now.zero self.now.one
+            protocol parity }
     {
-        choose_port(&self.entries, self.own, protocol, parity)
+        self.ports.free_like(protocol, parity)
+    }
+
+    /// Whether the gateway owns a port.
+    pub fn owns(&self, port: Port) -> bool
+        ensures { result ≡ owns self.now port.0 }
+    {
+        self.ports.owns(port)
+    }
+
+    /// The gateway owns a port of the two ranges from now on.
+    pub fn own(&mut self, port: Port)
+        requires within { in_either self.old.zero self.old.one port.0 ≡ true }
+        requires foreign { owns self.old port.0 ≡ false }
+        ensures owned { (p : ℕ) → owns self.new p ≡ (if p == port.0 then true
+            else owns self.old p) }
+        ensures same { self.new ≡ record self.old { owned = self.new.owned } }
+    {
+        self.ports.own(port);
+    }
+
+    /// The gateway gives up an owned port that no entry has.
+    pub fn disown(&mut self, port: Port)
+        requires owned { owns self.old port.0 ≡ true }
+        requires tcp { is_free_in self.old.entries Tcp port.0 ≡ true }
+        requires udp { is_free_in self.old.entries Udp port.0 ≡ true }
+        ensures owned { (p : ℕ) → owns self.new p ≡ (if p == port.0 then false
+            else owns self.old p) }
+        ensures same { self.new ≡ record self.old { owned = self.new.owned } }
+    {
+        self.ports.disown(port);
+    }
+
+    /// The pair of a key carried a packet, to or from a remote host. The flags of a UDP packet aren't read. A key without
+    /// an entry changes nothing.
+    pub fn carried(&mut self, key: Key, remote: Remote, way: Way, flags: TcpFlags, now: u64)
+        ensures longer { let packet : Carried = record {
+          remote = remote;
+          way = way;
+          flags = flags;
+          at = now;
+        }
+            in (past : Past) → IsPast self.old key past
+            → IsPast self.new key (with_packet packet past) }
+        ensures others { KeepsOthers key self.old.entries self.old.lives self.new.entries
+            self.new.lives }
+        ensures same { self.new ≡ record self.old { lives = self.new.lives } }
+    {
+        let at = now;
+        if let Some(i) = position_of(&self.entries, key) {
+            let packet = Packet {
+                remote,
+                way,
+                flags,
+                at,
+            };
+            carry(&mut self.lives, i, key.protocol, packet);
+        }
+    }
+
+    /// The list of packets of a key's pair begins empty. A key without an entry changes nothing.
+    pub fn renew(&mut self, key: Key, now: u64)
+        ensures renewed { (past : Past) → IsPast self.old key past
+            → IsPast self.new key (renewed now past) }
+        ensures others { KeepsOthers key self.old.entries self.old.lives self.new.entries
+            self.new.lives }
+        ensures same { self.new ≡ record self.old { lives = self.new.lives } }
+    {
+        if let Some(i) = position_of(&self.entries, key) {
+            renew(&mut self.lives, i, key.protocol, now);
+        }
+    }
+
+    /// Whether a key's pair is idle at a moment.
+    pub fn idle(&self, key: Key, now: u64) -> bool
+        ensures { (past : Past) → IsPast self.now key past → result
+            ≡ is_idle key.protocol past now }
+    {
+        match position_of(&self.entries, key) {
+            Some(i) => is_idle_at(&self.lives, i, key.protocol, now),
+            None => false,
+        }
+    }
+
+    /// Whether a key's pair came by Install and carried nothing since.
+    pub fn unused(&self, key: Key) -> bool
+        ensures { (past : Past) → IsPast self.now key past → result ≡ is_unused past }
+    {
+        match position_of(&self.entries, key) {
+            Some(i) => is_unused_at(&self.lives, i),
+            None => false,
+        }
+    }
+
+    /// Appends the keys of the idle Live and Held entries, each once, by protocol (tcp first) and port.
+    pub fn idle_keys(&mut self, now: u64, out: &mut Vec<Key>) -> Result<(), AllocError>
+        ensures keys { OnOk result (out.new.items ≡ out.old.items ++ idle_keys_of self.old now) }
+        ensures listed { (key : OutsidePort) → (entry : Row) → (past : Past)
+            → slot_of self.old.entries key ≡ Some entry → IsPast self.old key past
+            → is_among key (idle_keys_of self.old now)
+            ≡ (translates entry.state && is_idle key.protocol past now) }
+        ensures same { self.new ≡ self.old }
+        ensures err { OnErr result (out.new.items ≡ out.old.items) }
+        ensures room { vec_len out.old + length (idle_keys_of self.old now) ≤ vec_capacity out.old
+            → IsOk result }
+    {
+        out.reserve(count_idle(&self.entries, &self.lives, now))?;
+        list_idle(&self.entries, &self.lives, now, out);
+        Ok(())
     }
 }

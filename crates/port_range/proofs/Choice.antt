@@ -1,9 +1,11 @@
 -- The port that is chosen.
-use Rattle.std.proofs.Common.{◌≡◌, ℕ, zero, suc, ◌+◌, ◌-◌, ◌<◌, ◌≤◌, Bool, true, false, cond, Option, Some, None, ◌⊎◌, inl, inr, nat_le, IfSome, IfNone, refl, ap, ◌∙◌, sym, arith}
-use Rattle.std.proofs.lemmas.Bool.{and_parts, and_from, both_ways, cases_eq, cond-true, cond-false, false_from_ne_true, leb-true}
+use Rattle.std.proofs.Common.{◌≡◌, ℕ, zero, suc, ◌+◌, ◌-◌, ◌<◌, ◌≤◌, Bool, true, false, cond, ◌&&◌, Option, Some, None, ◌⊎◌, inl, inr, nat_le, IfSome, IfNone, refl, ap, ◌∙◌, sym, arith}
+use Rattle.std.proofs.lemmas.Bool.{and_parts, and_from, both_ways, cases_eq, cases_lt, cond-true, cond-false, false_from_ne_true, leb-true}
 use Rattle.addresses.specs.declared.transport.Parity.{Parity}
+use Rattle.addresses.specs.declared.transport.Parity.TheVariants.{Even, Odd}
 use Rattle.addresses.specs.declared.transport.Port.{Port}
-use Rattle.port_range.specs.Ports.{FreePorts, fits, is_listed, is_free, is_open, first_where, lowest_free, or_else, chosen_port, IsRange}
+use Rattle.addresses.specs.Transport.{parity_of}
+use Rattle.port_range.specs.Ports.{Range, same_parity, fits, is_available, is_open, first_where, lowest_open, or_else, chosen_open, chosen_port, is_free, is_owned, IsRange, IsChosen}
 
 -- a choice of something is nothing only where the other is chosen
 pub cond_none : {X : Type 0} (b : Bool) (x : X) (o : Option X) → cond b (Some x) o ≡ None → (b ≡ false) × (o ≡ None)
@@ -60,31 +62,31 @@ first_where-stop test low offset count left passes =
     ap (first_where test (low + offset)) one
     ∙ cond-true (test (low + offset)) (Some (record { 0 = low + offset })) (first_where test (low + offset + 1) (count - (offset + 1))) passes
 
--- the port is free, of the wanted parity, in the range, and the lowest such
-pub record IsLowest (range : FreePorts) (wanted : Option Parity) (port : Port) : Type 0 where
-  pub free : is_free range port.0 ≡ true
+-- the port passes, is of the wanted parity, lies between the two, and is the lowest such
+pub record IsLowest (test : ℕ → Bool) (lowest highest : ℕ) (wanted : Option Parity) (port : Port) : Type 0 where
+  pub passes : test port.0 ≡ true
   pub kind : fits wanted port.0 ≡ true
-  pub from : range.lowest ≤ port.0
-  pub to : port.0 ≤ range.highest
-  pub lowest : (q : ℕ) → range.lowest ≤ q → q < port.0 → fits wanted q ≡ true → is_free range q ≡ false
+  pub from : lowest ≤ port.0
+  pub to : port.0 ≤ highest
+  pub first : (q : ℕ) → lowest ≤ q → q < port.0 → fits wanted q ≡ true → test q ≡ false
 
-pub lowest_free-some : (range : FreePorts) (wanted : Option Parity) (port : Port) → lowest_free range wanted ≡ Some port → IsLowest range wanted port
-lowest_free-some range wanted port h =
-    let first = first_where-some (is_open range.free wanted) range.lowest (range.highest + 1 - range.lowest) port h in
-    let parts = and_parts (is_listed port.0 range.free) (fits wanted port.0) first.passes in
+pub lowest_open-some : (test : ℕ → Bool) (lowest highest : ℕ) (wanted : Option Parity) (port : Port) → lowest_open test lowest highest wanted ≡ Some port → IsLowest test lowest highest wanted port
+lowest_open-some test lowest highest wanted port h =
+    let first = first_where-some (is_open test wanted) lowest (highest + 1 - lowest) port h in
+    let parts = and_parts (test port.0) (fits wanted port.0) first.passes in
     record {
-      free = parts.0;
+      passes = parts.0;
       kind = parts.1;
       from = first.from;
       to = omega (arith, first.from, first.below);
-      lowest = λ q low high fit. false_from_ne_true (is_listed q range.free) (λ holds. both_ways (is_open range.free wanted q) (first.lowest q low high) (and_from (is_listed q range.free) (fits wanted q) holds fit));
+      first = λ q low high fit. false_from_ne_true (test q) (λ holds. both_ways (is_open test wanted q) (first.lowest q low high) (and_from (test q) (fits wanted q) holds fit));
     }
 
--- where none is found, no port of the range is free and of the wanted parity
-pub lowest_free-none : (range : FreePorts) (wanted : Option Parity) → lowest_free range wanted ≡ None → (q : ℕ) → range.lowest ≤ q → q ≤ range.highest → fits wanted q ≡ true → is_free range q ≡ false
-lowest_free-none range wanted h q low high fit =
-    let none = first_where-none (is_open range.free wanted) range.lowest (range.highest + 1 - range.lowest) h q low (omega arith) in
-    false_from_ne_true (is_listed q range.free) (λ holds. both_ways (is_open range.free wanted q) none (and_from (is_listed q range.free) (fits wanted q) holds fit))
+-- where none is found, no port between the two passes and is of the wanted parity
+pub lowest_open-none : (test : ℕ → Bool) (lowest highest : ℕ) (wanted : Option Parity) → lowest_open test lowest highest wanted ≡ None → (q : ℕ) → lowest ≤ q → q ≤ highest → fits wanted q ≡ true → test q ≡ false
+lowest_open-none test lowest highest wanted h q low high fit =
+    let none = first_where-none (is_open test wanted) lowest (highest + 1 - lowest) h q low (omega arith) in
+    false_from_ne_true (test q) (λ holds. both_ways (is_open test wanted q) none (and_from (test q) (fits wanted q) holds fit))
 
 or_else-some : (first second : Option Port) (port : Port) → or_else first second ≡ Some port → (first ≡ Some port) ⊎ ((first ≡ None) × (second ≡ Some port))
 or_else-some None second port h = inr (refl, h)
@@ -94,28 +96,83 @@ or_else-none : (first second : Option Port) → or_else first second ≡ None �
 or_else-none None second h = (refl, h)
 or_else-none (Some p) second h = cc
 
--- a chosen port is free
-pub chosen-free : (range : FreePorts) (parity : Parity) (port : Port) → chosen_port range parity ≡ Some port → is_free range port.0 ≡ true
-chosen-free range parity port h =
-    elim (or_else-some (lowest_free range (Some parity)) (lowest_free range None) port h) [
-      | inl w ↦ (lowest_free-some range (Some parity) port w).free
-      | inr w ↦ (lowest_free-some range None port w.1).free
+-- two parities are one where the test says so
+pub parity-eq : (a b : Parity) → same_parity a b ≡ true → a ≡ b
+parity-eq Even Even h = refl
+parity-eq Even Odd h = cc
+parity-eq Odd Even h = cc
+parity-eq Odd Odd h = refl
+
+pub parity-self : (a : Parity) → same_parity a a ≡ true
+parity-self Even = refl
+parity-self Odd = refl
+
+pub parity-true : (a b : Parity) → a ≡ b → same_parity a b ≡ true
+parity-true a b e = ap (same_parity a) (sym e) ∙ parity-self a
+
+-- what may be given out lies between the two
+abbrev pub Between : (ℕ → Bool) → ℕ → ℕ → Type 0
+Between test lowest highest = (q : ℕ) → test q ≡ true → (lowest ≤ q) × (q ≤ highest)
+
+at-or-above : (test : ℕ → Bool) (lowest highest : ℕ) (wanted : Option Parity) (port : Port) (q : ℕ) → Between test lowest highest → IsLowest test lowest highest wanted port → test q ≡ true → fits wanted q ≡ true → port.0 ≤ q
+at-or-above test lowest highest wanted port q between is holds fit =
+    elim (cases_lt q port.0) [
+      | inl below ↦ absurd (both_ways (test q) (is.first q (between q holds).0 below fit) holds)
+      | inr above ↦ above
     ]
 
--- where none is chosen, no port of the range is free
-pub chosen-none : (range : FreePorts) (parity : Parity) → chosen_port range parity ≡ None → (q : ℕ) → range.lowest ≤ q → q ≤ range.highest → is_free range q ≡ false
-chosen-none range parity h q low high =
-    lowest_free-none range None (or_else-none (lowest_free range (Some parity)) (lowest_free range None) h).1 q low high refl
+-- a chosen port, as a relation
+pub chosen-is : (test : ℕ → Bool) (lowest highest : ℕ) (parity : Parity) (port : Port) → Between test lowest highest → chosen_open test lowest highest parity ≡ Some port → IsChosen test parity port
+chosen-is test lowest highest parity port between h =
+    elim (or_else-some (lowest_open test lowest highest (Some parity)) (lowest_open test lowest highest None) port h) [
+      | inl w ↦ (let is = lowest_open-some test lowest highest (Some parity) port w in
+          let kind : parity_of port.0 ≡ parity = parity-eq (parity_of port.0) parity is.kind in
+          record {
+            available = is.passes;
+            like = λ q holds same. kind;
+            lowest = λ q holds same. at-or-above test lowest highest (Some parity) port q between is holds (parity-true (parity_of q) parity (same ∙ kind));
+          })
+      | inr w ↦ (let is = lowest_open-some test lowest highest None port w.1 in
+          record {
+            available = is.passes;
+            like = λ q holds same. absurd (both_ways (test q) (lowest_open-none test lowest highest (Some parity) w.0 q (between q holds).0 (between q holds).1 (parity-true (parity_of q) parity same)) holds);
+            lowest = λ q holds same. at-or-above test lowest highest None port q between is holds refl;
+          })
+    ]
+
+-- where none is chosen, none may be given out
+pub chosen-none : (test : ℕ → Bool) (lowest highest : ℕ) (parity : Parity) → Between test lowest highest → chosen_open test lowest highest parity ≡ None → (q : ℕ) → test q ≡ false
+chosen-none test lowest highest parity between h q =
+    false_from_ne_true (test q) (λ holds.
+    both_ways (test q) (lowest_open-none test lowest highest None (or_else-none (lowest_open test lowest highest (Some parity)) (lowest_open test lowest highest None) h).1 q (between q holds).0 (between q holds).1 refl) holds)
+
+-- where two tests agree, they choose alike
+first_where-same : (a b : ℕ → Bool) (start count : ℕ) → ((q : ℕ) → a q ≡ b q) → first_where a start count ≡ first_where b start count
+first_where-same a b start zero same = refl
+first_where-same a b start (suc count) same =
+    ap (λ x. cond x (Some (record { 0 = start })) (first_where a (start + 1) count)) (same start)
+    ∙ ap (λ (o : Option Port). cond (b start) (Some (record { 0 = start })) o) (first_where-same a b (start + 1) count same)
+
+pub chosen-same : (a b : ℕ → Bool) (lowest highest : ℕ) (parity : Parity) → ((q : ℕ) → a q ≡ b q) → chosen_open a lowest highest parity ≡ chosen_open b lowest highest parity
+chosen-same a b lowest highest parity same =
+    ap (λ o. or_else o (lowest_open a lowest highest None)) (one (Some parity)) ∙ ap (or_else (lowest_open b lowest highest (Some parity))) (one None)
+  where
+    one : (wanted : Option Parity) → lowest_open a lowest highest wanted ≡ lowest_open b lowest highest wanted
+    one wanted = first_where-same (is_open a wanted) (is_open b wanted) lowest (highest + 1 - lowest) (λ q. ap (λ x. x && fits wanted q) (same q))
+
+-- what may be given out of a range lies in it
+pub available-between : (range : Range) → IsRange range → Between (is_available range) range.lowest range.highest
+available-between range is q holds =
+    let within = is.free q (and_parts (is_free range q) (is_owned range q) holds).0 in
+    let parts = and_parts (nat_le range.lowest q) (nat_le q range.highest) within in
+    (leb-true range.lowest q parts.0, leb-true q range.highest parts.1)
 
 -- what the answer says where it is a port
-pub answer-free : (range : FreePorts) (parity : Parity) (answer : Option Port) → answer ≡ chosen_port range parity → IfSome answer (λ port. is_free range port.0 ≡ true)
-answer-free range parity None e = tt
-answer-free range parity (Some port) e = chosen-free range parity port (sym e)
+pub answer-like : (range : Range) (parity : Parity) (answer : Option Port) → IsRange range → answer ≡ chosen_port range parity → IfSome answer (IsChosen (is_available range) parity)
+answer-like range parity None is e = tt
+answer-like range parity (Some port) is e = chosen-is (is_available range) range.lowest range.highest parity port (available-between range is) (sym e)
 
 -- what the answer says where it is none
-pub answer-none : (range : FreePorts) (parity : Parity) (answer : Option Port) → IsRange range → answer ≡ chosen_port range parity → IfNone answer ((port : ℕ) → is_free range port ≡ false)
-answer-none range parity None kept e =
-    λ port. false_from_ne_true (is_free range port) (λ holds.
-    let within = and_parts (nat_le range.lowest port) (nat_le port range.highest) (kept.within port holds) in
-    both_ways (is_free range port) (chosen-none range parity (sym e) port (leb-true range.lowest port within.0) (leb-true port range.highest within.1)) holds)
-answer-none range parity (Some port) kept e = tt
+pub answer-none : (range : Range) (parity : Parity) (answer : Option Port) → IsRange range → answer ≡ chosen_port range parity → IfNone answer ((port : ℕ) → is_available range port ≡ false)
+answer-none range parity None is e = chosen-none (is_available range) range.lowest range.highest parity (available-between range is) (sym e)
+answer-none range parity (Some port) is e = tt

@@ -3,8 +3,8 @@ use Rattle.std.proofs.Common.{◌≡◌, ℕ, zero, suc, ◌+◌, ◌-◌, ◌<�
 use Rattle.std.proofs.lemmas.Bool.{both_ways, cases_eq, cases_lt, eq-eqb, ne_eqb, or_left, or_from, and_from, and_left, and_right, le-leb, lt-leb, cond-true, cond-false, leb-true, and_parts}
 use Rattle.std.proofs.lemmas.List.{get_or-set_same, get_or-set_other, get_or_past, get_or-replicate, length-replicate}
 use Rattle.addresses.specs.declared.transport.Parity.{Parity}
-use Rattle.port_range.specs.Ports.{is_listed, is_within, is_open, fits, IsRange}
-use Rattle.port_range.specs.Flags.{ports_from, free_ports, HasFlags}
+use Rattle.port_range.specs.Ports.{is_listed, is_within, is_available, is_open, fits, IsRange}
+use Rattle.port_range.specs.Flags.{ports_from, flagged, HasFlags}
 
 -- no port before the first flag's is listed
 pub listed-below : (start : ℕ) (flags : List Bool) (q : ℕ) → q < start → is_listed q (ports_from start flags) ≡ false
@@ -27,15 +27,21 @@ listed-at start (false ∷ flags) (suc i) =
     let moved : start + suc i ≡ start + 1 + i = omega arith in
     ap (λ (q : ℕ). is_listed q (ports_from (start + 1) flags)) moved ∙ listed-at (start + 1) flags i
 
--- a port is open where its flag is set and its parity fits
-pub open-at : (start : ℕ) (flags : List Bool) (i : ℕ) (wanted : Option Parity) → is_open (ports_from start flags) wanted (start + i) ≡ (get_or flags i false && fits wanted (start + i))
-open-at start flags i wanted = ap (λ b. b && fits wanted (start + i)) (listed-at start flags i)
+-- a port is open where both its flags are set and its parity fits
+pub open-at : (lowest highest : ℕ) (free owned : List Bool) (i : ℕ) (wanted : Option Parity) → is_open (is_available (flagged lowest highest free owned)) wanted (lowest + i) ≡ ((get_or free i false && get_or owned i false) && fits wanted (lowest + i))
+open-at lowest highest free owned i wanted =
+    ap (λ b. (b && is_listed (lowest + i) (ports_from lowest owned)) && fits wanted (lowest + i)) (listed-at lowest free i)
+    ∙ ap (λ b. (get_or free i false && b) && fits wanted (lowest + i)) (listed-at lowest owned i)
 
 -- the same by the port
 pub listed-from : (start : ℕ) (flags : List Bool) (q : ℕ) → start ≤ q → is_listed q (ports_from start flags) ≡ get_or flags (q - start) false
 listed-from start flags q low =
     let moved : q ≡ start + (q - start) = omega arith in
     ap (λ (p : ℕ). is_listed p (ports_from start flags)) moved ∙ listed-at start flags (q - start)
+
+-- the same by its offset
+pub listed-at_offset : (start : ℕ) (flags : List Bool) (q offset : ℕ) → start ≤ q → offset ≡ q - start → is_listed q (ports_from start flags) ≡ get_or flags offset false
+listed-at_offset start flags q offset low is = listed-from start flags q low ∙ ap (λ (i : ℕ). get_or flags i false) (sym is)
 
 -- a listed port has a flag
 pub listed-within : (start : ℕ) (flags : List Bool) (q : ℕ) → is_listed q (ports_from start flags) ≡ true → (start ≤ q) × (q < start + length flags)
@@ -76,21 +82,40 @@ listed-full start end count e q =
       ]
     ]
 
+-- where no flag is set, no port is listed
+pub listed-none : (start count q : ℕ) → is_listed q (ports_from start (replicate count false)) ≡ false
+listed-none start zero q = refl
+listed-none start (suc count) q = listed-none (start + 1) count q
+
+-- where all flags are alike, the ports of the range are listed, or none
+pub listed-all : (start end count : ℕ) (flag : Bool) → start + count ≡ end + 1 → (q : ℕ) → is_listed q (ports_from start (replicate count flag)) ≡ (flag && is_within start end q)
+listed-all start end count true e q = listed-full start end count e q
+listed-all start end count false e q = listed-none start count q
+
+-- a port from the start on is listed only where it has a flag
+pub listed-past : (start : ℕ) (flags : List Bool) (q : ℕ) → start ≤ q → length flags ≤ q - start → is_listed q (ports_from start flags) ≡ false
+listed-past start flags q low past = listed-from start flags q low ∙ get_or_past flags (q - start) false past
+
+-- a port whose flag is set lies in the range
+flag-within : (lowest highest : ℕ) (flags : List Bool) (port : ℕ) → lowest ≤ highest → length flags ≡ highest + 1 - lowest → is_listed port (ports_from lowest flags) ≡ true → is_within lowest highest port ≡ true
+flag-within lowest highest flags port order each listed =
+    let in_flags = listed-within lowest flags port listed in
+    and_from (nat_le lowest port) (nat_le port highest) (le-leb lowest port in_flags.0) (le-leb port highest (omega (arith, in_flags.1, each, order)))
+
 -- a range by its flags keeps what each range does
-pub kept-flags : (lowest highest : ℕ) (flags : List Bool) → HasFlags lowest highest flags → IsRange (free_ports lowest highest flags)
-kept-flags lowest highest flags h = record {
+pub kept-flags : (lowest highest : ℕ) (free owned : List Bool) → HasFlags lowest highest free owned → IsRange (flagged lowest highest free owned)
+kept-flags lowest highest free owned h = record {
   low = h.low;
   order = h.order;
   high = h.high;
-  within = λ port listed.
-      let in_flags = listed-within lowest flags port listed in
-      and_from (nat_le lowest port) (nat_le port highest) (le-leb lowest port in_flags.0) (le-leb port highest (omega (arith, in_flags.1, h.each, h.order)));
+  free = λ port listed. flag-within lowest highest free port h.order h.free_flags listed;
+  owned = λ port listed. flag-within lowest highest owned port h.order h.owned_flags listed;
 }
 
 -- a port of a range has a flag
-pub within-flags : (lowest highest : ℕ) (flags : List Bool) (port : ℕ) → HasFlags lowest highest flags → is_within lowest highest port ≡ true → (lowest ≤ port) × (port < lowest + length flags)
-within-flags lowest highest flags port h within =
+pub within-flags : (lowest highest : ℕ) (flags : List Bool) (port : ℕ) → lowest ≤ highest → length flags ≡ highest + 1 - lowest → is_within lowest highest port ≡ true → (lowest ≤ port) × (port < lowest + length flags)
+within-flags lowest highest flags port order each within =
     let parts = and_parts (nat_le lowest port) (nat_le port highest) within in
     let low : lowest ≤ port = leb-true lowest port parts.0 in
     let high : port ≤ highest = leb-true port highest parts.1 in
-    (low, omega (arith, low, high, h.each))
+    (low, omega (arith, low, high, each))

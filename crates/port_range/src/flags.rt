@@ -1,15 +1,16 @@
-ghost use Rattle.std.specs.Prelude.{◌≡◌, ◌+◌, ◌-◌, ◌<◌, ◌≤◌, ◌&&◌, true, length, IfOk, slice_set, replicate};
+//! Flags, one for each port of a range, and the search through them.
+ghost use Rattle.std.specs.Prelude.{◌≡◌, ◌+◌, ◌-◌, ◌<◌, ◌≤◌, ◌&&◌, length, IfOk, slice_set, replicate, slice_index_or, false};
 ghost use Rattle.addresses.specs.Transport.{parity_of};
-ghost use Rattle.port_range.specs.Ports.{same_parity, fits, lowest_free, chosen_port};
-ghost use Rattle.port_range.specs.Flags.{free_ports, HasFlags};
+ghost use Rattle.port_range.specs.Ports.{same_parity, fits, is_available, lowest_open, chosen_open, is_listed};
+ghost use Rattle.port_range.specs.Flags.{flagged, HasFlags, ports_from};
 
 use addresses::{Parity, Port};
 use std::alloc::{AllocError, Global};
 
-pub(crate) fn all_set(alloc: Global, count: usize) -> Result<Vec<bool>, AllocError>
-    ensures { IfOk result (λ v. v.items ≡ replicate count true) }
+pub(crate) fn all_flags(alloc: Global, count: usize, flag: bool) -> Result<Vec<bool>, AllocError>
+    ensures { IfOk result (λ v. v.items ≡ replicate count flag) }
 {
-    vec![in alloc; true; count]
+    vec![in alloc; flag; count]
 }
 
 fn is_that_parity(port: Port, parity: Parity) -> bool
@@ -27,19 +28,26 @@ fn fits_wanted(port: Port, wanted: Option<Parity>) -> bool
     }
 }
 
-fn is_open_flag(flag: bool, port: Port, wanted: Option<Parity>) -> bool
-    ensures { result ≡ (flag && fits wanted port.0) }
+fn is_open_port(free: bool, owned: bool, port: Port, wanted: Option<Parity>) -> bool
+    ensures { result ≡ (free && owned && fits wanted port.0) }
 {
-    flag && fits_wanted(port, wanted)
+    free && owned && fits_wanted(port, wanted)
 }
 
-fn find_lowest(flags: &[bool], lowest: Port, highest: Port, wanted: Option<Parity>) -> Option<Port>
-    requires { HasFlags lowest.0 highest.0 flags.now }
-    ensures { result ≡ lowest_free (free_ports lowest.0 highest.0 flags.now) wanted }
+fn find_lowest(
+    free: &[bool],
+    owned: &[bool],
+    lowest: Port,
+    highest: Port,
+    wanted: Option<Parity>,
+) -> Option<Port>
+    requires { HasFlags lowest.0 highest.0 free.now owned.now }
+    ensures { let range = flagged lowest.0 highest.0 free.now owned.now in result
+        ≡ lowest_open (is_available range) lowest.0 highest.0 wanted }
 {
-    for (offset, flag) in flags.iter().enumerate() {
+    for (offset, flag) in free.iter().enumerate() {
         let port = Port(lowest.0 + offset as u16);
-        if is_open_flag(*flag, port, wanted) {
+        if is_open_port(*flag, owned[offset], port, wanted) {
             return Some(port);
         }
     }
@@ -47,24 +55,36 @@ fn find_lowest(flags: &[bool], lowest: Port, highest: Port, wanted: Option<Parit
 }
 
 pub(crate) fn choose_port(
-    flags: &[bool],
+    free: &[bool],
+    owned: &[bool],
     lowest: Port,
     highest: Port,
     parity: Parity,
 ) -> Option<Port>
-    requires { HasFlags lowest.0 highest.0 flags.now }
-    ensures { result ≡ chosen_port (free_ports lowest.0 highest.0 flags.now) parity }
+    requires { HasFlags lowest.0 highest.0 free.now owned.now }
+    ensures { let range = flagged lowest.0 highest.0 free.now owned.now in result
+        ≡ chosen_open (is_available range) lowest.0 highest.0 parity }
 {
-    match find_lowest(flags, lowest, highest, Some(parity)) {
+    match find_lowest(free, owned, lowest, highest, Some(parity)) {
         Some(port) => Some(port),
-        None => find_lowest(flags, lowest, highest, None),
+        None => find_lowest(free, owned, lowest, highest, None),
     }
 }
 
-pub(crate) fn put_flag(flags: &mut Vec<bool>, lowest: Port, port: Port, free: bool)
+pub(crate) fn put_flag(flags: &mut Vec<bool>, lowest: Port, port: Port, flag: bool)
     requires low { lowest.0 ≤ port.0 }
     requires high { port.0 < lowest.0 + length flags.old.items }
-    ensures { flags.new.items ≡ slice_set flags.old.items (port.0 - lowest.0) free }
+    ensures { flags.new.items ≡ slice_set flags.old.items (port.0 - lowest.0) flag }
 {
-    flags[usize::from(port.0 - lowest.0)] = free;
+    flags[usize::from(port.0 - lowest.0)] = flag;
+}
+
+pub(crate) fn has_flag(flags: &[bool], lowest: Port, port: Port) -> bool
+    ensures { result ≡ is_listed port.0 (ports_from lowest.0 flags.now) }
+{
+    if port.0 < lowest.0 {
+        return false;
+    }
+    let offset = usize::from(port.0 - lowest.0);
+    offset < flags.len() && flags[offset]
 }

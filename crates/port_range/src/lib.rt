@@ -1,16 +1,19 @@
-//! The free ports of a range.
+//! The ports of a range: which are free, which are owned, and which one an endpoint is given.
 #![tactic(auto)]
 
-ghost use Rattle.std.specs.Prelude.{◌≡◌, ℕ, true, false, OnOk, IfOk, IfErr, IfSome, IfNone, ◌==◌, if◌then◌else◌};
-ghost use Rattle.port_range.specs.Ports.{is_free, is_within, is_bad, IsReason, IsRange, chosen_port};
+ghost use Rattle.std.specs.Prelude.{◌≡◌, ℕ, true, false, OnOk, IfOk, IfErr, IfSome, IfNone, ◌==◌, ◌&&◌, if◌then◌else◌};
+ghost use Rattle.port_range.specs.Ports.{is_free, is_owned, is_available, is_within, is_bad, IsReason, IsRange, IsChosen, chosen_port};
 
 mod flags;
 
-use crate::flags::{all_set, choose_port, put_flag};
+use crate::flags::{all_flags, choose_port, has_flag, put_flag};
 use addresses::{Parity, Port};
 use std::alloc::{AllocError, Global};
 use std::marker::Model;
 use thiserror::Error;
+
+/// The first port that isn't well known (RFC 6335, section 6).
+pub const FIRST_PORT: Port = Port(1024);
 
 /// Why there is no range.
 #[derive(Clone, Copy, Debug, PartialEq, Eq, Error)]
@@ -31,82 +34,164 @@ impl From<AllocError> for RangeFault {
     }
 }
 
-/// The ports from one to another, each of which is free or taken.
+/// The ports from one to another. Each is free or taken, and owned or not; a free port that is owned may be given out.
 #[derive(Drop)]
 pub struct Range {
     lowest: Port,
     highest: Port,
-    flags: Vec<bool>,
+    free: Vec<bool>,
+    owned: Vec<bool>,
 }
 
 impl Model for Range {
-    ghost use Rattle.port_range.specs.Ports.{FreePorts};
-    ghost use Rattle.port_range.specs.Flags.{free_ports, HasFlags};
+    ghost use Rattle.port_range.specs.Ports.{Range as Ports};
+    ghost use Rattle.port_range.specs.Flags.{flagged, HasFlags};
 
-    ghost Value = { FreePorts };
+    ghost Value = { Ports };
 
-    ghost view = { λ r. free_ports r.lowest.0 r.highest.0 r.flags.items };
+    ghost view = { λ r. flagged r.lowest.0 r.highest.0 r.free.items r.owned.items };
 
-    ghost invariant = { λ r. HasFlags r.lowest.0 r.highest.0 r.flags.items };
+    ghost invariant = { λ r. HasFlags r.lowest.0 r.highest.0 r.free.items r.owned.items };
 }
 
 impl Range {
-    /// A range whose ports are all free.
+    /// A range whose ports are all free, and all owned or none.
+    fn begin(alloc: Global, lowest: Port, highest: Port, owned: bool) -> Result<Range, RangeFault>
+        ensures good { OnOk result (is_bad lowest.0 highest.0 ≡ false) }
+        ensures refused { IfErr result (IsReason lowest.0 highest.0) }
+        ensures lowest { IfOk result (λ r. r.lowest ≡ lowest.0) }
+        ensures highest { IfOk result (λ r. r.highest ≡ highest.0) }
+        ensures free { IfOk result (λ r. (port : ℕ) → is_free r port
+            ≡ is_within lowest.0 highest.0 port) }
+        ensures owned { IfOk result (λ r. (port : ℕ) → is_owned r port
+            ≡ (owned && is_within lowest.0 highest.0 port)) }
+    {
+        if lowest.0 < FIRST_PORT.0 || highest.0 < lowest.0 {
+            return Err(RangeFault::BadRange);
+        }
+        let count = usize::from(highest.0 - lowest.0) + 1;
+        let free = all_flags(alloc, count, true)?;
+        let owned = all_flags(alloc, count, owned)?;
+        Ok(Range {
+            lowest,
+            highest,
+            free,
+            owned,
+        })
+    }
+
+    /// A range whose ports are all free and owned.
     pub fn new(alloc: Global, lowest: Port, highest: Port) -> Result<Range, RangeFault>
         ensures good { OnOk result (is_bad lowest.0 highest.0 ≡ false) }
         ensures refused { IfErr result (IsReason lowest.0 highest.0) }
         ensures lowest { IfOk result (λ r. r.lowest ≡ lowest.0) }
         ensures highest { IfOk result (λ r. r.highest ≡ highest.0) }
-        ensures free { IfOk result (λ r. (port : ℕ) → is_free r port ≡ is_within lowest.0 highest.0 port) }
+        ensures free { IfOk result (λ r. (port : ℕ) → is_free r port
+            ≡ is_within lowest.0 highest.0 port) }
+        ensures owned { IfOk result (λ r. (port : ℕ) → is_owned r port
+            ≡ is_within lowest.0 highest.0 port) }
     {
-        if lowest.0 < 1024 || highest.0 < lowest.0 {
-            return Err(RangeFault::BadRange);
-        }
-        let flags = all_set(alloc, usize::from(highest.0 - lowest.0) + 1)?;
-        Ok(Range {
-            lowest,
-            highest,
-            flags,
-        })
+        Range::begin(alloc, lowest, highest, true)
     }
 
-    /// What each range keeps.
-    pub fn audit(&self)
+    /// A range whose ports are all free, and none of them owned.
+    pub fn unowned(alloc: Global, lowest: Port, highest: Port) -> Result<Range, RangeFault>
+        ensures good { OnOk result (is_bad lowest.0 highest.0 ≡ false) }
+        ensures refused { IfErr result (IsReason lowest.0 highest.0) }
+        ensures lowest { IfOk result (λ r. r.lowest ≡ lowest.0) }
+        ensures highest { IfOk result (λ r. r.highest ≡ highest.0) }
+        ensures free { IfOk result (λ r. (port : ℕ) → is_free r port
+            ≡ is_within lowest.0 highest.0 port) }
+        ensures owned { IfOk result (λ r. (port : ℕ) → is_owned r port ≡ false) }
+    {
+        Range::begin(alloc, lowest, highest, false)
+    }
+
+    /// Reminds the prover of what each range keeps; it does nothing when it runs.
+    pub fn recall(&self)
         ensures { IsRange self.now }
     {
-        let _ = &self.flags;
+        let _ = &self.free;
     }
 
-    /// The lowest free port with that parity, else the lowest free one (RFC 4787, section 4.2.2).
+    /// The lowest free owned port with that parity, else the lowest free owned one (RFC 4787, section 4.2.2).
     pub fn free_like(&self, parity: Parity) -> Option<Port>
         ensures chosen { result ≡ chosen_port self.now parity }
-        ensures free { IfSome result (λ port. is_free self.now port.0 ≡ true) }
-        ensures none { IfNone result ((port : ℕ) → is_free self.now port ≡ false) }
+        ensures like { IfSome result (IsChosen (is_available self.now) parity) }
+        ensures none { IfNone result ((port : ℕ) → is_available self.now port ≡ false) }
     {
-        choose_port(&self.flags, self.lowest, self.highest, parity)
+        choose_port(&self.free, &self.owned, self.lowest, self.highest, parity)
     }
 
-    /// Takes a free port.
+    /// Whether a port lies in the range.
+    pub fn holds(&self, port: Port) -> bool
+        ensures { result ≡ is_within self.now.lowest self.now.highest port.0 }
+    {
+        self.lowest.0 <= port.0 && port.0 <= self.highest.0
+    }
+
+    /// Whether a port of the range is free.
+    pub fn is_free(&self, port: Port) -> bool
+        ensures { result ≡ is_free self.now port.0 }
+    {
+        has_flag(&self.free, self.lowest, port)
+    }
+
+    /// Whether a port is owned.
+    pub fn owns(&self, port: Port) -> bool
+        ensures { result ≡ is_owned self.now port.0 }
+    {
+        has_flag(&self.owned, self.lowest, port)
+    }
+
+    /// Takes a free port, owned or not.
     pub fn take(&mut self, port: Port)
         requires { is_free self.old port.0 ≡ true }
-        ensures free { (p : ℕ) → is_free self.new p ≡ (if p == port.0 then false else is_free self.old p) }
+        ensures free { (p : ℕ) → is_free self.new p ≡ (if p == port.0 then false
+            else is_free self.old p) }
+        ensures owned { self.new.owned ≡ self.old.owned }
         ensures lowest { self.new.lowest ≡ self.old.lowest }
         ensures highest { self.new.highest ≡ self.old.highest }
     {
-        put_flag(&mut self.flags, self.lowest, port, false);
+        put_flag(&mut self.free, self.lowest, port, false);
     }
 
     /// Makes a taken port free.
     pub fn put_back(&mut self, port: Port)
         requires within { is_within self.old.lowest self.old.highest port.0 ≡ true }
         requires taken { is_free self.old port.0 ≡ false }
-        ensures free { (p : ℕ) → is_free self.new p ≡ (if p == port.0 then true else is_free self.old p) }
+        ensures free { (p : ℕ) → is_free self.new p ≡ (if p == port.0 then true
+            else is_free self.old p) }
+        ensures owned { self.new.owned ≡ self.old.owned }
         ensures lowest { self.new.lowest ≡ self.old.lowest }
         ensures highest { self.new.highest ≡ self.old.highest }
     {
-        put_flag(&mut self.flags, self.lowest, port, true);
+        put_flag(&mut self.free, self.lowest, port, true);
+    }
+
+    /// Makes a port of the range an owned one, whether it is free or taken.
+    pub fn own(&mut self, port: Port)
+        requires within { is_within self.old.lowest self.old.highest port.0 ≡ true }
+        requires foreign { is_owned self.old port.0 ≡ false }
+        ensures owned { (p : ℕ) → is_owned self.new p ≡ (if p == port.0 then true
+            else is_owned self.old p) }
+        ensures free { self.new.free ≡ self.old.free }
+        ensures lowest { self.new.lowest ≡ self.old.lowest }
+        ensures highest { self.new.highest ≡ self.old.highest }
+    {
+        put_flag(&mut self.owned, self.lowest, port, true);
+    }
+
+    /// Gives a free owned port up.
+    pub fn disown(&mut self, port: Port)
+        requires owned { is_owned self.old port.0 ≡ true }
+        requires free { is_free self.old port.0 ≡ true }
+        ensures owned { (p : ℕ) → is_owned self.new p ≡ (if p == port.0 then false
+            else is_owned self.old p) }
+        ensures free { self.new.free ≡ self.old.free }
+        ensures lowest { self.new.lowest ≡ self.old.lowest }
+        ensures highest { self.new.highest ≡ self.old.highest }
+    {
+        put_flag(&mut self.owned, self.lowest, port, false);
     }
 }
-
-#[cfg(test)]
-mod tests;

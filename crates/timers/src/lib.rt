@@ -53,7 +53,8 @@ impl Timers {
     /// Appends the slots whose moment is at most `now`, in any order, and clears them.
     pub fn due(&mut self, now: u64, out: &mut Vec<usize>) -> Result<(), AllocError>
         ensures kept { take (length out.old.items) out.new.items ≡ out.old.items }
-        ensures found { OnOk result (IsPermutation (due_slots now self.old) (drop (length out.old.items) out.new.items)) }
+        ensures found { OnOk result (IsPermutation (due_slots now self.old) (drop (length
+            out.old.items) out.new.items)) }
         ensures cleared { OnOk result (self.new ≡ map (cleared now) self.old) }
 
         // An error changes nothing, and doesn't come where there is room for the set slots.

@@ -1,7 +1,7 @@
+//! Passes over the slots.
 ghost use Rattle.std.specs.Prelude.{◌≡◌, ◌+◌, ◌<◌, ◌≤◌, ◌++◌, None, length, map, replicate, slice_set, count_by, vec_len, vec_capacity, IfOk};
 ghost use Rattle.timers.specs.Due.{is_due, due_slots, cleared};
 
-use reserved::put_reserved;
 use std::alloc::{AllocError, Global};
 
 pub(crate) fn unset(alloc: Global, count: usize) -> Result<Vec<Option<u64>>, AllocError>
@@ -38,7 +38,7 @@ pub(crate) fn list_due(slots: &[Option<u64>], now: u64, out: &mut Vec<usize>)
 {
     for (i, slot) in slots.iter().enumerate() {
         if is_slot_due(*slot, now) {
-            put_reserved(out, i);
+            out.push_reserved(i);
         }
     }
 }

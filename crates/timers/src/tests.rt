@@ -1,3 +1,4 @@
+//! Tests on growths, and on what `due` gives.
 use crate::Timers;
 use std::test::Fail;
 

@@ -6,6 +6,6 @@ use Rattle.port_range.proofs.Range.put_back.Goals as goal
 pub returns-clause-free : goal.returns-clause-free
 returns-clause-free c =
     let was = ap (λ r. is_within r.lowest r.highest c.args.port.0) c.self.view_is ∙ c.requires.within in
-    let in_flags = within-flags c.self.inside.lowest.0 c.self.inside.highest.0 c.self.inside.flags.items c.args.port.0 c.self.invariant was in
+    let in_flags = within-flags c.self.inside.lowest.0 c.self.inside.highest.0 c.self.inside.free.items c.args.port.0 c.self.invariant.order c.self.invariant.free_flags was in
     rw (c.put_flag.ensures, ← c.self.view_is)
-    (listed-set c.self.inside.lowest.0 c.self.inside.flags.items c.args.port.0 true in_flags.0 in_flags.1)
+    (listed-set c.self.inside.lowest.0 c.self.inside.free.items c.args.port.0 true in_flags.0 in_flags.1)

@@ -1,0 +1,163 @@
+-- The free and owned ports after a change.
+use Rattle.std.proofs.Common.{◌≡◌, ℕ, Bool, true, false, cond, ◌&&◌, ◌==◌, is_none, Option, Some, None, List, inl, inr, refl, sym, ap, ◌∙◌, eq-eqb}
+use Rattle.std.proofs.lemmas.Bool.{cond-true, cond-false, cases_Bool, both_ways, eqb-true, false_from_ne_true}
+use Rattle.addresses.specs.declared.transport.Protocol.{Protocol}
+use Rattle.addresses.specs.declared.transport.Protocol.TheVariants.{Tcp, Udp}
+use Rattle.addresses.specs.declared.transport.Parity.{Parity}
+use Rattle.nat_types.specs.declared.pairs.Key.{Key}
+use Rattle.nat_types.specs.Same.{same_key}
+use Rattle.nat_types.proofs.Equal.{key-eq, key-true}
+use Rattle.port_range.specs.Ports.{is_free, is_owned, is_within, is_available, is_listed, chosen_port as chosen_of, IsRange}
+use Rattle.bindings.specs.declared.ports.Ports.{Ports}
+use Rattle.port_range.specs.Ports.{chosen_open}
+use Rattle.port_range.proofs.Choice.{chosen-same}
+use Rattle.addresses.specs.Transport.{same_protocol}
+use Rattle.addresses.proofs.Equal.{protocol-eq, protocol-self}
+use Rattle.bindings.specs.declared.entries.Entry.{Entry}
+use Rattle.bindings.specs.declared.entries.PortBounds.{PortBounds}
+use Rattle.bindings.specs.Entries.{slot_of, set_at}
+use Rattle.bindings.specs.Ports.{range_of, is_free_at, is_free_in, is_open_in, lowest_of, highest_of, chosen_port, AreAlike, SameBounds, SameOwned, AreFree, key_of}
+
+-- a test of ports that is written at one of them
+abbrev pub IsSetAt : (ℕ → Bool) → (ℕ → Bool) → ℕ → Bool → Type 0
+IsSetAt new old port b = (p : ℕ) → new p ≡ cond (p == port) b (old p)
+
+set-here : (new old : ℕ → Bool) (port p : ℕ) (b : Bool) → IsSetAt new old port b → p ≡ port → new p ≡ b
+set-here new old port p b is same = is p ∙ cond-true (p == port) b (old p) (eq-eqb p port same)
+
+set-there : (new old : ℕ → Bool) (port p : ℕ) (b : Bool) → IsSetAt new old port b → (p ≡ port → ⊥) → new p ≡ old p
+set-there new old port p b is other = is p ∙ cond-false (p == port) b (old p) (false_from_ne_true (p == port) (λ e. other (eqb-true p port e)))
+
+by-protocol : (a b : Key) → a.protocol ≡ b.protocol → a.port.0 ≡ b.port.0 → a ≡ b
+by-protocol a b one two = ap (λ (x : Protocol). let k : Key = record { protocol = x; port = a.port } in k) one ∙ ap (λ (y : ℕ). let k : Key = record { protocol = b.protocol; port = record { 0 = y } } in k) two
+
+-- the range of a key's protocol is written at the key's port
+pub range-set : (x : Protocol) (old new : Ports) (key : Key) (b : Bool) → key.protocol ≡ x → IsSetAt (is_free (range_of new x)) (is_free (range_of old x)) key.port.0 b → ((y : Protocol) → (y ≡ x → ⊥) → range_of new y ≡ range_of old y) → (q : Key) → is_free_at new q ≡ cond (same_key key q) b (is_free_at old q)
+range-set x old new key b of is rest q =
+    elim (cases_Bool (same_key key q)) [
+      | inl same ↦
+          (let one : key ≡ q = key-eq key q same in
+          let p : q.protocol ≡ x = ap (λ (k : Key). k.protocol) (sym one) ∙ of in
+          ap (λ y. is_free (range_of new y) q.port.0) p ∙ set-here (is_free (range_of new x)) (is_free (range_of old x)) key.port.0 q.port.0 b is (ap (λ (k : Key). k.port.0) (sym one))
+          ∙ sym (cond-true (same_key key q) b (is_free_at old q) same))
+      | inr other ↦ (elim (cases_Bool (same_protocol q.protocol x)) [
+        | inl same ↦
+            (let p : q.protocol ≡ x = protocol-eq q.protocol x same in
+            ap (λ y. is_free (range_of new y) q.port.0) p
+            ∙ set-there (is_free (range_of new x)) (is_free (range_of old x)) key.port.0 q.port.0 b is (λ e. both_ways (same_key key q) other (key-true key q (by-protocol key q (of ∙ sym p) (sym e))))
+            ∙ ap (λ y. is_free (range_of old y) q.port.0) (sym p))
+        | inr differs ↦ ap (λ r. is_free r q.port.0) (rest q.protocol (λ e. both_ways (same_protocol q.protocol x) differs (ap (λ y. same_protocol y x) e ∙ protocol-self x)))
+      ]) ∙ sym (cond-false (same_key key q) b (is_free_at old q) other)
+    ]
+
+pub tcp-rest : (old new : Ports) → new.udp ≡ old.udp → (y : Protocol) → (y ≡ Tcp → ⊥) → range_of new y ≡ range_of old y
+tcp-rest old new e Tcp differs = absurd (differs refl)
+tcp-rest old new e Udp differs = e
+
+pub udp-rest : (old new : Ports) → new.tcp ≡ old.tcp → (y : Protocol) → (y ≡ Udp → ⊥) → range_of new y ≡ range_of old y
+udp-rest old new e Tcp differs = e
+udp-rest old new e Udp differs = absurd (differs refl)
+
+already : (c b : Bool) (o : Bool) → (c ≡ true → o ≡ b) → o ≡ cond c b o
+already true b o h = h refl
+already false b o h = refl
+
+-- a key that is so already
+pub key-already : (ports : Ports) (key : Key) (b : Bool) → is_free_at ports key ≡ b → (q : Key) → is_free_at ports q ≡ cond (same_key key q) b (is_free_at ports q)
+key-already ports key b is q = already (same_key key q) b (is_free_at ports q) (λ same. ap (is_free_at ports) (sym (key-eq key q same)) ∙ is)
+
+-- ---- the free keys of a table
+
+taken : (w c : Bool) (o : Option Entry) (e : Entry) → cond c false (w && is_none o) ≡ (w && is_none (cond c (Some e) o))
+taken true true o e = refl
+taken true false o e = refl
+taken false true o e = refl
+taken false false o e = refl
+
+-- once a key is taken, and has an entry
+pub free-taken : (low high : ℕ) (es es2 : List Entry) (ports ports2 : Ports) (key : Key) (e : Entry) → AreFree low high es ports → ((q : Key) → is_free_at ports2 q ≡ cond (same_key key q) false (is_free_at ports q)) → ((q : Key) → slot_of es2 q ≡ set_at (slot_of es) key (Some e) q) → AreFree low high es2 ports2
+free-taken low high es es2 ports ports2 key e free ports-are slots q =
+    ports-are q ∙ ap (cond (same_key key q) false) (free q)
+    ∙ taken (is_within low high q.port.0) (same_key key q) (slot_of es q) e
+    ∙ ap (λ o. is_within low high q.port.0 && is_none o) (sym (slots q))
+
+freed : (w c : Bool) (o : Option Entry) → cond c w (w && is_none o) ≡ (w && is_none (cond c None o))
+freed true true o = refl
+freed true false o = refl
+freed false true o = refl
+freed false false o = refl
+
+-- once a key is free, and has none
+pub free-put_back : (low high : ℕ) (es es2 : List Entry) (ports ports2 : Ports) (key : Key) → AreFree low high es ports → ((q : Key) → is_free_at ports2 q ≡ cond (same_key key q) (is_within low high key.port.0) (is_free_at ports q)) → ((q : Key) → slot_of es2 q ≡ set_at (slot_of es) key None q) → AreFree low high es2 ports2
+free-put_back low high es es2 ports ports2 key free ports-are slots q =
+    ports-are q ∙ ap (cond (same_key key q) (is_within low high key.port.0)) (free q)
+    ∙ here
+    ∙ freed (is_within low high q.port.0) (same_key key q) (slot_of es q)
+    ∙ ap (λ o. is_within low high q.port.0 && is_none o) (sym (slots q))
+  where
+    one : (c : Bool) → same_key key q ≡ c → cond c (is_within low high key.port.0) (is_within low high q.port.0 && is_none (slot_of es q)) ≡ cond c (is_within low high q.port.0) (is_within low high q.port.0 && is_none (slot_of es q))
+    one true same = ap (λ (k : Key). is_within low high k.port.0) (key-eq key q same)
+    one false other = refl
+
+    here : cond (same_key key q) (is_within low high key.port.0) (is_within low high q.port.0 && is_none (slot_of es q)) ≡ cond (same_key key q) (is_within low high q.port.0) (is_within low high q.port.0 && is_none (slot_of es q))
+    here = one (same_key key q) refl
+
+-- where no slot changes its being free
+pub free-same : (low high : ℕ) (es es2 : List Entry) (ports : Ports) → AreFree low high es ports → ((q : Key) → is_none (slot_of es2 q) ≡ is_none (slot_of es q)) → AreFree low high es2 ports
+free-same low high es es2 ports free same q = free q ∙ ap (λ b. is_within low high q.port.0 && b) (sym (same q))
+
+-- ---- the port that is chosen
+
+flip : (w n o : Bool) → (o ≡ true → w ≡ true) → ((w && n) && o) ≡ (o && n)
+flip true true true h = refl
+flip true true false h = refl
+flip true false true h = refl
+flip true false false h = refl
+flip false n true h = absurd (let e = h refl in both_ways false refl e)
+flip false n false h = refl
+
+-- a port of a protocol may be given out where it is owned and has no entry
+available-is : (low high : ℕ) (es : List Entry) (ports : Ports) (x : Protocol) → AreFree low high es ports → AreAlike low high ports → IsRange (range_of ports x) → (port : ℕ) → is_available (range_of ports x) port ≡ is_open_in es ports.tcp.owned x port
+available-is low high es ports x free alike is port =
+    ap (λ b. b && is_owned (range_of ports x) port) (free (key_of x port))
+    ∙ flip (is_within low high port) (is_free_in es x port) (is_owned (range_of ports x) port) within
+    ∙ ap (λ b. b && is_free_in es x port) (owned x)
+  where
+    owned : (x : Protocol) → is_owned (range_of ports x) port ≡ is_listed port ports.tcp.owned
+    owned Tcp = refl
+    owned Udp = alike.owned port
+
+    lows : (x : Protocol) → (range_of ports x).lowest ≡ low
+    lows Tcp = alike.tcp_low
+    lows Udp = alike.udp_low
+
+    highs : (x : Protocol) → (range_of ports x).highest ≡ high
+    highs Tcp = alike.tcp_high
+    highs Udp = alike.udp_high
+
+    within : is_owned (range_of ports x) port ≡ true → is_within low high port ≡ true
+    within h = ap (λ n. is_within n high port) (sym (lows x)) ∙ ap (λ n. is_within (range_of ports x).lowest n port) (sym (highs x)) ∙ is.owned port h
+
+pub chosen-is : (es : List Entry) (zero one : PortBounds) (ports : Ports) (x : Protocol) (parity : Parity) → AreFree (lowest_of zero one) (highest_of zero one) es ports → AreAlike (lowest_of zero one) (highest_of zero one) ports → IsRange (range_of ports x) → chosen_of (range_of ports x) parity ≡ chosen_port es ports.tcp.owned zero one x parity
+chosen-is es zero one ports x parity free alike is =
+    chosen-same (is_available (range_of ports x)) (is_open_in es ports.tcp.owned x) (range_of ports x).lowest (range_of ports x).highest parity (available-is (lowest_of zero one) (highest_of zero one) es ports x free alike is)
+    ∙ ap (λ n. chosen_open (is_open_in es ports.tcp.owned x) n (range_of ports x).highest parity) (lows x)
+    ∙ ap (λ n. chosen_open (is_open_in es ports.tcp.owned x) (lowest_of zero one) n parity) (highs x)
+  where
+    lows : (x : Protocol) → (range_of ports x).lowest ≡ lowest_of zero one
+    lows Tcp = alike.tcp_low
+    lows Udp = alike.udp_low
+
+    highs : (x : Protocol) → (range_of ports x).highest ≡ highest_of zero one
+    highs Tcp = alike.tcp_high
+    highs Udp = alike.udp_high
+
+-- the ranges stay alike
+pub alike-same : (low high : ℕ) (old new : Ports) → AreAlike low high old → SameBounds old new → SameOwned old new → AreAlike low high new
+alike-same low high old new a b o = record {
+  tcp_low = b.tcp_low ∙ a.tcp_low;
+  tcp_high = b.tcp_high ∙ a.tcp_high;
+  udp_low = b.udp_low ∙ a.udp_low;
+  udp_high = b.udp_high ∙ a.udp_high;
+  owned = λ port. ap (is_listed port) o.udp ∙ a.owned port ∙ sym (ap (is_listed port) o.tcp);
+}

@@ -1,0 +1,42 @@
+-- Lists of entries by protocol (tcp first) and port, and what a change makes of them.
+use Rattle.std.specs.Prelude.{◌≡◌, ℕ, ◌≤◌, zero, suc, true, cond, not, nat_lt, List, [], ◌∷◌, map, if◌then◌else◌, Some}
+use Rattle.std.specs.List.{filter}
+use Rattle.nat_types.specs.declared.pairs.EntryState.{EntryState}
+use Rattle.nat_types.specs.declared.pairs.Key.{Key}
+use Rattle.nat_types.specs.declared.pairs.Pair.{Pair}
+use Rattle.bindings.specs.declared.entries.Entry.{Entry}
+use Rattle.bindings.specs.Entries.{is_pair, has_key, slot_of, entry_in, place_of}
+
+-- how many entries stand before a pair's place
+abbrev pub place_in : Pair → List Entry → ℕ
+place_in p [] = zero
+place_in p (x ∷ xs) = (if nat_lt (place_of p) (place_of x.pair) then zero else suc (place_in p xs))
+
+-- the entries with one more, at its place
+abbrev pub put_in : Entry → List Entry → List Entry
+put_in e [] = e ∷ []
+put_in e (x ∷ xs) = (if nat_lt (place_of e.pair) (place_of x.pair) then e ∷ x ∷ xs else x ∷ put_in e xs)
+
+-- the entries but that of the key
+abbrev pub without : Key → List Entry → List Entry
+without key es = filter (λ e. not (has_key key e)) es
+
+-- the entries, that of the key in another state
+abbrev pub with_state : Key → EntryState → List Entry → List Entry
+with_state key state es = map (λ e. cond (has_key key e) (entry_in state e.pair) e) es
+
+-- no entry stands before this place, or before the one in front of it
+abbrev pub Rises : ℕ → List Entry → Type 0
+Rises low [] = Unit {0}
+Rises low (x ∷ xs) = (low ≤ place_of x.pair) × Rises (place_of x.pair) xs
+
+-- by protocol (tcp first) and port
+abbrev pub AreInOrder : List Entry → Type 0
+AreInOrder es = Rises 0 es
+
+-- No two keys have entries that serve one endpoint, Doomed ones aside.
+abbrev pub IsOneToOne : List Entry → Type 0
+IsOneToOne es =
+    (k q : Key) (x y : Entry)
+    → slot_of es k ≡ Some x → slot_of es q ≡ Some y → is_pair x.state ≡ true → is_pair y.state ≡ true
+    → x.pair.endpoint ≡ y.pair.endpoint → k ≡ q

@@ -1,0 +1,53 @@
+-- The lives of a table's entries: the first entry has the first life, and so on.
+use Rattle.std.specs.Prelude.{◌≡◌, ℕ, Bool, false, ◌&&◌, List, [], ◌∷◌, Option, Some, None, slice_index_or, slice_set, if◌then◌else◌}
+use Rattle.nat_types.specs.declared.pairs.Key.{Key}
+use Rattle.nat_types.specs.Same.{same_key}
+use Rattle.addresses.specs.declared.transport.Protocol.{Protocol}
+use Rattle.lives.specs.Lives.{Past, Life, Agrees, looks_idle}
+use Rattle.std.specs.List.{list_any}
+use Rattle.bindings.specs.declared.entries.Entry.{Entry}
+use Rattle.bindings.specs.Entries.{has_key, translates}
+
+-- the life of a key's entry
+abbrev pub life_in : List Entry → List Life → Key → Option Life
+life_in [] ls key = None
+life_in (e ∷ es) [] key = None
+life_in (e ∷ es) (l ∷ ls) key = (if has_key key e then Some l else life_in es ls key)
+
+-- the lives but that of the key
+abbrev pub lives_without : Key → List Entry → List Life → List Life
+lives_without key [] ls = ls
+lives_without key (e ∷ es) [] = []
+lives_without key (e ∷ es) (l ∷ ls) = (if has_key key e then ls else l ∷ lives_without key es ls)
+
+-- the entry of a key agrees with a past
+abbrev pub HasPast : List Entry → List Life → Key → Past → Type 0
+HasPast es ls key past = (life : Life) × (life_in es ls key ≡ Some life) × Agrees key.protocol past life
+
+-- Entry by entry, what stood at a key's entry stands there still, but for this key.
+abbrev pub KeepsOthers : Key → List Entry → List Life → List Entry → List Life → Type 0
+KeepsOthers key es ls es2 ls2 =
+    (q : Key) (past : Past) → same_key key q ≡ false → HasPast es ls q past → HasPast es2 ls2 q past
+
+-- the life at a place was written, and its past went on
+pub record IsLifeSet (protocol : Protocol) (goes : Past → Past) (old new : List Life) (i : ℕ) : Type 0 where
+  pub life : Life
+  pub written : new ≡ slice_set old i life
+  pub agrees : (past : Past) → Agrees protocol past (slice_index_or old i life) → Agrees protocol (goes past) life
+
+-- ---- idle pairs
+
+-- an entry with this life translates and is idle
+abbrev pub is_idle_row : ℕ → Entry → Life → Bool
+is_idle_row now e l = translates e.state && looks_idle e.pair.key.protocol l now
+
+-- the keys of the idle Live and Held entries, in the order of the list
+abbrev pub idle_keys_in : ℕ → List Entry → List Life → List Key
+idle_keys_in now [] ls = []
+idle_keys_in now (e ∷ es) [] = []
+idle_keys_in now (e ∷ es) (l ∷ ls) =
+    (if is_idle_row now e l then e.pair.key ∷ idle_keys_in now es ls else idle_keys_in now es ls)
+
+-- a key stands among these
+abbrev pub is_among : Key → List Key → Bool
+is_among key keys = list_any (λ k. same_key k key) keys

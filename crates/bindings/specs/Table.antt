@@ -1,0 +1,81 @@
+-- What callers see of a table.
+use Rattle.std.specs.Prelude.{◌≡◌, ℕ, ◌≤◌, Bool, true, Some, List, length}
+use Rattle.std.specs.List.{insert}
+use Rattle.nat_types.specs.declared.pairs.EntryState.{EntryState}
+use Rattle.nat_types.specs.declared.pairs.Key.{Key}
+use Rattle.lives.specs.Lives.{Past, Life}
+use Rattle.port_range.specs.Ports.{is_listed}
+use Rattle.bindings.specs.declared.entries.Entry.{Entry}
+use Rattle.bindings.specs.declared.entries.PortBounds.{PortBounds}
+use Rattle.bindings.specs.declared.ports.Ports.{Ports}
+use Rattle.bindings.specs.Entries.{slot_of, HasDistinctKeys, HasDistinctEndpoints}
+use Rattle.bindings.specs.Lists.{AreInOrder, IsOneToOne, place_in, put_in, without, with_state}
+use Rattle.bindings.specs.Ports.{AreAlike, AreFree, in_either, lowest_of, highest_of, key_count}
+use Rattle.bindings.specs.Lives.{HasPast, lives_without, idle_keys_in}
+
+-- A table: its entries by protocol (tcp first) and port, their lives, the ports that the gateway owns, the ranges of
+-- both gateways, how many entries it has room for, and for how many more adds it is ready.
+pub record Table : Type 0 where
+  pub entries : List Entry
+  pub lives : List Life
+  pub owned : List ℕ
+  pub zero : PortBounds
+  pub one : PortBounds
+  pub capacity : ℕ
+  pub ready : ℕ
+
+-- the gateway owns a port
+abbrev pub owns : Table → ℕ → Bool
+owns t port = is_listed port t.owned
+
+-- the entry of a key agrees with a past
+abbrev pub IsPast : Table → Key → Past → Type 0
+IsPast t key past = HasPast t.entries t.lives key past
+
+-- the keys of its idle Live and Held entries, by protocol and port
+abbrev pub idle_keys_of : Table → ℕ → List Key
+idle_keys_of t now = idle_keys_in now t.entries t.lives
+
+-- what each table keeps
+pub record IsTable (t : Table) : Type 0 where
+  pub order : AreInOrder t.entries
+  pub keys : HasDistinctKeys t.entries
+  pub endpoints : HasDistinctEndpoints t.entries
+  pub one_to_one : IsOneToOne t.entries
+  pub lives : length t.lives ≡ length t.entries
+  pub within : length t.entries ≤ t.capacity
+  pub room : t.capacity ≡ key_count t.zero t.one
+  pub owned : (port : ℕ) → owns t port ≡ true → in_either t.zero t.one port ≡ true
+
+-- each entry's port lies in one of the ranges
+abbrev pub AreInRanges : Table → Type 0
+AreInRanges t = (key : Key) (entry : Entry) → slot_of t.entries key ≡ Some entry → in_either t.zero t.one key.port.0 ≡ true
+
+-- the table with one more entry and its life
+abbrev pub with_entry : Table → Entry → Life → Table
+with_entry t e life = record t {
+  entries = put_in e t.entries;
+  lives = insert t.lives (place_in e.pair t.entries) life;
+}
+
+-- the table with a key's entry in another state
+abbrev pub with_entry_state : Table → Key → EntryState → Table
+with_entry_state t key state = record t { entries = with_state key state t.entries }
+
+-- the table without a key's entry
+abbrev pub without_entry : Table → Key → Table
+without_entry t key = record t { entries = without key t.entries; lives = lives_without key t.entries t.lives }
+
+-- The fields keep the same, with room in the lists for all that may come.
+pub record IsStored (entries : List Entry) (lives : List Life) (ports : Ports) (zero one : PortBounds) (capacity entry_room life_room : ℕ) : Type 0 where
+  pub order : AreInOrder entries
+  pub keys : HasDistinctKeys entries
+  pub endpoints : HasDistinctEndpoints entries
+  pub alike : length lives ≡ length entries
+  pub within : length entries ≤ capacity
+  pub room : capacity ≡ key_count zero one
+  pub entries_fit : capacity ≤ entry_room
+  pub lives_fit : capacity ≤ life_room
+  pub same : AreAlike (lowest_of zero one) (highest_of zero one) ports
+  pub free : AreFree (lowest_of zero one) (highest_of zero one) entries ports
+  pub owned : (port : ℕ) → is_listed port ports.tcp.owned ≡ true → in_either zero one port ≡ true

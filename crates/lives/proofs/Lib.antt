@@ -1,0 +1,4 @@
+pub mod Items
+pub mod Segments
+pub mod Pasts
+pub mod Resting

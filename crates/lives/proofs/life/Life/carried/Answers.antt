@@ -1,0 +1,11 @@
+use Rattle.std.proofs.Common.{refl}
+use Rattle.lives.proofs.Pasts.{agrees-udp, agrees-tcp}
+use Rattle.lives.proofs.life.Life.carried.Goals as goal
+
+pub returns-in-Udp : goal.returns-in-Udp
+returns-in-Udp c = rw (c.in-Udp.is) (λ past agrees. agrees-udp past _ c.args.packet refl refl)
+
+pub returns-in-Tcp : goal.returns-in-Tcp
+returns-in-Tcp c =
+    rw (c.in-Tcp.is, ← c.self.view_is)
+    (λ past agrees. agrees-tcp past _ _ c.args.packet c.follow-nowhere.result agrees refl refl c.follow-nowhere.ensures.sessions c.follow-nowhere.ensures.nowhere refl)

@@ -1,0 +1,6 @@
+pub mod Packets
+pub mod Sessions
+pub mod Places
+pub mod Kept
+pub mod Lives
+pub mod Rests
