@@ -9,10 +9,10 @@ use Rattle.nat_types.specs.declared.pairs.EntryState.TheVariants as state
 use Rattle.nat_types.specs.declared.pairs.Endpoint.{Endpoint}
 use Rattle.nat_types.specs.declared.pairs.Key.{Key}
 use Rattle.nat_types.specs.declared.pairs.Pair.{Pair}
-use Rattle.bindings.specs.declared.entries.Entry.{Entry}
-use Rattle.bindings.specs.Entries.{slot_of, entry_in, pairs_in, is_pair, translates, HasDistinctKeys}
-use Rattle.bindings.proofs.Slots.{slot-key}
-use Rattle.bindings.proofs.Members.{listed-slot, slot-listed}
+use Rattle.lone_table.specs.declared.entries.Entry.{Entry}
+use Rattle.lone_table.specs.Entries.{slot_of, entry_in, pairs_in, is_pair, translates, HasDistinctKeys}
+use Rattle.lone_table.proofs.Slots.{slot-key}
+use Rattle.lone_table.proofs.Members.{listed-slot, slot-listed}
 use Rattle.settings.specs.Ranges.{of_gateway}
 use Rattle.trace_words.specs.Past.{is_synced}
 use Rattle.trace_words.specs.Trace.{Kept, GoesOn}

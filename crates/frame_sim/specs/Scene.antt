@@ -4,7 +4,7 @@ use Rattle.nat_types.specs.declared.gateways.GatewayId.{GatewayId}
 use Rattle.nat_types.specs.declared.gateways.GatewayId.TheVariants.{Zero, One}
 use Rattle.settings.specs.declared.ranges.PortRange.{PortRange}
 use Rattle.settings.specs.declared.ranges.PortRanges.{PortRanges}
-use Rattle.bindings.specs.Entries.{IsTable}
+use Rattle.lone_table.specs.Entries.{IsTable}
 use Rattle.pair_machine.specs.Box.{Box, never}
 use Rattle.pair_machine.specs.Ownership.{Ranges, fixed, in_run}
 use Rattle.pair_machine.specs.World.{Scene, IsWorld}

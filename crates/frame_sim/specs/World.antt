@@ -5,8 +5,8 @@ use Rattle.nat_types.specs.declared.gateways.GatewayId.{GatewayId}
 use Rattle.nat_types.specs.declared.gateways.GatewayId.TheVariants.{Zero, One}
 use Rattle.nat_types.specs.declared.notes.Note.{Note}
 use Rattle.nat_types.specs.declared.pairs.Pair.{Pair}
-use Rattle.bindings.specs.declared.entries.Entry.{Entry}
-use Rattle.bindings.specs.Entries.{pairs_in, is_pair, translates}
+use Rattle.lone_table.specs.declared.entries.Entry.{Entry}
+use Rattle.lone_table.specs.Entries.{pairs_in, is_pair, translates}
 use Rattle.settings.specs.Ranges.{of_gateway}
 use Rattle.settings.specs.declared.ranges.PortRanges.{PortRanges}
 use Rattle.settings.specs.declared.whole.Settings.{Settings}

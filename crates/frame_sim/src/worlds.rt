@@ -1,7 +1,7 @@
 //! The world of a script: two gateways, what happens to them, and the trace of their notes.
 ghost use Rattle.std.specs.Prelude.{◌≡◌, ◌+◌, ◌≤◌, ◌++◌, drop, length, vec_len, vec_capacity, is_some, Some, IfOk, IfErr, OnOk, OnErr};
 ghost use Rattle.std.specs.List.Sorted.{IsPermutation, IsNonDecreasingBy};
-ghost use Rattle.bindings.specs.Entries.{pairs_in, is_pair, translates, place_of};
+ghost use Rattle.lone_table.specs.Entries.{pairs_in, is_pair, translates, place_of};
 ghost use Rattle.settings.specs.Ranges.{of_gateway};
 ghost use Rattle.trace_words.specs.Trace.{Fits, Silent, Kept, GoesOn};
 ghost use Rattle.gateway.specs.Machine.{IsMachineStep};

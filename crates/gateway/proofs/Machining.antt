@@ -5,10 +5,10 @@ use Rattle.addresses.specs.Transport.{parity_of}
 use Rattle.nat_types.specs.declared.gateways.Side.{Side}
 use Rattle.nat_types.specs.declared.pairs.Key.{Key}
 use Rattle.nat_types.specs.declared.pairs.Endpoint.{Endpoint}
-use Rattle.bindings.specs.declared.entries.Entry.{Entry}
-use Rattle.bindings.specs.Entries.{Bindings, IsTable, slot_of, entry_of, translates, is_pair}
-use Rattle.bindings.proofs.Slots.{slot-key, found-slot}
-use Rattle.bindings.proofs.Choice.{chosen-free, chosen-within}
+use Rattle.lone_table.specs.declared.entries.Entry.{Entry}
+use Rattle.lone_table.specs.Entries.{Bindings, IsTable, slot_of, entry_of, translates, is_pair}
+use Rattle.lone_table.proofs.Slots.{slot-key, found-slot}
+use Rattle.lone_table.proofs.Choice.{chosen-free, chosen-within}
 use Rattle.pair_machine.specs.Talk as machine
 use Rattle.pair_machine.specs.Ownership.{Ranges, no_port}
 use Rattle.nat_types.proofs.Equal.{key-self}
@@ -20,7 +20,7 @@ use Rattle.packet_path.specs.declared.networks.Direction.{Direction}
 use Rattle.packet_path.specs.declared.networks.Direction.TheVariants.{Outward, Inward}
 use Rattle.ipv4.specs.declared.flows.Flow.{Flow}
 use Rattle.addresses.specs.declared.transport.Port.{Port}
-use Rattle.bindings.specs.declared.entries.PortBounds.{PortBounds}
+use Rattle.lone_table.specs.declared.entries.PortBounds.{PortBounds}
 use Rattle.gateway.specs.declared.choices.Choice.{Choice}
 use Rattle.gateway.specs.declared.choices.Choice.TheVariants.{Known, New}
 use Rattle.gateway.specs.declared.plans.Plan.{Plan}

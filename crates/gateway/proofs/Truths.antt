@@ -8,9 +8,9 @@ use Rattle.nat_types.specs.declared.gateways.Side.TheVariants.{Inside, Outside}
 use Rattle.nat_types.specs.declared.pairs.Endpoint.{Endpoint}
 use Rattle.nat_types.specs.declared.pairs.Key.{Key}
 use Rattle.nat_types.specs.declared.pairs.Pair.{Pair}
-use Rattle.bindings.specs.Entries.{Bindings, slot_of, entry_of, is_pair, translates}
-use Rattle.bindings.specs.declared.entries.Entry.{Entry}
-use Rattle.bindings.proofs.Slots.{entry-serves, slot-key}
+use Rattle.lone_table.specs.Entries.{Bindings, slot_of, entry_of, is_pair, translates}
+use Rattle.lone_table.specs.declared.entries.Entry.{Entry}
+use Rattle.lone_table.proofs.Slots.{entry-serves, slot-key}
 use Rattle.frames.specs.Frame.{frame_of, header_bytes}
 use Rattle.rewrite.specs.Translated.{outward_of, inward_of}
 use Rattle.packet_path.specs.declared.reasons.Reason.{Reason}

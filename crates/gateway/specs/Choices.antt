@@ -7,9 +7,9 @@ use Rattle.nat_types.specs.declared.pairs.Pair.{Pair}
 use Rattle.addresses.specs.declared.transport.Port.{Port}
 use Rattle.addresses.specs.declared.transport.Protocol.TheVariants.{Udp}
 use Rattle.nat_types.specs.declared.pairs.EntryState.TheVariants.{Live}
-use Rattle.bindings.specs.Entries.{Bindings, slot_of, entry_of, entry_in, with_entry, is_pair, translates}
-use Rattle.bindings.specs.Ports.{chosen_port}
-use Rattle.bindings.specs.declared.entries.Entry.{Entry}
+use Rattle.lone_table.specs.Entries.{Bindings, slot_of, entry_of, entry_in, with_entry, is_pair, translates}
+use Rattle.lone_table.specs.Ports.{chosen_port}
+use Rattle.lone_table.specs.declared.entries.Entry.{Entry}
 use Rattle.packet_path.specs.declared.reasons.Reason.{Reason}
 use Rattle.packet_path.specs.declared.reasons.Reason.TheVariants.{NoBinding, NoPort, CannotWait}
 use Rattle.gateway.specs.declared.choices.Choice.{Choice}

@@ -8,9 +8,9 @@ use Rattle.settings.specs.declared.ranges.PortRange.{PortRange}
 use Rattle.settings.specs.declared.whole.Settings.{Settings}
 use Rattle.settings.specs.Ranges.{of_gateway}
 use Rattle.settings.specs.Parts.{gateway_of}
-use Rattle.bindings.specs.Entries.{Bindings}
-use Rattle.bindings.specs.declared.entries.Entry.{Entry}
-use Rattle.bindings.specs.declared.entries.PortBounds.{PortBounds}
+use Rattle.lone_table.specs.Entries.{Bindings}
+use Rattle.lone_table.specs.declared.entries.Entry.{Entry}
+use Rattle.lone_table.specs.declared.entries.PortBounds.{PortBounds}
 use Rattle.packet_path.specs.declared.networks.Networks.{Networks}
 
 -- who it is and in which life, what it is set up with, whether it is synced, its clock's moment,

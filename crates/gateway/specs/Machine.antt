@@ -1,9 +1,9 @@
 -- A gateway as the pair machine sees it.
 use Rattle.std.specs.Prelude.{◌≡◌, ℕ, Bool, true, false, cond, List, [], ◌++◌, reverse, Option, Some, None}
 use Rattle.nat_types.specs.declared.pairs.Key.{Key}
-use Rattle.bindings.specs.declared.entries.Entry.{Entry}
-use Rattle.bindings.specs.declared.entries.PortBounds.{PortBounds}
-use Rattle.bindings.specs.Entries.{slot_of}
+use Rattle.lone_table.specs.declared.entries.Entry.{Entry}
+use Rattle.lone_table.specs.declared.entries.PortBounds.{PortBounds}
+use Rattle.lone_table.specs.Entries.{slot_of}
 use Rattle.pair_machine.specs.Talk as machine
 use Rattle.pair_machine.specs.Mapped.{slot_in}
 use Rattle.pair_machine.specs.Box.{Box}

@@ -4,7 +4,7 @@ use Rattle.addresses.specs.declared.ethernet.Mac.{Mac}
 use Rattle.nat_types.specs.declared.gateways.Side.{Side}
 use Rattle.nat_types.specs.declared.gateways.Side.TheVariants.{Inside, Outside}
 use Rattle.settings.specs.declared.interfaces.Neighbour.{Neighbour}
-use Rattle.bindings.specs.Entries.{Bindings}
+use Rattle.lone_table.specs.Entries.{Bindings}
 use Rattle.packet_path.specs.declared.reasons.Reason.{Reason}
 use Rattle.packet_path.specs.declared.reasons.Reason.TheVariants.{CannotWait}
 use Rattle.gateway.specs.declared.outcomes.Outcome.{Outcome}

@@ -1,11 +1,11 @@
 //! Which pair a packet takes.
 ghost use Rattle.std.specs.Prelude.{◌≡◌, IfOk, None};
 ghost use Rattle.addresses.specs.declared.transport.Protocol.TheVariants.{Udp};
-ghost use Rattle.bindings.specs.Entries.{Bindings, translates as translates_in, entry_of};
+ghost use Rattle.lone_table.specs.Entries.{Bindings, translates as translates_in, entry_of};
 ghost use Rattle.gateway.specs.Choices.{chosen_pair, known_choice, port_for, new_choice, outward_choice, inward_choice, IsAllowed};
 
 use crate::Reason;
-use bindings::{Entry, Table};
+use lone_table::{Entry, Table};
 use nat_types::{Endpoint, EntryState, Key, Pair};
 
 /// The pair that a packet takes.

@@ -10,7 +10,7 @@ ghost use Rattle.gateway.specs.Verdict.{outward_plan, inward_plan, planned_frame
 use crate::choices::{Choice, choose_inward, choose_outward};
 use crate::{Direction, Networks, NoMemory, Reason};
 use addresses::Mac;
-use bindings::Table;
+use lone_table::Table;
 use ipv4::Flow;
 use nat_types::Side;
 use packet_path::{append_sent, neighbour_mac, next_hop_outside, source_endpoint, target_key};

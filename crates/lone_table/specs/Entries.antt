@@ -1,0 +1,102 @@
+-- A table of pairs: a list of entries with distinct keys, and distinct endpoints except Doomed ones.
+use Rattle.std.specs.Prelude.{◌≡◌, ℕ, ◌+◌, ◌*◌, ◌≤◌, Bool, true, false, ◌&&◌, Option, Some, None, is_some, nat_le, List, [], ◌∷◌, ◌++◌, length, map, if◌then◌else◌}
+use Rattle.std.specs.List.{find, filter}
+use Rattle.nat_types.specs.declared.pairs.EntryState.{EntryState}
+use Rattle.nat_types.specs.declared.pairs.EntryState.TheVariants.{Pending, Doomed, Live, Closing, Held}
+use Rattle.nat_types.specs.declared.pairs.Endpoint.{Endpoint}
+use Rattle.nat_types.specs.declared.pairs.Key.{Key}
+use Rattle.nat_types.specs.declared.pairs.Pair.{Pair}
+use Rattle.addresses.specs.Transport.{protocol_number}
+use Rattle.nat_types.specs.Same.{same_key, same_endpoint}
+use Rattle.lone_table.specs.declared.entries.Entry.{Entry}
+use Rattle.lone_table.specs.declared.entries.TableFault.{TableFault}
+use Rattle.lone_table.specs.declared.entries.TableFault.TheVariants.{Full, PortTaken, EndpointTaken}
+use Rattle.lone_table.specs.declared.entries.PortBounds.{PortBounds}
+
+-- a proposal given up is no pair of the table
+abbrev pub is_pair : EntryState → Bool
+is_pair Pending = true
+is_pair Doomed = false
+is_pair Live = true
+is_pair Closing = true
+is_pair Held = true
+
+-- packets are translated by the pair
+abbrev pub translates : EntryState → Bool
+translates Pending = false
+translates Doomed = false
+translates Live = true
+translates Closing = false
+translates Held = true
+
+-- the entry has the key
+abbrev pub has_key : Key → Entry → Bool
+has_key key e = same_key e.pair.key key
+
+-- the entry is a pair that serves the endpoint
+abbrev pub serves : Endpoint → Entry → Bool
+serves x e = is_pair e.state && same_endpoint e.pair.endpoint x
+
+-- the entry of a key
+abbrev pub slot_of : List Entry → Key → Option Entry
+slot_of entries key = find (has_key key) entries
+
+-- the entry of an endpoint, a Doomed one aside
+abbrev pub entry_of : List Entry → Endpoint → Option Entry
+entry_of entries x = find (serves x) entries
+
+-- the same slots but for this key
+abbrev pub set_at : (Key → Option Entry) → Key → Option Entry → Key → Option Entry
+set_at slots key slot q = (if same_key key q then slot else slots q)
+
+-- no key has two entries
+abbrev pub HasDistinctKeys : List Entry → Type 0
+HasDistinctKeys [] = Unit {0}
+HasDistinctKeys (e ∷ es) = (slot_of es e.pair.key ≡ None) × HasDistinctKeys es
+
+-- no endpoint has two entries, Doomed ones aside
+abbrev pub HasDistinctEndpoints : List Entry → Type 0
+HasDistinctEndpoints [] = Unit {0}
+HasDistinctEndpoints (e ∷ es) = (is_pair e.state ≡ true → entry_of es e.pair.endpoint ≡ None) × HasDistinctEndpoints es
+
+-- what callers see of a table: its entries in the order in which they came, how many it has room for, and the own range
+pub record Bindings : Type 0 where
+  pub entries : List Entry
+  pub capacity : ℕ
+  pub own : PortBounds
+
+pub record IsTable (t : Bindings) : Type 0 where
+  pub keys : HasDistinctKeys t.entries
+  pub endpoints : HasDistinctEndpoints t.entries
+  pub within : length t.entries ≤ t.capacity
+
+-- the fields keep the same, with room in the list for all that may come
+pub record IsStored (entries : List Entry) (capacity room : ℕ) : Type 0 where
+  pub keys : HasDistinctKeys entries
+  pub endpoints : HasDistinctEndpoints entries
+  pub within : length entries ≤ capacity
+  pub reserved : capacity ≤ room
+
+-- why an entry can't come into a table of that capacity: the first reason that holds
+abbrev pub refusal_of : ℕ → List Entry → Entry → Option TableFault
+refusal_of capacity entries e =
+    (if nat_le capacity (length entries) then Some Full
+    else (if is_some (slot_of entries e.pair.key) then Some PortTaken
+    else (if is_pair e.state && is_some (entry_of entries e.pair.endpoint) then Some EndpointTaken
+    else None)))
+
+-- a pair's entry in that state
+abbrev pub entry_in : EntryState → Pair → Entry
+entry_in state pair = record { pair = pair; state = state }
+
+-- the table with one more entry
+abbrev pub with_entry : Bindings → Entry → Bindings
+with_entry t e = record t { entries = t.entries ++ e ∷ [] }
+
+-- the pairs of those entries whose state passes a test
+abbrev pub pairs_in : (EntryState → Bool) → List Entry → List Pair
+pairs_in test entries = map (λ e. e.pair) (filter (λ e. test e.state) entries)
+
+-- a pair's place in the order by protocol (tcp first) and port
+abbrev pub place_of : Pair → ℕ
+place_of p = 65536 * protocol_number p.key.protocol + p.key.port.0
