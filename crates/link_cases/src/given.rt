@@ -26,9 +26,9 @@ impl<'a> Given<'a> {
         Ok(*word)
     }
 
-    /// Whether no word is left.
-    pub fn is_done(&self) -> bool {
-        self.next >= self.words.len()
+    /// The words that are still to be read.
+    pub fn left(&self) -> &'a [&'a str] {
+        self.words.get(self.next..).unwrap_or(&[])
     }
 
     /// The bytes that pairs of hexadecimal digits spell, or none for `-`.

@@ -2,7 +2,6 @@
 //! it is refused. A line of a file is empty, begins with `#`, or has a name, a call and what is given to it.
 #![tactic(auto)]
 
-mod ends;
 mod given;
 mod single;
 
@@ -16,7 +15,6 @@ fn answer(given: &mut Given) -> Result<String> {
     match given.word()? {
         "parse" => single::parsed(given),
         "take" => single::taken(given),
-        "run" => ends::ran(given),
         call => bail!("no call {call}"),
     }
 }

@@ -2,14 +2,6 @@
 use crate::given::Given;
 use anyhow::{Result, bail};
 use link::{Datagram, Link, parse, write};
-use std::alloc::Global;
-
-/// The bytes of a datagram, in hexadecimal.
-pub fn spelled(alloc: Global, datagram: &Datagram) -> Result<String> {
-    let mut bytes = Vec::new(alloc);
-    write(datagram, &mut bytes)?;
-    Ok(hex::encode(alloc, bytes.as_slice())?)
-}
 
 /// `parse HEX`: the fields, how many records there are, and whether it is written as it was read.
 pub fn parsed(given: &mut Given) -> Result<String> {
@@ -47,9 +39,9 @@ pub fn taken(given: &mut Given) -> Result<String> {
     let mut link = Link::new(alloc, id, boot, capacity)?;
     let mut out = String::new(alloc);
     let mut now = 0u64;
-    while !given.is_done() {
+    for word in given.left() {
         now = now.saturating_add(1);
-        let bytes = given.bytes()?;
+        let bytes = hex::decode(alloc, *word)?;
         match link.take(bytes.as_slice(), now) {
             Ok(taken) if taken.restarted => {
                 let count = taken.records.len();
