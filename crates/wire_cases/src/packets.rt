@@ -19,7 +19,8 @@ pub fn frame(alloc: Global, bytes: &[u8]) -> Result<String> {
 
 pub fn write_frame(given: &mut Given) -> Result<String> {
     let mut bytes = given.bytes()?;
-    let mut frame = EthViewMut::parse(bytes.as_mut_slice()).map_err(|refused| refused.fault)?;
+    EthView::parse(bytes.as_slice())?;
+    let mut frame = EthViewMut::new(bytes.as_mut_slice());
     frame.set_dst(given.mac()?);
     frame.set_src(given.mac()?);
     frame.set_ethertype(EtherType(given.short()?));
@@ -29,7 +30,8 @@ pub fn write_frame(given: &mut Given) -> Result<String> {
 /// The same header over a body whose bytes are all the given one, after a look at the header lent.
 pub fn write_body(given: &mut Given) -> Result<String> {
     let mut bytes = given.bytes()?;
-    let frame = EthViewMut::parse(bytes.as_mut_slice()).map_err(|refused| refused.fault)?;
+    EthView::parse(bytes.as_slice())?;
+    let frame = EthViewMut::new(bytes.as_mut_slice());
     let kind = frame.ethertype().0;
     let (header, body) = frame.body_mut();
     let [byte] = given.octets::<1>()?;
@@ -88,7 +90,8 @@ fn tcp(alloc: Global, segment: &TcpView<'_>) -> Result<String> {
 
 pub fn write_ipv4(given: &mut Given) -> Result<String> {
     let mut bytes = given.bytes()?;
-    let mut header = Ipv4ViewMut::parse(bytes.as_mut_slice()).map_err(|refused| refused.fault)?;
+    Ipv4View::parse(bytes.as_slice())?;
+    let mut header = Ipv4ViewMut::new(bytes.as_mut_slice());
     header.set_ttl(u8::from_be_bytes(given.octets::<1>()?));
     header.set_checksum(given.short()?);
     header.set_source(given.ip()?);
@@ -98,7 +101,8 @@ pub fn write_ipv4(given: &mut Given) -> Result<String> {
 
 pub fn write_udp(given: &mut Given) -> Result<String> {
     let mut bytes = given.bytes()?;
-    let mut header = UdpViewMut::parse(bytes.as_mut_slice()).map_err(|refused| refused.fault)?;
+    UdpView::parse(bytes.as_slice())?;
+    let mut header = UdpViewMut::new(bytes.as_mut_slice());
     header.set_source_port(given.port()?);
     header.set_destination_port(given.port()?);
     header.set_checksum(given.short()?);
@@ -107,7 +111,8 @@ pub fn write_udp(given: &mut Given) -> Result<String> {
 
 pub fn write_tcp(given: &mut Given) -> Result<String> {
     let mut bytes = given.bytes()?;
-    let mut header = TcpViewMut::parse(bytes.as_mut_slice()).map_err(|refused| refused.fault)?;
+    TcpView::parse(bytes.as_slice())?;
+    let mut header = TcpViewMut::new(bytes.as_mut_slice());
     header.set_source_port(given.port()?);
     header.set_destination_port(given.port()?);
     header.set_checksum(given.short()?);
