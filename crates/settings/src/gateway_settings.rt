@@ -19,14 +19,17 @@ pub struct GatewaySettings {
     pub preempt: bool,
     /// The path of the file that keeps its boot number.
     pub boot_file: String,
-    /// The loopback UDP port on which it hears its peer.
+    /// The loopback UDP port on which it hears its peer, from 1.
     pub link: u16,
-    /// The loopback UDP port of its inside interface.
+    /// The loopback UDP port of its inside interface, from 1.
     pub inside_port: u16,
-    /// The loopback UDP port of its outside interface.
+    /// The loopback UDP port of its outside interface, from 1.
     pub outside_port: u16,
     ghost not_resigning: { 0 < priority },
     ghost not_owner: { priority < 255 },
     ghost advertising: { 0 < interval },
     ghost twelve_bits: { interval ≤ 4095 },
+    ghost link_numbered: { 0 < link },
+    ghost inside_numbered: { 0 < inside_port },
+    ghost outside_numbered: { 0 < outside_port },
 }

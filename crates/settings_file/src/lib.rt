@@ -1,0 +1,9 @@
+//! Reads the settings of a pair of gateways from a text in TOML.
+#![tactic(auto)]
+
+mod faults;
+mod keys;
+mod texts;
+
+pub use faults::SettingFault;
+pub use keys::{Key, Name, Section};
