@@ -1,2 +1,4 @@
+pub mod Document
+pub mod Faults
 pub mod Keys
 pub mod Texts

@@ -2,6 +2,7 @@
 #![tactic(auto)]
 
 mod faults;
+mod fields;
 mod keys;
 mod texts;
 
