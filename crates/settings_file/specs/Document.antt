@@ -1,6 +1,6 @@
 -- The values at the keys of a document, each read as its type and within its limits.
-use Rattle.std.specs.Prelude.{ℕ, ℤ, pos, ◌&&◌, nat_le, Bool, if◌then◌else◌, List, [], Option, Some, None, is_some, option_map, option_and_then}
-use Rattle.toml.specs.Data.{Data, string, integer, boolean, Members, get_member, as_str, as_bool, as_table}
+use Rattle.std.specs.Prelude.{ℕ, pos, ◌-◌, ◌/◌, ◌^◌, ◌==◌, ◌&&◌, nat_le, min, not, Bool, false, if◌then◌else◌, List, [], ◌∷◌, Option, Some, None, option_map, option_and_then}
+use Rattle.toml.specs.Data.{Data, integer, Items, no_items, item, Members, get_member, as_str, as_bool, as_table, as_array}
 use Rattle.settings_file.specs.declared.keys.Section.{Section}
 use Rattle.settings_file.specs.declared.keys.Name.{Name}
 use Rattle.settings_file.specs.Keys.{section_text, name_text}
@@ -39,3 +39,46 @@ address_at t section name = option_and_then address_of (text_at t section name)
 
 unfoldable pub mac_at : Members → Section → Name → Option (List ℕ)
 mac_at t section name = option_and_then mac_of (text_at t section name)
+
+-- a first and a last port, in that order
+abbrev pub in_order : Option ℕ → Option ℕ → Option (ℕ × ℕ)
+in_order (Some low) (Some high) = if nat_le low high then Some (low, high) else None
+in_order (Some low) None = None
+in_order None high = None
+
+abbrev pub range_items : List Data → Option (ℕ × ℕ)
+range_items (low ∷ high ∷ []) = in_order (number_in 1024 65535 low) (number_in 1024 65535 high)
+range_items _ = None
+
+-- the values of a list
+abbrev pub list_of : Items → List Data
+list_of no_items = []
+list_of (item d rest) = d ∷ list_of rest
+
+unfoldable pub list_in : Data → Option (List Data)
+list_in d = option_map list_of (as_array d)
+
+-- a list of two ports above the privileged ones
+abbrev pub range_of : Data → Option (ℕ × ℕ)
+range_of d = option_and_then range_items (list_in d)
+
+unfoldable pub range_at : Members → Section → Name → Option (ℕ × ℕ)
+range_at t section name = option_and_then range_of (value_of t section name)
+
+-- an address and the length of a prefix: those addresses that share as many first bits with it (RFC 4632)
+abbrev pub Network : Type 0
+Network = ℕ × ℕ
+
+unfoldable pub is_in : ℕ → ℕ → ℕ → Bool
+is_in address network length = address / 2 ^ (32 - length) == network / 2 ^ (32 - length)
+
+-- an address is there, and of the network
+abbrev pub is_host : Network → Option ℕ → Bool
+is_host network (Some address) = is_in address network.0 network.1
+is_host network None = false
+
+-- a prefix that shares no address with the network
+abbrev pub is_apart : Network → Option ℕ → Option ℕ → Bool
+is_apart network (Some address) (Some length) = not (is_in address network.0 (min network.1 length))
+is_apart network (Some address) None = false
+is_apart network None length = false

@@ -1,4 +1,6 @@
 pub mod Document
 pub mod Faults
 pub mod Keys
+pub mod Rows
 pub mod Texts
+pub mod Values

@@ -57,3 +57,14 @@ impl<T: Drop> From<AllocFailed<T>> for ValueFault {
         ValueFault::NoMemory
     }
 }
+
+impl From<Key> for ValueFault {
+    ghost use Rattle.std.specs.Prelude.{◌≡◌};
+    ghost use Rattle.settings_file.specs.declared.faults.ValueFault.TheVariants as faults;
+
+    ghost from_gives = { λ key fault. fault ≡ faults.BadValue key };
+
+    fn from(key: Key) -> ValueFault {
+        ValueFault::BadValue(key)
+    }
+}

@@ -3,7 +3,9 @@
 
 mod faults;
 mod fields;
+mod gateways;
 mod keys;
+mod sections;
 mod texts;
 
 pub use faults::SettingFault;
