@@ -5,6 +5,8 @@ use Rattle.settings_file.specs.declared.keys.Name.{Name}
 use Rattle.settings_file.specs.declared.keys.Key.{Key}
 use Rattle.settings_file.specs.declared.faults.ValueFault.{ValueFault}
 use Rattle.settings_file.specs.declared.faults.ValueFault.TheVariants.{BadValue, NoMemory}
+use Rattle.settings_file.specs.declared.faults.SettingFault.{SettingFault}
+use Rattle.settings_file.specs.declared.faults.SettingFault.TheVariants as faults
 use Rattle.settings_file.specs.Keys.{key}
 
 -- the key of a value that can't be read
@@ -25,3 +27,8 @@ earlier None rest = rest
 abbrev pub TellsFirst : Option Key → ValueFault → Type 0
 TellsFirst bad (BadValue k) = bad ≡ Some k
 TellsFirst bad NoMemory = Unit {0}
+
+-- the same fault, told to callers
+abbrev pub told : ValueFault → SettingFault
+told (BadValue k) = faults.BadValue k
+told NoMemory = faults.NoMemory

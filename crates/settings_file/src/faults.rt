@@ -68,3 +68,28 @@ impl From<Key> for ValueFault {
         ValueFault::BadValue(key)
     }
 }
+
+impl From<AllocError> for SettingFault {
+    ghost use Rattle.std.specs.Prelude.{◌≡◌};
+    ghost use Rattle.settings_file.specs.declared.faults.SettingFault.TheVariants as faults;
+
+    ghost from_gives = { λ _ fault. fault ≡ faults.NoMemory };
+
+    fn from(_: AllocError) -> SettingFault {
+        SettingFault::NoMemory
+    }
+}
+
+impl From<ValueFault> for SettingFault {
+    ghost use Rattle.std.specs.Prelude.{◌≡◌};
+    ghost use Rattle.settings_file.specs.Faults.{told};
+
+    ghost from_gives = { λ value fault. fault ≡ told value };
+
+    fn from(fault: ValueFault) -> SettingFault {
+        match fault {
+            ValueFault::BadValue(key) => SettingFault::BadValue(key),
+            ValueFault::NoMemory => SettingFault::NoMemory,
+        }
+    }
+}
