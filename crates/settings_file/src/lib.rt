@@ -16,3 +16,4 @@ mod values;
 
 pub use faults::SettingFault;
 pub use keys::{Key, Name, Section};
+pub use reading::read;

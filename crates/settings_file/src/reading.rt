@@ -1,5 +1,5 @@
 //! Reads settings.
-ghost use Rattle.std.specs.Prelude.{◌≡◌, None, IfOk, IfErr, OnOk};
+ghost use Rattle.std.specs.Prelude.{◌≡◌, Some, None, IfOk, IfErr, OnOk};
 ghost use Rattle.toml.specs.Parse.{parse_document};
 ghost use Rattle.toml.specs.View.{table_view};
 ghost use Rattle.settings_file.specs.Missing.{first_missing};
@@ -57,4 +57,41 @@ fn assemble(values: Values) -> Result<Settings, SettingFault>
         one: values.one,
         neighbours: values.neighbours,
     })
+}
+
+/// The settings of a document.
+#[tactic(auto, using(
+    crate::proofs::Agree::ports_agree,
+    crate::proofs::Agree::ids_agree,
+    crate::proofs::Agree::no_refusal,
+    crate::proofs::Agree::told_keys,
+    crate::proofs::Agree::told_values,
+    crate::proofs::Agree::refuses_ports,
+    crate::proofs::Agree::refuses_ids
+))]
+fn settings_of(alloc: Global, document: &Table) -> Result<Settings, SettingFault>
+    ensures free { OnOk result (refusal_of (table_view document.now) ≡ None) }
+    ensures values { IfOk result (HoldsValues (table_view document.now)) }
+    ensures err { IfErr result (Tells (Some (table_view document.now))) }
+{
+    check_keys(alloc, document)?;
+    let values = read_values(alloc, document)?;
+    assemble(values)
+}
+
+/// Reads settings from a text in TOML.
+///
+/// # Errors
+/// The first fault in this order: the text isn't TOML, an unknown key (of several the least path by bytes), a missing
+/// key, a bad value, port ranges that overlap, ids that the two gateways share; of missing keys and bad values the
+/// first in the order of the keys. `NoMemory` can come at any point.
+pub fn read(alloc: Global, text: &str) -> Result<Settings, SettingFault>
+    ensures ok { IfOk result (IsReadFrom (parse_document text.now)) }
+    ensures err { IfErr result (Tells (parse_document text.now)) }
+{
+    match toml::table_from_str(alloc, text) {
+        Ok(document) => settings_of(alloc, &document),
+        Err(fault) if fault.is_memory() => Err(SettingFault::NoMemory),
+        Err(_) => Err(SettingFault::NotToml),
+    }
 }
