@@ -82,7 +82,7 @@ fn entered<'m, 'a>(matches: &'m ArgMatches<'a>) -> Option<(&'a str, &'m ArgMatch
     matches.subcommand()
 }
 
-fn task(alloc: Global, name: &str, matches: &ArgMatches<'_>) -> Result<Task, LineFault>
+fn named_task(alloc: Global, name: &str, matches: &ArgMatches<'_>) -> Result<Task, LineFault>
     ensures ok { IfOk result (IsTask name.now (rows_of (found_of matches.now))) }
     ensures zero { IfOk result FoundsAtZero }
     ensures err { IfErr result (RefusesTask name.now (rows_of (found_of matches.now))) }
@@ -103,7 +103,7 @@ fn task_of(alloc: Global, matches: &ArgMatches<'_>) -> Result<Task, LineFault>
     ensures err { IfErr result (RefusesEntered (subcommand_rows_of matches.now)) }
 {
     match entered(matches) {
-        Some((name, values)) => task(alloc, name, values),
+        Some((name, values)) => named_task(alloc, name, values),
         None => Err(LineFault::NoCommand),
     }
 }

@@ -3,10 +3,10 @@
 
 mod edits;
 mod lines;
+mod lists;
 
 use anyhow::Result;
 use settings::Settings;
-use std::env;
 use std::fs;
 use std::io::{self, BufWriter, Write};
 
@@ -20,6 +20,8 @@ fn main(rt: HostRuntime) -> Result<()> {
     writeln!(output, "sample: {same}")?;
     let cases = fs::read_to_string(&rt, "settings.cases")?;
     edits::run(alloc, sample.as_str(), cases.as_str(), &mut output)?;
+    let cases = fs::read_to_string(&rt, "lists.cases")?;
+    lists::run(alloc, sample.as_str(), cases.as_str(), &mut output)?;
     let cases = fs::read_to_string(&rt, "lines.cases")?;
     lines::run(alloc, cases.as_str(), &mut output)?;
     output.flush()?;
