@@ -31,8 +31,24 @@ pub ids_agree : (t : Members) (zero one : GatewaySettings) (inside outside : ℕ
     → shares_id t ≡ same_ids zero one inside outside
 unfolding shares_id same_ids
 ids_agree t zero one inside outside z o i e =
-    rw (z.inside_ip_is, z.outside_ip_is, z.inside_mac_is, z.outside_mac_is, z.link_is, z.inside_port_is, z.outside_port_is,
-    o.inside_ip_is, o.outside_ip_is, o.inside_mac_is, o.outside_mac_is, o.link_is, o.inside_port_is, o.outside_port_is, i, e) refl
+    rw (
+      z.inside_ip_is,
+      z.outside_ip_is,
+      z.inside_mac_is,
+      z.outside_mac_is,
+      z.link_is,
+      z.inside_port_is,
+      z.outside_port_is,
+      o.inside_ip_is,
+      o.outside_ip_is,
+      o.inside_mac_is,
+      o.outside_mac_is,
+      o.link_is,
+      o.inside_port_is,
+      o.outside_port_is,
+      i,
+      e,
+    ) refl
 
 pub no_refusal : (t : Members) → first_unknown t ≡ None → first_missing t ≡ None → first_bad_value t ≡ None
     → shares_port t ≡ false → shares_id t ≡ false → refusal_of t ≡ None

@@ -8,8 +8,7 @@ ghost use Rattle.settings_file.specs.Document.{range_of, range_items, range_at, 
 ghost use Rattle.settings_file.specs.Faults.{IsBadAt, TellsFirst, first_bad};
 
 use crate::faults::ValueFault;
-use crate::texts;
-use crate::{Key, Name, Section};
+use crate::{Key, Name, Section, texts};
 use addresses::{Ip, Mac, Port, Prefix};
 use settings::PortRange;
 use std::alloc::{AllocError, Global};
@@ -201,8 +200,10 @@ pub(crate) fn host(
     ensures ok { IfOk result (λ ip. address_at (table_view document.now) section name ≡ Some ip.0) }
     ensures inside { OnOk result
         (is_host (network.address.0, network.length) (address_at (table_view document.now) section name) ≡ true) }
-    ensures err { IfErr result (TellsFirst (first_bad ((key section name,
-        is_host (network.address.0, network.length) (address_at (table_view document.now) section name)) ∷ []))) }
+    ensures err { IfErr result (TellsFirst (first_bad ((
+      key section name,
+      is_host (network.address.0, network.length) (address_at (table_view document.now) section name),
+    ) ∷ []))) }
 {
     let ip = address(alloc, document, section, name)?;
     if is_in(ip, network) {

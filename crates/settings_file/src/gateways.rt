@@ -8,8 +8,7 @@ ghost use Rattle.settings_file.specs.Rows.{bad_addresses, bad_role, bad_sockets,
 ghost use Rattle.settings_file.specs.Values.{IsGateway};
 
 use crate::faults::ValueFault;
-use crate::fields;
-use crate::{Name, Section};
+use crate::{Name, Section, fields};
 use addresses::{Ip, Mac, Prefix};
 use settings::GatewaySettings;
 use std::alloc::Global;

@@ -52,7 +52,12 @@ fn is_virtual(gateway: &GatewaySettings, inside: Ip, outside: Ip) -> bool
 
 /// Whether the two gateways share an address, a MAC or a loopback port, or one of them has a virtual address.
 #[tactic(auto, unfolding(crate::specs::Ids::same_ids))]
-pub(crate) fn same_ids(zero: &GatewaySettings, one: &GatewaySettings, inside: Ip, outside: Ip) -> bool
+pub(crate) fn same_ids(
+    zero: &GatewaySettings,
+    one: &GatewaySettings,
+    inside: Ip,
+    outside: Ip,
+) -> bool
     ensures { result ≡ same_ids zero.now one.now inside.0 outside.0 }
 {
     share_address(zero, one)

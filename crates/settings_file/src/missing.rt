@@ -4,9 +4,7 @@ ghost use Rattle.std.specs.List.{find};
 ghost use Rattle.toml.specs.View.{table_view, view};
 ghost use Rattle.settings_file.specs.Missing.{required, lacks, is_incomplete, missing_from, missing_neighbour, first_missing};
 
-use crate::fields;
-use crate::neighbours;
-use crate::{Key, Name, Section};
+use crate::{Key, Name, Section, fields, neighbours};
 use toml::{Table, Value};
 
 /// The keys of the sections that can't be left out, in the order in which they are looked for.

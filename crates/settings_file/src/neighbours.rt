@@ -7,9 +7,7 @@ ghost use Rattle.settings_file.specs.Faults.{TellsFirst};
 ghost use Rattle.settings_file.specs.Neighbours.{is_table, tables_in, neighbours_of, field_of, missing_in, side_named, side_of, ip_of, mac_at_of, bad_neighbour, bad_in, bad_neighbours, neighbour_in};
 
 use crate::faults::ValueFault;
-use crate::fields;
-use crate::texts;
-use crate::{Key, Name, Section};
+use crate::{Key, Name, Section, fields, texts};
 use addresses::{Ip, Mac, Prefix};
 use nat_types::Side;
 use settings::Neighbour;

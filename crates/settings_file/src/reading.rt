@@ -60,15 +60,7 @@ fn assemble(values: Values) -> Result<Settings, SettingFault>
 }
 
 /// The settings of a document.
-#[tactic(auto, using(
-    crate::proofs::Agree::ports_agree,
-    crate::proofs::Agree::ids_agree,
-    crate::proofs::Agree::no_refusal,
-    crate::proofs::Agree::told_keys,
-    crate::proofs::Agree::told_values,
-    crate::proofs::Agree::refuses_ports,
-    crate::proofs::Agree::refuses_ids
-))]
+#[tactic(auto, using(crate::proofs::Agree::ports_agree, crate::proofs::Agree::ids_agree, crate::proofs::Agree::no_refusal, crate::proofs::Agree::told_keys, crate::proofs::Agree::told_values, crate::proofs::Agree::refuses_ports, crate::proofs::Agree::refuses_ids))]
 fn settings_of(alloc: Global, document: &Table) -> Result<Settings, SettingFault>
     ensures free { OnOk result (refusal_of (table_view document.now) ≡ None) }
     ensures values { IfOk result (HoldsValues (table_view document.now)) }

@@ -9,8 +9,7 @@ ghost use Rattle.settings_file.specs.Rows.{bad_ports, bad_inside, bad_outside, b
 ghost use Rattle.settings_file.specs.Values.{IsRange, IsInterface};
 
 use crate::faults::ValueFault;
-use crate::fields;
-use crate::{Key, Name, Section};
+use crate::{Key, Name, Section, fields};
 use addresses::{Ip, Prefix};
 use settings::{Interface, PortRange};
 use std::alloc::Global;
@@ -87,11 +86,7 @@ pub(crate) fn outside(
 
 /// The router, which lies in the outside network.
 #[tactic(auto, unfolding(crate::specs::Rows::bad_router))]
-pub(crate) fn router(
-    alloc: Global,
-    document: &Table,
-    outside: Prefix,
-) -> Result<Ip, ValueFault>
+pub(crate) fn router(alloc: Global, document: &Table, outside: Prefix) -> Result<Ip, ValueFault>
     ensures ok { IfOk result (λ ip. address_at (table_view document.now) Outside Router ≡ Some ip.0) }
     ensures good { OnOk result
         (bad_router (outside.address.0, outside.length) (table_view document.now) ≡ None) }

@@ -7,8 +7,7 @@ ghost use Rattle.settings_file.specs.declared.keys.Section.TheVariants.{Neighbou
 ghost use Rattle.settings_file.specs.Neighbours.{tables_in};
 ghost use Rattle.settings_file.specs.Unknown.{names_of, has_text, is_known, is_titled, sections, section_named, path, unknown_in, unknown_at, unknown_from, unknown_neighbour, unknown_under, unknown_of, lesser, least_from, first_unknown};
 
-use crate::neighbours;
-use crate::{Name, Section};
+use crate::{Name, Section, neighbours};
 use std::alloc::{AllocError, Global};
 use toml::{Table, Value};
 
@@ -16,7 +15,13 @@ const PORTS: [Name; 2] = [Name::Zero, Name::One];
 
 const INSIDE: [Name; 4] = [Name::Virtual, Name::Prefix, Name::Vrid, Name::Wire];
 
-const OUTSIDE: [Name; 5] = [Name::Virtual, Name::Prefix, Name::Vrid, Name::Wire, Name::Router];
+const OUTSIDE: [Name; 5] = [
+    Name::Virtual,
+    Name::Prefix,
+    Name::Vrid,
+    Name::Wire,
+    Name::Router,
+];
 
 const GATEWAY: [Name; 11] = [
     Name::InsideIp,
@@ -189,7 +194,7 @@ fn unknown_under(
 ) -> Result<Option<String>, AllocError>
     ensures { IfOk result (λ found. option_map string_bytes found
         ≡ least_from (option_map string_bytes least)
-            (unknown_under text.now (view value.now) (section_named text.now))) }
+        (unknown_under text.now (view value.now) (section_named text.now))) }
 {
     match section_named(text) {
         None => {
@@ -203,10 +208,7 @@ fn unknown_under(
 
 /// The least path of a key that settings don't have.
 #[tactic(auto, using(crate::proofs::Least::least_of_both), unfolding(crate::specs::Unknown::first_unknown))]
-pub(crate) fn first_unknown(
-    alloc: Global,
-    document: &Table,
-) -> Result<Option<String>, AllocError>
+pub(crate) fn first_unknown(alloc: Global, document: &Table) -> Result<Option<String>, AllocError>
     ensures { IfOk result (λ found. option_map string_bytes found ≡ first_unknown (table_view document.now)) }
 {
     let mut found = None;

@@ -9,11 +9,10 @@ ghost use Rattle.settings_file.specs.Neighbours.{neighbours_of, neighbour_in};
 ghost use Rattle.settings_file.specs.Values.{IsRange, IsInterface, IsGateway};
 ghost use Rattle.settings_file.specs.Settings.{first_bad_value};
 
-use crate::Section;
 use crate::faults::ValueFault;
 use crate::gateways::gateway;
 use crate::neighbours::neighbours;
-use crate::sections;
+use crate::{Section, sections};
 use addresses::Ip;
 use settings::{GatewaySettings, Interface, Neighbour, PortRange};
 use std::alloc::Global;
