@@ -3,7 +3,8 @@ use anyhow::{Context, Result};
 use std::alloc::Global;
 use std::io::Write;
 
-const NEIGHBOUR: &str = "[[neighbour]]\nside = \"inside\"\nip = \"192.168.1.77\"\nmac = \"02-00-00-00-00-4D\"\n";
+const NEIGHBOUR: &str =
+    "[[neighbour]]\nside = \"inside\"\nip = \"192.168.1.77\"\nmac = \"02-00-00-00-00-4D\"\n";
 
 /// The sample's text up to its neighbours, with a line above it and so many neighbours below.
 fn listed(alloc: Global, sample: &str, count: usize, first: &str) -> Result<String> {

@@ -1,8 +1,7 @@
-//! Reads settings and command lines, and prints what each is read as or why it is refused.
+//! Reads the sample settings, and texts that differ from them, and prints why each is refused.
 #![tactic(auto)]
 
 mod edits;
-mod lines;
 mod lists;
 
 use anyhow::Result;
@@ -22,8 +21,6 @@ fn main(rt: HostRuntime) -> Result<()> {
     edits::run(alloc, sample.as_str(), cases.as_str(), &mut output)?;
     let cases = fs::read_to_string(&rt, "lists.cases")?;
     lists::run(alloc, sample.as_str(), cases.as_str(), &mut output)?;
-    let cases = fs::read_to_string(&rt, "lines.cases")?;
-    lines::run(alloc, cases.as_str(), &mut output)?;
     output.flush()?;
     Ok(())
 }
