@@ -1,0 +1,3 @@
+pub mod Agree
+pub mod Least
+pub mod Lists

@@ -1,0 +1,12 @@
+pub mod Assembled
+pub mod Document
+pub mod Faults
+pub mod Ids
+pub mod Keys
+pub mod Missing
+pub mod Neighbours
+pub mod Rows
+pub mod Settings
+pub mod Texts
+pub mod Unknown
+pub mod Values

@@ -1,0 +1,46 @@
+-- Keys that can't be left out.
+use Rattle.std.specs.Prelude.{Bool, List, [], ◌∷◌, Option, Some, None, is_none, is_some, option_map, option_and_then}
+use Rattle.std.specs.List.{find}
+use Rattle.toml.specs.Data.{Data, Members}
+use Rattle.settings_file.specs.declared.keys.Section.{Section}
+use Rattle.settings_file.specs.declared.keys.Section.TheVariants.{Ports, Inside, Outside, GatewayZero, GatewayOne}
+use Rattle.settings_file.specs.declared.keys.Name.{Name}
+use Rattle.settings_file.specs.declared.keys.Name.TheVariants.{Zero, One, Virtual, Prefix, Vrid, Wire, Router}
+use Rattle.settings_file.specs.declared.keys.Name.TheVariants.{InsideIp, InsideMac, OutsideIp, OutsideMac, BootFile, Link, InsidePort, OutsidePort}
+use Rattle.settings_file.specs.declared.keys.Key.{Key}
+use Rattle.settings_file.specs.Keys.{key}
+use Rattle.settings_file.specs.Document.{value_of}
+use Rattle.settings_file.specs.Faults.{earlier}
+use Rattle.settings_file.specs.Neighbours.{missing_in, neighbours_of}
+
+-- the keys of the sections that can't be left out, in the order of their text: all but priority, interval and preempt
+abbrev pub required : List Key
+required =
+    key Ports Zero ∷ key Ports One
+    ∷ key Inside Virtual ∷ key Inside Prefix ∷ key Inside Vrid ∷ key Inside Wire
+    ∷ key Outside Virtual ∷ key Outside Prefix ∷ key Outside Vrid ∷ key Outside Wire ∷ key Outside Router
+    ∷ key GatewayZero InsideIp ∷ key GatewayZero InsideMac ∷ key GatewayZero OutsideIp ∷ key GatewayZero OutsideMac
+    ∷ key GatewayZero BootFile ∷ key GatewayZero Link ∷ key GatewayZero InsidePort ∷ key GatewayZero OutsidePort
+    ∷ key GatewayOne InsideIp ∷ key GatewayOne InsideMac ∷ key GatewayOne OutsideIp ∷ key GatewayOne OutsideMac
+    ∷ key GatewayOne BootFile ∷ key GatewayOne Link ∷ key GatewayOne InsidePort ∷ key GatewayOne OutsidePort
+    ∷ []
+
+-- nothing stands at the key
+unfoldable pub lacks : Members → Key → Bool
+lacks t k = is_none (option_and_then (value_of t k.section) k.name)
+
+-- a neighbour lacks a key
+abbrev pub is_incomplete : Data → Bool
+is_incomplete d = is_some (missing_in d)
+
+-- the first key that the first incomplete neighbour lacks
+abbrev pub missing_from : List Data → Option Key
+missing_from ds = option_and_then missing_in (find is_incomplete ds)
+
+-- what isn't a list of tables lacks no key
+unfoldable pub missing_neighbour : Members → Option Key
+missing_neighbour t = option_and_then missing_from (neighbours_of t)
+
+-- the first key that is missing
+unfoldable pub first_missing : Members → Option Key
+first_missing t = earlier (find (lacks t) required) (missing_neighbour t)

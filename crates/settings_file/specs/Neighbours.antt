@@ -1,0 +1,94 @@
+-- The list of static neighbours.
+use Rattle.std.specs.Prelude.{ℕ, nat_le, Bool, if◌then◌else◌, List, [], ◌∷◌, length, map, codes, Option, Some, None, is_some, option_and_then}
+use Rattle.std.specs.List.{list_all}
+use Rattle.std.specs.Str.{bytes_eq}
+use Rattle.toml.specs.Data.{Data, Members, get_member, as_str, as_table}
+use Rattle.nat_types.specs.declared.gateways.Side.{Side}
+use Rattle.nat_types.specs.declared.gateways.Side.TheVariants.{Inside, Outside}
+use Rattle.settings.specs.declared.interfaces.Neighbour.{Neighbour as NeighbourValue}
+use Rattle.settings_file.specs.declared.keys.Section.TheVariants.{Neighbour}
+use Rattle.settings_file.specs.declared.keys.Name.{Name}
+use Rattle.settings_file.specs.declared.keys.Name.TheVariants.{Side as SideKey, Ip, Mac}
+use Rattle.settings_file.specs.declared.keys.Key.{Key}
+use Rattle.settings_file.specs.Keys.{key, name_text, section_text}
+use Rattle.settings_file.specs.Texts.{address_of, mac_of}
+use Rattle.settings_file.specs.Document.{Network, list_in, is_host}
+use Rattle.settings_file.specs.Faults.{first_bad, earlier}
+
+abbrev pub is_table : Data → Bool
+is_table d = is_some (as_table d)
+
+abbrev pub only_tables : List Data → Option (List Data)
+only_tables ds = if list_all is_table ds then Some ds else None
+
+abbrev pub tables_in : Option Data → Option (List Data)
+tables_in None = Some []
+tables_in (Some d) = option_and_then only_tables (list_in d)
+
+-- the tables of the list, none where it is left out; no list where it isn't a list of tables
+unfoldable pub neighbours_of : Members → Option (List Data)
+neighbours_of t = tables_in (get_member (section_text Neighbour) t)
+
+-- the value at a key of a neighbour
+unfoldable pub field_of : Data → Name → Option Data
+field_of d name = option_and_then (get_member (name_text name)) (as_table d)
+
+-- a key that a neighbour lacks
+unfoldable pub missing_in : Data → Option Key
+missing_in d = first_bad
+    ((key Neighbour SideKey, is_some (field_of d SideKey))
+    ∷ (key Neighbour Ip, is_some (field_of d Ip))
+    ∷ (key Neighbour Mac, is_some (field_of d Mac))
+    ∷ [])
+
+abbrev pub side_named : List ℕ → Option Side
+side_named word =
+    if bytes_eq word (codes "inside") then Some Inside else if bytes_eq word (codes "outside") then Some Outside else None
+
+-- a neighbour's side and addresses
+unfoldable pub side_of : Data → Option Side
+side_of d = option_and_then side_named (option_and_then as_str (field_of d SideKey))
+
+unfoldable pub ip_of : Data → Option ℕ
+ip_of d = option_and_then address_of (option_and_then as_str (field_of d Ip))
+
+unfoldable pub mac_at_of : Data → Option (List ℕ)
+mac_at_of d = option_and_then mac_of (option_and_then as_str (field_of d Mac))
+
+abbrev pub network_of : Network → Network → Option Side → Network
+network_of inside outside (Some Outside) = outside
+network_of inside outside (Some Inside) = inside
+network_of inside outside None = inside
+
+-- a key of a neighbour whose value is bad: its address lies in its side's network
+unfoldable pub bad_neighbour : Network → Network → Data → Option Key
+bad_neighbour inside outside d = first_bad
+    ((key Neighbour SideKey, is_some (side_of d))
+    ∷ (key Neighbour Ip, is_host (network_of inside outside (side_of d)) (ip_of d))
+    ∷ (key Neighbour Mac, is_some (mac_at_of d))
+    ∷ [])
+
+abbrev pub bad_in : Network → Network → List Data → Option Key
+bad_in inside outside [] = None
+bad_in inside outside (d ∷ rest) = earlier (bad_neighbour inside outside d) (bad_in inside outside rest)
+
+-- the key of the whole list
+abbrev pub whole : Key
+whole = record { section = Neighbour; name = None }
+
+abbrev pub bad_list : Network → Network → Option (List Data) → Option Key
+bad_list inside outside None = Some whole
+bad_list inside outside (Some ds) = if nat_le (length ds) 64 then bad_in inside outside ds else Some whole
+
+-- [[neighbour]]: a list of at most 64 tables
+unfoldable pub bad_neighbours : Network → Network → Members → Option Key
+bad_neighbours inside outside t = bad_list inside outside (neighbours_of t)
+
+abbrev pub neighbour_with : Option Side → Option ℕ → Option (List ℕ) → Option NeighbourValue
+neighbour_with (Some side) (Some ip) (Some mac) =
+    Some (record { side = side; ip = record { 0 = ip }; mac = record { 0 = mac } })
+neighbour_with _ _ _ = None
+
+-- the neighbour that a table says
+unfoldable pub neighbour_in : Data → Option NeighbourValue
+neighbour_in d = neighbour_with (side_of d) (ip_of d) (mac_at_of d)

@@ -1,0 +1,37 @@
+-- Settings that stand at the keys of a document.
+use Rattle.std.specs.Prelude.{◌≡◌, ℕ, true, Some, string_bytes}
+use Rattle.toml.specs.Data.{Members}
+use Rattle.settings.specs.declared.ranges.PortRange.{PortRange}
+use Rattle.settings.specs.declared.interfaces.Interface.{Interface}
+use Rattle.settings.specs.declared.gateway_settings.GatewaySettings.{GatewaySettings}
+use Rattle.settings_file.specs.declared.keys.Section.{Section}
+use Rattle.settings_file.specs.declared.keys.Name.{Name}
+use Rattle.settings_file.specs.declared.keys.Section.TheVariants.{Ports}
+use Rattle.settings_file.specs.declared.keys.Name.TheVariants.{Virtual, Prefix, Vrid, Wire}
+use Rattle.settings_file.specs.declared.keys.Name.TheVariants.{InsideIp, InsideMac, OutsideIp, OutsideMac, Priority, Interval, Preempt, BootFile, Link, InsidePort, OutsidePort}
+use Rattle.settings_file.specs.Document.{number_at, number_or, flag_or, text_at, address_at, mac_at, range_at}
+
+-- a range of ports
+abbrev pub IsRange : Members → Name → PortRange → Type 0
+IsRange t name range = range_at t Ports name ≡ Some (range.lowest.0, range.highest.0)
+
+-- a network
+pub record IsInterface (t : Members) (s : Section) (interface : Interface) : Type 0 where
+  pub virtual_is : address_at t s Virtual ≡ Some interface.virtual_ip.0
+  pub prefix_is : number_at 8 30 t s Prefix ≡ Some interface.prefix_length
+  pub vrid_is : number_at 1 255 t s Vrid ≡ Some interface.virtual_router
+  pub wire_is : number_at 1 65535 t s Wire ≡ Some interface.wire
+
+-- a gateway: priority and interval are 100 and preempt true where they are left out
+pub record IsGateway (t : Members) (s : Section) (gateway : GatewaySettings) : Type 0 where
+  pub inside_ip_is : address_at t s InsideIp ≡ Some gateway.inside_ip.0
+  pub inside_mac_is : mac_at t s InsideMac ≡ Some gateway.inside_mac.0
+  pub outside_ip_is : address_at t s OutsideIp ≡ Some gateway.outside_ip.0
+  pub outside_mac_is : mac_at t s OutsideMac ≡ Some gateway.outside_mac.0
+  pub priority_is : number_or 100 1 254 t s Priority ≡ Some gateway.priority
+  pub interval_is : number_or 100 1 4095 t s Interval ≡ Some gateway.interval
+  pub preempt_is : flag_or true t s Preempt ≡ Some gateway.preempt
+  pub boot_file_is : text_at t s BootFile ≡ Some (string_bytes gateway.boot_file)
+  pub link_is : number_at 1 65535 t s Link ≡ Some gateway.link
+  pub inside_port_is : number_at 1 65535 t s InsidePort ≡ Some gateway.inside_port
+  pub outside_port_is : number_at 1 65535 t s OutsidePort ≡ Some gateway.outside_port

@@ -1,0 +1,269 @@
+//! The values at the keys of a document.
+ghost use Rattle.std.specs.Prelude.{◌≡◌, ◌≤◌, ◌∷◌, [], true, is_some, Some, map, option_map, option_and_then, IfOk, IfErr, IfSome, OnOk, string_bytes};
+ghost use Rattle.toml.specs.Data.{get_member, as_table, as_str, as_bool};
+ghost use Rattle.toml.specs.View.{table_view, view};
+ghost use Rattle.settings_file.specs.Keys.{section_text, key};
+ghost use Rattle.settings_file.specs.Document.{value_of, number_in, number_at, number_or, flag_or, text_at, address_at, mac_at};
+ghost use Rattle.settings_file.specs.Document.{range_of, range_items, range_at, list_in, is_in, is_host};
+ghost use Rattle.settings_file.specs.Faults.{IsBadAt, TellsFirst, first_bad};
+
+use crate::faults::ValueFault;
+use crate::{Key, Name, Section, texts};
+use addresses::{Ip, Mac, Port, Prefix};
+use settings::PortRange;
+use std::alloc::{AllocError, Global};
+use toml::{Table, Value};
+
+/// The value at a key of a table.
+pub(crate) fn entry<'a>(table: &'a Table, key: &str) -> Option<&'a Value>
+    ensures { option_map (λ v. view v.now) result ≡ get_member key.now (table_view table.now) }
+{
+    table.get(key)
+}
+
+fn table_at<'a>(document: &'a Table, section: Section) -> Option<&'a Table>
+    ensures { option_map (λ m. table_view m.now) result
+        ≡ option_and_then as_table (get_member (section_text section) (table_view document.now)) }
+{
+    match entry(document, section.as_str()) {
+        Some(value) => value.as_table(),
+        None => None,
+    }
+}
+
+/// The value at a key of a section.
+#[tactic(auto, unfolding(crate::specs::Document::value_of))]
+pub(crate) fn value_at<'a>(document: &'a Table, section: Section, name: Name) -> Option<&'a Value>
+    ensures { option_map (λ v. view v.now) result ≡ value_of (table_view document.now) section name }
+{
+    match table_at(document, section) {
+        Some(table) => entry(table, name.as_str()),
+        None => None,
+    }
+}
+
+/// The whole number that a value is, where it is one from `low` to `high`.
+pub(crate) fn number_in(value: &Value, low: u16, high: u16) -> Option<u16>
+    ensures value { result ≡ number_in low high (view value.now) }
+    ensures low { IfSome result (λ n. low ≤ n) }
+    ensures high { IfSome result (λ n. n ≤ high) }
+{
+    let number = u16::try_from(value.as_integer()?).ok()?;
+    if low <= number && number <= high {
+        Some(number)
+    } else {
+        None
+    }
+}
+
+/// The whole number at a key, from `low` to `high`.
+#[tactic(auto, unfolding(crate::specs::Document::number_at))]
+pub(crate) fn number(
+    document: &Table,
+    section: Section,
+    name: Name,
+    low: u16,
+    high: u16,
+) -> Result<u16, Key>
+    ensures ok { IfOk result (λ n. number_at low high (table_view document.now) section name ≡ Some n) }
+    ensures low { IfOk result (λ n. low ≤ n) }
+    ensures high { IfOk result (λ n. n ≤ high) }
+    ensures err { IfErr result (IsBadAt section name (number_at low high (table_view document.now) section name)) }
+{
+    match value_at(document, section, name) {
+        Some(value) => number_in(value, low, high).ok_or(Key::new(section, name)),
+        None => Err(Key::new(section, name)),
+    }
+}
+
+/// The whole number at a key, from `low` to `high`, or the default where there is none.
+#[tactic(auto, unfolding(crate::specs::Document::number_or))]
+pub(crate) fn number_or(
+    document: &Table,
+    section: Section,
+    name: Name,
+    default: u16,
+    low: u16,
+    high: u16,
+) -> Result<u16, Key>
+    requires low { low ≤ default }
+    requires high { default ≤ high }
+    ensures ok { IfOk result (λ n. number_or default low high (table_view document.now) section name ≡ Some n) }
+    ensures low { IfOk result (λ n. low ≤ n) }
+    ensures high { IfOk result (λ n. n ≤ high) }
+    ensures err { IfErr result (IsBadAt section name (number_or default low high (table_view document.now) section name)) }
+{
+    match value_at(document, section, name) {
+        Some(value) => number_in(value, low, high).ok_or(Key::new(section, name)),
+        None => Ok(default),
+    }
+}
+
+/// The flag at a key, or the default where there is none.
+#[tactic(auto, unfolding(crate::specs::Document::flag_or))]
+pub(crate) fn flag_or(
+    document: &Table,
+    section: Section,
+    name: Name,
+    default: bool,
+) -> Result<bool, Key>
+    ensures ok { IfOk result (λ b. flag_or default (table_view document.now) section name ≡ Some b) }
+    ensures err { IfErr result (IsBadAt section name (flag_or default (table_view document.now) section name)) }
+{
+    match value_at(document, section, name) {
+        Some(value) => value.as_bool().ok_or(Key::new(section, name)),
+        None => Ok(default),
+    }
+}
+
+/// The text at a key.
+#[tactic(auto, unfolding(crate::specs::Document::text_at))]
+fn text<'a>(document: &'a Table, section: Section, name: Name) -> Option<&'a str>
+    ensures { option_map (λ s. s.now) result ≡ text_at (table_view document.now) section name }
+{
+    match value_at(document, section, name) {
+        Some(value) => value.as_str(),
+        None => None,
+    }
+}
+
+/// The address at a key.
+#[tactic(auto, unfolding(crate::specs::Document::address_at))]
+pub(crate) fn address(
+    alloc: Global,
+    document: &Table,
+    section: Section,
+    name: Name,
+) -> Result<Ip, ValueFault>
+    ensures ok { IfOk result (λ ip. address_at (table_view document.now) section name ≡ Some ip.0) }
+    ensures err { IfErr result (TellsFirst
+        (first_bad ((key section name, is_some (address_at (table_view document.now) section name)) ∷ []))) }
+{
+    let found = match text(document, section, name) {
+        Some(text) => texts::address_of(alloc, text)?,
+        None => None,
+    };
+    found.ok_or(ValueFault::BadValue(Key::new(section, name)))
+}
+
+/// The Ethernet address at a key.
+#[tactic(auto, unfolding(crate::specs::Document::mac_at))]
+pub(crate) fn mac(
+    alloc: Global,
+    document: &Table,
+    section: Section,
+    name: Name,
+) -> Result<Mac, ValueFault>
+    ensures ok { IfOk result (λ mac. mac_at (table_view document.now) section name ≡ Some mac.0) }
+    ensures err { IfErr result (TellsFirst
+        (first_bad ((key section name, is_some (mac_at (table_view document.now) section name)) ∷ []))) }
+{
+    let found = match text(document, section, name) {
+        Some(text) => texts::mac_of(alloc, text)?,
+        None => None,
+    };
+    found.ok_or(ValueFault::BadValue(Key::new(section, name)))
+}
+
+/// The text at a key, copied.
+pub(crate) fn string(
+    alloc: Global,
+    document: &Table,
+    section: Section,
+    name: Name,
+) -> Result<String, ValueFault>
+    ensures ok { IfOk result (λ s. text_at (table_view document.now) section name ≡ Some (string_bytes s)) }
+    ensures err { IfErr result (TellsFirst
+        (first_bad ((key section name, is_some (text_at (table_view document.now) section name)) ∷ []))) }
+{
+    match text(document, section, name) {
+        Some(text) => Ok(String::from_str(alloc, text)?),
+        None => Err(ValueFault::BadValue(Key::new(section, name))),
+    }
+}
+
+#[tactic(auto, unfolding(crate::specs::Document::is_in))]
+pub(crate) fn is_in(address: Ip, network: Prefix) -> bool
+    ensures { result ≡ is_in address.0 network.address.0 network.length }
+{
+    network.contains(address)
+}
+
+/// The address at a key, which lies in a network.
+pub(crate) fn host(
+    alloc: Global,
+    document: &Table,
+    section: Section,
+    name: Name,
+    network: Prefix,
+) -> Result<Ip, ValueFault>
+    ensures ok { IfOk result (λ ip. address_at (table_view document.now) section name ≡ Some ip.0) }
+    ensures inside { OnOk result
+        (is_host (network.address.0, network.length) (address_at (table_view document.now) section name) ≡ true) }
+    ensures err { IfErr result (TellsFirst (first_bad ((
+      key section name,
+      is_host (network.address.0, network.length) (address_at (table_view document.now) section name),
+    ) ∷ []))) }
+{
+    let ip = address(alloc, document, section, name)?;
+    if is_in(ip, network) {
+        Ok(ip)
+    } else {
+        Err(ValueFault::BadValue(Key::new(section, name)))
+    }
+}
+
+/// The values of a list.
+#[tactic(auto, using(crate::proofs::Lists::list_of_items), unfolding(crate::specs::Document::list_in))]
+pub(crate) fn list(value: &Value) -> Option<&[Value]>
+    ensures { option_map (λ l. map view l.now) result ≡ list_in (view value.now) }
+{
+    match value.as_array() {
+        Some(array) => Some(array.as_slice()),
+        None => None,
+    }
+}
+
+/// A first and a last port.
+fn range_in(list: &[Value]) -> Option<PortRange>
+    ensures { option_map (λ r. (r.lowest.0, r.highest.0)) result ≡ range_items (map view list.now) }
+{
+    match list {
+        [low, high] => {
+            let low = number_in(low, 1024, 65535)?;
+            let high = number_in(high, 1024, 65535)?;
+            if low <= high {
+                Some(PortRange {
+                    lowest: Port(low),
+                    highest: Port(high),
+                })
+            } else {
+                None
+            }
+        }
+        _ => None,
+    }
+}
+
+fn range_of(value: &Value) -> Option<PortRange>
+    ensures { option_map (λ r. (r.lowest.0, r.highest.0)) result ≡ range_of (view value.now) }
+{
+    match list(value) {
+        Some(list) => range_in(list),
+        None => None,
+    }
+}
+
+/// The range of ports at a key.
+#[tactic(auto, unfolding(crate::specs::Document::range_at))]
+pub(crate) fn range(document: &Table, section: Section, name: Name) -> Result<PortRange, Key>
+    ensures ok { IfOk result (λ r. range_at (table_view document.now) section name
+        ≡ Some (r.lowest.0, r.highest.0)) }
+    ensures err { IfErr result (IsBadAt section name (range_at (table_view document.now) section name)) }
+{
+    let found = match value_at(document, section, name) {
+        Some(value) => range_of(value),
+        None => None,
+    };
+    found.ok_or(Key::new(section, name))
+}

@@ -1,0 +1,122 @@
+//! The keys that settings have, and their texts.
+ghost use Rattle.std.specs.Prelude.{◌≡◌};
+ghost use Rattle.settings_file.specs.Keys.{section_text, name_text, key};
+
+use std::fmt;
+
+/// A table of the settings, or the list of static neighbours.
+#[derive(Clone, Copy, Debug, PartialEq, Eq)]
+pub enum Section {
+    Ports,
+    Inside,
+    Outside,
+    GatewayZero,
+    GatewayOne,
+    Neighbour,
+}
+
+impl Section {
+    /// The name of the table, as `gateway_0`.
+    pub fn as_str(self) -> &'static str
+        ensures { result.now ≡ section_text self }
+    {
+        match self {
+            Section::Ports => "ports",
+            Section::Inside => "inside",
+            Section::Outside => "outside",
+            Section::GatewayZero => "gateway_0",
+            Section::GatewayOne => "gateway_1",
+            Section::Neighbour => "neighbour",
+        }
+    }
+}
+
+/// A key within a table of the settings.
+#[derive(Clone, Copy, Debug, PartialEq, Eq)]
+pub enum Name {
+    Zero,
+    One,
+    Virtual,
+    Prefix,
+    Vrid,
+    Wire,
+    Router,
+    InsideIp,
+    InsideMac,
+    OutsideIp,
+    OutsideMac,
+    Priority,
+    Interval,
+    Preempt,
+    BootFile,
+    Link,
+    InsidePort,
+    OutsidePort,
+    Side,
+    Ip,
+    Mac,
+}
+
+impl Name {
+    /// The key's text, as `inside_ip`.
+    pub fn as_str(self) -> &'static str
+        ensures { result.now ≡ name_text self }
+    {
+        match self {
+            Name::Zero => "zero",
+            Name::One => "one",
+            Name::Virtual => "virtual",
+            Name::Prefix => "prefix",
+            Name::Vrid => "vrid",
+            Name::Wire => "wire",
+            Name::Router => "router",
+            Name::InsideIp => "inside_ip",
+            Name::InsideMac => "inside_mac",
+            Name::OutsideIp => "outside_ip",
+            Name::OutsideMac => "outside_mac",
+            Name::Priority => "priority",
+            Name::Interval => "interval",
+            Name::Preempt => "preempt",
+            Name::BootFile => "boot_file",
+            Name::Link => "link",
+            Name::InsidePort => "inside_port",
+            Name::OutsidePort => "outside_port",
+            Name::Side => "side",
+            Name::Ip => "ip",
+            Name::Mac => "mac",
+        }
+    }
+}
+
+/// A key of the settings; without a name, the list of neighbours as a whole.
+#[derive(Clone, Copy, Debug, PartialEq, Eq)]
+pub struct Key {
+    pub section: Section,
+    pub name: Option<Name>,
+}
+
+impl Key {
+    /// The key with this name in a section.
+    pub fn new(section: Section, name: Name) -> Key
+        ensures { result ≡ key section name }
+    {
+        Key {
+            section,
+            name: Some(name),
+        }
+    }
+}
+
+/// The key's path, as `inside.prefix`, or `neighbour` for the whole list.
+impl fmt::Display for Key {
+    fn fmt<W: fmt::Write>(&self, f: &mut fmt::Formatter<W>) -> fmt::Result {
+        let section = self.section.as_str();
+        match self.name {
+            Some(name) => {
+                let name = name.as_str();
+                write!(f, "{section}.{name}")
+            }
+            None => f.write_str(section),
+        }
+    }
+}

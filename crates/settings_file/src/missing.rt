@@ -1,0 +1,104 @@
+//! Keys of a document that can't be left out.
+ghost use Rattle.std.specs.Prelude.{◌≡◌, map, option_map};
+ghost use Rattle.std.specs.List.{find};
+ghost use Rattle.toml.specs.View.{table_view, view};
+ghost use Rattle.settings_file.specs.Missing.{required, lacks, is_incomplete, missing_from, missing_neighbour, first_missing};
+
+use crate::{Key, Name, Section, fields, neighbours};
+use toml::{Table, Value};
+
+/// The keys of the sections that can't be left out, in the order in which they are looked for.
+fn required() -> [Key; 27]
+    ensures { result ≡ required }
+{
+    [
+        Key::new(Section::Ports, Name::Zero),
+        Key::new(Section::Ports, Name::One),
+        Key::new(Section::Inside, Name::Virtual),
+        Key::new(Section::Inside, Name::Prefix),
+        Key::new(Section::Inside, Name::Vrid),
+        Key::new(Section::Inside, Name::Wire),
+        Key::new(Section::Outside, Name::Virtual),
+        Key::new(Section::Outside, Name::Prefix),
+        Key::new(Section::Outside, Name::Vrid),
+        Key::new(Section::Outside, Name::Wire),
+        Key::new(Section::Outside, Name::Router),
+        Key::new(Section::GatewayZero, Name::InsideIp),
+        Key::new(Section::GatewayZero, Name::InsideMac),
+        Key::new(Section::GatewayZero, Name::OutsideIp),
+        Key::new(Section::GatewayZero, Name::OutsideMac),
+        Key::new(Section::GatewayZero, Name::BootFile),
+        Key::new(Section::GatewayZero, Name::Link),
+        Key::new(Section::GatewayZero, Name::InsidePort),
+        Key::new(Section::GatewayZero, Name::OutsidePort),
+        Key::new(Section::GatewayOne, Name::InsideIp),
+        Key::new(Section::GatewayOne, Name::InsideMac),
+        Key::new(Section::GatewayOne, Name::OutsideIp),
+        Key::new(Section::GatewayOne, Name::OutsideMac),
+        Key::new(Section::GatewayOne, Name::BootFile),
+        Key::new(Section::GatewayOne, Name::Link),
+        Key::new(Section::GatewayOne, Name::InsidePort),
+        Key::new(Section::GatewayOne, Name::OutsidePort),
+    ]
+}
+
+#[tactic(auto, unfolding(crate::specs::Missing::lacks))]
+fn lacks(document: &Table, key: Key) -> bool
+    ensures { result ≡ lacks (table_view document.now) key }
+{
+    match key.name {
+        Some(name) => fields::value_at(document, key.section, name).is_none(),
+        None => true,
+    }
+}
+
+fn missing_of(document: &Table, keys: &[Key]) -> Option<Key>
+    ensures { result ≡ find (lacks (table_view document.now)) keys.now }
+{
+    keys.iter().copied().find(|key| lacks(document, *key))
+}
+
+fn is_incomplete(neighbour: &Value) -> bool
+    ensures { result ≡ is_incomplete (view neighbour.now) }
+{
+    neighbours::missing_in(neighbour).is_some()
+}
+
+fn first_incomplete(tables: &[Value]) -> Option<&Value>
+    ensures { option_map (λ v. v.now) result ≡ find (λ v. is_incomplete (view v)) tables.now }
+{
+    tables.iter().find(|table| is_incomplete(table))
+}
+
+/// The first key that the first incomplete neighbour lacks.
+#[tactic(auto, using(crate::proofs::Lists::find_view))]
+fn missing_from(tables: &[Value]) -> Option<Key>
+    ensures { result ≡ missing_from (map view tables.now) }
+{
+    match first_incomplete(tables) {
+        Some(neighbour) => neighbours::missing_in(neighbour),
+        None => None,
+    }
+}
+
+#[tactic(auto, unfolding(crate::specs::Missing::missing_neighbour))]
+fn missing_neighbour(document: &Table) -> Option<Key>
+    ensures { result ≡ missing_neighbour (table_view document.now) }
+{
+    match neighbours::tables(document) {
+        Some(tables) => missing_from(tables),
+        None => None,
+    }
+}
+
+/// The first key that is missing: of the sections, or else of a neighbour.
+#[tactic(auto, unfolding(crate::specs::Missing::first_missing))]
+pub(crate) fn first_missing(document: &Table) -> Option<Key>
+    ensures { result ≡ first_missing (table_view document.now) }
+{
+    let required = required();
+    match missing_of(document, &required) {
+        Some(key) => Some(key),
+        None => missing_neighbour(document),
+    }
+}

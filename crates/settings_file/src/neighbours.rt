@@ -1,0 +1,205 @@
+//! The static neighbours of a document.
+ghost use Rattle.std.specs.Prelude.{◌≡◌, ◌≤◌, Some, None, length, map, is_some, option_map, option_and_then, vec_len, IfOk, IfErr, OnOk};
+ghost use Rattle.std.specs.List.{list_all};
+ghost use Rattle.toml.specs.Data.{as_str};
+ghost use Rattle.toml.specs.View.{table_view, view};
+ghost use Rattle.settings_file.specs.Faults.{TellsFirst};
+ghost use Rattle.settings_file.specs.Neighbours.{is_table, tables_in, neighbours_of, field_of, missing_in, side_named, side_of, ip_of, mac_at_of, bad_neighbour, bad_in, bad_neighbours, neighbour_in};
+
+use crate::faults::ValueFault;
+use crate::{Key, Name, Section, fields, texts};
+use addresses::{Ip, Mac, Prefix};
+use nat_types::Side;
+use settings::Neighbour;
+use std::alloc::{AllocError, Global};
+use toml::{Table, Value};
+
+/// How many static neighbours there may be.
+const NEIGHBOURS: usize = 64;
+
+fn are_tables(list: &[Value]) -> bool
+    ensures { result ≡ list_all (λ v. is_table (view v)) list.now }
+{
+    list.iter().all(|value| value.is_table())
+}
+
+/// The tables of a list that has no other values.
+#[tactic(auto, using(crate::proofs::Lists::all_tables))]
+pub(crate) fn tables_in(value: &Value) -> Option<&[Value]>
+    ensures { option_map (λ l. map view l.now) result ≡ tables_in (Some (view value.now)) }
+{
+    match fields::list(value) {
+        Some(list) if are_tables(list) => Some(list),
+        _ => None,
+    }
+}
+
+/// The tables of the list of neighbours, none where it is left out. Where it isn't a list of tables, none is given.
+#[tactic(auto, unfolding(crate::specs::Neighbours::neighbours_of))]
+pub(crate) fn tables(document: &Table) -> Option<&[Value]>
+    ensures { option_map (λ l. map view l.now) result ≡ neighbours_of (table_view document.now) }
+{
+    match fields::entry(document, Section::Neighbour.as_str()) {
+        Some(value) => tables_in(value),
+        None => Some(&[]),
+    }
+}
+
+#[tactic(auto, unfolding(crate::specs::Neighbours::field_of))]
+fn field(neighbour: &Value, name: Name) -> Option<&Value>
+    ensures { option_map (λ v. view v.now) result ≡ field_of (view neighbour.now) name }
+{
+    match neighbour.as_table() {
+        Some(table) => fields::entry(table, name.as_str()),
+        None => None,
+    }
+}
+
+/// The first key that a neighbour lacks.
+#[tactic(auto, unfolding(crate::specs::Neighbours::missing_in))]
+pub(crate) fn missing_in(neighbour: &Value) -> Option<Key>
+    ensures { result ≡ missing_in (view neighbour.now) }
+{
+    if field(neighbour, Name::Side).is_none() {
+        return Some(Key::new(Section::Neighbour, Name::Side));
+    }
+    if field(neighbour, Name::Ip).is_none() {
+        return Some(Key::new(Section::Neighbour, Name::Ip));
+    }
+    if field(neighbour, Name::Mac).is_none() {
+        return Some(Key::new(Section::Neighbour, Name::Mac));
+    }
+    None
+}
+
+fn text(neighbour: &Value, name: Name) -> Option<&str>
+    ensures { option_map (λ s. s.now) result ≡ option_and_then as_str (field_of (view neighbour.now) name) }
+{
+    match field(neighbour, name) {
+        Some(value) => value.as_str(),
+        None => None,
+    }
+}
+
+fn side_named(word: &str) -> Option<Side>
+    ensures { result ≡ side_named word.now }
+{
+    match word {
+        "inside" => Some(Side::Inside),
+        "outside" => Some(Side::Outside),
+        _ => None,
+    }
+}
+
+#[tactic(auto, unfolding(crate::specs::Neighbours::side_of))]
+fn side_of(neighbour: &Value) -> Option<Side>
+    ensures { result ≡ side_of (view neighbour.now) }
+{
+    match text(neighbour, Name::Side) {
+        Some(word) => side_named(word),
+        None => None,
+    }
+}
+
+#[tactic(auto, unfolding(crate::specs::Neighbours::ip_of))]
+fn ip_of(alloc: Global, neighbour: &Value) -> Result<Option<Ip>, AllocError>
+    ensures { IfOk result (λ found. option_map (λ ip. ip.0) found ≡ ip_of (view neighbour.now)) }
+{
+    match text(neighbour, Name::Ip) {
+        Some(text) => texts::address_of(alloc, text),
+        None => Ok(None),
+    }
+}
+
+#[tactic(auto, unfolding(crate::specs::Neighbours::mac_at_of))]
+fn mac_at_of(alloc: Global, neighbour: &Value) -> Result<Option<Mac>, AllocError>
+    ensures { IfOk result (λ found. option_map (λ mac. mac.0) found ≡ mac_at_of (view neighbour.now)) }
+{
+    match text(neighbour, Name::Mac) {
+        Some(text) => texts::mac_of(alloc, text),
+        None => Ok(None),
+    }
+}
+
+/// The neighbour that a table says: its address lies in its side's network.
+#[tactic(auto, unfolding(crate::specs::Neighbours::bad_neighbour, crate::specs::Neighbours::neighbour_in))]
+fn neighbour(
+    alloc: Global,
+    table: &Value,
+    inside: Prefix,
+    outside: Prefix,
+) -> Result<Neighbour, ValueFault>
+    ensures ok { IfOk result (λ n. neighbour_in (view table.now) ≡ Some n) }
+    ensures good { OnOk result (bad_neighbour (inside.address.0, inside.length)
+        (outside.address.0, outside.length) (view table.now) ≡ None) }
+    ensures err { IfErr result (TellsFirst (bad_neighbour (inside.address.0, inside.length)
+        (outside.address.0, outside.length) (view table.now))) }
+{
+    let Some(side) = side_of(table) else {
+        return Err(ValueFault::BadValue(Key::new(Section::Neighbour, Name::Side)));
+    };
+    let network = match side {
+        Side::Inside => inside,
+        Side::Outside => outside,
+    };
+    let Some(ip) = ip_of(alloc, table)? else {
+        return Err(ValueFault::BadValue(Key::new(Section::Neighbour, Name::Ip)));
+    };
+    if !fields::is_in(ip, network) {
+        return Err(ValueFault::BadValue(Key::new(Section::Neighbour, Name::Ip)));
+    }
+    let Some(mac) = mac_at_of(alloc, table)? else {
+        return Err(ValueFault::BadValue(Key::new(Section::Neighbour, Name::Mac)));
+    };
+    Ok(Neighbour { side, ip, mac })
+}
+
+fn neighbours_in(
+    alloc: Global,
+    tables: &[Value],
+    inside: Prefix,
+    outside: Prefix,
+) -> Result<Vec<Neighbour>, ValueFault>
+    ensures ok { IfOk result (λ v. map Some v.items ≡ map neighbour_in (map view tables.now)) }
+    ensures len { IfOk result (λ v. vec_len v ≡ length tables.now) }
+    ensures good { OnOk result (bad_in (inside.address.0, inside.length)
+        (outside.address.0, outside.length) (map view tables.now) ≡ None) }
+    ensures err { IfErr result (TellsFirst (bad_in (inside.address.0, inside.length)
+        (outside.address.0, outside.length) (map view tables.now))) }
+{
+    let mut neighbours = Vec::new(alloc);
+    for table in tables {
+        let neighbour = neighbour(alloc, table, inside, outside)?;
+        neighbours.push(neighbour)?;
+    }
+    Ok(neighbours)
+}
+
+/// The static neighbours, at most 64.
+#[tactic(auto, unfolding(crate::specs::Neighbours::bad_neighbours))]
+pub(crate) fn neighbours(
+    alloc: Global,
+    document: &Table,
+    inside: Prefix,
+    outside: Prefix,
+) -> Result<Vec<Neighbour>, ValueFault>
+    ensures ok { IfOk result (λ v. option_map (map neighbour_in) (neighbours_of (table_view document.now))
+        ≡ Some (map Some v.items)) }
+    ensures few { IfOk result (λ v. vec_len v ≤ 64) }
+    ensures good { OnOk result (bad_neighbours (inside.address.0, inside.length)
+        (outside.address.0, outside.length) (table_view document.now) ≡ None) }
+    ensures err { IfErr result (TellsFirst (bad_neighbours (inside.address.0, inside.length)
+        (outside.address.0, outside.length) (table_view document.now))) }
+{
+    let whole = Key {
+        section: Section::Neighbour,
+        name: None,
+    };
+    let Some(tables) = tables(document) else {
+        return Err(ValueFault::BadValue(whole));
+    };
+    if tables.len() > NEIGHBOURS {
+        return Err(ValueFault::BadValue(whole));
+    }
+    neighbours_in(alloc, tables, inside, outside)
+}

@@ -1,0 +1,97 @@
+//! The sections of a document: port ranges, the two networks and the router.
+ghost use Rattle.std.specs.Prelude.{◌≡◌, ◌≤◌, Some, None, IfOk, IfErr, OnOk};
+ghost use Rattle.toml.specs.View.{table_view};
+ghost use Rattle.settings_file.specs.declared.keys.Section.TheVariants.{Inside, Outside};
+ghost use Rattle.settings_file.specs.declared.keys.Name.TheVariants.{Zero, One, Router};
+ghost use Rattle.settings_file.specs.Document.{address_at, is_in, is_apart};
+ghost use Rattle.settings_file.specs.Faults.{TellsFirst};
+ghost use Rattle.settings_file.specs.Rows.{bad_ports, bad_inside, bad_outside, bad_router};
+ghost use Rattle.settings_file.specs.Values.{IsRange, IsInterface};
+
+use crate::faults::ValueFault;
+use crate::{Key, Name, Section, fields};
+use addresses::{Ip, Prefix};
+use settings::{Interface, PortRange};
+use std::alloc::Global;
+use toml::Table;
+
+/// The two gateways' port ranges.
+#[tactic(auto, unfolding(crate::specs::Rows::bad_ports))]
+pub(crate) fn ports(document: &Table) -> Result<(PortRange, PortRange), ValueFault>
+    ensures zero { IfOk result (λ r. IsRange (table_view document.now) Zero r.0) }
+    ensures one { IfOk result (λ r. IsRange (table_view document.now) One r.1) }
+    ensures good { OnOk result (bad_ports (table_view document.now) ≡ None) }
+    ensures err { IfErr result (TellsFirst (bad_ports (table_view document.now))) }
+{
+    let zero = fields::range(document, Section::Ports, Name::Zero)?;
+    let one = fields::range(document, Section::Ports, Name::One)?;
+    Ok((zero, one))
+}
+
+/// The inside network.
+#[tactic(auto, unfolding(crate::specs::Rows::bad_inside))]
+pub(crate) fn inside(alloc: Global, document: &Table) -> Result<Interface, ValueFault>
+    ensures ok { IfOk result (IsInterface (table_view document.now) Inside) }
+    ensures good { OnOk result (bad_inside (table_view document.now) ≡ None) }
+    ensures err { IfErr result (TellsFirst (bad_inside (table_view document.now))) }
+{
+    let virtual_ip = fields::address(alloc, document, Section::Inside, Name::Virtual)?;
+    let prefix_length = fields::number(document, Section::Inside, Name::Prefix, 8, 30)? as u8;
+    let virtual_router = fields::number(document, Section::Inside, Name::Vrid, 1, 255)? as u8;
+    let wire = fields::number(document, Section::Inside, Name::Wire, 1, 65535)?;
+    Ok(Interface {
+        virtual_ip,
+        prefix_length,
+        virtual_router,
+        wire,
+    })
+}
+
+/// Whether a network with this address and prefix shares no address with another.
+fn is_apart(network: Prefix, address: Ip, length: u8) -> bool
+    requires { length ≤ 30 }
+    ensures { result ≡ is_apart (network.address.0, network.length) (Some address.0) (Some length) }
+{
+    let shorter = network.length.min(length);
+    !fields::is_in(address, Prefix::new(network.address, shorter))
+}
+
+/// The outside network, which shares no address with the inside one.
+#[tactic(auto, unfolding(crate::specs::Rows::bad_outside))]
+pub(crate) fn outside(
+    alloc: Global,
+    document: &Table,
+    inside: Prefix,
+) -> Result<Interface, ValueFault>
+    ensures ok { IfOk result (IsInterface (table_view document.now) Outside) }
+    ensures good { OnOk result
+        (bad_outside (inside.address.0, inside.length) (table_view document.now) ≡ None) }
+    ensures err { IfErr result
+        (TellsFirst (bad_outside (inside.address.0, inside.length) (table_view document.now))) }
+{
+    let virtual_ip = fields::address(alloc, document, Section::Outside, Name::Virtual)?;
+    let prefix_length = fields::number(document, Section::Outside, Name::Prefix, 8, 30)? as u8;
+    if !is_apart(inside, virtual_ip, prefix_length) {
+        return Err(ValueFault::BadValue(Key::new(Section::Outside, Name::Prefix)));
+    }
+    let virtual_router = fields::number(document, Section::Outside, Name::Vrid, 1, 255)? as u8;
+    let wire = fields::number(document, Section::Outside, Name::Wire, 1, 65535)?;
+    Ok(Interface {
+        virtual_ip,
+        prefix_length,
+        virtual_router,
+        wire,
+    })
+}
+
+/// The router, which lies in the outside network.
+#[tactic(auto, unfolding(crate::specs::Rows::bad_router))]
+pub(crate) fn router(alloc: Global, document: &Table, outside: Prefix) -> Result<Ip, ValueFault>
+    ensures ok { IfOk result (λ ip. address_at (table_view document.now) Outside Router ≡ Some ip.0) }
+    ensures good { OnOk result
+        (bad_router (outside.address.0, outside.length) (table_view document.now) ≡ None) }
+    ensures err { IfErr result
+        (TellsFirst (bad_router (outside.address.0, outside.length) (table_view document.now))) }
+{
+    fields::host(alloc, document, Section::Outside, Name::Router, outside)
+}

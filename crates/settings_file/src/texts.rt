@@ -1,0 +1,123 @@
+//! Addresses as the settings write them.
+ghost use Rattle.std.specs.Prelude.{◌≡◌, ◌<◌, map, option_map, IfOk, IfSome};
+ghost use Rattle.std.specs.List.{slice_split};
+ghost use Rattle.settings_file.specs.Texts.{digit_of, nibble_of, two_digits_of, octet_of, pair_of, parts_at, address_in, address_of, mac_in, mac_of};
+
+use addresses::{Ip, Mac};
+use std::alloc::{AllocError, Global};
+
+fn digit(byte: u8) -> Option<u16>
+    ensures value { result ≡ digit_of byte }
+    ensures small { IfSome result (λ n. n < 10) }
+{
+    match byte {
+        b'0'..=b'9' => Some(u16::from(byte - b'0')),
+        _ => None,
+    }
+}
+
+/// A number of two digits that doesn't begin with 0.
+fn two_digits(first: u8, second: u8) -> Option<u16>
+    ensures value { result ≡ two_digits_of first second }
+    ensures small { IfSome result (λ n. n < 100) }
+{
+    let first = digit(first)?;
+    let second = digit(second)?;
+    if first == 0 {
+        None
+    } else {
+        Some(10 * first + second)
+    }
+}
+
+/// A decimal number from 0 to 255 without leading zeros.
+#[tactic(auto, unfolding(crate::specs::Texts::octet_of))]
+fn octet(word: &str) -> Option<u8>
+    ensures { result ≡ octet_of word.now }
+{
+    let value = match word.as_bytes() {
+        [a] => digit(*a)?,
+        [a, b] => two_digits(*a, *b)?,
+        [a, b, c] => 10 * two_digits(*a, *b)? + digit(*c)?,
+        _ => return None,
+    };
+    if value < 256 { Some(value as u8) } else { None }
+}
+
+fn nibble(byte: u8) -> Option<u8>
+    ensures value { result ≡ nibble_of byte }
+    ensures small { IfSome result (λ n. n < 16) }
+{
+    match byte {
+        b'0'..=b'9' => Some(byte - b'0'),
+        b'A'..=b'F' => Some(byte - b'A' + 10),
+        b'a'..=b'f' => Some(byte - b'a' + 10),
+        _ => None,
+    }
+}
+
+/// A byte as a pair of hexadecimal digits.
+#[tactic(auto, unfolding(crate::specs::Texts::pair_of))]
+fn pair(word: &str) -> Option<u8>
+    ensures { result ≡ pair_of word.now }
+{
+    match word.as_bytes() {
+        [high, low] => Some(16 * nibble(*high)? + nibble(*low)?),
+        _ => None,
+    }
+}
+
+fn parts_at_dots(alloc: Global, text: &str) -> Result<Vec<&str>, AllocError>
+    ensures { IfOk result (λ v. map (λ part. part.now) v.items ≡ parts_at 46 text.now) }
+{
+    text.split('.').collect(alloc)
+}
+
+fn parts_at_dashes(alloc: Global, text: &str) -> Result<Vec<&str>, AllocError>
+    ensures { IfOk result (λ v. map (λ part. part.now) v.items ≡ parts_at 45 text.now) }
+{
+    text.split('-').collect(alloc)
+}
+
+fn address_in(parts: &[&str]) -> Option<Ip>
+    ensures { option_map (λ ip. ip.0) result ≡ address_in (map (λ part. part.now) parts.now) }
+{
+    match parts {
+        [a, b, c, d] => Some(Ip::new([octet(a)?, octet(b)?, octet(c)?, octet(d)?])),
+        _ => None,
+    }
+}
+
+fn mac_in(parts: &[&str]) -> Option<Mac>
+    ensures { option_map (λ mac. mac.0) result ≡ mac_in (map (λ part. part.now) parts.now) }
+{
+    match parts {
+        [a, b, c, d, e, f] => Some(Mac([
+            pair(a)?,
+            pair(b)?,
+            pair(c)?,
+            pair(d)?,
+            pair(e)?,
+            pair(f)?,
+        ])),
+        _ => None,
+    }
+}
+
+/// The address that a text writes, as `192.0.2.1`, where it writes one.
+#[tactic(auto, unfolding(crate::specs::Texts::address_of))]
+pub(crate) fn address_of(alloc: Global, text: &str) -> Result<Option<Ip>, AllocError>
+    ensures { IfOk result (λ found. option_map (λ ip. ip.0) found ≡ address_of text.now) }
+{
+    let parts = parts_at_dots(alloc, text)?;
+    Ok(address_in(parts.as_slice()))
+}
+
+/// The address that a text writes, as `02-00-00-00-01-00`, where it writes one.
+#[tactic(auto, unfolding(crate::specs::Texts::mac_of))]
+pub(crate) fn mac_of(alloc: Global, text: &str) -> Result<Option<Mac>, AllocError>
+    ensures { IfOk result (λ found. option_map (λ mac. mac.0) found ≡ mac_of text.now) }
+{
+    let parts = parts_at_dashes(alloc, text)?;
+    Ok(mac_in(parts.as_slice()))
+}

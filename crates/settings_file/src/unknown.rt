@@ -1,0 +1,219 @@
+//! Keys of a document that settings don't have.
+ghost use Rattle.std.specs.Prelude.{◌≡◌, Some, map, option_map, string_bytes, IfOk};
+ghost use Rattle.std.specs.List.{find, list_any};
+ghost use Rattle.toml.specs.Data.{as_table};
+ghost use Rattle.toml.specs.View.{table_view, view};
+ghost use Rattle.settings_file.specs.declared.keys.Section.TheVariants.{Neighbour};
+ghost use Rattle.settings_file.specs.Neighbours.{tables_in};
+ghost use Rattle.settings_file.specs.Unknown.{names_of, has_text, is_known, is_titled, sections, section_named, path, unknown_in, unknown_at, unknown_from, unknown_neighbour, unknown_under, unknown_of, lesser, least_from, first_unknown};
+
+use crate::{Name, Section, neighbours};
+use std::alloc::{AllocError, Global};
+use toml::{Table, Value};
+
+const PORTS: [Name; 2] = [Name::Zero, Name::One];
+
+const INSIDE: [Name; 4] = [Name::Virtual, Name::Prefix, Name::Vrid, Name::Wire];
+
+const OUTSIDE: [Name; 5] = [
+    Name::Virtual,
+    Name::Prefix,
+    Name::Vrid,
+    Name::Wire,
+    Name::Router,
+];
+
+const GATEWAY: [Name; 11] = [
+    Name::InsideIp,
+    Name::InsideMac,
+    Name::OutsideIp,
+    Name::OutsideMac,
+    Name::Priority,
+    Name::Interval,
+    Name::Preempt,
+    Name::BootFile,
+    Name::Link,
+    Name::InsidePort,
+    Name::OutsidePort,
+];
+
+const NEIGHBOUR: [Name; 3] = [Name::Side, Name::Ip, Name::Mac];
+
+const SECTIONS: [Section; 6] = [
+    Section::Ports,
+    Section::Inside,
+    Section::Outside,
+    Section::GatewayZero,
+    Section::GatewayOne,
+    Section::Neighbour,
+];
+
+fn has_text(name: Name, text: &str) -> bool
+    ensures { result ≡ has_text text.now name }
+{
+    name.as_str() == text
+}
+
+fn any_has_text(names: &[Name], text: &str) -> bool
+    ensures { result ≡ list_any (has_text text.now) names.now }
+{
+    names.iter().any(|name| has_text(*name, text))
+}
+
+#[tactic(auto, unfolding(crate::specs::Unknown::is_known))]
+fn is_known(section: Section, text: &str) -> bool
+    ensures { result ≡ is_known section text.now }
+{
+    match section {
+        Section::Ports => any_has_text(&PORTS, text),
+        Section::Inside => any_has_text(&INSIDE, text),
+        Section::Outside => any_has_text(&OUTSIDE, text),
+        Section::GatewayZero | Section::GatewayOne => any_has_text(&GATEWAY, text),
+        Section::Neighbour => any_has_text(&NEIGHBOUR, text),
+    }
+}
+
+fn is_titled(section: Section, text: &str) -> bool
+    ensures { result ≡ is_titled text.now section }
+{
+    section.as_str() == text
+}
+
+fn titled(sections: &[Section], text: &str) -> Option<Section>
+    ensures { result ≡ find (is_titled text.now) sections.now }
+{
+    sections
+        .iter()
+        .copied()
+        .find(|section| is_titled(*section, text))
+}
+
+#[tactic(auto, unfolding(crate::specs::Unknown::section_named))]
+fn section_named(text: &str) -> Option<Section>
+    ensures { result ≡ section_named text.now }
+{
+    titled(&SECTIONS, text)
+}
+
+fn path(alloc: Global, section: Section, text: &str) -> Result<String, AllocError>
+    ensures { IfOk result (λ p. string_bytes p ≡ path section text.now) }
+{
+    let mut path = String::from_str(alloc, section.as_str())?;
+    path.push_str(".")?;
+    path.push_str(text)?;
+    Ok(path)
+}
+
+/// The lesser of two paths by their bytes.
+fn lesser(least: Option<String>, path: String) -> String
+    ensures { Some (string_bytes result) ≡ lesser (option_map string_bytes least) (string_bytes path) }
+{
+    let Some(least) = least else {
+        return path;
+    };
+    if path.as_str() < least.as_str() {
+        path
+    } else {
+        least
+    }
+}
+
+/// The least of a path and of the unknown keys of a section's table.
+fn unknown_in(
+    alloc: Global,
+    section: Section,
+    table: &Table,
+    least: Option<String>,
+) -> Result<Option<String>, AllocError>
+    ensures { IfOk result (λ found. option_map string_bytes found
+        ≡ least_from (option_map string_bytes least) (unknown_in section (table_view table.now))) }
+{
+    let mut found = least;
+    for (text, _) in table {
+        if !is_known(section, text.as_str()) {
+            let path = path(alloc, section, text.as_str())?;
+            found = Some(lesser(found, path));
+        }
+    }
+    Ok(found)
+}
+
+#[tactic(auto, unfolding(crate::specs::Unknown::unknown_at))]
+fn unknown_at(
+    alloc: Global,
+    section: Section,
+    value: &Value,
+    least: Option<String>,
+) -> Result<Option<String>, AllocError>
+    ensures { IfOk result (λ found. option_map string_bytes found
+        ≡ least_from (option_map string_bytes least) (unknown_at section (as_table (view value.now)))) }
+{
+    match value.as_table() {
+        Some(table) => unknown_in(alloc, section, table, least),
+        None => Ok(least),
+    }
+}
+
+#[tactic(auto, using(crate::proofs::Least::least_of_both))]
+fn unknown_from(
+    alloc: Global,
+    tables: &[Value],
+    least: Option<String>,
+) -> Result<Option<String>, AllocError>
+    ensures { IfOk result (λ found. option_map string_bytes found
+        ≡ least_from (option_map string_bytes least) (unknown_from (map view tables.now))) }
+{
+    let mut found = least;
+    for table in tables {
+        found = unknown_at(alloc, Section::Neighbour, table, found)?;
+    }
+    Ok(found)
+}
+
+#[tactic(auto, unfolding(crate::specs::Unknown::unknown_neighbour))]
+fn unknown_neighbour(
+    alloc: Global,
+    value: &Value,
+    least: Option<String>,
+) -> Result<Option<String>, AllocError>
+    ensures { IfOk result (λ found. option_map string_bytes found
+        ≡ least_from (option_map string_bytes least) (unknown_neighbour (tables_in (Some (view value.now))))) }
+{
+    match neighbours::tables_in(value) {
+        Some(tables) => unknown_from(alloc, tables, least),
+        None => Ok(least),
+    }
+}
+
+#[tactic(auto, unfolding(crate::specs::Unknown::unknown_under))]
+fn unknown_under(
+    alloc: Global,
+    text: &str,
+    value: &Value,
+    least: Option<String>,
+) -> Result<Option<String>, AllocError>
+    ensures { IfOk result (λ found. option_map string_bytes found
+        ≡ least_from (option_map string_bytes least)
+        (unknown_under text.now (view value.now) (section_named text.now))) }
+{
+    match section_named(text) {
+        None => {
+            let path = String::from_str(alloc, text)?;
+            Ok(Some(lesser(least, path)))
+        }
+        Some(Section::Neighbour) => unknown_neighbour(alloc, value, least),
+        Some(section) => unknown_at(alloc, section, value, least),
+    }
+}
+
+/// The least path of a key that settings don't have.
+#[tactic(auto, using(crate::proofs::Least::least_of_both), unfolding(crate::specs::Unknown::first_unknown))]
+pub(crate) fn first_unknown(alloc: Global, document: &Table) -> Result<Option<String>, AllocError>
+    ensures { IfOk result (λ found. option_map string_bytes found ≡ first_unknown (table_view document.now)) }
+{
+    let mut found = None;
+    for (text, value) in document {
+        found = unknown_under(alloc, text.as_str(), value, found)?;
+    }
+    Ok(found)
+}
