@@ -1,4 +1,4 @@
--- What each record does where it is taken: the record table of the specification, a row a line.
+-- What each record does where it is taken (docs/PROTOCOL.md): a row a line.
 use Rattle.std.specs.Prelude.{Bool, IsTrue, List, None, Option, Some, [], cond, false, not, suc, true, ℕ, ◌&&◌, ◌∷◌, ◌≡◌, ◌↔◌}
 use Rattle.addresses.specs.declared.transport.Protocol.{Protocol}
 use Rattle.addresses.specs.declared.transport.Protocol.TheVariants.{Tcp, Udp}
