@@ -24,6 +24,8 @@ ghost use Rattle.byteorder.specs.Endian.{big_bytes};
 ghost use Rattle.addresses.specs.Transport.{protocol_numbered};
 ghost use Rattle.frames.specs.Bytes.{Puts};
 ghost use Rattle.ipv4.specs.Header.{header_of, options_of, payload_of, HoldsPayload, IsIpv4, is_fragment, ipv4_refusal};
+ghost use Rattle.ipv4.specs.declared.header.TheConstants.{MORE_FRAGMENTS};
+ghost use Rattle.ipv4.specs.declared.header.field.TheConstants.{FIXED};
 
 use crate::Ipv4Fault;
 use addresses::{Ip, Protocol};
@@ -248,9 +250,12 @@ fn fragment(bytes: &[u8]) -> bool
     word / MORE_FRAGMENTS % 2 != 0 || word % MORE_FRAGMENTS != 0
 }
 
-/// The packets that aren't refused are those of the grammar.
+/// The packets that aren't refused are those of the grammar; and the numbers that the definitions
+/// take from the code are the RFC's.
 pub fn ipv4_grammar()
-    ensures { (bytes : List ℕ) → (ipv4_refusal bytes ≡ None) ↔ IsIpv4 bytes }
+    ensures grammar { (bytes : List ℕ) → (ipv4_refusal bytes ≡ None) ↔ IsIpv4 bytes }
+    ensures fixed { FIXED ≡ 20 }
+    ensures more_fragments { MORE_FRAGMENTS ≡ 8192 }
 {}
 
 /// An IPv4 header in bytes that are lent to be written.

@@ -21,6 +21,8 @@ ghost use Rattle.std.specs.Prelude.{◌≡◌, ◌≤◌, ◌<◌, ◌↔◌, �
 ghost use Rattle.byteorder.specs.Endian.{big_bytes};
 ghost use Rattle.frames.specs.Bytes.{Puts};
 ghost use Rattle.ipv4.specs.Segment.{segment_of, flags_of, segment_options, segment_data, HoldsHeader, IsSegment, has_no_segment};
+ghost use Rattle.ipv4.specs.declared.tcp.TheConstants.{FIN, SYN, RST, ACK};
+ghost use Rattle.ipv4.specs.declared.tcp.field.TheConstants.{FIXED};
 
 use crate::Ipv4Fault;
 use addresses::{Port, TcpFlags};
@@ -217,9 +219,16 @@ fn no_segment(bytes: &[u8]) -> bool
         || destination_port(bytes).0 == 0
 }
 
-/// The payloads that aren't refused are those of the grammar.
+/// The payloads that aren't refused are those of the grammar; and the numbers that the definitions
+/// take from the code are the RFC's.
 pub fn tcp_grammar()
-    ensures { (payload : List ℕ) → (has_no_segment payload ≡ false) ↔ IsSegment payload }
+    ensures grammar { (payload : List ℕ)
+        → (has_no_segment payload ≡ false) ↔ IsSegment payload }
+    ensures fixed { FIXED ≡ 20 }
+    ensures fin { FIN ≡ 1 }
+    ensures syn { SYN ≡ 2 }
+    ensures rst { RST ≡ 4 }
+    ensures ack { ACK ≡ 16 }
 {}
 
 /// A TCP header in bytes that are lent to be written.

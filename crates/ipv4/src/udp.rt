@@ -17,6 +17,7 @@ ghost use Rattle.std.specs.Prelude.{◌≡◌, ◌≤◌, ◌↔◌, length, tak
 ghost use Rattle.byteorder.specs.Endian.{big_bytes};
 ghost use Rattle.frames.specs.Bytes.{Puts};
 ghost use Rattle.ipv4.specs.Datagram.{datagram_of, data_of, HoldsData, IsDatagram, has_no_datagram};
+ghost use Rattle.ipv4.specs.declared.udp.field.TheConstants.{HEADER};
 
 use crate::Ipv4Fault;
 use addresses::Port;
@@ -135,9 +136,12 @@ fn no_datagram(bytes: &[u8]) -> bool
         || destination_port(bytes).0 == 0
 }
 
-/// The payloads that aren't refused are those of the grammar.
+/// The payloads that aren't refused are those of the grammar; and the number that the definitions
+/// take from the code is the RFC's.
 pub fn udp_grammar()
-    ensures { (payload : List ℕ) → (has_no_datagram payload ≡ false) ↔ IsDatagram payload }
+    ensures grammar { (payload : List ℕ)
+        → (has_no_datagram payload ≡ false) ↔ IsDatagram payload }
+    ensures header { HEADER ≡ 8 }
 {}
 
 /// A UDP header in bytes that are lent to be written.
