@@ -1,5 +1,5 @@
 -- The keys of the settings, in the order of their text.
-use Rattle.std.specs.Prelude.{ℕ, List, [], ◌∷◌, codes, Some, None}
+use Rattle.std.specs.Prelude.{ℕ, List, codes, Some}
 use Rattle.settings_file.specs.declared.keys.Section.{Section}
 use Rattle.settings_file.specs.declared.keys.Section.TheVariants.{Ports, Inside, Outside, GatewayZero, GatewayOne, Neighbour}
 use Rattle.settings_file.specs.declared.keys.Name.{Name}

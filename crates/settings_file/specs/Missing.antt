@@ -1,10 +1,8 @@
 -- Keys that can't be left out.
-use Rattle.std.specs.Prelude.{Bool, List, [], ◌∷◌, Option, Some, None, is_none, is_some, option_map, option_and_then}
+use Rattle.std.specs.Prelude.{Bool, List, [], ◌∷◌, Option, is_none, is_some, option_and_then}
 use Rattle.std.specs.List.{find}
 use Rattle.toml.specs.Data.{Data, Members}
-use Rattle.settings_file.specs.declared.keys.Section.{Section}
 use Rattle.settings_file.specs.declared.keys.Section.TheVariants.{Ports, Inside, Outside, GatewayZero, GatewayOne}
-use Rattle.settings_file.specs.declared.keys.Name.{Name}
 use Rattle.settings_file.specs.declared.keys.Name.TheVariants.{Zero, One, Virtual, Prefix, Vrid, Wire, Router}
 use Rattle.settings_file.specs.declared.keys.Name.TheVariants.{InsideIp, InsideMac, OutsideIp, OutsideMac, BootFile, Link, InsidePort, OutsidePort}
 use Rattle.settings_file.specs.declared.keys.Key.{Key}

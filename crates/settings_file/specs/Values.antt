@@ -1,5 +1,5 @@
 -- Settings that stand at the keys of a document.
-use Rattle.std.specs.Prelude.{◌≡◌, ℕ, true, Some, string_bytes}
+use Rattle.std.specs.Prelude.{◌≡◌, true, Some, string_bytes}
 use Rattle.toml.specs.Data.{Members}
 use Rattle.settings.specs.declared.ranges.PortRange.{PortRange}
 use Rattle.settings.specs.declared.interfaces.Interface.{Interface}

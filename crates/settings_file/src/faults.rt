@@ -3,8 +3,12 @@ use crate::Key;
 use std::alloc::{AllocError, AllocFailed};
 use thiserror::Error;
 
-/// Why a text holds no settings: the first of these faults, in this order, and of one kind the first in the order of
-/// the keys. Its text is the fault's number, its name and its key, as `2 Missing outside.router`.
+/// Why a text holds no settings. Its text is the fault's number, its name and its key, as
+/// `2 Missing outside.router`.
+///
+/// They are looked for in this order: `NotToml`, `UnknownKey`, `Missing`, `BadValue`,
+/// `RangesOverlap`, `SameIds`; of several missing keys or bad values the first in the order of the
+/// keys is told.
 #[derive(Debug, Drop, Error)]
 pub enum SettingFault {
     /// The text isn't TOML.

@@ -34,7 +34,8 @@ fn table_at<'a>(document: &'a Table, section: Section) -> Option<&'a Table>
 /// The value at a key of a section.
 #[tactic(auto, unfolding(crate::specs::Document::value_of))]
 pub(crate) fn value_at<'a>(document: &'a Table, section: Section, name: Name) -> Option<&'a Value>
-    ensures { option_map (λ v. view v.now) result ≡ value_of (table_view document.now) section name }
+    ensures { option_map (λ v. view v.now) result
+        ≡ value_of (table_view document.now) section name }
 {
     match table_at(document, section) {
         Some(table) => entry(table, name.as_str()),
@@ -65,10 +66,12 @@ pub(crate) fn number(
     low: u16,
     high: u16,
 ) -> Result<u16, Key>
-    ensures ok { IfOk result (λ n. number_at low high (table_view document.now) section name ≡ Some n) }
+    ensures ok { IfOk result
+        (λ n. number_at low high (table_view document.now) section name ≡ Some n) }
     ensures low { IfOk result (λ n. low ≤ n) }
     ensures high { IfOk result (λ n. n ≤ high) }
-    ensures err { IfErr result (IsBadAt section name (number_at low high (table_view document.now) section name)) }
+    ensures err { IfErr result
+        (IsBadAt section name (number_at low high (table_view document.now) section name)) }
 {
     match value_at(document, section, name) {
         Some(value) => number_in(value, low, high).ok_or(Key::new(section, name)),
@@ -88,10 +91,12 @@ pub(crate) fn number_or(
 ) -> Result<u16, Key>
     requires low { low ≤ default }
     requires high { default ≤ high }
-    ensures ok { IfOk result (λ n. number_or default low high (table_view document.now) section name ≡ Some n) }
+    ensures ok { IfOk result
+        (λ n. number_or default low high (table_view document.now) section name ≡ Some n) }
     ensures low { IfOk result (λ n. low ≤ n) }
     ensures high { IfOk result (λ n. n ≤ high) }
-    ensures err { IfErr result (IsBadAt section name (number_or default low high (table_view document.now) section name)) }
+    ensures err { IfErr result (IsBadAt section name
+        (number_or default low high (table_view document.now) section name)) }
 {
     match value_at(document, section, name) {
         Some(value) => number_in(value, low, high).ok_or(Key::new(section, name)),
@@ -107,8 +112,10 @@ pub(crate) fn flag_or(
     name: Name,
     default: bool,
 ) -> Result<bool, Key>
-    ensures ok { IfOk result (λ b. flag_or default (table_view document.now) section name ≡ Some b) }
-    ensures err { IfErr result (IsBadAt section name (flag_or default (table_view document.now) section name)) }
+    ensures ok { IfOk result
+        (λ b. flag_or default (table_view document.now) section name ≡ Some b) }
+    ensures err { IfErr result
+        (IsBadAt section name (flag_or default (table_view document.now) section name)) }
 {
     match value_at(document, section, name) {
         Some(value) => value.as_bool().ok_or(Key::new(section, name)),
@@ -136,8 +143,10 @@ pub(crate) fn address(
     name: Name,
 ) -> Result<Ip, ValueFault>
     ensures ok { IfOk result (λ ip. address_at (table_view document.now) section name ≡ Some ip.0) }
-    ensures err { IfErr result (TellsFirst
-        (first_bad ((key section name, is_some (address_at (table_view document.now) section name)) ∷ []))) }
+    ensures err { IfErr result (TellsFirst (first_bad ((
+      key section name,
+      is_some (address_at (table_view document.now) section name),
+    ) ∷ []))) }
 {
     let found = match text(document, section, name) {
         Some(text) => texts::address_of(alloc, text)?,
@@ -155,8 +164,10 @@ pub(crate) fn mac(
     name: Name,
 ) -> Result<Mac, ValueFault>
     ensures ok { IfOk result (λ mac. mac_at (table_view document.now) section name ≡ Some mac.0) }
-    ensures err { IfErr result (TellsFirst
-        (first_bad ((key section name, is_some (mac_at (table_view document.now) section name)) ∷ []))) }
+    ensures err { IfErr result (TellsFirst (first_bad ((
+      key section name,
+      is_some (mac_at (table_view document.now) section name),
+    ) ∷ []))) }
 {
     let found = match text(document, section, name) {
         Some(text) => texts::mac_of(alloc, text)?,
@@ -172,9 +183,12 @@ pub(crate) fn string(
     section: Section,
     name: Name,
 ) -> Result<String, ValueFault>
-    ensures ok { IfOk result (λ s. text_at (table_view document.now) section name ≡ Some (string_bytes s)) }
-    ensures err { IfErr result (TellsFirst
-        (first_bad ((key section name, is_some (text_at (table_view document.now) section name)) ∷ []))) }
+    ensures ok { IfOk result
+        (λ s. text_at (table_view document.now) section name ≡ Some (string_bytes s)) }
+    ensures err { IfErr result (TellsFirst (first_bad ((
+      key section name,
+      is_some (text_at (table_view document.now) section name),
+    ) ∷ []))) }
 {
     match text(document, section, name) {
         Some(text) => Ok(String::from_str(alloc, text)?),
@@ -198,11 +212,12 @@ pub(crate) fn host(
     network: Prefix,
 ) -> Result<Ip, ValueFault>
     ensures ok { IfOk result (λ ip. address_at (table_view document.now) section name ≡ Some ip.0) }
-    ensures inside { OnOk result
-        (is_host (network.address.0, network.length) (address_at (table_view document.now) section name) ≡ true) }
+    ensures inside { OnOk result (is_host (network.address.0, network.length)
+        (address_at (table_view document.now) section name) ≡ true) }
     ensures err { IfErr result (TellsFirst (first_bad ((
       key section name,
-      is_host (network.address.0, network.length) (address_at (table_view document.now) section name),
+      is_host (network.address.0, network.length)
+          (address_at (table_view document.now) section name),
     ) ∷ []))) }
 {
     let ip = address(alloc, document, section, name)?;
@@ -259,7 +274,8 @@ fn range_of(value: &Value) -> Option<PortRange>
 pub(crate) fn range(document: &Table, section: Section, name: Name) -> Result<PortRange, Key>
     ensures ok { IfOk result (λ r. range_at (table_view document.now) section name
         ≡ Some (r.lowest.0, r.highest.0)) }
-    ensures err { IfErr result (IsBadAt section name (range_at (table_view document.now) section name)) }
+    ensures err { IfErr result
+        (IsBadAt section name (range_at (table_view document.now) section name)) }
 {
     let found = match value_at(document, section, name) {
         Some(value) => range_of(value),

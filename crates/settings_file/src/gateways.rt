@@ -77,8 +77,8 @@ fn read_role(alloc: Global, document: &Table, section: Section) -> Result<Role, 
         (λ r. number_or 100 1 4095 (table_view document.now) section Interval ≡ Some r.interval) }
     ensures preempt { IfOk result
         (λ r. flag_or true (table_view document.now) section Preempt ≡ Some r.preempt) }
-    ensures boot_file { IfOk result
-        (λ r. text_at (table_view document.now) section BootFile ≡ Some (string_bytes r.boot_file)) }
+    ensures boot_file { IfOk result (λ r. text_at (table_view document.now) section BootFile
+        ≡ Some (string_bytes r.boot_file)) }
     ensures good { OnOk result (bad_role (table_view document.now) section ≡ None) }
     ensures err { IfErr result (TellsFirst (bad_role (table_view document.now) section)) }
 {

@@ -9,7 +9,8 @@ use settings::{GatewaySettings, PortRange};
 
 /// Whether two ranges share a port.
 pub(crate) fn overlap(zero: PortRange, one: PortRange) -> bool
-    ensures { result ≡ overlap (Some (zero.lowest.0, zero.highest.0)) (Some (one.lowest.0, one.highest.0)) }
+    ensures { result ≡ overlap (Some (zero.lowest.0, zero.highest.0))
+        (Some (one.lowest.0, one.highest.0)) }
 {
     zero.lowest.0 <= one.highest.0 && one.lowest.0 <= zero.highest.0
 }

@@ -34,7 +34,8 @@ pub(crate) fn tables_in(value: &Value) -> Option<&[Value]>
     }
 }
 
-/// The tables of the list of neighbours, none where it is left out. Where it isn't a list of tables, none is given.
+/// The tables of the list of neighbours, no table where it is left out. `None` where it isn't a list of
+/// tables.
 #[tactic(auto, unfolding(crate::specs::Neighbours::neighbours_of))]
 pub(crate) fn tables(document: &Table) -> Option<&[Value]>
     ensures { option_map (λ l. map view l.now) result ≡ neighbours_of (table_view document.now) }
@@ -73,7 +74,8 @@ pub(crate) fn missing_in(neighbour: &Value) -> Option<Key>
 }
 
 fn text(neighbour: &Value, name: Name) -> Option<&str>
-    ensures { option_map (λ s. s.now) result ≡ option_and_then as_str (field_of (view neighbour.now) name) }
+    ensures { option_map (λ s. s.now) result
+        ≡ option_and_then as_str (field_of (view neighbour.now) name) }
 {
     match field(neighbour, name) {
         Some(value) => value.as_str(),
@@ -113,7 +115,8 @@ fn ip_of(alloc: Global, neighbour: &Value) -> Result<Option<Ip>, AllocError>
 
 #[tactic(auto, unfolding(crate::specs::Neighbours::mac_at_of))]
 fn mac_at_of(alloc: Global, neighbour: &Value) -> Result<Option<Mac>, AllocError>
-    ensures { IfOk result (λ found. option_map (λ mac. mac.0) found ≡ mac_at_of (view neighbour.now)) }
+    ensures { IfOk result
+        (λ found. option_map (λ mac. mac.0) found ≡ mac_at_of (view neighbour.now)) }
 {
     match text(neighbour, Name::Mac) {
         Some(text) => texts::mac_of(alloc, text),
@@ -183,8 +186,8 @@ pub(crate) fn neighbours(
     inside: Prefix,
     outside: Prefix,
 ) -> Result<Vec<Neighbour>, ValueFault>
-    ensures ok { IfOk result (λ v. option_map (map neighbour_in) (neighbours_of (table_view document.now))
-        ≡ Some (map Some v.items)) }
+    ensures ok { IfOk result (λ v. option_map (map neighbour_in)
+        (neighbours_of (table_view document.now)) ≡ Some (map Some v.items)) }
     ensures few { IfOk result (λ v. vec_len v ≤ 64) }
     ensures good { OnOk result (bad_neighbours (inside.address.0, inside.length)
         (outside.address.0, outside.length) (table_view document.now) ≡ None) }

@@ -74,9 +74,9 @@ fn settings_of(alloc: Global, document: &Table) -> Result<Settings, SettingFault
 /// Reads settings from a text in TOML.
 ///
 /// # Errors
-/// The first fault in this order: the text isn't TOML, an unknown key (of several the least path by bytes), a missing
-/// key, a bad value, port ranges that overlap, ids that the two gateways share; of missing keys and bad values the
-/// first in the order of the keys. `NoMemory` can come at any point.
+/// The first fault in this order: the text isn't TOML, an unknown key (of several the least path by
+/// bytes), a missing key, a bad value, port ranges that overlap, ids that the two gateways share; of
+/// missing keys and bad values the first in the order of the keys. `NoMemory` can come at any point.
 pub fn read(alloc: Global, text: &str) -> Result<Settings, SettingFault>
     ensures ok { IfOk result (IsReadFrom (parse_document text.now)) }
     ensures err { IfErr result (Tells (parse_document text.now)) }

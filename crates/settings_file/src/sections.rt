@@ -87,7 +87,8 @@ pub(crate) fn outside(
 /// The router, which lies in the outside network.
 #[tactic(auto, unfolding(crate::specs::Rows::bad_router))]
 pub(crate) fn router(alloc: Global, document: &Table, outside: Prefix) -> Result<Ip, ValueFault>
-    ensures ok { IfOk result (λ ip. address_at (table_view document.now) Outside Router ≡ Some ip.0) }
+    ensures ok { IfOk result
+        (λ ip. address_at (table_view document.now) Outside Router ≡ Some ip.0) }
     ensures good { OnOk result
         (bad_router (outside.address.0, outside.length) (table_view document.now) ≡ None) }
     ensures err { IfErr result

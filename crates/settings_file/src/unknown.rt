@@ -106,7 +106,8 @@ fn path(alloc: Global, section: Section, text: &str) -> Result<String, AllocErro
 
 /// The lesser of two paths by their bytes.
 fn lesser(least: Option<String>, path: String) -> String
-    ensures { Some (string_bytes result) ≡ lesser (option_map string_bytes least) (string_bytes path) }
+    ensures { Some (string_bytes result)
+        ≡ lesser (option_map string_bytes least) (string_bytes path) }
 {
     let Some(least) = least else {
         return path;
@@ -146,7 +147,8 @@ fn unknown_at(
     least: Option<String>,
 ) -> Result<Option<String>, AllocError>
     ensures { IfOk result (λ found. option_map string_bytes found
-        ≡ least_from (option_map string_bytes least) (unknown_at section (as_table (view value.now)))) }
+        ≡ least_from (option_map string_bytes least)
+        (unknown_at section (as_table (view value.now)))) }
 {
     match value.as_table() {
         Some(table) => unknown_in(alloc, section, table, least),
@@ -177,7 +179,8 @@ fn unknown_neighbour(
     least: Option<String>,
 ) -> Result<Option<String>, AllocError>
     ensures { IfOk result (λ found. option_map string_bytes found
-        ≡ least_from (option_map string_bytes least) (unknown_neighbour (tables_in (Some (view value.now))))) }
+        ≡ least_from (option_map string_bytes least)
+        (unknown_neighbour (tables_in (Some (view value.now))))) }
 {
     match neighbours::tables_in(value) {
         Some(tables) => unknown_from(alloc, tables, least),
@@ -209,7 +212,8 @@ fn unknown_under(
 /// The least path of a key that settings don't have.
 #[tactic(auto, using(crate::proofs::Least::least_of_both), unfolding(crate::specs::Unknown::first_unknown))]
 pub(crate) fn first_unknown(alloc: Global, document: &Table) -> Result<Option<String>, AllocError>
-    ensures { IfOk result (λ found. option_map string_bytes found ≡ first_unknown (table_view document.now)) }
+    ensures { IfOk result (λ found. option_map string_bytes found
+        ≡ first_unknown (table_view document.now)) }
 {
     let mut found = None;
     for (text, value) in document {
