@@ -47,12 +47,7 @@ impl Cases {
 }
 
 /// Writes the answers to the lines of a file.
-fn write_answers(
-    alloc: Global,
-    cases: &mut Cases,
-    text: &str,
-    out: &mut String,
-) -> Result<()> {
+fn write_answers(alloc: Global, cases: &mut Cases, text: &str, out: &mut String) -> Result<()> {
     for line in text.lines() {
         if line.is_empty() || line.starts_with("#") {
             continue;
