@@ -1,0 +1,206 @@
+//! Lines on one table.
+ghost use Rattle.std.specs.Prelude.{◌≡◌};
+ghost use Rattle.bindings.specs.Ports.{AreBounds, in_bounds};
+
+use crate::given::Given;
+use addresses::{Port, Protocol};
+use anyhow::{Result, bail};
+use bindings::{PortBounds, Table};
+use nat_types::{EntryState, Key, Pair};
+use std::alloc::Global;
+
+/// The table that the lines so far have come to, and the ranges that it was made for.
+#[derive(Drop)]
+pub struct TableCase {
+    table: Table,
+    zero: PortBounds,
+    one: PortBounds,
+    ghost first: { table.zero ≡ zero },
+    ghost second: { table.one ≡ one },
+}
+
+fn is_in(bounds: PortBounds, port: Port) -> bool
+    ensures { result ≡ in_bounds bounds port.0 }
+{
+    bounds.lowest.0 <= port.0 && port.0 <= bounds.highest.0
+}
+
+/// How many pairs there are, and which.
+fn listed(alloc: Global, pairs: &[Pair]) -> Result<String> {
+    let mut out = String::new(alloc);
+    write!(out, "{}", pairs.len())?;
+    for pair in pairs.iter() {
+        write!(out, ", {pair}")?;
+    }
+    Ok(out)
+}
+
+impl TableCase {
+    /// The ranges of the sample settings.
+    pub fn sample(alloc: Global) -> Result<TableCase> {
+        let zero = PortBounds {
+            lowest: Port(20000),
+            highest: Port(30000),
+        };
+        let one = PortBounds {
+            lowest: Port(40000),
+            highest: Port(50000),
+        };
+        TableCase::new(alloc, zero, one)
+    }
+
+    /// An empty table, which owns the first range.
+    fn new(alloc: Global, zero: PortBounds, one: PortBounds) -> Result<TableCase>
+        requires zero { AreBounds zero }
+        requires one { AreBounds one }
+    {
+        let table = Table::new(alloc, zero, one)?;
+        let mut case = TableCase { table, zero, one };
+        for port in zero.lowest.0..=zero.highest.0 {
+            case.own(Port(port))?;
+        }
+        Ok(case)
+    }
+
+    pub fn answer(&mut self, given: &mut Given<'_>) -> Result<String> {
+        let alloc = given.alloc;
+        match given.word()? {
+            "new" => self.begin(given)?,
+            "own" => self.own(given.port()?)?,
+            "disown" => self.disown(given.port()?)?,
+            "carried" => self.carry(given)?,
+            "renew" => self.table.renew(given.key()?, given.moment()?),
+            "set_state" => self.set_state(given)?,
+            "remove" => self.table.remove(given.key()?),
+            "add" => return self.add(given),
+            call => return self.asked(call, given),
+        }
+        Ok(String::new(alloc))
+    }
+
+    fn asked(&mut self, call: &str, given: &mut Given<'_>) -> Result<String> {
+        let alloc = given.alloc;
+        match call {
+            "free_like" => self.chosen(given),
+            "pair_of_port" => self.entry_of_key(given),
+            "port_of" => self.entry_of_endpoint(given),
+            "idle_keys" => self.idle_keys(given),
+            "pairs" => listed(alloc, self.table.pairs()?.as_slice()),
+            "translating" => listed(alloc, self.table.translating()?.as_slice()),
+            _ => self.told(call, given),
+        }
+    }
+
+    fn told(&self, call: &str, given: &mut Given<'_>) -> Result<String> {
+        let told = match call {
+            "owns" => self.table.owns(given.port()?),
+            "idle" => self.table.idle(given.key()?, given.moment()?),
+            "unused" => self.table.unused(given.key()?),
+            _ => bail!("no call {call}"),
+        };
+        Ok(format!(in given.alloc; "{told}")?)
+    }
+
+    fn begin(&mut self, given: &mut Given<'_>) -> Result<()> {
+        let zero = given.bounds()?;
+        let one = given.bounds()?;
+        *self = TableCase::new(given.alloc, zero, one)?;
+        Ok(())
+    }
+
+    fn own(&mut self, port: Port) -> Result<()> {
+        if !is_in(self.zero, port) && !is_in(self.one, port) {
+            bail!("it lies in no range");
+        }
+        if self.table.owns(port) {
+            bail!("it is owned");
+        }
+        self.table.own(port);
+        Ok(())
+    }
+
+    fn disown(&mut self, port: Port) -> Result<()> {
+        if !self.table.owns(port) {
+            bail!("it isn't owned");
+        }
+        let tcp = Key {
+            protocol: Protocol::Tcp,
+            port,
+        };
+        let udp = Key {
+            protocol: Protocol::Udp,
+            port,
+        };
+        if self.table.pair_of_port(tcp).is_some() || self.table.pair_of_port(udp).is_some() {
+            bail!("it has an entry");
+        }
+        self.table.disown(port);
+        Ok(())
+    }
+
+    fn add(&mut self, given: &mut Given<'_>) -> Result<String> {
+        let pair = given.pair()?;
+        let state = given.state()?;
+        let by_install = given.by_install()?;
+        let now = given.moment()?;
+        self.table.ready(&[pair.endpoint])?;
+        self.table.add(pair, state, by_install, now)?;
+        Ok(format!(in given.alloc; "added")?)
+    }
+
+    fn carry(&mut self, given: &mut Given<'_>) -> Result<()> {
+        let key = given.key()?;
+        let remote = given.remote()?;
+        let way = given.way()?;
+        let flags = given.flags()?;
+        let now = given.moment()?;
+        self.table.carried(key, remote, way, flags, now);
+        Ok(())
+    }
+
+    fn set_state(&mut self, given: &mut Given<'_>) -> Result<()> {
+        let key = given.key()?;
+        let state = given.state()?;
+        match self.table.pair_of_port(key) {
+            Some(entry) if entry.state == EntryState::Doomed => bail!("it is Doomed"),
+            _ => self.table.set_state(key, state),
+        }
+        Ok(())
+    }
+
+    fn chosen(&self, given: &mut Given<'_>) -> Result<String> {
+        let protocol = given.protocol()?;
+        let parity = given.parity()?;
+        match self.table.free_like(protocol, parity) {
+            Some(port) => Ok(format!(in given.alloc; "{port}")?),
+            None => Ok(format!(in given.alloc; "none")?),
+        }
+    }
+
+    fn entry_of_key(&self, given: &mut Given<'_>) -> Result<String> {
+        match self.table.pair_of_port(given.key()?) {
+            Some(entry) => Ok(format!(in given.alloc; "{} {:?}", entry.pair, entry.state)?),
+            None => Ok(format!(in given.alloc; "none")?),
+        }
+    }
+
+    fn entry_of_endpoint(&self, given: &mut Given<'_>) -> Result<String> {
+        match self.table.port_of(given.endpoint()?) {
+            Some(entry) => Ok(format!(in given.alloc; "{} {:?}", entry.pair, entry.state)?),
+            None => Ok(format!(in given.alloc; "none")?),
+        }
+    }
+
+    /// How many keys are idle, and which.
+    fn idle_keys(&mut self, given: &mut Given<'_>) -> Result<String> {
+        let now = given.moment()?;
+        let mut keys = Vec::new(given.alloc);
+        self.table.idle_keys(now, &mut keys)?;
+        let mut out = String::new(given.alloc);
+        write!(out, "{}", keys.len())?;
+        for key in keys.iter() {
+            write!(out, ", {} {}", key.protocol, key.port)?;
+        }
+        Ok(out)
+    }
+}
