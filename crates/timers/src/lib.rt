@@ -68,6 +68,3 @@ impl Timers {
         Ok(())
     }
 }
-
-#[cfg(test)]
-mod tests;
