@@ -1,8 +1,8 @@
 //! `arp_timed COUNT`: what a look-up and a learn cost in a full cache, over COUNT of each. Without a count it does nothing.
 #![tactic(auto)]
 
-use arp::Cache;
 use addresses::{Ip, Mac};
+use arp::Cache;
 use std::rt::{Clock, Env};
 use std::time::Instant;
 use std::{env, io};

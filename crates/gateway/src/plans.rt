@@ -10,8 +10,8 @@ ghost use Rattle.gateway.specs.Verdict.{outward_plan, inward_plan, planned_frame
 use crate::choices::{Choice, choose_inward, choose_outward};
 use crate::{Direction, Networks, NoMemory, Reason};
 use addresses::Mac;
-use lone_table::Table;
 use ipv4::Flow;
+use lone_table::Table;
 use nat_types::Side;
 use packet_path::{append_sent, neighbour_mac, next_hop_outside, source_endpoint, target_key};
 use settings::Neighbour;
