@@ -248,7 +248,7 @@ feed_moves i before after log count n left seat all all_left n_is boot batch han
     let taken : take n (coming_of before) ≡ take (min count (wanted before.link)) (coming_of before) = ap (λ (k : ℕ). take k (coming_of before)) n_of ∙ take_all_of (min count (wanted before.link)) (coming_of before) in
     let rest : drop n (coming_of before) ≡ drop (min count (wanted before.link)) (coming_of before) = ap (λ (k : ℕ). drop k (coming_of before)) n_of ∙ drop_all_of (min count (wanted before.link)) (coming_of before) in
     let coming : coming_of after ≡ drop (min count (wanted before.link)) (coming_of before) =
-        ap (λ (rs : List Record). drop after.handed rs) batch ∙ ap (λ (k : ℕ). drop k before.batch.items) handed ∙ sym (drop-drop n before.handed before.batch.items) ∙ rest in
+    ap (λ (rs : List Record). drop after.handed rs) batch ∙ ap (λ (k : ℕ). drop k before.batch.items) handed ∙ sym (drop-drop n before.handed before.batch.items) ∙ rest in
     let goes : after.link ≡ with_fed before.link (take (min count (wanted before.link)) (coming_of before)) = link ∙ ap (λ (rs : List Record). with_fed before.link rs) taken in
     record {
       world = λ theirs elsewhere. rw (goes, coming) (feed_adds i before.link theirs (coming_of before) elsewhere log.sent.items log.pushed.items log.taken.items log.closed.items count);

@@ -90,10 +90,7 @@ fn promise(
         (promises_at at batch.now) seat.old log.old seat.new log.new) }
     ensures err { OnErr result (Moves at [] seat.old log.old seat.new log.new) }
 {
-    if !all_spelled(batch)
-        || seat.link.unacknowledged() != 0
-        || batch.len() > seat.link.room()
-    {
+    if !all_spelled(batch) || seat.link.unacknowledged() != 0 || batch.len() > seat.link.room() {
         return Ok(());
     }
     let copied = copy_of(alloc, batch)?;

@@ -17,14 +17,14 @@ returns-clause-ok c =
       | in-Ok+then-taken w ↦ take_moves c.args.at c.args.seat.now c.match-take.seat c.args.log.now c.match-take.log c.args.which c.args.now found.0 w.in-Ok.taken w.known_peer-peer.result c.requires.seat c.requires.sent found.1.0
           (sym w.in-Ok.is ∙ c.take.ensures.heard found.0 read)
           (subst (λ (z : Bool). IsLeft z c.args.seat.now c.match-take.seat) (sym w.if-taken.true)
-            (none_left c.args.seat.now c.match-take.seat (ap (λ (s : Seat). s.boot) w.seat-is ∙ w.forget.ensures.boot) (ap (λ (s : Seat). s.batch.items) w.seat-is ∙ w.forget.ensures.batch) (ap (λ (s : Seat). s.handed) w.seat-is ∙ w.forget.ensures.handed)))
+          (none_left c.args.seat.now c.match-take.seat (ap (λ (s : Seat). s.boot) w.seat-is ∙ w.forget.ensures.boot) (ap (λ (s : Seat). s.batch.items) w.seat-is ∙ w.forget.ensures.batch) (ap (λ (s : Seat). s.handed) w.seat-is ∙ w.forget.ensures.handed)))
           (ap (λ (s : Seat). s.link) w.seat-is ∙ w.forget.ensures.link ∙ w.in-Ok.ensures.after found.0 read)
           (w.known_peer-peer.ensures ∙ sym (ap (λ (e : Link). e.known) (ap (λ (s : Seat). s.link) w.seat-is ∙ w.forget.ensures.link)))
           (ap (λ l. l.sent.items) w.log-is) (ap (λ l. l.pushed.items) w.log-is) (ap (λ l. l.taken.items) w.log-is ∙ w.log_records.ensures ∙ rw (c.in_ok-reserve.ensures.items, w.deref-in-Ok.ensures.0) refl) (ap (λ l. l.closed.items) w.log-is)
       | in-Ok+else-taken w ↦ take_moves c.args.at c.args.seat.now c.match-take.seat c.args.log.now c.match-take.log c.args.which c.args.now found.0 w.in-Ok.taken w.known_peer-peer.result c.requires.seat c.requires.sent found.1.0
           (sym w.in-Ok.is ∙ c.take.ensures.heard found.0 read)
           (subst (λ (z : Bool). IsLeft z c.args.seat.now c.match-take.seat) (sym w.if-taken.false)
-            (same_left c.args.seat.now c.match-take.seat c.requires.seat (record { boot = ap (λ (s : Seat). s.boot) w.seat-is; batch = ap (λ (s : Seat). s.batch.items) w.seat-is; handed = ap (λ (s : Seat). s.handed) w.seat-is })))
+          (same_left c.args.seat.now c.match-take.seat c.requires.seat (record { boot = ap (λ (s : Seat). s.boot) w.seat-is; batch = ap (λ (s : Seat). s.batch.items) w.seat-is; handed = ap (λ (s : Seat). s.handed) w.seat-is })))
           (ap (λ (s : Seat). s.link) w.seat-is ∙ w.in-Ok.ensures.after found.0 read)
           (w.known_peer-peer.ensures ∙ sym (ap (λ (e : Link). e.known) (ap (λ (s : Seat). s.link) w.seat-is)))
           (ap (λ l. l.sent.items) w.log-is) (ap (λ l. l.pushed.items) w.log-is) (ap (λ l. l.taken.items) w.log-is ∙ w.log_records.ensures ∙ rw (c.in_ok-reserve.ensures.items, w.deref-in-Ok.ensures.0) refl) (ap (λ l. l.closed.items) w.log-is)

@@ -15,4 +15,4 @@ returns c = λ log whole.
     refl refl refl
     (omega (arith, c.min-count.ensures, c.len.ensures, c.deref.ensures.len, many, c.requires.handed))
     (c.feed.ensures.after ∙ ap (λ (rs : List Record). with_fed c.args.seat.now.link rs)
-      (ap (λ (k : ℕ). take k (drop c.args.seat.now.handed c.deref.result.now)) same ∙ ap (λ (xs : List Record). take c.min-count.result (drop c.args.seat.now.handed xs)) c.deref.ensures.value))
+    (ap (λ (k : ℕ). take k (drop c.args.seat.now.handed c.deref.result.now)) same ∙ ap (λ (xs : List Record). take c.min-count.result (drop c.args.seat.now.handed xs)) c.deref.ensures.value))
