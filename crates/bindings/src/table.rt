@@ -294,7 +294,7 @@ impl Table {
         }
     }
 
-    /// Whether a key's pair is idle at a moment.
+    /// Whether a key's pair is idle at a moment. Of a key without an entry the answer says nothing.
     pub fn idle(&self, key: Key, now: u64) -> bool
         ensures { (past : Past) → IsPast self.now key past → result
             ≡ is_idle key.protocol past now }
@@ -305,7 +305,7 @@ impl Table {
         }
     }
 
-    /// Whether a key's pair came by Install and carried nothing since.
+    /// Whether a key's pair came by Install and carried nothing since. Of a key without an entry the answer says nothing.
     pub fn unused(&self, key: Key) -> bool
         ensures { (past : Past) → IsPast self.now key past → result ≡ is_unused past }
     {
