@@ -3,7 +3,7 @@ use anyhow::{Context, Result};
 use std::alloc::Global;
 use std::io::Write;
 
-/// The text with each line of the sample that is `old` replaced by `new`, whose `|` stand for line ends.
+/// The sample with its first line that is `old` replaced by `new`, whose `|` stand for line ends.
 fn edited(alloc: Global, sample: &str, old: &str, new: &str) -> Result<String> {
     let mut text = String::new(alloc);
     let mut done = false;
