@@ -1,6 +1,8 @@
 //! What follows of packets from the definitions of their bytes.
 ghost use Rattle.std.specs.Prelude.{◌≡◌, ◌<◌, ◌↔◌, ℕ, List, None, slice_index};
+ghost use Rattle.arp.specs.declared.caches.TheConstants.{ENTRIES, VALID_FOR};
 ghost use Rattle.arp.specs.declared.packets.ArpPacket.{ArpPacket};
+ghost use Rattle.arp.specs.declared.packets.field.TheConstants.{PACKET};
 ghost use Rattle.arp.specs.Packet.{arp_refusal, IsArp, packet_of, IsPacket, Spells, IsReadAs};
 
 /// Bytes are refused just where they are no packet.
@@ -17,4 +19,12 @@ pub fn written_is_read()
 pub fn read_is_spelled()
     ensures { (bytes : List ℕ) → ((i : ℕ) → slice_index bytes i < 256) → IsArp bytes
         → Spells bytes (packet_of bytes) }
+{}
+
+/// The numbers that the definitions take from the code: a packet's bytes, the cache's places, and
+/// for how many centiseconds an entry is valid.
+pub fn limits_law()
+    ensures packet { PACKET ≡ 28 }
+    ensures entries { ENTRIES ≡ 1024 }
+    ensures valid_for { VALID_FOR ≡ 120000 }
 {}

@@ -6,5 +6,5 @@ mod laws;
 mod packets;
 
 pub use caches::{Cache, Interface, Neighbour, is_learnable};
-pub use laws::{arp_grammar, read_is_spelled, written_is_read};
+pub use laws::{arp_grammar, limits_law, read_is_spelled, written_is_read};
 pub use packets::{ArpFault, ArpPacket, Operation, gratuitous, parse, reply, request};

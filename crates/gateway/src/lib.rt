@@ -4,6 +4,7 @@
 mod choices;
 mod events;
 mod gateways;
+mod laws;
 mod memory;
 mod outcomes;
 mod outs;
@@ -12,6 +13,7 @@ mod plans;
 pub use choices::Choice;
 pub use events::Event;
 pub use gateways::{Gateway, LAST_MOMENT};
+pub use laws::limits_law;
 pub use memory::NoMemory;
 pub use outcomes::Outcome;
 pub use outs::{Out, SentFrame};

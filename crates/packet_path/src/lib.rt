@@ -4,6 +4,7 @@
 
 mod arping;
 mod flows;
+mod laws;
 mod networks;
 mod reasons;
 mod steps;
@@ -11,6 +12,7 @@ mod translations;
 
 pub use arping::{answer_to, is_learnt, write_answer, write_request};
 pub use flows::{source_endpoint, target_key};
+pub use laws::limits_law;
 pub use networks::{
     Direction, Network, Networks, direction_taken, neighbour_mac, next_hop_outside,
 };

@@ -5,9 +5,11 @@ ghost use Rattle.std.specs.Prelude.{◌≡◌, ℕ, true, false, OnOk, IfOk, IfE
 ghost use Rattle.port_range.specs.Ports.{is_free, is_owned, is_available, is_within, is_bad, IsReason, IsRange, IsChosen, chosen_port};
 
 mod flags;
+mod laws;
 
 use crate::flags::{all_flags, choose_port, has_flag, put_flag};
 use addresses::{Parity, Port};
+pub use laws::limits_law;
 use std::alloc::{AllocError, Global};
 use std::marker::Model;
 use thiserror::Error;

@@ -23,6 +23,8 @@ ghost use Rattle.std.specs.Result.{result_err};
 ghost use Rattle.sums.specs.Sum.{IsRight};
 ghost use Rattle.ipv4.specs.Header.{header_of, payload_of, has_wrong_sum};
 ghost use Rattle.vrrp_packet.specs.declared.Advert.{Advert as Sent};
+ghost use Rattle.vrrp_packet.specs.declared.TheConstants.{PROTOCOL, VERSION, ADVERTISEMENT, INTERVALS};
+ghost use Rattle.vrrp_packet.specs.declared.field.TheConstants.{HEADER};
 ghost use Rattle.vrrp_packet.specs.Message.{pseudo_header as pseudo_bytes, IsAdvert, advert_refusal, advert_of, advert_bytes, IsWritable};
 
 use addresses::Ip;
@@ -187,6 +189,15 @@ pub fn write(advert: &Advert, out: &mut [u8; 12])
 /// The packets that aren't refused are those of the grammar.
 pub fn advert_grammar()
     ensures { (packet : List ℕ) → (advert_refusal packet ≡ None) ↔ IsAdvert packet }
+{}
+
+/// The numbers that the definitions take from the code (RFC 9568, sections 5.1.1.4 and 5.2).
+pub fn limits_law()
+    ensures protocol { PROTOCOL ≡ 112 }
+    ensures version { VERSION ≡ 3 }
+    ensures advertisement { ADVERTISEMENT ≡ 1 }
+    ensures intervals { INTERVALS ≡ 4096 }
+    ensures header { HEADER ≡ 8 }
 {}
 
 /// What is written is read again, from any packet with TTL 255 that carries it.
