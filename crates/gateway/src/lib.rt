@@ -4,7 +4,6 @@
 mod choices;
 mod events;
 mod gateways;
-mod laws;
 mod memory;
 mod outcomes;
 mod outs;
@@ -13,7 +12,6 @@ mod plans;
 pub use choices::Choice;
 pub use events::Event;
 pub use gateways::{Gateway, LAST_MOMENT};
-pub use laws::limits_law;
 pub use memory::NoMemory;
 pub use outcomes::Outcome;
 pub use outs::{Out, SentFrame};

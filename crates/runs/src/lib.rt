@@ -2,14 +2,12 @@
 #![tactic(auto)]
 
 mod faults;
-mod laws;
 mod printing;
 mod scripts;
 mod simulation;
 mod texts;
 
 pub use faults::Fault;
-pub use laws::limits_law;
 pub use printing::PrintFault;
 pub use scripts::{ScriptFault, read};
 pub use simulation::{play, simulate};
