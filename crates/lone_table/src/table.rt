@@ -73,10 +73,14 @@ impl Table {
 
     /// Adds a pair in that state.
     pub fn add(&mut self, pair: Pair, state: EntryState) -> Result<(), TableFault>
-        ensures ok { OnOk result (refusal_of self.old.capacity self.old.entries (entry_in state pair) ≡ None) }
-        ensures refused { IfErr result (λ fault. refusal_of self.old.capacity self.old.entries (entry_in state pair) ≡ Some fault) }
+        ensures ok { OnOk result (refusal_of self.old.capacity self.old.entries
+            (entry_in state pair) ≡ None) }
+        ensures refused { IfErr result (λ fault. refusal_of self.old.capacity self.old.entries
+            (entry_in state pair) ≡ Some fault) }
         ensures added { OnOk result (self.new ≡ with_entry self.old (entry_in state pair)) }
-        ensures slots { OnOk result ((q : OutsidePort) → slot_of self.new.entries q ≡ set_at (slot_of self.old.entries) pair.key (Some (entry_in state pair)) q) }
+        ensures slots { OnOk result ((q : OutsidePort)
+            → slot_of self.new.entries q ≡ set_at (slot_of self.old.entries) pair.key
+            (Some (entry_in state pair)) q) }
         ensures err { OnErr result (self.new ≡ self.old) }
     {
         let entry = Entry { pair, state };
@@ -99,7 +103,8 @@ impl Table {
 
     /// The Live and Held pairs, by protocol (tcp first) and port.
     pub fn translating(&self) -> Result<Vec<Pair>, AllocError>
-        ensures all { IfOk result (λ v. IsPermutation (pairs_in translates self.now.entries) v.items) }
+        ensures all { IfOk result (λ v.
+            IsPermutation (pairs_in translates self.now.entries) v.items) }
         ensures sorted { IfOk result (λ v. IsNonDecreasingBy place_of v.items) }
     {
         let mut pairs = translating_pairs_of(*self.entries.allocator(), &self.entries)?;
