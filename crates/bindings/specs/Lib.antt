@@ -1,5 +1,7 @@
 pub mod Entries
 pub mod Lists
-pub mod Ports
 pub mod Lives
+pub mod Ports
+pub mod Revivals
+pub mod Runs
 pub mod Table

@@ -1,6 +1,7 @@
 -- Lists of entries by protocol (tcp first) and port, and what a change makes of them.
-use Rattle.std.specs.Prelude.{◌≡◌, ℕ, ◌≤◌, zero, suc, true, cond, not, nat_lt, List, [], ◌∷◌, map, if◌then◌else◌, Some}
-use Rattle.std.specs.List.{filter}
+use Rattle.std.specs.Prelude.{◌≡◌, ℕ, ◌≤◌, zero, suc, Bool, true, cond, not, nat_lt, List, [], ◌∷◌, map, if◌then◌else◌, Option, Some, None, ◌+◌, ◌*◌}
+use Rattle.std.specs.List.{filter, find}
+use Rattle.addresses.specs.Transport.{protocol_number}
 use Rattle.nat_types.specs.declared.pairs.EntryState.{EntryState}
 use Rattle.nat_types.specs.declared.pairs.Key.{Key}
 use Rattle.nat_types.specs.declared.pairs.Pair.{Pair}
@@ -40,3 +41,16 @@ IsOneToOne es =
     (k q : Key) (x y : Entry)
     → slot_of es k ≡ Some x → slot_of es q ≡ Some y → is_pair x.state ≡ true → is_pair y.state ≡ true
     → x.pair.endpoint ≡ y.pair.endpoint → k ≡ q
+
+-- a key's place in the order by protocol (tcp first) and port
+abbrev pub key_place : Key → ℕ
+key_place key = 65536 * protocol_number key.protocol + key.port.0
+
+-- an entry stands behind a key; each does where there is none
+abbrev pub stands_behind : Option Key → Entry → Bool
+stands_behind None e = true
+stands_behind (Some key) e = nat_lt (key_place key) (place_of e.pair)
+
+-- the first entry behind a key in the order, or the first of all
+abbrev pub after_key : Option Key → List Entry → Option Entry
+after_key last es = find (stands_behind last) es

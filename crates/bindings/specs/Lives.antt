@@ -51,3 +51,21 @@ idle_keys_in now (e ∷ es) (l ∷ ls) =
 -- a key stands among these
 abbrev pub is_among : Key → List Key → Bool
 is_among key keys = list_any (λ k. same_key k key) keys
+
+-- ---- what is asked of one key's entry
+
+abbrev pub rests_by : Key → ℕ → Option Life → Bool
+rests_by key now None = false
+rests_by key now (Some life) = looks_idle key.protocol life now
+
+-- a key's entry is idle by its life; a key without an entry isn't
+abbrev pub rests_at : List Entry → List Life → Key → ℕ → Bool
+rests_at es ls key now = rests_by key now (life_in es ls key)
+
+abbrev pub is_unused_by : Option Life → Bool
+is_unused_by None = false
+is_unused_by (Some life) = life.is_unused
+
+-- a key's entry came by Install and carried nothing since, by its life; a key without an entry didn't
+abbrev pub is_unused_at : List Entry → List Life → Key → Bool
+is_unused_at es ls key = is_unused_by (life_in es ls key)

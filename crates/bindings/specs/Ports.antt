@@ -19,6 +19,14 @@ key_of protocol port = record { protocol = protocol; port = record { 0 = port } 
 abbrev pub is_free_in : List Entry → Protocol → ℕ → Bool
 is_free_in entries protocol port = is_none (slot_of entries (key_of protocol port))
 
+-- no entry of either protocol has the port
+abbrev pub is_vacant : List Entry → ℕ → Bool
+is_vacant entries port = is_free_in entries Tcp port && is_free_in entries Udp port
+
+-- an owned port that no entry has
+abbrev pub is_spare : List Entry → List ℕ → ℕ → Bool
+is_spare entries owned port = is_listed port owned && is_vacant entries port
+
 -- a port that may be given out: owned, and with no entry of the protocol
 abbrev pub is_open_in : List Entry → List ℕ → Protocol → ℕ → Bool
 is_open_in entries owned protocol port = is_listed port owned && is_free_in entries protocol port

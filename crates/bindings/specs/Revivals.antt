@@ -1,0 +1,42 @@
+-- What a table's entries are once the peer begins anew.
+use Rattle.std.specs.Prelude.{Bool, true, false, Option, Some, None, List, [], ◌∷◌, map, if◌then◌else◌}
+use Rattle.std.specs.List.{filter}
+use Rattle.nat_types.specs.declared.pairs.EntryState.{EntryState}
+use Rattle.nat_types.specs.declared.pairs.EntryState.TheVariants.{Pending, Doomed, Live, Closing, Held}
+use Rattle.lives.specs.Lives.{Life}
+use Rattle.bindings.specs.declared.entries.Entry.{Entry}
+use Rattle.bindings.specs.Entries.{is_pair, entry_in}
+
+-- what was proposed or asked to be closed translates
+abbrev pub woken : EntryState → EntryState
+woken Pending = Live
+woken Doomed = Doomed
+woken Live = Live
+woken Closing = Live
+woken Held = Held
+
+-- a pair that translates again then
+abbrev pub comes_back : EntryState → Bool
+comes_back Pending = true
+comes_back Doomed = false
+comes_back Live = false
+comes_back Closing = true
+comes_back Held = false
+
+abbrev pub woken_entry : Entry → Entry
+woken_entry e = entry_in (woken e.state) e.pair
+
+-- the entries then: proposals given up are no more
+abbrev pub revived_entries : List Entry → List Entry
+revived_entries es = map woken_entry (filter (λ e. is_pair e.state) es)
+
+-- what becomes of a slot
+abbrev pub revived_slot : Option Entry → Option Entry
+revived_slot None = None
+revived_slot (Some e) = (if is_pair e.state then Some (woken_entry e) else None)
+
+-- the lives of the entries that are pairs
+abbrev pub lives_of_pairs : List Entry → List Life → List Life
+lives_of_pairs [] ls = []
+lives_of_pairs (e ∷ es) [] = []
+lives_of_pairs (e ∷ es) (l ∷ ls) = (if is_pair e.state then l ∷ lives_of_pairs es ls else lives_of_pairs es ls)
