@@ -1,5 +1,5 @@
 -- The ports of a range: which of them are free, which are owned, and which is chosen.
-use Rattle.std.specs.Prelude.{◌≡◌, ℕ, zero, suc, ◌+◌, ◌-◌, ◌≤◌, ◌==◌, nat_le, nat_lt, Bool, true, false, ◌&&◌, ◌||◌, Option, Some, None, List, if◌then◌else◌}
+use Rattle.std.specs.Prelude.{◌≡◌, ℕ, zero, suc, ◌+◌, ◌-◌, ◌≤◌, ◌==◌, nat_le, nat_lt, ◌<◌, Bool, true, false, ◌&&◌, ◌||◌, Option, Some, None, List, [], ◌∷◌, if◌then◌else◌}
 use Rattle.std.specs.List.{list_any}
 use Rattle.addresses.specs.declared.transport.Parity.{Parity}
 use Rattle.addresses.specs.declared.transport.Parity.TheVariants.{Even, Odd}
@@ -42,13 +42,23 @@ abbrev pub IsReason : ℕ → ℕ → RangeFault → Type 0
 IsReason lowest highest BadRange = is_bad lowest highest ≡ true
 IsReason lowest highest NoMemory = is_bad lowest highest ≡ false
 
--- the range isn't bad, and each port that is free or owned lies in it
+-- the ports rise, each above the one before it and the first above this one
+abbrev pub RiseAbove : ℕ → List ℕ → Type 0
+RiseAbove low [] = Unit {0}
+RiseAbove low (port ∷ ports) = (low < port) × RiseAbove port ports
+
+-- the ports rise, and none is 0
+abbrev pub AreRising : List ℕ → Type 0
+AreRising ports = RiseAbove 0 ports
+
+-- the range isn't bad, each port that is free or owned lies in it, and the owned ones rise
 pub record IsRange (range : Range) : Type 0 where
   pub low : FIRST_PORT.0 ≤ range.lowest
   pub order : range.lowest ≤ range.highest
   pub high : range.highest ≤ 65535
   pub free : (port : ℕ) → is_free range port ≡ true → is_within range.lowest range.highest port ≡ true
   pub owned : (port : ℕ) → is_owned range port ≡ true → is_within range.lowest range.highest port ≡ true
+  pub rising : AreRising range.owned
 
 abbrev pub same_parity : Parity → Parity → Bool
 same_parity Even Even = true
