@@ -11,7 +11,7 @@ ghost use Rattle.bindings.specs.Runs.{own_in, without_port, all_ports, first_run
 ghost use Rattle.addresses.specs.declared.transport.Protocol.TheVariants.{Tcp, Udp};
 ghost use Rattle.bindings.specs.Lives.{KeepsOthers, is_among, rests_at, is_unused_at};
 ghost use Rattle.bindings.specs.Ports.{AreBounds, in_either, key_count, is_free_in, is_open_in, is_vacant, is_spare, chosen_port, ports_in};
-ghost use Rattle.bindings.specs.Table.{IsTable, IsPast, owns, idle_keys_of, with_entry_state, without_entry};
+ghost use Rattle.bindings.specs.Table.{IsTable, IsPast, owns, idle_keys_of, empty_table, with_entry_state, without_entry};
 
 use crate::entries::{
     find_after, find_endpoint, find_key, is_vacant_port, pairs_of, place_among, position_of,
@@ -80,6 +80,7 @@ impl Table {
         ensures zero { IfOk result (λ t. t.zero ≡ zero) }
         ensures one { IfOk result (λ t. t.one ≡ one) }
         ensures capacity { IfOk result (λ t. t.capacity ≡ key_count zero one) }
+        ensures empty { IfOk result (λ t. t ≡ empty_table zero one) }
     {
         let capacity = 2 * (port_count(zero) + port_count(one));
         let entries = Vec::with_capacity(alloc, capacity)?;
