@@ -7,11 +7,12 @@ ghost use Rattle.lives.specs.declared.packets.Packet.{Packet as Carried};
 ghost use Rattle.bindings.specs.Entries.{is_pair, translates, slot_of, entry_of, set_at, refusal_of, entry_in, pairs_in};
 ghost use Rattle.bindings.specs.Lists.{put_in, after_key};
 ghost use Rattle.bindings.specs.Revivals.{revived_entries, revived_slot, lives_of_pairs};
+ghost use Rattle.bindings.specs.Table.{empty_table};
 ghost use Rattle.bindings.specs.Runs.{own_in, without_port, all_ports, first_run, port_at};
 ghost use Rattle.addresses.specs.declared.transport.Protocol.TheVariants.{Tcp, Udp};
 ghost use Rattle.bindings.specs.Lives.{KeepsOthers, is_among, rests_at, is_unused_at};
 ghost use Rattle.bindings.specs.Ports.{AreBounds, in_either, key_count, is_free_in, is_open_in, is_vacant, is_spare, chosen_port, ports_in};
-ghost use Rattle.bindings.specs.Table.{IsTable, IsPast, owns, idle_keys_of, empty_table, with_entry_state, without_entry};
+ghost use Rattle.bindings.specs.Table.{IsTable, IsPast, owns, idle_keys_of, with_entry_state, without_entry};
 
 use crate::entries::{
     find_after, find_endpoint, find_key, is_vacant_port, pairs_of, place_among, position_of,
