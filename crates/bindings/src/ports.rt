@@ -156,10 +156,8 @@ impl Ports {
         requires { AreAlike (lowest_of zero one) (highest_of zero one) self.old }
         ensures tcp { (p : ℕ) → is_owned self.new.tcp p ≡ (is_owned self.old.tcp p
             || (p == port.0 && in_either zero one p)) }
-        ensures udp { (p : ℕ) → is_owned self.new.udp p ≡ (is_owned self.old.udp p
-            || (p == port.0 && in_either zero one p)) }
+        ensures alike { AreAlike (lowest_of zero one) (highest_of zero one) self.new }
         ensures free { SameFree self.old self.new }
-        ensures bounds { SameBounds self.old self.new }
     {
         if lies_in_either(zero, one, port) && !self.owns(port) {
             self.own(port);
