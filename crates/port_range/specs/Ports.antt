@@ -1,5 +1,5 @@
 -- The ports of a range: which of them are free, which are owned, and which is chosen.
-use Rattle.std.specs.Prelude.{◌≡◌, ℕ, zero, suc, ◌+◌, ◌-◌, ◌≤◌, ◌==◌, nat_le, nat_lt, Bool, true, false, ◌&&◌, ◌||◌, Option, Some, None, List, if◌then◌else◌}
+use Rattle.std.specs.Prelude.{◌≡◌, ℕ, zero, suc, ◌+◌, ◌-◌, ◌≤◌, ◌==◌, nat_le, nat_lt, ◌<◌, Bool, true, false, ◌&&◌, ◌||◌, Option, Some, None, List, [], ◌∷◌, if◌then◌else◌}
 use Rattle.std.specs.List.{list_any}
 use Rattle.addresses.specs.declared.transport.Parity.{Parity}
 use Rattle.addresses.specs.declared.transport.Parity.TheVariants.{Even, Odd}
@@ -41,6 +41,15 @@ is_bad lowest highest = nat_lt lowest FIRST_PORT.0 || nat_lt highest lowest
 abbrev pub IsReason : ℕ → ℕ → RangeFault → Type 0
 IsReason lowest highest BadRange = is_bad lowest highest ≡ true
 IsReason lowest highest NoMemory = is_bad lowest highest ≡ false
+
+-- the ports rise, each above the one before it and the first above this one
+abbrev pub RiseAbove : ℕ → List ℕ → Type 0
+RiseAbove low [] = Unit {0}
+RiseAbove low (port ∷ ports) = (low < port) × RiseAbove port ports
+
+-- the ports rise, and none is 0
+abbrev pub AreRising : List ℕ → Type 0
+AreRising ports = RiseAbove 0 ports
 
 -- the range isn't bad, and each port that is free or owned lies in it
 pub record IsRange (range : Range) : Type 0 where

@@ -1,0 +1,4 @@
+pub mod Books
+pub mod Rows
+pub mod Resets
+pub mod Machine
