@@ -1,3 +1,4 @@
 pub mod Rising
 pub mod Slots
 pub mod Parts
+pub mod Taking
