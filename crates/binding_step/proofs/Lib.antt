@@ -2,3 +2,4 @@ pub mod Rising
 pub mod Slots
 pub mod Parts
 pub mod Taking
+pub mod Members
