@@ -3,3 +3,4 @@ pub mod Slots
 pub mod Parts
 pub mod Taking
 pub mod Members
+pub mod Moves
