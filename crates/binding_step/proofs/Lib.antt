@@ -4,3 +4,5 @@ pub mod Parts
 pub mod Taking
 pub mod Members
 pub mod Moves
+pub mod Loads
+pub mod Working
