@@ -6,3 +6,4 @@ pub mod Members
 pub mod Moves
 pub mod Loads
 pub mod Working
+pub mod Wishing
