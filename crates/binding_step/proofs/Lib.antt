@@ -7,3 +7,6 @@ pub mod Moves
 pub mod Loads
 pub mod Working
 pub mod Wishing
+pub mod Pairs
+pub mod Unbroken
+pub mod Restarting

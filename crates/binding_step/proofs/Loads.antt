@@ -115,7 +115,7 @@ within-run first last p = ap (λ b. b && nat_le p last) (other-test first p) ∙
 
 -- ---- the acts
 
-lone-not : (s : Stage) → is_synced s ≡ false → is_lone s ≡ false
+pub lone-not : (s : Stage) → is_synced s ≡ false → is_lone s ≡ false
 lone-not Unsynced h = refl
 lone-not Paired h = cc
 lone-not Lone h = cc
