@@ -10,3 +10,5 @@ pub mod Wishing
 pub mod Pairs
 pub mod Unbroken
 pub mod Restarting
+pub mod Comes
+pub mod Fitting
