@@ -12,3 +12,4 @@ pub mod Unbroken
 pub mod Restarting
 pub mod Comes
 pub mod Fitting
+pub mod Keeping

@@ -46,7 +46,7 @@ fails p r (y ∷ ys) x none h =
     let parts = find-none p y ys none in
     elim (find-some (r y) y (find r ys) x h) [ inl w ↦ ap p (sym w.1) ∙ parts.0 | inr w ↦ fails p r ys x parts.1 w.1 ]
 
-serves-of : (e : Endpoint) (x : Entry) → is_pair x.state ≡ true → x.pair.endpoint ≡ e → serves e x ≡ true
+pub serves-of : (e : Endpoint) (x : Entry) → is_pair x.state ≡ true → x.pair.endpoint ≡ e → serves e x ≡ true
 serves-of e x pair one = and_from (is_pair x.state) (same_endpoint x.pair.endpoint e) pair (endpoint-true x.pair.endpoint e one)
 
 -- an endpoint without a pair is new to the table
