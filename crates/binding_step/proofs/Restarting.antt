@@ -65,7 +65,7 @@ puts-count : (ps : List Pair) → length (map (λ p. rec.Put p) ps ++ rec.Done �
 puts-count [] = refl
 puts-count (p ∷ ps) = let ih = puts-count ps in omega arith
 
-batch-count : (b : Book) → length (restart_batch b) ≡ suc (length (machine_runs (runs_of b.owned)) + (length (pairs_in is_pair b.entries) + 1))
+pub batch-count : (b : Book) → length (restart_batch b) ≡ suc (length (machine_runs (runs_of b.owned)) + (length (pairs_in is_pair b.entries) + 1))
 batch-count b =
     let ps = pairs_in is_settled (revived_entries b.entries) in
     ap suc (owners-count (runs_of b.owned) (puts_of (revived_entries b.entries) ++ rec.Done ∷ [])

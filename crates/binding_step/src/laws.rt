@@ -2,7 +2,7 @@
 //! nothing.
 
 ghost use Rattle.std.specs.Prelude.{◌≡◌, ℕ, ◌+◌, ◌<◌, ◌≤◌, ◌∷◌, ◌++◌, ◌&&◌, [], suc, List, Bool, true, false};
-ghost use Rattle.std.specs.Prelude.{IfSome, Some, length, reverse, slice_get};
+ghost use Rattle.std.specs.Prelude.{IfSome, None, Some, length, reverse, slice_get};
 ghost use Rattle.std.specs.List.{AllByRecursion};
 ghost use Rattle.nat_types.specs.Granted.{IsPort};
 ghost use Rattle.nat_types.specs.declared.gateways.GatewayId.{GatewayId};
@@ -17,12 +17,14 @@ ghost use Rattle.link.specs.declared.datagrams.Datagram.{Datagram};
 ghost use Rattle.link.specs.declared.datagrams.Taken.{Taken};
 ghost use Rattle.link.specs.Grammar.{IsWellFormedRecord};
 ghost use Rattle.link.specs.Letters.{IsLetter};
-ghost use Rattle.link.specs.Link.{Link, Agrees, IsTaken, fresh, handed_count, met, with_fed};
+ghost use Rattle.link.specs.Link.{Link, Agrees, IsTaken, fresh, handed_count, met};
+ghost use Rattle.link.specs.Link.{needs_answer, with_fed};
 ghost use Rattle.pair_machine.specs.Box.{In, Letter, booted, founder};
 ghost use Rattle.pair_machine.specs.Step.{IsStep, WasSent};
 ghost use Rattle.binding_step.specs.declared.changes.Change.{Change};
-ghost use Rattle.binding_step.specs.Books.{Book, IsBook, empty_book, founded_book, is_lone, is_synced};
-ghost use Rattle.binding_step.specs.Fits.{Fits, IsWellFormedEndpoint};
+ghost use Rattle.binding_step.specs.Books.{Book, IsBook, empty_book, founded_book};
+ghost use Rattle.binding_step.specs.Books.{is_lone, is_promised, is_synced};
+ghost use Rattle.binding_step.specs.Fits.{Fits, IsBeside, IsSameBatch, IsWellFormedEndpoint};
 ghost use Rattle.binding_step.specs.Machine.{box_at, letter_of, promised_of, ranges_of};
 ghost use Rattle.binding_step.specs.Machine.{IsTurn, Stands, Works};
 ghost use Rattle.binding_step.specs.Resets.{back_in, put_alone, restart_batch, restart_link};
@@ -54,6 +56,29 @@ pub fn answers_fit()
         → AllByRecursion IsWellFormedRecord (restart_batch b) }
     ensures fed { (b : Book) (records rest : List Record) → IsBook b
         → b.coming ≡ records ++ rest → AllByRecursion IsWellFormedRecord records }
+{}
+
+/// What a change, a record and a row leave as it is.
+pub fn rows_leave()
+    ensures change { (b : Book) (c : Change) → IsBeside b (changed c b) }
+    // Only a record that needs an answer is answered.
+    ensures answer { (b : Book) (rests : Bool) (r : Record) → needs_answer r ≡ false
+        → taken_answer b rests r ≡ None }
+    ensures together { (b : Book) (rests : Bool) (r : Record) → is_lone b.stage ≡ false
+        → is_lone (taken_book b rests r).stage ≡ false }
+    ensures coming { (b : Book) (rests : Bool) (r : Record)
+        → (taken_book b rests r).coming ≡ b.coming }
+    // While a batch is promised, a record changes nothing, and nothing else changes the batch.
+    ensures promised { (b : Book) (rests : Bool) (r : Record) → is_synced b.stage ≡ true
+        → is_promised b ≡ true → taken_book b rests r ≡ b }
+    ensures wished { (b : Book) (full : Bool) (e : Endpoint) → is_lone b.stage ≡ false
+        → IsSameBatch b (after b (wish_of b full e).row) }
+    ensures idle { (b : Book) (ask : Bool) (k : Key) → IsBook b → is_lone b.stage ≡ false
+        → IsSameBatch b (after b (idle_row b ask k)) }
+    ensures carried { (b : Book) (k : Key) → IsSameBatch b (after b (carry_row b k)) }
+    // So much room a batch needs on the link.
+    ensures room { (b : Book)
+        → length (restart_batch b) ≤ length b.owned + length b.entries + 2 }
 {}
 
 /// What holds of every book is kept by each change that fits, at a synced gateway, and so by each row.
