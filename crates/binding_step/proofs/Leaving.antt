@@ -1,7 +1,7 @@
 -- What rows leave as it is.
-use Rattle.std.proofs.Common.{◌≡◌, ℕ, suc, ◌+◌, ◌≤◌, ◌==◌, Bool, true, false, cond, not, ◌&&◌, nat_lt, Option, Some, None, List, [], ◌∷◌, length, map, refl, sym, ap, ◌∙◌, arith}
+use Rattle.std.proofs.Common.{◌≡◌, ℕ, suc, ◌+◌, ◌≤◌, ◌==◌, Bool, true, false, cond, nat_lt, Option, Some, None, List, [], ◌∷◌, length, map, refl, sym, ap, ◌∙◌, arith}
 use Rattle.std.specs.List.{filter}
-use Rattle.std.proofs.lemmas.Bool.{cond-true, cond-false, both_ways}
+use Rattle.std.proofs.lemmas.Bool.{cond-true, cond-false}
 use Rattle.std.proofs.lemmas.List.{length-map}
 use Rattle.nat_types.specs.Granted.{Granted}
 use Rattle.nat_types.specs.declared.pairs.EntryState.{EntryState}
@@ -18,13 +18,11 @@ use Rattle.bindings.specs.declared.entries.PortBounds.{PortBounds}
 use Rattle.bindings.specs.Entries.{slot_of, entry_of, entry_in, has_key, is_pair, pairs_in, place_of, HasDistinctKeys}
 use Rattle.bindings.specs.Lists.{put_in, with_state}
 use Rattle.bindings.specs.Runs.{runs_on, run_of, runs_of}
-use Rattle.bindings.proofs.Found.{find-some}
 use Rattle.bindings.proofs.Places.{length-keep, turn-none, rest-none}
 use Rattle.link.specs.Link.{needs_answer}
 use Rattle.resync.specs.Batch.{is_settled}
 use Rattle.resync.specs.Loading.{Load, loaded}
 use Rattle.binding_step.specs.declared.setups.Stage.{Stage}
-use Rattle.binding_step.specs.declared.setups.Stage.TheVariants.{Unsynced, Paired, Lone}
 use Rattle.binding_step.specs.declared.changes.Change.{Change}
 use Rattle.binding_step.specs.declared.changes.Change.TheVariants.{Keep, Add, Turn, Renew, Drop, Yield, Want, Give, Gain}
 use Rattle.binding_step.specs.declared.changes.Row.{Row}

@@ -1,12 +1,11 @@
 -- A greater boot of the peer, and the operator's word, as acts of the machine.
-use Rattle.std.proofs.Common.{◌≡◌, ℕ, suc, ◌+◌, ◌-◌, ◌<◌, ◌==◌, true, false, Bool, cond, not, ◌&&◌, IsTrue, Option, Some, None, inl, List, [], ◌∷◌, ◌++◌, length, drop, map, reverse, refl, sym, ap, subst, ◌∙◌, arith}
+use Rattle.std.proofs.Common.{◌≡◌, ℕ, suc, ◌+◌, ◌-◌, ◌<◌, ◌==◌, true, false, Bool, cond, IsTrue, Option, Some, None, inl, List, [], ◌∷◌, ◌++◌, length, drop, map, reverse, refl, sym, ap, subst, ◌∙◌, arith}
 use Rattle.std.proofs.lemmas.Bool.{cond-true, cond-false, eq-eqb, ne_eqb}
-use Rattle.std.proofs.lemmas.List.{reverse-append, append-nil, length-append, length-drop, length-map}
+use Rattle.std.proofs.lemmas.List.{reverse-append, append-nil, length-append, length-drop}
 use Rattle.nat_types.specs.Same.{other}
 use Rattle.nat_types.specs.declared.gateways.GatewayId.{GatewayId}
 use Rattle.nat_types.specs.declared.notes.Note.{Note}
 use Rattle.nat_types.specs.declared.notes.Happening.TheVariants as happens
-use Rattle.nat_types.specs.declared.pairs.Endpoint.{Endpoint}
 use Rattle.nat_types.specs.declared.pairs.Key.{Key}
 use Rattle.nat_types.specs.declared.pairs.Pair.{Pair}
 use Rattle.nat_types.specs.declared.records.Record.{Record}
@@ -19,26 +18,24 @@ use Rattle.bindings.specs.Revivals.{comes_back, revived_entries}
 use Rattle.bindings.specs.Runs.{runs_of}
 use Rattle.link.specs.Link.{Link, Agrees, occupied, with_promised}
 use Rattle.link.proofs.Ends.{promised_agrees}
-use Rattle.resync.specs.Batch.{batch_of, is_settled, owners_of, puts_of}
+use Rattle.resync.specs.Batch.{is_settled, owners_of, puts_of}
 use Rattle.pair_machine.specs.Acts.{Hear, HearAnew, PeerOff}
 use Rattle.pair_machine.specs.Batch.{AreApart, AreThose, LieWithin}
 use Rattle.pair_machine.specs.Box.{Letter, AreBack, revived, is_back, retakes, puts, batch, owners}
-use Rattle.pair_machine.specs.Mapped.{machine_record}
 use Rattle.pair_machine.specs.Ownership.{keyed, left_to}
 use Rattle.pair_machine.specs.Step.{IsStep}
 use Rattle.pair_machine.specs.Talk as machine
 use Rattle.pair_machine.specs.Talk.{MachineRecord}
 use Rattle.pair_machine.proofs.Batches.{batch_new, batch_mirrored, runs_leave}
-use Rattle.binding_step.specs.declared.setups.Stage.{Stage}
 use Rattle.binding_step.specs.declared.setups.Stage.TheVariants.{Paired}
-use Rattle.binding_step.specs.Books.{Book, IsBook, empty_book, in_ranges, is_lone, is_synced, owns}
+use Rattle.binding_step.specs.Books.{Book, IsBook, empty_book, in_ranges, is_synced, owns}
 use Rattle.binding_step.specs.Machine.{box_at, machine_records, machine_slot, promised_of, ranges_of, slots_of, Works}
 use Rattle.binding_step.specs.Resets.{back_in, put_alone, restart_batch, restart_link, restart_notes, restarted, retaken, revived as revived_book}
 use Rattle.binding_step.proofs.Loads.{lone-not}
 use Rattle.binding_step.proofs.Pairs.{those, held-says, back-says, apart, in-reverse, settled-pairs}
 use Rattle.binding_step.proofs.Parts.{act-step}
 use Rattle.binding_step.proofs.Slots.{slots-revived}
-use Rattle.binding_step.proofs.Unbroken.{machine_run, machine_runs, runs-owned, runs-rising}
+use Rattle.binding_step.proofs.Unbroken.{machine_runs, runs-owned, runs-rising}
 
 -- ---- the batch as the machine has it
 

@@ -4,7 +4,6 @@ use Rattle.std.proofs.lemmas.Bool.{and_parts, not-true}
 use Rattle.std.proofs.lemmas.List.{map-append, append-nil}
 use Rattle.addresses.specs.declared.transport.Parity.{Parity}
 use Rattle.addresses.specs.declared.transport.Port.{Port}
-use Rattle.addresses.specs.declared.transport.Protocol.{Protocol}
 use Rattle.addresses.specs.Transport.{parity_of}
 use Rattle.nat_types.specs.declared.notes.Happening.TheVariants as happens
 use Rattle.nat_types.specs.declared.pairs.EntryState.{EntryState}
@@ -15,9 +14,8 @@ use Rattle.nat_types.specs.declared.pairs.Pair.{Pair}
 use Rattle.nat_types.specs.declared.records.Record.{Record}
 use Rattle.nat_types.specs.declared.records.Record.TheVariants as rec
 use Rattle.bindings.specs.declared.entries.Entry.{Entry}
-use Rattle.bindings.specs.declared.entries.PortBounds.{PortBounds}
 use Rattle.bindings.specs.Entries.{slot_of, entry_of, entry_in}
-use Rattle.bindings.specs.Ports.{chosen_port, is_free_in, is_open_in, key_of, lowest_of, highest_of}
+use Rattle.bindings.specs.Ports.{is_free_in, is_open_in, key_of, lowest_of, highest_of}
 use Rattle.bindings.proofs.Found.{none_from_is_none}
 use Rattle.bindings.proofs.Slots.{slot-key}
 use Rattle.port_range.specs.Ports.{chosen_open, first_where, fits, is_listed, is_open, lowest_open, or_else}
@@ -38,7 +36,7 @@ use Rattle.binding_step.specs.Rows.{after, answered, carry_row, idle_row, known_
 use Rattle.binding_step.proofs.Parts.{act-step}
 use Rattle.binding_step.proofs.Slots.{slots-at, slots-drop, slots-none, slots-put, slots-turn}
 use Rattle.binding_step.proofs.Taking.{is-unbound}
-use Rattle.binding_step.proofs.Working.{Keeps, changed-keeps, stands-answer}
+use Rattle.binding_step.proofs.Working.{changed-keeps, stands-answer}
 
 -- ---- a port that is chosen may be given out
 
