@@ -50,7 +50,7 @@ use Rattle.binding_step.proofs.Fitting.{carry-sound, idle-sound, row-sound, wish
 use Rattle.binding_step.proofs.Loads.{is-fresh}
 use Rattle.binding_step.proofs.Members.{gained-is, gained-within, rise-gained}
 use Rattle.binding_step.proofs.Moves.{ranges-port}
-use Rattle.binding_step.proofs.Pairs.{listed-at, settled-pairs}
+use Rattle.binding_step.proofs.Pairs.{listed-at, settled-pairs, woken-pair, woken-settled}
 use Rattle.binding_step.proofs.Rising.{listed-all, listed-filter, listed-range, rise-filter, rise-range}
 use Rattle.binding_step.proofs.Slots.{keys-revived, one-revived, one-set, was-there}
 use Rattle.binding_step.proofs.Taking.{fails, serves-of}
@@ -431,6 +431,14 @@ restart-keeps b is = at (is_synced b.stage) refl
     at : (t : Bool) → is_synced b.stage ≡ t → IsBook (let b2 : Book = cond t (record (revived b) { stage = Paired; coming = restart_batch b }) (empty_book b.id b.zero b.one) in b2)
     at true synced = revived-keeps b Paired (restart_batch b) is synced refl (batch-formed b is) (λ w. refl)
     at false unsynced = empty-keeps b.id b.zero b.one is.zero is.one is.highest.0 is.highest.1
+
+-- each entry then is an agreed pair
+pub restart-agrees : (b : Book) → IsBook b → (k : Key) (x : Entry) → slot_of (restarted b).entries k ≡ Some x → (is_settled x.state ≡ true) × (is_pair x.state ≡ true)
+restart-agrees b is k x = at (is_synced b.stage)
+  where
+    at : (t : Bool) → slot_of (let b2 : Book = cond t (record (revived b) { stage = Paired; coming = restart_batch b }) (empty_book b.id b.zero b.one) in b2).entries k ≡ Some x → (is_settled x.state ≡ true) × (is_pair x.state ≡ true)
+    at true h = let w = was-there b.entries k x is.keys h in (ap is_settled w.state ∙ woken-settled w.entry.state w.pair, ap is_pair w.state ∙ woken-pair w.entry.state w.pair)
+    at false h = absurd (cc)
 
 pub alone-keeps : (b : Book) → IsBook b → is_synced b.stage ≡ true → IsBook (put_alone b)
 alone-keeps b is synced = revived-keeps b Lone [] is synced refl tt (λ w. absurd (cc))

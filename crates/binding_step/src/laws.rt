@@ -11,7 +11,9 @@ ghost use Rattle.nat_types.specs.declared.notes.Note.{Note};
 ghost use Rattle.nat_types.specs.declared.pairs.Endpoint.{Endpoint};
 ghost use Rattle.nat_types.specs.declared.pairs.Key.{Key};
 ghost use Rattle.nat_types.specs.declared.records.Record.{Record};
+ghost use Rattle.bindings.specs.declared.entries.Entry.{Entry};
 ghost use Rattle.bindings.specs.declared.entries.PortBounds.{PortBounds};
+ghost use Rattle.bindings.specs.Entries.{is_pair, slot_of};
 ghost use Rattle.bindings.specs.Ports.{AreBounds};
 ghost use Rattle.link.specs.declared.datagrams.Datagram.{Datagram};
 ghost use Rattle.link.specs.declared.datagrams.Taken.{Taken};
@@ -19,6 +21,7 @@ ghost use Rattle.link.specs.Grammar.{IsWellFormedRecord};
 ghost use Rattle.link.specs.Letters.{IsLetter};
 ghost use Rattle.link.specs.Link.{Link, Agrees, IsTaken, fresh, handed_count, met};
 ghost use Rattle.link.specs.Link.{needs_answer, with_fed};
+ghost use Rattle.resync.specs.Batch.{is_settled};
 ghost use Rattle.pair_machine.specs.Box.{In, Letter, booted, founder};
 ghost use Rattle.pair_machine.specs.Step.{IsStep, WasSent};
 ghost use Rattle.binding_step.specs.declared.changes.Change.{Change};
@@ -93,6 +96,10 @@ pub fn books_keep()
         → IsBook (after b (idle_row b ask k)) }
     ensures carried { (b : Book) (k : Key) → IsBook b → IsBook (after b (carry_row b k)) }
     ensures restarted { (b : Book) → IsBook b → IsBook (restarted b) }
+    // Each entry is an agreed pair then.
+    ensures agreed { (b : Book) → IsBook b → (key : Key) (x : Entry)
+        → slot_of (restarted b).entries key ≡ Some x
+        → (is_settled x.state ≡ true) × (is_pair x.state ≡ true) }
     ensures alone { (b : Book) → IsBook b → is_synced b.stage ≡ true → IsBook (put_alone b) }
     ensures fed { (b : Book) (records rest : List Record) → IsBook b
         → b.coming ≡ records ++ rest → IsBook (record b { coming = rest }) }
