@@ -44,7 +44,7 @@ use Rattle.binding_step.specs.declared.changes.Want.TheVariants as want
 use Rattle.binding_step.specs.Books.{Book, IsBook, empty_book, founded_book, in_ranges, is_any, is_lone, is_synced, load_of, owns, ports_of}
 use Rattle.binding_step.specs.Fits.{Fits, GivesWay, IsWellFormedEndpoint}
 use Rattle.binding_step.specs.Machine.{box_at}
-use Rattle.binding_step.specs.Resets.{put_alone, restart_batch, restarted, revived}
+use Rattle.binding_step.specs.Resets.{begun_anew, put_alone, restart_batch, restarted, revived}
 use Rattle.binding_step.specs.Rows.{after, carry_row, changed, idle_row, load_taken, numbers_of, quiet, release_row, row_of, taken_book, unsynced_after, use_row, wish, wish_by, wish_of, with_gained, without_ports}
 use Rattle.binding_step.proofs.Fitting.{carry-sound, idle-sound, row-sound, wish-sound}
 use Rattle.binding_step.proofs.Loads.{is-fresh}
@@ -428,7 +428,7 @@ empty-keeps id z o az ao hz ho = record {
 pub restart-keeps : (b : Book) → IsBook b → IsBook (restarted b)
 restart-keeps b is = at (is_synced b.stage) refl
   where
-    at : (t : Bool) → is_synced b.stage ≡ t → IsBook (let b2 : Book = cond t (record (revived b) { stage = Paired; coming = restart_batch b }) (empty_book b.id b.zero b.one) in b2)
+    at : (t : Bool) → is_synced b.stage ≡ t → IsBook (let b2 : Book = cond t (begun_anew b) (empty_book b.id b.zero b.one) in b2)
     at true synced = revived-keeps b Paired (restart_batch b) is synced refl (batch-formed b is) (λ w. refl)
     at false unsynced = empty-keeps b.id b.zero b.one is.zero is.one is.highest.0 is.highest.1
 
@@ -436,7 +436,7 @@ restart-keeps b is = at (is_synced b.stage) refl
 pub restart-agrees : (b : Book) → IsBook b → (k : Key) (x : Entry) → slot_of (restarted b).entries k ≡ Some x → (is_settled x.state ≡ true) × (is_pair x.state ≡ true)
 restart-agrees b is k x = at (is_synced b.stage)
   where
-    at : (t : Bool) → slot_of (let b2 : Book = cond t (record (revived b) { stage = Paired; coming = restart_batch b }) (empty_book b.id b.zero b.one) in b2).entries k ≡ Some x → (is_settled x.state ≡ true) × (is_pair x.state ≡ true)
+    at : (t : Bool) → slot_of (let b2 : Book = cond t (begun_anew b) (empty_book b.id b.zero b.one) in b2).entries k ≡ Some x → (is_settled x.state ≡ true) × (is_pair x.state ≡ true)
     at true h = let w = was-there b.entries k x is.keys h in (ap is_settled w.state ∙ woken-settled w.entry.state w.pair, ap is_pair w.state ∙ woken-pair w.entry.state w.pair)
     at false h = absurd (cc)
 

@@ -31,7 +31,7 @@ use Rattle.binding_step.specs.declared.changes.Want.TheVariants as want
 use Rattle.binding_step.specs.Books.{Book, IsBook, is_lone, is_promised, is_synced, load_of}
 use Rattle.binding_step.specs.Fits.{IsBeside, IsSameBatch}
 use Rattle.binding_step.specs.Resets.{restart_batch}
-use Rattle.binding_step.specs.Rows.{accept_row, accepted_row, after, carry_row, changed, grant_row, idle_row, known_wish, left_row, load_taken, may_want, new_pair, new_wish, no_row, none_row, numbers_of, port_for, quiet, refuse_row, refused_row, release_row, released_row, row, row_of, stage_after, stayed_row, synced_row, taken_answer, taken_book, unsynced_after, use_row, used_row, wish, wish_by, wish_of, yes_row}
+use Rattle.binding_step.specs.Rows.{accept_row, accepted_row, after, carry_row, changed, grant_row, idle_row, known_wish, left_row, load_taken, may_want, new_pair, new_wish, no_row, none_row, numbers_of, port_for, proposal, quiet, refuse_row, refused_row, release_row, released_row, row, row_of, stage_after, stayed_row, synced_row, taken_answer, taken_book, unsynced_after, use_row, used_row, wish, wish_by, wish_of, yes_row}
 use Rattle.binding_step.proofs.Members.{gained-is}
 use Rattle.binding_step.proofs.Restarting.{batch-count}
 use Rattle.binding_step.proofs.Unbroken.{machine_runs}
@@ -227,7 +227,7 @@ module _ (b : Book) where
   new-stays full e None lone = none-stays full
   new-stays full e (Some port) lone = at (is_lone b.stage) lone full
     where
-      at : (t : Bool) → t ≡ false → (full : Bool) → IsSameBatch b (after b (let w : Wish = cond t (wish (want.Port port) (row (Add (entry_in state.Live (new_pair e port))) None (Some (happens.Retaken (new_pair e port))))) (cond full (wish want.NotNow quiet) (wish want.Wait (row (Add (entry_in state.Pending (new_pair e port))) (Some (rec.Install (new_pair e port))) None))) in w).row)
+      at : (t : Bool) → t ≡ false → (full : Bool) → IsSameBatch b (after b (let w : Wish = cond t (wish (want.Port port) (row (Add (entry_in state.Live (new_pair e port))) None (Some (happens.Retaken (new_pair e port))))) (cond full (wish want.NotNow quiet) (wish want.Wait (proposal (new_pair e port)))) in w).row)
       at true h full = cc
       at false h true = same-batch b
       at false h false = record { pairs = put-unsettled (entry_in state.Pending (new_pair e port)) b.entries refl; owned = refl }

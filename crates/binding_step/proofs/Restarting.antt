@@ -30,7 +30,7 @@ use Rattle.pair_machine.proofs.Batches.{batch_new, batch_mirrored, runs_leave}
 use Rattle.binding_step.specs.declared.setups.Stage.TheVariants.{Paired}
 use Rattle.binding_step.specs.Books.{Book, IsBook, empty_book, in_ranges, is_synced, owns}
 use Rattle.binding_step.specs.Machine.{box_at, machine_records, machine_slot, promised_of, ranges_of, slots_of, Works}
-use Rattle.binding_step.specs.Resets.{back_in, put_alone, restart_batch, restart_link, restart_notes, restarted, retaken, revived as revived_book}
+use Rattle.binding_step.specs.Resets.{back_in, begun_anew, put_alone, restart_batch, restart_link, restart_notes, restarted, retaken}
 use Rattle.binding_step.proofs.Loads.{lone-not}
 use Rattle.binding_step.proofs.Pairs.{those, held-says, back-says, apart, in-reverse, settled-pairs}
 use Rattle.binding_step.proofs.Parts.{act-step}
@@ -134,12 +134,9 @@ lie-within c is k e h = at (slot_of c.entries k) refl h
 
 -- ---- the acts
 
-abbrev paired : Book → Book
-paired b = record (revived_book b) { stage = Paired; coming = restart_batch b }
-
 -- a synced gateway hears a greater boot
 hears : (now : ℕ) (c : Book) (e e1 : Link) (h : List Record) (n : ℕ) (l : Letter) → IsBook c → is_synced c.stage ≡ true → Agrees [] [] e1 → e.boot ≡ e1.boot → e.known < e1.known → l.boot ≡ e1.known
-    → IsStep (ranges_of c) c.id now (box_at c e h n) (box_at (paired c) (with_promised e1 (length (restart_batch c))) (restart_batch c) 0) (l ∷ []) [] [] (reverse (retaken c.id now (back_in c.entries))) [] []
+    → IsStep (ranges_of c) c.id now (box_at c e h n) (box_at (begun_anew c) (with_promised e1 (length (restart_batch c))) (restart_batch c) 0) (l ∷ []) [] [] (reverse (retaken c.id now (back_in c.entries))) [] []
 hears now c e e1 h n l is synced bare boot greater from =
     let ps = pairs_in is_pair c.entries in
     let os = machine_runs (runs_of c.owned) in
@@ -147,7 +144,7 @@ hears now c e e1 h n l is synced bare boot greater from =
     let own = keyed (left_to r (other c.id) os) in
     let table = λ (k : Key). revived (slots_of c.entries k) in
     let one : AreApart ps = apart c.entries is.keys is.endpoints in
-    act-step r c.id now (box_at c e h n) (box_at (paired c) (with_promised e1 (length (restart_batch c))) (restart_batch c) 0) (Hear l (reverse (back_in c.entries)) os ps true) (l ∷ []) [] (retaken c.id now (back_in c.entries)) (
+    act-step r c.id now (box_at c e h n) (box_at (begun_anew c) (with_promised e1 (length (restart_batch c))) (restart_batch c) 0) (Hear l (reverse (back_in c.entries)) os ps true) (l ∷ []) [] (retaken c.id now (back_in c.entries)) (
       synced,
       subst (λ b. e.known < b) (sym from) greater,
       are-back c is,
@@ -177,7 +174,7 @@ pub restart-works : (now : ℕ) (b : Book) (e e1 : Link) (n : ℕ) (h : List Rec
 restart-works now b e e1 n h l is bare boot greater from = at (is_synced b.stage) refl
   where
     at : (t : Bool) → is_synced b.stage ≡ t
-        → Works now (l ∷ []) [] b e n (let b2 : Book = cond t (paired b) (empty_book b.id b.zero b.one) in b2)
+        → Works now (l ∷ []) [] b e n (let b2 : Book = cond t (begun_anew b) (empty_book b.id b.zero b.one) in b2)
         (let e2 : Link = cond t (with_promised e1 (length (restart_batch b))) e1 in e2) 0 (let ns : List Note = cond t (retaken b.id now (back_in b.entries)) [] in ns) h
     at true synced =
         let none = is-bare e1 bare in
