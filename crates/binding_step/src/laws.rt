@@ -1,5 +1,5 @@
-//! What holds of each row of the record table, and of what resets a book. Each law is the contract of a function that does
-//! nothing.
+//! What holds of each row of the record table, and of what resets a book. Each law is the contract of
+//! a function that does nothing.
 
 ghost use Rattle.std.specs.Prelude.{◌≡◌, ℕ, ◌+◌, ◌<◌, ◌≤◌, ◌∷◌, ◌++◌, ◌&&◌, [], suc, List, Bool, true, false};
 ghost use Rattle.std.specs.Prelude.{IfSome, None, Some, length, reverse, slice_get};
@@ -131,22 +131,22 @@ pub fn record_works()
 /// A packet's wish is an act of the machine, or none.
 pub fn wish_works()
     ensures { (now : ℕ) (b : Book) (e : Link) (n : ℕ) (h : List Record) (full : Bool) (x : Endpoint)
-        → Stands b e h → let row = (wish_of b full x).row in
-        Works now [] [] b e n (after b row) (answered e row.answer) n (noted_by b.id now row.what) h }
+        → Stands b e h → let w = (wish_of b full x).row in
+        Works now [] [] b e n (after b w) (answered e w.answer) n (noted_by b.id now w.what) h }
 {}
 
 /// An idle pair at a tick is let go by an act of the machine, or nothing happens.
 pub fn idle_works()
     ensures { (now : ℕ) (b : Book) (e : Link) (n : ℕ) (h : List Record) (ask : Bool) (k : Key)
-        → Stands b e h → let row = idle_row b ask k in
-        Works now [] [] b e n (after b row) (answered e row.answer) n (noted_by b.id now row.what) h }
+        → Stands b e h → let w = idle_row b ask k in
+        Works now [] [] b e n (after b w) (answered e w.answer) n (noted_by b.id now w.what) h }
 {}
 
 /// A packet that is translated is an act of the machine.
 pub fn carry_works()
     ensures { (now : ℕ) (b : Book) (e : Link) (n : ℕ) (h : List Record) (k : Key)
-        → Stands b e h → let row = carry_row b k in
-        Works now [] [] b e n (after b row) (answered e row.answer) n (noted_by b.id now row.what) h }
+        → Stands b e h → let w = carry_row b k in
+        Works now [] [] b e n (after b w) (answered e w.answer) n (noted_by b.id now w.what) h }
 {}
 
 /// A greater boot of the peer is heard: e is the end before the datagram, e1 the one after it.
@@ -171,8 +171,8 @@ pub fn feed_works()
         → Works now [] [] b e n (record b { coming = rest }) (with_fed e records) n [] h }
 {}
 
-/// Of a datagram that isn't of a greater boot the machine sees nothing until its records are taken. In general: two ends
-/// that speak of the same boots and have as much promised make the same box.
+/// Of a datagram that isn't of a greater boot the machine sees nothing until its records are taken.
+/// In general: two ends that speak of the same boots and have as much promised make the same box.
 pub fn heard_works()
     ensures heard { (now : ℕ) (b : Book) (e e1 : Link) (n : ℕ) (h : List Record) (bytes : List ℕ)
         (t : Taken) (d : Datagram) → Stands b e h → IsTaken bytes e now t e1 d
@@ -206,7 +206,8 @@ pub fn works_more()
         → Works now letters2 words2 b e n b2 e2 n2 ns h }
 {}
 
-/// With the datagram behind it, of which all was handed in, a part is a step of the machine. e3 is the end once it is sent.
+/// With the datagram behind it, of which all was handed in, a part is a step of the machine. e3 is
+/// the end once it is sent.
 pub fn works_sent()
     ensures sent { (now : ℕ) (letters : List Letter) (words : List ℕ) (b b2 : Book)
         (e e2 e3 : Link) (n n2 before count : ℕ) (ns : List Note) (h : List Record) (d : Datagram)
