@@ -30,3 +30,5 @@ pub mod Batches
 pub mod Runs
 pub mod MoreRuns
 pub mod Taking
+pub mod Forged
+pub mod Counted

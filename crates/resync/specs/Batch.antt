@@ -1,0 +1,30 @@
+-- A whole table as records: what a gateway pushes for a peer that begins anew.
+use Rattle.std.specs.Prelude.{ℕ, true, false, Bool, List, [], ◌∷◌, ◌++◌, map}
+use Rattle.nat_types.specs.declared.pairs.EntryState.{EntryState}
+use Rattle.nat_types.specs.declared.pairs.EntryState.TheVariants.{Pending, Doomed, Live, Closing, Held}
+use Rattle.nat_types.specs.declared.records.Record.{Record}
+use Rattle.nat_types.specs.declared.records.Record.TheVariants.{Begin, Put, Done, Owner}
+use Rattle.bindings.specs.declared.entries.Entry.{Entry}
+use Rattle.bindings.specs.declared.entries.PortBounds.{PortBounds}
+use Rattle.bindings.specs.Entries.{pairs_in}
+use Rattle.bindings.specs.Runs.{runs_of}
+
+-- the pair was agreed: a proposal that waits for its answer is no part of a batch
+abbrev pub is_settled : EntryState → Bool
+is_settled Pending = false
+is_settled Doomed = true
+is_settled Live = true
+is_settled Closing = true
+is_settled Held = true
+
+-- an Owner for each unbroken run of owned ports, rising
+abbrev pub owners_of : List PortBounds → List Record
+owners_of runs = map (λ run. Owner run.lowest run.highest) runs
+
+-- a Put for each settled pair, by protocol (tcp first) and port
+abbrev pub puts_of : List Entry → List Record
+puts_of entries = map (λ p. Put p) (pairs_in is_settled entries)
+
+-- Begin, the Owners, the Puts, Done
+abbrev pub batch_of : List ℕ → List Entry → List Record
+batch_of owned entries = Begin ∷ owners_of (runs_of owned) ++ (puts_of entries ++ Done ∷ [])

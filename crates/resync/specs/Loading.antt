@@ -1,0 +1,82 @@
+-- Loading: what each record makes of the table of a gateway that isn't synced.
+use Rattle.std.specs.Prelude.{ℕ, ◌+◌, ◌-◌, zero, suc, Bool, true, false, ◌&&◌, not, nat_lt, is_none, Option, Some, None, List, [], ◌∷◌, if◌then◌else◌}
+use Rattle.std.specs.List.{filter}
+use Rattle.nat_types.specs.declared.pairs.EntryState.{EntryState}
+use Rattle.nat_types.specs.declared.pairs.EntryState.TheVariants.{Live, Held}
+use Rattle.nat_types.specs.declared.pairs.Pair.{Pair}
+use Rattle.nat_types.specs.declared.records.Record.{Record}
+use Rattle.nat_types.specs.declared.records.Record.TheVariants.{Install, Accept, Refuse, Ask, Yes, No, Begin, Put, Done, Want, Grant, Owner}
+use Rattle.bindings.specs.declared.entries.Entry.{Entry}
+use Rattle.bindings.specs.declared.entries.PortBounds.{PortBounds}
+use Rattle.bindings.specs.Entries.{slot_of, entry_of, entry_in}
+use Rattle.bindings.specs.Lists.{put_in}
+use Rattle.bindings.specs.Ports.{in_either}
+use Rattle.bindings.specs.Runs.{all_ports}
+use Rattle.port_range.specs.Ports.{is_listed, is_within}
+
+-- A table as it is loaded, between the two ranges: whether Begin was taken (and Done not yet), the last port that an
+-- Owner named, the entries, and the ports that the gateway is to own.
+pub record Load : Type 0 where
+  pub zero : PortBounds
+  pub one : PortBounds
+  pub begun : Bool
+  pub named : ℕ
+  pub entries : List Entry
+  pub owned : List ℕ
+
+-- the ports but those from one to another
+abbrev pub unnamed : ℕ → ℕ → List ℕ → List ℕ
+unnamed first last owned = filter (λ p. not (is_within first last p)) owned
+
+-- so many ports from this one on lie in the ranges
+abbrev pub all_in : PortBounds → PortBounds → ℕ → ℕ → Bool
+all_in z o first zero = true
+all_in z o first (suc k) = in_either z o first && all_in z o (first + 1) k
+
+-- an Owner in its place: above the one before, not ending before it begins, and within the ranges
+abbrev pub names_run : Load → ℕ → ℕ → Bool
+names_run l first last =
+    nat_lt l.named first && (not (nat_lt last first) && all_in l.zero l.one first (last + 1 - first))
+
+-- nothing is loaded yet
+abbrev pub none_yet : List Entry → Bool
+none_yet [] = true
+none_yet (x ∷ xs) = false
+
+-- a Put in its place: on a port of the ranges, and new in key and endpoint
+abbrev pub is_new : Load → Pair → Bool
+is_new l p = in_either l.zero l.one p.key.port.0
+    && (is_none (slot_of l.entries p.key) && is_none (entry_of l.entries p.endpoint))
+
+-- a loaded pair is Live on a port that the gateway is to own, else Held
+abbrev pub loaded_state : List ℕ → ℕ → EntryState
+loaded_state owned port = (if is_listed port owned then Live else Held)
+
+-- Begin empties the table, and all ports are to be owned that no Owner will name
+abbrev pub begun : Load → Load
+begun l = record l { begun = true; named = 0; entries = []; owned = all_ports l.zero l.one }
+
+abbrev pub with_run : Load → ℕ → ℕ → Load
+with_run l first last = record l { named = last; owned = unnamed first last l.owned }
+
+abbrev pub with_pair : Load → Pair → Load
+with_pair l p = record l { entries = put_in (entry_in (loaded_state l.owned p.key.port.0) p) l.entries }
+
+-- where the record is in its place there is a load after it
+abbrev pub where_ : Bool → Load → Option Load
+where_ place l = (if place then Some l else None)
+
+-- what a record makes of the load, where it is in its place
+abbrev pub loaded : Load → Record → Option Load
+loaded l (Install p) = None
+loaded l (Accept k) = None
+loaded l (Refuse k) = None
+loaded l (Ask k) = None
+loaded l (Yes k) = None
+loaded l (No k) = None
+loaded l Begin = Some (begun l)
+loaded l (Put p) = where_ (l.begun && is_new l p) (with_pair l p)
+loaded l Done = where_ l.begun (record l { begun = false })
+loaded l Want = None
+loaded l (Grant g) = None
+loaded l (Owner first last) = where_ (l.begun && (none_yet l.entries && names_run l first.0 last.0)) (with_run l first.0 last.0)
