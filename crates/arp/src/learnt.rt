@@ -1,0 +1,282 @@
+//! The neighbours that were learnt: a log of them in order, and an index of the log by address.
+ghost use Rattle.std.specs.Prelude.{◌≡◌, ◌≤◌, ◌++◌, ◌∷◌, [], ◌<◌, ◌-◌, ℕ, Some, drop, take, length, vec_len, vec_capacity, IfOk, IfErr, MatchOption};
+ghost use Rattle.arp.specs.Neighbours.{without, with_entry, learnt_mac};
+ghost use Rattle.arp.specs.Log.{kept, is_of, valid_mac, entry_addresses, spot_addresses, tally, IsRising, IsAt, IsGapFor, IsPlaceOf, IsFirst, IsLearnt};
+
+use crate::caches::{ENTRIES, Entry, VALID_FOR};
+use addresses::{Ip, Mac};
+use std::alloc::{AllocError, Global};
+
+/// The places of the log. Once they are used up, the empty ones are thrown out.
+pub(crate) const PLACES: usize = 2048;
+
+/// Where the entry of an address lies in the log. The place is a hint: it is looked at first.
+#[derive(Clone, Copy, Debug, PartialEq, Eq)]
+pub struct Spot {
+    pub address: Ip,
+    pub place: u32,
+}
+
+/// Up to 1,024 entries of different addresses.
+#[derive(Drop)]
+pub struct Learnt {
+    /// The entries in the order in which they were learnt or renewed. A place is empty where its
+    /// entry was renewed later, or dropped.
+    pub log: Vec<Option<Entry>>,
+    /// All places before this one are empty.
+    pub start: usize,
+    /// A spot for each entry, by rising address.
+    pub index: Vec<Spot>,
+}
+
+impl Learnt {
+    pub fn new(alloc: Global) -> Result<Self, AllocError>
+        ensures none { IfOk result (λ l. kept l.log.items ≡ []) }
+        ensures holds { IfOk result (λ l. IsLearnt l) }
+    {
+        let log = Vec::with_capacity(alloc, PLACES)?;
+        let index = Vec::with_capacity(alloc, ENTRIES)?;
+        Ok(Learnt {
+            log,
+            start: 0,
+            index,
+        })
+    }
+}
+
+/// Learns or renews: an entry of the same address gives way to it, and of 1,024 others the oldest.
+pub fn learn(learnt: &mut Learnt, entry: Entry)
+    requires { IsLearnt learnt.old }
+    ensures entries { kept learnt.new.log.items ≡ with_entry entry (kept learnt.old.log.items) }
+    ensures holds { IsLearnt learnt.new }
+{
+    make_room(learnt);
+    match find(&learnt.index, entry.address) {
+        Ok(at) => renew(learnt, at, entry),
+        Err(_) => add(learnt, entry),
+    }
+}
+
+/// The hardware address of the entry of that address, if it is valid.
+pub fn mac_in(learnt: &Learnt, address: Ip, now: u64) -> Option<Mac>
+    requires { IsLearnt learnt.now }
+    ensures { result ≡ learnt_mac address.0 now (kept learnt.now.log.items) }
+{
+    match find(&learnt.index, address) {
+        Ok(at) => mac_at_spot(&learnt.log, learnt.index[at], now),
+        Err(_) => None,
+    }
+}
+
+fn mac_at_spot(log: &[Option<Entry>], spot: Spot, now: u64) -> Option<Mac>
+    requires { tally spot.address.0 (entry_addresses (kept log.now)) ≤ 1 }
+    ensures { result ≡ learnt_mac spot.address.0 now (kept log.now) }
+{
+    match place_of(log, spot) {
+        Some(place) => valid_mac(log[place], now),
+        None => None,
+    }
+}
+
+fn valid_mac(place: Option<Entry>, now: u64) -> Option<Mac>
+    ensures { result ≡ valid_mac now place }
+{
+    match place {
+        Some(entry) if now.saturating_sub(entry.at) < VALID_FOR => Some(entry.mac),
+        _ => None,
+    }
+}
+
+/// The spot of an address, or where it would go.
+fn find(index: &[Spot], address: Ip) -> Result<usize, usize>
+    requires { IsRising (spot_addresses index.now) }
+    ensures found { IfOk result (IsAt (spot_addresses index.now) address.0) }
+    ensures absent { IfErr result (IsGapFor (spot_addresses index.now) address.0) }
+{
+    index.binary_search_by_key(&address.0, |spot| spot.address.0)
+}
+
+fn is_of(place: &Option<Entry>, address: Ip) -> bool
+    ensures { result ≡ is_of address.0 place.now }
+{
+    match place {
+        Some(entry) => entry.address.0 == address.0,
+        None => false,
+    }
+}
+
+/// The place of a spot's address: that of the spot, or else the first.
+fn place_of(log: &[Option<Entry>], spot: Spot) -> Option<usize>
+    ensures { MatchOption result (tally spot.address.0 (entry_addresses (kept log.now)) ≡ 0)
+        (IsPlaceOf spot.address.0 log.now) }
+{
+    let hint = spot.place as usize;
+    if hint < log.len() && is_of(&log[hint], spot.address) {
+        Some(hint)
+    } else {
+        first_place_of(log, spot.address)
+    }
+}
+
+fn first_place_of(log: &[Option<Entry>], address: Ip) -> Option<usize>
+    ensures { MatchOption result (tally address.0 (entry_addresses (kept log.now)) ≡ 0)
+        (IsPlaceOf address.0 log.now) }
+{
+    for (place, entry) in log.iter().enumerate() {
+        if is_of(entry, address) {
+            return Some(place);
+        }
+    }
+    None
+}
+
+/// Renews the entry of a spot.
+fn renew(learnt: &mut Learnt, at: usize, entry: Entry)
+    requires holds { IsLearnt learnt.old }
+    requires room { length learnt.old.log.items < PLACES }
+    requires at { IsAt (spot_addresses learnt.old.index.items) entry.address.0 at }
+    ensures entries { kept learnt.new.log.items ≡ with_entry entry (kept learnt.old.log.items) }
+    ensures holds { IsLearnt learnt.new }
+{
+    let spot = learnt.index[at];
+    clear(&mut learnt.log, spot);
+    let place = learnt.log.len() as u32;
+    push(&mut learnt.log, entry);
+    learnt.index[at] = Spot {
+        address: entry.address,
+        place,
+    };
+}
+
+/// Adds an entry of another address.
+fn add(learnt: &mut Learnt, entry: Entry)
+    requires holds { IsLearnt learnt.old }
+    requires room { length learnt.old.log.items < PLACES }
+    requires other { tally entry.address.0 (entry_addresses (kept learnt.old.log.items)) ≡ 0 }
+    ensures entries { kept learnt.new.log.items ≡ with_entry entry (kept learnt.old.log.items) }
+    ensures holds { IsLearnt learnt.new }
+{
+    if learnt.index.len() == ENTRIES {
+        drop_oldest(learnt);
+    }
+    append(learnt, entry);
+}
+
+/// Adds an entry of another address, where there is room.
+fn append(learnt: &mut Learnt, entry: Entry)
+    requires holds { IsLearnt learnt.old }
+    requires room { length learnt.old.log.items < PLACES }
+    requires fewer { length learnt.old.index.items < ENTRIES }
+    requires other { tally entry.address.0 (entry_addresses (kept learnt.old.log.items)) ≡ 0 }
+    ensures entries { kept learnt.new.log.items ≡ kept learnt.old.log.items ++ entry ∷ [] }
+    ensures holds { IsLearnt learnt.new }
+{
+    let place = learnt.log.len() as u32;
+    push(&mut learnt.log, entry);
+    let spot = Spot {
+        address: entry.address,
+        place,
+    };
+    if let Err(at) = find(&learnt.index, entry.address) {
+        let _ = learnt.index.insert(at, spot);
+    }
+}
+
+/// Empties the place of a spot's address.
+fn clear(log: &mut [Option<Entry>], spot: Spot)
+    requires { tally spot.address.0 (entry_addresses (kept log.old)) ≤ 1 }
+    ensures entries { kept log.new ≡ without spot.address.0 (kept log.old) }
+    ensures len { length log.new ≡ length log.old }
+    ensures front { (n : ℕ) → kept (take n log.old) ≡ [] → kept (take n log.new) ≡ [] }
+{
+    if let Some(place) = place_of(log, spot) {
+        log[place] = None;
+    }
+}
+
+fn push(log: &mut Vec<Option<Entry>>, entry: Entry)
+    requires { vec_len log.old < vec_capacity log.old }
+    ensures items { log.new.items ≡ log.old.items ++ Some entry ∷ [] }
+    ensures capacity { vec_capacity log.new ≡ vec_capacity log.old }
+{
+    log.push_reserved(Some(entry));
+}
+
+/// Drops the oldest entry.
+fn drop_oldest(learnt: &mut Learnt)
+    requires { IsLearnt learnt.old }
+    ensures entries { kept learnt.new.log.items ≡ drop 1 (kept learnt.old.log.items) }
+    ensures index { length learnt.new.index.items ≡ length learnt.old.index.items - 1 }
+    ensures len { length learnt.new.log.items ≡ length learnt.old.log.items }
+    ensures holds { IsLearnt learnt.new }
+{
+    if let Some(place) = first_entry(&learnt.log, learnt.start) {
+        if let Some(entry) = learnt.log[place] {
+            learnt.log[place] = None;
+            learnt.start = place + 1;
+            if let Ok(at) = find(&learnt.index, entry.address) {
+                learnt.index.remove(at);
+            }
+        }
+    }
+}
+
+/// The first place from `start` on that isn't empty.
+fn first_entry(log: &[Option<Entry>], start: usize) -> Option<usize>
+    requires within { start ≤ length log.now }
+    requires front { kept (take start log.now) ≡ [] }
+    ensures { MatchOption result (kept log.now ≡ []) (IsFirst log.now) }
+{
+    let mut place = start;
+    while place < log.len() {
+        if log[place].is_some() {
+            return Some(place);
+        }
+        place += 1;
+    }
+    None
+}
+
+/// Throws the empty places out once all are used.
+fn make_room(learnt: &mut Learnt)
+    requires { IsLearnt learnt.old }
+    ensures entries { kept learnt.new.log.items ≡ kept learnt.old.log.items }
+    ensures room { length learnt.new.log.items < PLACES }
+    ensures holds { IsLearnt learnt.new }
+{
+    if learnt.log.len() == PLACES {
+        throw_out(&mut learnt.log);
+        learnt.start = 0;
+        renumber(&learnt.log, &mut learnt.index);
+    }
+}
+
+fn throw_out(log: &mut Vec<Option<Entry>>)
+    ensures entries { kept log.new.items ≡ kept log.old.items }
+    ensures full { length log.new.items ≡ length (kept log.old.items) }
+    ensures capacity { vec_capacity log.new ≡ vec_capacity log.old }
+{
+    log.retain(|place| place.is_some());
+}
+
+/// Notes the places of the log's entries.
+fn renumber(log: &[Option<Entry>], index: &mut [Spot])
+    requires places { length log.now ≤ PLACES }
+    requires rising { IsRising (spot_addresses index.old) }
+    ensures { spot_addresses index.new ≡ spot_addresses index.old }
+{
+    for (place, entry) in log.iter().enumerate() {
+        if let Some(entry) = entry {
+            note(index, entry.address, place as u32);
+        }
+    }
+}
+
+fn note(index: &mut [Spot], address: Ip, place: u32)
+    requires { IsRising (spot_addresses index.old) }
+    ensures { spot_addresses index.new ≡ spot_addresses index.old }
+{
+    if let Ok(at) = find(index, address) {
+        index[at] = Spot { address, place };
+    }
+}
