@@ -1,5 +1,5 @@
 -- The log of what was learnt, and its index by address.
-use Rattle.std.specs.Prelude.{◌≡◌, ◌≢◌, ◌≤◌, ◌<◌, ◌+◌, ◌-◌, ℕ, Bool, true, false, ◌==◌, nat_lt, List, [], ◌∷◌, length, map, take, slice_index, slice_index_or, vec_capacity, Option, Some, None, if◌then◌else◌}
+use Rattle.std.specs.Prelude.{◌≡◌, ◌≤◌, ◌<◌, ◌+◌, ◌-◌, ℕ, Bool, true, false, ◌==◌, nat_lt, List, [], ◌∷◌, length, map, take, slice_index, slice_index_or, vec_capacity, Option, Some, None, if◌then◌else◌}
 use Rattle.addresses.specs.declared.ethernet.Mac.{Mac}
 use Rattle.arp.specs.declared.caches.TheConstants.{ENTRIES, VALID_FOR}
 use Rattle.arp.specs.declared.caches.Entry.{Entry}
@@ -53,10 +53,10 @@ pub record IsPlaceOf (address : ℕ) (log : List (Option Entry)) (i : ℕ) : Typ
   pub within : i < length log
   pub is : is_of address (slice_index_or log i None) ≡ true
 
--- place i is the first that isn't empty
-pub record IsFirst (log : List (Option Entry)) (i : ℕ) : Type 0 where
+-- the first entry is that of place i
+pub record IsFirst (log : List (Option Entry)) (i : ℕ) (e : Entry) : Type 0 where
   pub within : i < length log
-  pub full : slice_index_or log i None ≢ None
+  pub is : slice_index_or log i None ≡ Some e
   pub before : kept (take i log) ≡ []
 
 -- the index has each entry's address once, in order; the places before the start are empty

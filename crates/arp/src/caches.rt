@@ -1,7 +1,7 @@
 //! The cache of neighbours.
-ghost use Rattle.std.specs.Prelude.{◌≡◌, ◌≤◌, ◌++◌, ◌∷◌, [], ◌<◌, ◌↔◌, ◌-◌, ◌+◌, length, vec_len, vec_capacity, IfOk, IfSome, IsTrue};
+ghost use Rattle.std.specs.Prelude.{◌≡◌, [], ◌↔◌, length, IfOk, IfSome, IsTrue};
 ghost use Rattle.arp.specs.Macs.{AllSix, KnowsMacs};
-ghost use Rattle.arp.specs.Neighbours.{without, newest, with_entry, fixed_mac, learnt_mac, mac_at, IsLearnable, HasRoom};
+ghost use Rattle.arp.specs.Neighbours.{with_entry, fixed_mac, mac_at, IsLearnable};
 
 use crate::learnt::{Learnt, learn, mac_in};
 use crate::packets::octets_of;

@@ -63,16 +63,16 @@ pub fn mac_in(learnt: &Learnt, address: Ip, now: u64) -> Option<Mac>
     ensures { result ≡ learnt_mac address.0 now (kept learnt.now.log.items) }
 {
     match find(&learnt.index, address) {
-        Ok(at) => mac_at_spot(&learnt.log, learnt.index[at], now),
+        Ok(at) => mac_in_log(&learnt.log, address, learnt.index[at].place, now),
         Err(_) => None,
     }
 }
 
-fn mac_at_spot(log: &[Option<Entry>], spot: Spot, now: u64) -> Option<Mac>
-    requires { tally spot.address.0 (entry_addresses (kept log.now)) ≤ 1 }
-    ensures { result ≡ learnt_mac spot.address.0 now (kept log.now) }
+fn mac_in_log(log: &[Option<Entry>], address: Ip, hint: u32, now: u64) -> Option<Mac>
+    requires { tally address.0 (entry_addresses (kept log.now)) ≤ 1 }
+    ensures { result ≡ learnt_mac address.0 now (kept log.now) }
 {
-    match place_of(log, spot) {
+    match place_of(log, address, hint) {
         Some(place) => valid_mac(log[place], now),
         None => None,
     }
@@ -96,6 +96,28 @@ fn find(index: &[Spot], address: Ip) -> Result<usize, usize>
     index.binary_search_by_key(&address.0, |spot| spot.address.0)
 }
 
+/// The spot of an address that has one.
+fn spot_of(index: &[Spot], address: Ip) -> usize
+    requires rising { IsRising (spot_addresses index.now) }
+    requires known { 1 ≤ tally address.0 (spot_addresses index.now) }
+    ensures { IsAt (spot_addresses index.now) address.0 result }
+{
+    match find(index, address) {
+        Ok(at) | Err(at) => at,
+    }
+}
+
+/// Where the spot of an address goes that has none.
+fn gap_for(index: &[Spot], address: Ip) -> usize
+    requires rising { IsRising (spot_addresses index.now) }
+    requires unknown { tally address.0 (spot_addresses index.now) ≡ 0 }
+    ensures { IsGapFor (spot_addresses index.now) address.0 result }
+{
+    match find(index, address) {
+        Ok(at) | Err(at) => at,
+    }
+}
+
 fn is_of(place: &Option<Entry>, address: Ip) -> bool
     ensures { result ≡ is_of address.0 place.now }
 {
@@ -105,16 +127,16 @@ fn is_of(place: &Option<Entry>, address: Ip) -> bool
     }
 }
 
-/// The place of a spot's address: that of the spot, or else the first.
-fn place_of(log: &[Option<Entry>], spot: Spot) -> Option<usize>
-    ensures { MatchOption result (tally spot.address.0 (entry_addresses (kept log.now)) ≡ 0)
-        (IsPlaceOf spot.address.0 log.now) }
+/// The place of an address: the hint, or else the first.
+fn place_of(log: &[Option<Entry>], address: Ip, hint: u32) -> Option<usize>
+    ensures { MatchOption result (tally address.0 (entry_addresses (kept log.now)) ≡ 0)
+        (IsPlaceOf address.0 log.now) }
 {
-    let hint = spot.place as usize;
-    if hint < log.len() && is_of(&log[hint], spot.address) {
+    let hint = hint as usize;
+    if hint < log.len() && is_of(&log[hint], address) {
         Some(hint)
     } else {
-        first_place_of(log, spot.address)
+        first_place_of(log, address)
     }
 }
 
@@ -138,8 +160,7 @@ fn renew(learnt: &mut Learnt, at: usize, entry: Entry)
     ensures entries { kept learnt.new.log.items ≡ with_entry entry (kept learnt.old.log.items) }
     ensures holds { IsLearnt learnt.new }
 {
-    let spot = learnt.index[at];
-    clear(&mut learnt.log, spot);
+    clear(&mut learnt.log, entry.address, learnt.index[at].place);
     let place = learnt.log.len() as u32;
     push(&mut learnt.log, entry);
     learnt.index[at] = Spot {
@@ -177,19 +198,20 @@ fn append(learnt: &mut Learnt, entry: Entry)
         address: entry.address,
         place,
     };
-    if let Err(at) = find(&learnt.index, entry.address) {
-        let _ = learnt.index.insert(at, spot);
-    }
+    let at = gap_for(&learnt.index, entry.address);
+    let _ = learnt.index.insert(at, spot);
 }
 
-/// Empties the place of a spot's address.
-fn clear(log: &mut [Option<Entry>], spot: Spot)
-    requires { tally spot.address.0 (entry_addresses (kept log.old)) ≤ 1 }
-    ensures entries { kept log.new ≡ without spot.address.0 (kept log.old) }
-    ensures len { length log.new ≡ length log.old }
-    ensures front { (n : ℕ) → kept (take n log.old) ≡ [] → kept (take n log.new) ≡ [] }
+/// Empties the place of an address.
+fn clear(log: &mut Vec<Option<Entry>>, address: Ip, hint: u32)
+    requires { tally address.0 (entry_addresses (kept log.old.items)) ≤ 1 }
+    ensures entries { kept log.new.items ≡ without address.0 (kept log.old.items) }
+    ensures len { length log.new.items ≡ length log.old.items }
+    ensures capacity { vec_capacity log.new ≡ vec_capacity log.old }
+    ensures front { (n : ℕ) → kept (take n log.old.items) ≡ []
+        → kept (take n log.new.items) ≡ [] }
 {
-    if let Some(place) = place_of(log, spot) {
+    if let Some(place) = place_of(log, address, hint) {
         log[place] = None;
     }
 }
@@ -210,27 +232,24 @@ fn drop_oldest(learnt: &mut Learnt)
     ensures len { length learnt.new.log.items ≡ length learnt.old.log.items }
     ensures holds { IsLearnt learnt.new }
 {
-    if let Some(place) = first_entry(&learnt.log, learnt.start) {
-        if let Some(entry) = learnt.log[place] {
-            learnt.log[place] = None;
-            learnt.start = place + 1;
-            if let Ok(at) = find(&learnt.index, entry.address) {
-                learnt.index.remove(at);
-            }
-        }
+    if let Some((place, entry)) = first_entry(&learnt.log, learnt.start) {
+        learnt.log[place] = None;
+        learnt.start = place + 1;
+        let at = spot_of(&learnt.index, entry.address);
+        learnt.index.remove(at);
     }
 }
 
-/// The first place from `start` on that isn't empty.
-fn first_entry(log: &[Option<Entry>], start: usize) -> Option<usize>
+/// The first entry, which lies at `start` or behind it, and its place.
+fn first_entry(log: &[Option<Entry>], start: usize) -> Option<(usize, Entry)>
     requires within { start ≤ length log.now }
     requires front { kept (take start log.now) ≡ [] }
-    ensures { MatchOption result (kept log.now ≡ []) (IsFirst log.now) }
+    ensures { MatchOption result (kept log.now ≡ []) (λ r. IsFirst log.now r.0 r.1) }
 {
     let mut place = start;
     while place < log.len() {
-        if log[place].is_some() {
-            return Some(place);
+        if let Some(entry) = log[place] {
+            return Some((place, entry));
         }
         place += 1;
     }
