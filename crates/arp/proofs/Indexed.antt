@@ -1,19 +1,19 @@
 -- A log and its index agree, after each step that both take.
-use Rattle.std.proofs.Common.{◌≡◌, ◌≤◌, ◌<◌, ◌+◌, ◌-◌, ℕ, zero, suc, Bool, true, false, cond, eqb, Result, Ok, Err, IfOk, IfErr, Option, Some, None, List, [], ◌∷◌, ◌++◌, length, map, get_or, set, take, drop, refl, ◌∙◌, sym, ap, subst, arith}
+use Rattle.std.proofs.Common.{◌≡◌, ◌≤◌, ◌<◌, ◌+◌, ◌-◌, ℕ, suc, Bool, true, false, cond, eqb, Result, Ok, Err, IfOk, IfErr, Option, Some, None, List, [], ◌∷◌, ◌++◌, length, get_or, set, take, refl, ◌∙◌, sym, ap, subst, arith}
 use Rattle.std.specs.List.{insert, remove}
 use Rattle.std.specs.List.Sorted.{IsSearchInRange, IsBinarySearchResult, IsNonDecreasingBy}
 use Rattle.std.specs.Ordering.{nat_cmp, ordering_index}
 use Rattle.std.proofs.lemmas.Bool.Decides.{nat_tests}
 use Rattle.std.proofs.lemmas.Cmp.{ranked}
 use Rattle.std.proofs.lemmas.List.Sorted.{IsNonDecreasingBy-from_default}
-use Rattle.std.proofs.lemmas.List.{length-map, map-set, set-get_or, length-append, length-set, length-take-le, take-append-le, take-map, drop-map, map-append, get_or-map}
+use Rattle.std.proofs.lemmas.List.{length-map, map-set, set-get_or, length-append, length-set, take-append-le, take-map, drop-map, map-append, get_or-map}
 use Rattle.std.proofs.lemmas.List.Edits.{length-insert, length-remove}
 use Rattle.arp.specs.declared.caches.Entry.{Entry}
 use Rattle.arp.specs.declared.learnt.Spot.{Spot}
 use Rattle.arp.specs.Neighbours.{without, newest}
-use Rattle.arp.specs.Log.{kept, entry_addresses, spot_addresses, tally, IsRising, IsAt, IsGapFor, IsFirst, IsIndexed}
-use Rattle.arp.proofs.Tallies.{tally-at, tally-gap, tally-insert, tally-remove, rising-insert, rising-remove}
-use Rattle.arp.proofs.Logs.{kept-append, tally-push, without-none, length-without, tally-without, kept-first, front-first}
+use Rattle.arp.specs.Log.{kept, entry_addresses, spot_addresses, tally, IsRising, IsAt, IsGapFor, place_without, IsFirst, IsIndexed}
+use Rattle.arp.proofs.Tallies.{tally-at, tally-insert, tally-remove, gap-remove, rising-insert, rising-remove}
+use Rattle.arp.proofs.Logs.{kept-append, tally-push, length-without, tally-without, kept-first, front-first}
 
 pub spots-length : (i j : List Spot) → spot_addresses i ≡ spot_addresses j → length i ≡ length j
 spots-length i j same = sym (length-map i (λ s. s.address.0)) ∙ ap length same ∙ length-map j (λ s. s.address.0)
@@ -97,6 +97,13 @@ indexed-dropped log start index e p i old first at = record {
 
     len : length (remove index i) + 1 ≡ length index
     len = length-remove index i (omega (arith, at.within, length-map index (λ (t : Spot). t.address.0)))
+
+-- the first entry was dropped, and one of another address added
+pub indexed-supplanted : (log : List (Option Entry)) (start : ℕ) (index : List Spot) (old : Entry) (p out : ℕ) (e : Entry) (s : Spot) (at : ℕ) → IsIndexed log start index → IsFirst log p old → IsAt (spot_addresses index) old.address.0 out → s.address.0 ≡ e.address.0 → IsGapFor (spot_addresses index) e.address.0 at → IsIndexed (set log p None ++ Some e ∷ []) (p + 1) (insert (remove index out) (place_without out at) s)
+indexed-supplanted log start index old p out e s at holds first there is gap = indexed-added (set log p None) (p + 1) (remove index out) e s (place_without out at) (indexed-dropped log start index old p out holds first there) (omega (arith, length-remove index out within, holds.most)) is (rw spots-remove (gap-remove (spot_addresses index) e.address.0 at out gap there.within))
+  where
+    within : out < length index
+    within = omega (arith, there.within, length-map index (λ (t : Spot). t.address.0))
 
 -- what a search of the index finds
 module _ (index : List Spot) (rising : IsRising (spot_addresses index)) (k : ℕ) where

@@ -1,6 +1,7 @@
 mod Indexed
 mod Logs
 mod Reading
+mod Shifts
 mod Spelling
 mod Spelt
 mod Tallies

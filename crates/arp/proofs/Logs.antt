@@ -1,12 +1,12 @@
 -- What stands in a log, after a place is emptied and an entry is put behind.
-use Rattle.std.proofs.Common.{◌≡◌, ◌≢◌, ◌≤◌, ◌<◌, ◌+◌, ◌-◌, ℕ, zero, suc, Bool, true, false, not, cond, eqb, Option, Some, None, List, [], ◌∷◌, ◌++◌, length, map, get_or, set, take, drop, refl, ◌∙◌, sym, ap, subst, arith}
+use Rattle.std.proofs.Common.{◌≡◌, ◌≤◌, ◌<◌, ◌+◌, ℕ, zero, suc, Bool, true, false, not, cond, eqb, Option, Some, None, List, [], ◌∷◌, ◌++◌, length, get_or, set, take, refl, sym, ap, arith}
 use Rattle.std.proofs.lemmas.Bool.Decides.{nat_tests}
 use Rattle.std.proofs.lemmas.List.{map-append, take_more}
 use Rattle.std.specs.List.{filter}
 use Rattle.std.specs.Prelude.{is_some}
 use Rattle.arp.specs.declared.caches.Entry.{Entry}
-use Rattle.arp.specs.Neighbours.{without, newest, learnt_mac}
-use Rattle.arp.specs.Log.{kept, is_of, valid_mac, entry_addresses, tally, IsPlaceOf, IsFirst}
+use Rattle.arp.specs.Neighbours.{without, learnt_mac}
+use Rattle.arp.specs.Log.{kept, is_of, valid_mac, entry_addresses, tally, IsPlaceOf}
 use Rattle.arp.proofs.Tallies.{tally-append}
 
 pub kept-append : (xs ys : List (Option Entry)) → kept (xs ++ ys) ≡ kept xs ++ kept ys

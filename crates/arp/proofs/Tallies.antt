@@ -1,10 +1,10 @@
 -- How often an address comes in a list that rises, and what an edit does to it.
-use Rattle.std.proofs.Common.{◌≡◌, ◌≢◌, ◌≤◌, ◌<◌, ◌+◌, ◌-◌, ℕ, zero, suc, Bool, cond, eqb, List, [], ◌∷◌, ◌++◌, length, get_or, set, take, drop, refl, ◌∙◌, sym, ap, subst, arith}
+use Rattle.std.proofs.Common.{◌≡◌, ◌≢◌, ◌≤◌, ◌<◌, ◌+◌, ◌-◌, ℕ, zero, suc, cond, eqb, List, [], ◌∷◌, ◌++◌, length, get_or, take, drop, refl, ap, subst, arith}
 use Rattle.std.specs.List.{insert, remove}
 use Rattle.std.proofs.lemmas.Bool.Decides.{nat_tests}
 use Rattle.std.proofs.lemmas.List.{take-append-drop}
 use Rattle.std.proofs.lemmas.List.Edits.{length-insert, get_or-insert_below, get_or-insert_at, get_or-insert_above, length-remove, get_or-remove_below, get_or-remove_above}
-use Rattle.arp.specs.Log.{tally, IsRising, IsAt, IsGapFor}
+use Rattle.arp.specs.Log.{tally, place_without, IsRising, IsAt, IsGapFor}
 
 -- none has it
 pub tally-none : (x : ℕ) (xs : List ℕ) → ((j : ℕ) → j < length xs → get_or xs j 0 ≢ x) → tally x xs ≡ 0
@@ -51,3 +51,15 @@ rising-remove xs at there rising i j lt within =
     let below : (i : ℕ) → i < at → get_or new i 0 ≡ get_or xs i 0 = λ i below. get_or-remove_below xs at 0 i below there in
     let above : (i : ℕ) → at ≤ i → get_or new i 0 ≡ get_or xs (i + 1) 0 = λ i above. get_or-remove_above xs at 0 i above there in
     grind (arith, below i, above i, below j, above j, rising i j, rising i (j + 1), rising (i + 1) (j + 1))
+
+-- what would go to a place goes there, or to the one before, once another is taken away
+pub gap-remove : (xs : List ℕ) (x at out : ℕ) → IsGapFor xs x at → out < length xs → IsGapFor (remove xs out) x (place_without out at)
+gap-remove xs x at out gap there =
+    let length_new = length-remove xs out there in
+    let below : (i : ℕ) → i < out → get_or (remove xs out) i 0 ≡ get_or xs i 0 = λ i below. get_or-remove_below xs out 0 i below there in
+    let above : (i : ℕ) → out ≤ i → get_or (remove xs out) i 0 ≡ get_or xs (i + 1) 0 = λ i above. get_or-remove_above xs out 0 i above there in
+    record {
+      within = grind (arith, nat_tests, gap.within);
+      lower = λ j lt. grind (arith, nat_tests, below j, above j, gap.lower j, gap.lower (j + 1));
+      greater = λ j le lt. grind (arith, nat_tests, below j, above j, gap.greater j, gap.greater (j + 1));
+    }

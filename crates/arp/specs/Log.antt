@@ -48,6 +48,10 @@ pub record IsGapFor (xs : List ℕ) (x i : ℕ) : Type 0 where
   pub lower : (j : ℕ) → j < i → slice_index xs j < x
   pub greater : (j : ℕ) → i ≤ j → j < length xs → x < slice_index xs j
 
+-- where place `at` is once place `out` is taken away
+abbrev pub place_without : ℕ → ℕ → ℕ
+place_without out at = if nat_lt out at then at - 1 else at
+
 -- place i of the log has an entry of that address
 pub record IsPlaceOf (address : ℕ) (log : List (Option Entry)) (i : ℕ) : Type 0 where
   pub within : i < length log

@@ -1,7 +1,8 @@
 //! The neighbours that were learnt: a log of them in order, and an index of the log by address.
 ghost use Rattle.std.specs.Prelude.{◌≡◌, ◌≤◌, ◌++◌, ◌∷◌, [], ◌<◌, ◌-◌, ℕ, Some, drop, take, length, vec_len, vec_capacity, IfOk, IfErr, MatchOption};
+ghost use Rattle.std.specs.List.{insert, remove};
 ghost use Rattle.arp.specs.Neighbours.{without, with_entry, learnt_mac};
-ghost use Rattle.arp.specs.Log.{kept, is_of, valid_mac, entry_addresses, spot_addresses, tally, IsRising, IsAt, IsGapFor, IsPlaceOf, IsFirst, IsLearnt};
+ghost use Rattle.arp.specs.Log.{kept, is_of, valid_mac, entry_addresses, spot_addresses, tally, IsRising, IsAt, IsGapFor, IsPlaceOf, IsFirst, IsLearnt, place_without};
 
 use crate::caches::{ENTRIES, Entry, VALID_FOR};
 use addresses::{Ip, Mac};
@@ -53,7 +54,7 @@ pub fn learn(learnt: &mut Learnt, entry: Entry)
     make_room(learnt);
     match find(&learnt.index, entry.address) {
         Ok(at) => renew(learnt, at, entry),
-        Err(_) => add(learnt, entry),
+        Err(at) => add(learnt, at, entry),
     }
 }
 
@@ -101,17 +102,6 @@ fn spot_of(index: &[Spot], address: Ip) -> usize
     requires rising { IsRising (spot_addresses index.now) }
     requires known { 1 ≤ tally address.0 (spot_addresses index.now) }
     ensures { IsAt (spot_addresses index.now) address.0 result }
-{
-    match find(index, address) {
-        Ok(at) | Err(at) => at,
-    }
-}
-
-/// Where the spot of an address goes that has none.
-fn gap_for(index: &[Spot], address: Ip) -> usize
-    requires rising { IsRising (spot_addresses index.now) }
-    requires unknown { tally address.0 (spot_addresses index.now) ≡ 0 }
-    ensures { IsGapFor (spot_addresses index.now) address.0 result }
 {
     match find(index, address) {
         Ok(at) | Err(at) => at,
@@ -169,26 +159,27 @@ fn renew(learnt: &mut Learnt, at: usize, entry: Entry)
     };
 }
 
-/// Adds an entry of another address.
-fn add(learnt: &mut Learnt, entry: Entry)
+/// Adds an entry of another address, whose spot goes to `at`.
+fn add(learnt: &mut Learnt, at: usize, entry: Entry)
     requires holds { IsLearnt learnt.old }
     requires room { length learnt.old.log.items < PLACES }
-    requires other { tally entry.address.0 (entry_addresses (kept learnt.old.log.items)) ≡ 0 }
+    requires at { IsGapFor (spot_addresses learnt.old.index.items) entry.address.0 at }
     ensures entries { kept learnt.new.log.items ≡ with_entry entry (kept learnt.old.log.items) }
     ensures holds { IsLearnt learnt.new }
 {
-    if learnt.index.len() == ENTRIES {
-        drop_oldest(learnt);
+    if learnt.index.len() < ENTRIES {
+        append(learnt, at, entry);
+    } else {
+        supplant(learnt, at, entry);
     }
-    append(learnt, entry);
 }
 
-/// Adds an entry of another address, where there is room.
-fn append(learnt: &mut Learnt, entry: Entry)
+/// Adds an entry where there is room.
+fn append(learnt: &mut Learnt, at: usize, entry: Entry)
     requires holds { IsLearnt learnt.old }
     requires room { length learnt.old.log.items < PLACES }
     requires fewer { length learnt.old.index.items < ENTRIES }
-    requires other { tally entry.address.0 (entry_addresses (kept learnt.old.log.items)) ≡ 0 }
+    requires at { IsGapFor (spot_addresses learnt.old.index.items) entry.address.0 at }
     ensures entries { kept learnt.new.log.items ≡ kept learnt.old.log.items ++ entry ∷ [] }
     ensures holds { IsLearnt learnt.new }
 {
@@ -198,8 +189,49 @@ fn append(learnt: &mut Learnt, entry: Entry)
         address: entry.address,
         place,
     };
-    let at = gap_for(&learnt.index, entry.address);
     let _ = learnt.index.insert(at, spot);
+}
+
+/// Adds an entry for the oldest one.
+fn supplant(learnt: &mut Learnt, at: usize, entry: Entry)
+    requires holds { IsLearnt learnt.old }
+    requires room { length learnt.old.log.items < PLACES }
+    requires some { 0 < length learnt.old.index.items }
+    requires at { IsGapFor (spot_addresses learnt.old.index.items) entry.address.0 at }
+    ensures entries { kept learnt.new.log.items
+        ≡ drop 1 (kept learnt.old.log.items) ++ entry ∷ [] }
+    ensures holds { IsLearnt learnt.new }
+{
+    if let Some((oldest, gone)) = first_entry(&learnt.log, learnt.start) {
+        let out = spot_of(&learnt.index, gone.address);
+        let place = learnt.log.len() as u32;
+        let spot = Spot {
+            address: entry.address,
+            place,
+        };
+        put_for(&mut learnt.index, out, at, spot);
+        learnt.log[oldest] = None;
+        learnt.start = oldest + 1;
+        push(&mut learnt.log, entry);
+    }
+}
+
+/// Puts a spot in, which would go to `at`, and takes that of `out` away: what lies between them
+/// moves by one place.
+fn put_for(index: &mut Vec<Spot>, out: usize, at: usize, spot: Spot)
+    requires out { out < length index.old.items }
+    requires at { at ≤ length index.old.items }
+    ensures items { index.new.items
+        ≡ insert (remove index.old.items out) (place_without out at) spot }
+    ensures capacity { vec_capacity index.new ≡ vec_capacity index.old }
+{
+    if out < at {
+        index.copy_within(out + 1..at, out);
+        index[at - 1] = spot;
+    } else {
+        index.copy_within(at..out, at + 1);
+        index[at] = spot;
+    }
 }
 
 /// Empties the place of an address.
@@ -222,22 +254,6 @@ fn push(log: &mut Vec<Option<Entry>>, entry: Entry)
     ensures capacity { vec_capacity log.new ≡ vec_capacity log.old }
 {
     log.push_reserved(Some(entry));
-}
-
-/// Drops the oldest entry.
-fn drop_oldest(learnt: &mut Learnt)
-    requires { IsLearnt learnt.old }
-    ensures entries { kept learnt.new.log.items ≡ drop 1 (kept learnt.old.log.items) }
-    ensures index { length learnt.new.index.items ≡ length learnt.old.index.items - 1 }
-    ensures len { length learnt.new.log.items ≡ length learnt.old.log.items }
-    ensures holds { IsLearnt learnt.new }
-{
-    if let Some((place, entry)) = first_entry(&learnt.log, learnt.start) {
-        learnt.log[place] = None;
-        learnt.start = place + 1;
-        let at = spot_of(&learnt.index, entry.address);
-        learnt.index.remove(at);
-    }
 }
 
 /// The first entry, which lies at `start` or behind it, and its place.
