@@ -7,6 +7,7 @@ ghost use Rattle.ipv4.specs.Carried.{IsTransport};
 ghost use Rattle.packet_rules.specs.Steps.{reason_of, size_refusal, destination_refusal, header_refusal, virtual_refusal, transport_refusal, ttl_refusal, is_vrrp, is_from_peer, arp_reading, advert_reading, packet_reading, ipv4_reading, body_reading, reading_of, Carries};
 ghost use Rattle.packet_rules.specs.declared.steps.TheConstants.{LONGEST_FRAME};
 
+use crate::laws::readings_law;
 use crate::networks::{Network, is_for_gateway, is_to_virtual};
 use crate::{Reading, Reason};
 use frames::{EthView, EtherType};
@@ -170,7 +171,6 @@ fn read_ipv4(network: &Network, frame: &EthView<'_>) -> Result<Reading, Reason>
 
 /// Reads a frame that came in on a network, at an interface that is `active` or not, by a gateway
 /// that is `up` or not; or gives the reason of the first step that refuses it.
-#[tactic(auto, unfolding(crate::specs::Steps::up_refusal, crate::specs::Steps::body_reading))]
 pub fn read_frame(
     network: &Network,
     active: bool,
@@ -178,6 +178,20 @@ pub fn read_frame(
     bytes: &[u8],
 ) -> Result<Reading, Reason>
     ensures reading { result ≡ reading_of network.now active up bytes.now }
+    ensures carries { IfOk result (Carries bytes.now) }
+{
+    readings_law();
+    take_steps(network, active, up, bytes)
+}
+
+#[tactic(auto, unfolding(crate::specs::Steps::up_refusal, crate::specs::Steps::body_reading))]
+fn take_steps(
+    network: &Network,
+    active: bool,
+    up: bool,
+    bytes: &[u8],
+) -> Result<Reading, Reason>
+    ensures { result ≡ reading_of network.now active up bytes.now }
 {
     let frame = view_frame(bytes)?;
     if !up {
