@@ -1,7 +1,6 @@
 -- The senders that are learnt, by a test and by the fact.
-use Rattle.std.proofs.Common.{◌≡◌, ◌≢◌, ℕ, ◌/◌, ◌-◌, ◌^◌, ◌%◌, Bool, true, false, not, ◌&&◌, ◌==◌, IsTrue, ◌↔◌, List, replicate, slice_index, refl, sym, ap, ◌∙◌, subst}
+use Rattle.std.proofs.Common.{◌≡◌, ◌≢◌, ◌/◌, ◌-◌, ◌^◌, ◌%◌, Bool, true, false, ◌&&◌, IsTrue, ◌↔◌, replicate, slice_index, refl, sym, ap, ◌∙◌}
 use Rattle.std.specs.Bool.{Decides}
-use Rattle.std.specs.Str.{bytes_eq}
 use Rattle.std.proofs.lemmas.Bool.Decides.{Decides-eqb, Decides-not, same_from_decides}
 use Rattle.std.proofs.lemmas.Slice.Eq.{bytes_eq-Decides}
 use Rattle.arp.specs.declared.caches.Interface.{Interface}
@@ -46,9 +45,14 @@ test-decides network p =
 fact-of : (network : Network) (p : ArpPacket) (i : Interface) → IsInterface i network → IsLearnable i (sender p) → Facts network p
 fact-of network p i is h = (
   rw (sym is.address, sym is.length) h.near,
-  (λ e. h.not_primary (ap (λ n. record { 0 = n }) e ∙ sym is.primary),
-  (λ e. h.not_virtual (ap (λ n. record { 0 = n }) e ∙ sym is.virtual),
-  (h.not_zero, h.one_station))))
+  (
+    λ e. h.not_primary (ap (λ n. record { 0 = n }) e ∙ sym is.primary),
+    (
+      λ e. h.not_virtual (ap (λ n. record { 0 = n }) e ∙ sym is.virtual),
+      (h.not_zero, h.one_station),
+    ),
+  ),
+)
 
 learnable-of : (network : Network) (p : ArpPacket) (i : Interface) → IsInterface i network → Facts network p → IsLearnable i (sender p)
 learnable-of network p i is f = record {

@@ -1,10 +1,10 @@
 -- What is known of a frame by what it is read as.
-use Rattle.std.proofs.Common.{◌≡◌, ◌≤◌, ◌<◌, ◌↔◌, ℕ, Bool, true, false, cond, ◌==◌, ◌&&◌, nat_le, is_none, Option, Some, None, Result, Ok, Err, List, length, drop, refl, sym, ap, ◌∙◌, subst, arith, length-drop}
+use Rattle.std.proofs.Common.{◌≡◌, ◌≤◌, ◌↔◌, ℕ, Bool, true, false, cond, ◌==◌, ◌&&◌, is_none, Option, Some, None, Result, Ok, Err, List, length, drop, refl, subst, arith, length-drop}
 use Rattle.std.specs.Option.{option_map}
 use Rattle.std.proofs.lemmas.Bool.{leb-true}
 use Rattle.std.proofs.lemmas.List.{length-take-le}
 use Rattle.std.proofs.lemmas.Nat.{mod_below}
-use Rattle.frames.specs.Frame.{Frame, frame_of}
+use Rattle.frames.specs.Frame.{frame_of}
 use Rattle.arp.specs.Packet.{arp_refusal, IsArp, packet_of}
 use Rattle.ipv4.specs.Header.{IsIpv4, header_of, payload_of, ipv4_refusal, word_at}
 use Rattle.ipv4.specs.Carried.{IsTransport, transport_refusal as carried_refusal}

@@ -2,7 +2,6 @@
 -- as.
 use Rattle.std.specs.Prelude.{◌≤◌, ◌≡◌, ℕ, Bool, not, ◌==◌, ◌&&◌, ◌||◌, nat_le, Option, Some, None, is_none, Result, Ok, Err, List, length, if◌then◌else◌}
 use Rattle.std.specs.Option.{option_map}
-use Rattle.addresses.specs.declared.internet.Ip.{Ip}
 use Rattle.frames.specs.Frame.{Frame, frame_of}
 use Rattle.ipv4.specs.Header.{IsIpv4, header_of, payload_of, ipv4_refusal}
 use Rattle.ipv4.specs.Carried.{IsTransport, transport_refusal as carried_refusal}

@@ -185,12 +185,7 @@ pub fn read_frame(
 }
 
 #[tactic(auto, unfolding(crate::specs::Steps::up_refusal, crate::specs::Steps::body_reading))]
-fn take_steps(
-    network: &Network,
-    active: bool,
-    up: bool,
-    bytes: &[u8],
-) -> Result<Reading, Reason>
+fn take_steps(network: &Network, active: bool, up: bool, bytes: &[u8]) -> Result<Reading, Reason>
     ensures { result ≡ reading_of network.now active up bytes.now }
 {
     let frame = view_frame(bytes)?;

@@ -136,12 +136,7 @@ fn readdress(frame: &mut [u8], networks: &Networks, translation: &Translation, n
 /// Makes of a frame that came the one by which its packet is sent on, with the padding still behind
 /// it.
 #[tactic(auto, using(crate::proofs::Cut::drop_kept))]
-fn translate_frame(
-    frame: &mut [u8],
-    networks: &Networks,
-    translation: &Translation,
-    next_mac: Mac,
-)
+fn translate_frame(frame: &mut [u8], networks: &Networks, translation: &Translation, next_mac: Mac)
     requires whole { 14 ≤ length frame.old }
     requires ipv4 { IsIpv4 (frame_of frame.old).body }
     requires transport { IsTransport (frame_of frame.old).body }
