@@ -45,12 +45,17 @@ same_side Inside Outside = false
 same_side Outside Inside = false
 same_side Outside Outside = true
 
+-- a static neighbour is on a side
+abbrev pub is_on : Side → Set → Bool
+is_on side n = same_side n.side side
+
+-- a static neighbour as the cache has it
+abbrev pub fixed_of : Set → Neighbour
+fixed_of n = record { address = n.ip; mac = n.mac }
+
 -- the static neighbours on a side, in their order
 abbrev pub fixed_on : Side → List Set → List Neighbour
-fixed_on side [] = []
-fixed_on side (n ∷ set) =
-    (if same_side n.side side then (record { address = n.ip; mac = n.mac }) ∷ fixed_on side set
-    else fixed_on side set)
+fixed_on side set = map fixed_of (filter (is_on side) set)
 
 -- an interface before its first event
 unfoldable pub new_station : Settings → GatewayId → Side → Station

@@ -6,7 +6,7 @@ ghost use Rattle.packet_rules.specs.Arping.{is_learnable, answer_to};
 ghost use Rattle.packet_rules.specs.Adverts.{advert_frame};
 ghost use Rattle.packet_rules.specs.Arping.{gratuitous_frame};
 ghost use Rattle.packet_rules.specs.Steps.{reading_of, Carries};
-ghost use Rattle.sides.specs.Stations.{is_active, is_active_in, fixed_on, new_station, IsRouterStep, after_arp, frames_of, joined, IsWired};
+ghost use Rattle.sides.specs.Stations.{is_active, is_active_in, is_on, fixed_of, fixed_on, new_station, IsRouterStep, after_arp, frames_of, joined, IsWired};
 
 use addresses::{Ip, Mac};
 use arp::{ArpPacket, Cache, Neighbour};
@@ -45,6 +45,21 @@ impl Model for Station {
     ghost invariant = { λ s. IsInterval s.interval };
 }
 
+fn is_on(neighbour: &settings::Neighbour, side: Side) -> bool
+    ensures { result ≡ is_on side neighbour.now }
+{
+    neighbour.side == side
+}
+
+fn fixed(neighbour: &settings::Neighbour) -> Neighbour
+    ensures { result ≡ fixed_of neighbour.now }
+{
+    Neighbour {
+        address: neighbour.ip,
+        mac: neighbour.mac,
+    }
+}
+
 /// The static neighbours on a side, in their order.
 fn fixed_neighbours(
     alloc: Global,
@@ -53,16 +68,10 @@ fn fixed_neighbours(
 ) -> Result<Vec<Neighbour>, AllocError>
     ensures { IfOk result (λ v. v.items ≡ fixed_on side set.now) }
 {
-    let mut fixed = Vec::new(alloc);
-    for neighbour in set {
-        if neighbour.side == side {
-            fixed.push(Neighbour {
-                address: neighbour.ip,
-                mac: neighbour.mac,
-            })?;
-        }
-    }
-    Ok(fixed)
+    set.iter()
+        .filter(|neighbour| is_on(neighbour, side))
+        .map(|neighbour| fixed(neighbour))
+        .collect(alloc)
 }
 
 impl Station {
