@@ -1,5 +1,5 @@
 -- What a router advertises is read by its peer.
-use Rattle.std.proofs.Common.{◌≡◌, ◌≢◌, ◌<◌, ◌^◌, ℕ, Bool, true, false, cond, not, ◌==◌, ◌&&◌, ◌||◌, is_none, Option, Some, None, Result, Ok, Err, List, drop, refl, sym, ap, ◌∙◌, arith}
+use Rattle.std.proofs.Common.{◌≡◌, ◌≢◌, ◌<◌, ◌^◌, ℕ, Bool, true, false, cond, not, ◌==◌, ◌&&◌, ◌||◌, is_none, Option, Some, None, Result, Ok, Err, List, refl, sym, ap, ◌∙◌, arith}
 use Rattle.std.specs.Option.{option_map}
 use Rattle.std.specs.Str.{bytes_eq}
 use Rattle.byteorder.specs.Endian.{big_number}
@@ -68,8 +68,8 @@ other-number : (a b : ℕ) → (a ≡ b → ⊥) → not (a == b) ≡ true
 other-number a b differs = grind (arith, differs)
 
 ok-reading : (b : Bool) (a own : Message) (s : ℕ) (from : Ip) → b ≡ true → a ≡ own → s ≡ from.0 → (let r : Result Reading Reason = cond b (Ok (Advert a (record { 0 = s }))) (Err BadAdvert) in r) ≡ Ok (Advert own from)
-ok-reading b a own s from yes same source =
-    ap (λ x. let r : Result Reading Reason = cond x (Ok (Advert a (record { 0 = s }))) (Err BadAdvert) in r) yes
+ok-reading b a own s from t same source =
+    ap (λ x. let r : Result Reading Reason = cond x (Ok (Advert a (record { 0 = s }))) (Err BadAdvert) in r) t
     ∙ ap (λ x. let r : Result Reading Reason = Ok (Advert x (record { 0 = s })) in r) same
     ∙ ap (λ n. let r : Result Reading Reason = Ok (Advert own (record { 0 = n })) in r) source
 
