@@ -1,0 +1,2 @@
+//! What a step of a gateway tells.
+#![tactic(auto)]
