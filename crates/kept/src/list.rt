@@ -1,8 +1,8 @@
 //! The list of the packets that wait.
-ghost use Rattle.std.specs.Prelude.{◌≡◌, ◌≤◌, ◌+◌, ◌++◌, ◌∷◌, [], length, IfOk, IsTrue, not};
+ghost use Rattle.std.specs.Prelude.{◌≡◌, ◌≤◌, ◌+◌, ◌++◌, ◌∷◌, [], ◌==◌, length, IfOk, IsTrue, not};
 ghost use Rattle.std.specs.Prelude.{vec_len, vec_capacity};
-ghost use Rattle.std.specs.List.{filter, AllPass};
-ghost use Rattle.kept.specs.Waits.{ends};
+ghost use Rattle.std.specs.List.{filter, list_any, AllPass};
+ghost use Rattle.kept.specs.Waits.{same_wait, ends};
 ghost use Rattle.kept.specs.Packets.{is_young, has_place, count_like, ended_by, left_by, IsKept};
 
 use crate::{Ended, Wait};
@@ -125,10 +125,10 @@ fn count_like(packets: &[Waiting], wait: Wait) -> usize
     }
 }
 
-fn has_place(packets: &[Waiting], wait: Wait) -> bool
-    ensures { result ≡ has_place packets.now wait }
+fn is_awaited(packets: &[Waiting], wait: Wait) -> bool
+    ensures { result ≡ list_any (λ packet. same_wait packet.wait wait) packets.now }
 {
-    count_like(packets, wait) < PLACES && !packets.iter().any(|packet| packet.wait.is_same(wait))
+    packets.iter().any(|packet| packet.wait.is_same(wait))
 }
 
 /// Moves the packets whose wait is over behind another list, which has room for them.
@@ -193,7 +193,7 @@ impl Kept {
     pub fn has_place(&self, wait: Wait) -> bool
         ensures { result ≡ has_place self.now wait }
     {
-        has_place(&self.packets, wait)
+        count_like(&self.packets, wait) < PLACES && !is_awaited(&self.packets, wait)
     }
 
     /// Puts a packet behind the others.
