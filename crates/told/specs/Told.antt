@@ -53,5 +53,5 @@ pub record Paged : Type 0 where
 
 -- room for so many strings of this length
 pub record HasRoom (count longest places octets : ℕ) : Type 0 where
-  pub places : count ≤ places
-  pub octets : longest * count ≤ octets
+  pub each : count ≤ places
+  pub whole : longest * count ≤ octets

@@ -1,5 +1,5 @@
 //! The page on which a step writes what it tells.
-ghost use Rattle.std.specs.Prelude.{◌≡◌, ◌≤◌, ◌<◌, ◌+◌, length, OnOk, OnErr, IsOk};
+ghost use Rattle.std.specs.Prelude.{◌≡◌, ◌≤◌, ◌<◌, ◌+◌, ◌++◌, length, vec_len, vec_capacity, OnOk, OnErr, IsOk};
 ghost use Rattle.told.specs.Told.{none_told, no_room, with_frame, with_datagram, with_note, IsWithin};
 
 use crate::piles::Pile;
@@ -8,6 +8,7 @@ use crate::writing::WriteBytes;
 use nat_types::{Note, Side};
 use std::alloc::{AllocError, Global};
 use std::marker::Model;
+use std::slice;
 
 /// The bytes of the longest frame that is sent.
 const LONGEST_FRAME: usize = 1514;
@@ -55,6 +56,18 @@ impl Model for Page {
         × HasRoom p.room.frames 1514 p.frames.places p.frames.octets
         × HasRoom p.room.datagrams 2214 p.datagrams.places p.datagrams.octets
         × (vec_len p.notes + p.room.notes ≤ vec_capacity p.notes) };
+}
+
+fn note_reserved(list: &mut Vec<Note>, notes: &[Note])
+    requires { vec_len list.old + length notes.now ≤ vec_capacity list.old }
+    ensures items { list.new.items ≡ list.old.items ++ notes.now }
+    ensures len { vec_len list.new ≡ vec_len list.old + length notes.now }
+    ensures capacity { vec_capacity list.old ≤ vec_capacity list.new }
+{
+    match list.extend_from_slice(notes) {
+        Ok(()) => {}
+        Err(_full) => unreachable!(),
+    }
 }
 
 impl Page {
@@ -146,12 +159,12 @@ impl Page {
     }
 
     /// Adds a note.
-    pub fn note(&mut self, note: Note)
+    pub fn note(&mut self, note: &Note)
         requires { 0 < self.old.room.notes }
-        ensures told { self.new.told ≡ with_note self.old.told note }
+        ensures told { self.new.told ≡ with_note self.old.told note.now }
         ensures room { self.old.room ≡ record self.new.room { notes = self.new.room.notes + 1 } }
     {
-        self.notes.push_reserved(note);
+        note_reserved(&mut self.notes, slice::from_ref(note));
         self.room.notes -= 1;
     }
 
