@@ -1,5 +1,4 @@
-use Rattle.std.proofs.Common.{◌≡◌, ◌++◌, ◌∷◌, [], ap, refl}
-use Rattle.told.specs.Told.{Told, with_frame}
+use Rattle.std.proofs.Common.{ap, refl}
 use Rattle.told.proofs.Sent.{told-push}
 use Rattle.told.proofs.pages.Page.make_frame.Goals as goal
 

@@ -1,5 +1,4 @@
-use Rattle.std.proofs.Common.{◌≡◌, ◌++◌, ◌∷◌, [], ap, refl}
-use Rattle.told.specs.Told.{Told, with_frame}
+use Rattle.std.proofs.Common.{ap, refl}
 use Rattle.told.proofs.Sent.{told-push}
 use Rattle.told.proofs.pages.Page.send_frame.Goals as goal
 
