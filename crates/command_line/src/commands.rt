@@ -47,7 +47,7 @@ fn repeat<'a>(alloc: Global) -> Result<Command<'a>, AllocError>
 {
     let command = Command::new(alloc, "loop")
         .about(
-            "Runs a script as sim does, with each frame and datagram sent through a loopback socket",
+            "Runs a script as sim does, with each frame and datagram sent through a loopback socket (not there yet)",
         )
         .after_help("Example: natpair loop S.toml day.script");
     with_script(alloc, command)
@@ -70,7 +70,7 @@ fn gate<'a>(alloc: Global) -> Result<Command<'a>, AllocError>
     ensures local { IfOk result (λ c. (fields_of c).has_globals ≡ false) }
 {
     let command = Command::new(alloc, "gate")
-        .about("Runs one gateway on loopback sockets")
+        .about("Runs one gateway on loopback sockets (not there yet)")
         .after_help("Example: natpair gate S.toml --id 0 --rounds 1000 --found");
     let rounds = options::rounds(alloc);
     let found = options::found(alloc);
@@ -82,7 +82,7 @@ fn peer_off<'a>(alloc: Global) -> Result<Command<'a>, AllocError>
     ensures local { IfOk result (λ c. (fields_of c).has_globals ≡ false) }
 {
     let command = Command::new(alloc, "peer-off")
-        .about("Tells a running gateway that a boot of its peer has ended for good")
+        .about("Tells a running gateway that a boot of its peer has ended for good (not there yet)")
         .after_help("Example: natpair peer-off S.toml --id 0 --boot 7");
     let boot = options::boot(alloc);
     with_gateway(alloc, command)?.arg(boot)
@@ -104,7 +104,8 @@ fn top<'a>(alloc: Global) -> Command<'a>
 /// A command with one more beneath it, which has no global option.
 fn with_command<'a>(command: Command<'a>, beneath: Command<'a>) -> Result<Command<'a>, AllocError>
     requires { (fields_of beneath).has_globals ≡ false }
-    ensures { IfOk result (λ c. app_of c ≡ with_subcommand (app_of command.entry) (app_of beneath.entry).top) }
+    ensures { IfOk result (λ c. app_of c
+        ≡ with_subcommand (app_of command.entry) (app_of beneath.entry).top) }
 {
     command.subcommand(beneath)
 }

@@ -1,5 +1,6 @@
 //! Why words are no command line.
 use std::alloc::AllocError;
+use std::io::{self, Write};
 use thiserror::Error;
 
 /// Why words are no command line of the program.
@@ -12,10 +13,41 @@ pub enum LineFault {
     #[error("found needs id 0")]
     FoundNeedsIdZero,
     /// The words are a request for `loop`, `gate` or `peer-off`, which the program can't run.
-    #[error("not there yet")]
+    #[error("this command is not there yet")]
     NotYet,
-    #[error("NoMemory")]
+    #[error("memory 1 NoMemory")]
     NoMemory,
+}
+
+impl LineFault {
+    ghost use Rattle.std.specs.Prelude.{◌≡◌};
+    ghost use Rattle.command_line.specs.Faults.{status_of};
+
+    /// The exit status that the fault leads to.
+    pub fn status(&self) -> u8
+        ensures status { result ≡ status_of self.now }
+    {
+        match self {
+            LineFault::NoMemory => 1,
+            _ => 2,
+        }
+    }
+
+    /// Tells of the fault, and gives its exit status: the text of `clap` as it is, else a line behind
+    /// `natpair: `. Where even that can't be written, the status alone tells.
+    pub fn tell<E: Write>(&self, errors: &mut E) -> u8
+        ensures status { result ≡ status_of self.now }
+    {
+        let _ = self.show(errors);
+        self.status()
+    }
+
+    fn show<E: Write>(&self, errors: &mut E) -> io::Result<()> {
+        match self {
+            LineFault::Refused(error) => write!(errors, "{error}"),
+            fault => writeln!(errors, "natpair: {fault}"),
+        }
+    }
 }
 
 impl From<AllocError> for LineFault {

@@ -76,7 +76,8 @@ fn peer_off(alloc: Global, matches: &ArgMatches<'_>) -> Result<Request, AllocErr
 
 /// The command that a line entered, and its values.
 fn entered<'m, 'a>(matches: &'m ArgMatches<'a>) -> Option<(&'a str, &'m ArgMatches<'a>)>
-    ensures { option_map (λ p. (p.0.now, rows_of (found_of p.1.now))) result ≡ subcommand_rows_of matches.now }
+    ensures { option_map (λ p. (p.0.now, rows_of (found_of p.1.now))) result
+        ≡ subcommand_rows_of matches.now }
 {
     matches.subcommand()
 }
@@ -112,7 +113,8 @@ fn of_matches(alloc: Global, matches: &ArgMatches<'_>) -> Result<Request, LineFa
 /// The matches of all commands.
 fn parse<'a>(alloc: Global, words: &'a [String]) -> Result<ArgMatches<'a>, LineFault>
     ensures taken { IfOk result (λ _. Takes (map string_bytes words.now)) }
-    ensures values { IfOk result (λ m. subcommand_rows_of m ≡ entered_by (map string_bytes words.now)) }
+    ensures values { IfOk result (λ m. subcommand_rows_of m
+        ≡ entered_by (map string_bytes words.now)) }
     ensures one { IfOk result (λ m. Enters (subcommand_rows_of m)) }
     ensures err { IfErr result (RefusesWords (map string_bytes words.now)) }
 {

@@ -24,7 +24,8 @@ pub enum Task {
 /// and which the program can't run.
 pub fn command(alloc: Global, words: &[String]) -> Result<Task, LineFault>
     ensures taken { IfOk result (λ _. Takes (map string_bytes words.now)) }
-    ensures task { IfOk result (λ task. Requests (entered_by (map string_bytes words.now)) (request_of task)) }
+    ensures task { IfOk result (λ task. Requests (entered_by (map string_bytes words.now))
+        (request_of task)) }
     ensures refused { IfErr result (RefusesTask (map string_bytes words.now)) }
 {
     match requested(alloc, words)? {

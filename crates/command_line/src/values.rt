@@ -13,7 +13,8 @@ pub(crate) fn word(
     matches: &ArgMatches<'_>,
     name: &str,
 ) -> Result<String, AllocError>
-    ensures { IfOk result (λ s. string_bytes s ≡ word_of name.now (rows_of (found_of matches.now))) }
+    ensures { IfOk result (λ s. string_bytes s
+        ≡ word_of name.now (rows_of (found_of matches.now))) }
 {
     let text = matches.get_str(name).unwrap_or("");
     String::from_str(alloc, text)
