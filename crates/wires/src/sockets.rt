@@ -175,9 +175,6 @@ impl Wire for Sockets {
         if let Some(found) = self.next(room)? {
             return Ok(Some(found));
         }
-        if limit.is_zero() {
-            return Ok(None);
-        }
         self.wait(limit).map_err(|_| WireFault)?;
         self.next(room)
     }

@@ -30,14 +30,14 @@ pub trait Wire {
 /// A wire whose call with a given number, counted from 1 over both its calls, fails; all others are those of the
 /// wire below it. It is for tests of what stands on a wire.
 #[derive(Drop)]
-pub struct Failing<W> {
-    wire: W,
+pub struct Failing<'a, W> {
+    wire: &'a mut W,
     left: u64,
 }
 
-impl<W: Wire> Failing<W> {
+impl<'a, W: Wire> Failing<'a, W> {
     /// Fails at the call with this number; at none where it is 0.
-    pub fn new(wire: W, number: u64) -> Failing<W> {
+    pub fn new(wire: &'a mut W, number: u64) -> Failing<'a, W> {
         Failing { wire, left: number }
     }
 
@@ -49,7 +49,7 @@ impl<W: Wire> Failing<W> {
     }
 }
 
-impl<W: Wire> Wire for Failing<W> {
+impl<W: Wire> Wire for Failing<'_, W> {
     fn send(&mut self, to: Place, bytes: &[u8]) -> Result<(), WireFault> {
         if self.fails() {
             return Err(WireFault);
