@@ -1,5 +1,6 @@
-mod Rising
-mod Unbroken
 mod Naming
 mod Putting
 mod Slotted
+mod Ahead
+mod Behind
+mod Drawing

@@ -20,7 +20,7 @@ all-in z o first (suc count) h =
     and_from (in_either z o first) (all_in z o (first + 1) count) (h first (omega arith) (omega arith))
     (all-in z o (first + 1) count (λ q low high. h q (omega arith) (omega arith)))
 
-filter-filter : {X : Type 0} (p q : X → Bool) (xs : List X) → filter p (filter q xs) ≡ filter (λ x. q x && p x) xs
+pub filter-filter : {X : Type 0} (p q : X → Bool) (xs : List X) → filter p (filter q xs) ≡ filter (λ x. q x && p x) xs
 filter-filter p q [] = refl
 filter-filter p q (x ∷ xs) = at (q x) (filter-filter p q xs)
   where

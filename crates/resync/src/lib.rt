@@ -1,2 +1,6 @@
-//! A whole table over the link: the batch, drawn by a cursor, and its loading.
+//! A whole table over the link: the batch of records, drawn from the table by a cursor, and its loading.
 #![tactic(auto)]
+
+mod cursor;
+
+pub use cursor::{Cursor, batch_len};
