@@ -4,3 +4,6 @@ mod Slotted
 mod Ahead
 mod Behind
 mod Drawing
+mod Giving
+mod Holding
+mod Steady

@@ -62,7 +62,7 @@ within-more first last p q is order =
     ]
 
 -- a run of one port
-within-one : (p q : ℕ) → is_within p p q ≡ (p == q)
+pub within-one : (p q : ℕ) → is_within p p q ≡ (p == q)
 within-one p q =
     elim (cases_eq p q) [
       | inl same ↦ and_from (nat_le p q) (nat_le q p) (le-leb p q (omega arith)) (le-leb q p (omega arith)) ∙ sym (eq-eqb p q same)

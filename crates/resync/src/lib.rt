@@ -2,5 +2,9 @@
 #![tactic(auto)]
 
 mod cursor;
+mod laws;
+mod loading;
 
 pub use cursor::{Cursor, batch_len};
+pub use laws::{steady_batch_law, whole_table_law};
+pub use loading::{Loaded, Loading, OutOfPlace};
