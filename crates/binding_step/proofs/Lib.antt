@@ -1,0 +1,5 @@
+pub mod Rising
+pub mod Slots
+pub mod Parts
+pub mod Taking
+pub mod Members

@@ -1,4 +1,6 @@
 pub mod Books
 pub mod Rows
+pub mod Fits
 pub mod Resets
 pub mod Machine
+pub mod Ledgers

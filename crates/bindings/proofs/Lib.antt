@@ -13,3 +13,4 @@ pub mod Rising
 pub mod Unbroken
 pub mod Resting
 pub mod Rooms
+pub mod Uses
