@@ -1,6 +1,6 @@
 -- Loading: what each record makes of the table of a gateway that isn't synced.
 use Rattle.std.specs.Prelude.{◌≡◌, ℕ, ◌+◌, ◌-◌, zero, suc, Bool, true, false, ◌&&◌, not, nat_lt, is_none, Option, Some, None, List, [], ◌∷◌, if◌then◌else◌}
-use Rattle.std.specs.List.{filter}
+use Rattle.std.specs.List.{filter, insert}
 use Rattle.nat_types.specs.declared.pairs.EntryState.{EntryState}
 use Rattle.nat_types.specs.declared.pairs.EntryState.TheVariants.{Live, Held}
 use Rattle.nat_types.specs.declared.pairs.Pair.{Pair}
@@ -9,12 +9,12 @@ use Rattle.nat_types.specs.declared.records.Record.TheVariants.{Install, Accept,
 use Rattle.bindings.specs.declared.entries.Entry.{Entry}
 use Rattle.bindings.specs.declared.entries.PortBounds.{PortBounds}
 use Rattle.bindings.specs.Entries.{slot_of, entry_of, entry_in}
-use Rattle.bindings.specs.Lists.{put_in}
+use Rattle.bindings.specs.Lists.{place_in, put_in}
 use Rattle.bindings.specs.Lives.{KeepsOthers}
 use Rattle.bindings.specs.Ports.{in_either}
 use Rattle.bindings.specs.Runs.{all_ports}
 use Rattle.bindings.specs.Table.{Table, IsPast}
-use Rattle.lives.specs.Lives.{came}
+use Rattle.lives.specs.Lives.{Life, came, life_begun}
 use Rattle.resync.specs.declared.loading.Loaded.{Loaded}
 use Rattle.resync.specs.declared.loading.Loaded.TheVariants.{Prepared, Paired, Whole}
 use Rattle.port_range.specs.Ports.{is_listed, is_within}
@@ -135,7 +135,22 @@ what_of (Owner first last) = Prepared
 abbrev pub ready_after : Record → ℕ → ℕ
 ready_after r ready = (if is_put r then ready - 1 else ready)
 
--- a pair's life begins now, not by Install, and other lives go on; Begin leaves none
+-- a pair's life begins now, not by Install; Begin leaves none
+abbrev pub lives_taken : ℕ → Record → List Entry → List Life → List Life
+lives_taken now (Install p) es ls = ls
+lives_taken now (Accept k) es ls = ls
+lives_taken now (Refuse k) es ls = ls
+lives_taken now (Ask k) es ls = ls
+lives_taken now (Yes k) es ls = ls
+lives_taken now (No k) es ls = ls
+lives_taken now Begin es ls = []
+lives_taken now (Put p) es ls = insert ls (place_in p es) (life_begun false now)
+lives_taken now Done es ls = ls
+lives_taken now Want es ls = ls
+lives_taken now (Grant g) es ls = ls
+lives_taken now (Owner first last) es ls = ls
+
+-- the same of any past: a pair's life begins now, not by Install, and other lives go on; Begin leaves none
 abbrev pub LivesGoOn : ℕ → Record → Table → Table → Type 0
 LivesGoOn now (Install p) old new = new.lives ≡ old.lives
 LivesGoOn now (Accept k) old new = new.lives ≡ old.lives

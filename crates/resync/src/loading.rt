@@ -13,7 +13,7 @@ ghost use Rattle.bindings.specs.Runs.{all_ports, without_port};
 ghost use Rattle.bindings.specs.Table.{IsPast, AreInRanges};
 ghost use Rattle.resync.specs.Loading.{loaded, loaded_state, all_in, unnamed, is_new, names_run};
 ghost use Rattle.resync.specs.Loading.{none_yet, begun, load_of, what_of, is_put, ready_after};
-ghost use Rattle.resync.specs.Loading.{LivesGoOn};
+ghost use Rattle.resync.specs.Loading.{lives_taken, LivesGoOn};
 
 use addresses::Port;
 use bindings::{PortBounds, Table};
@@ -136,6 +136,8 @@ fn put(table: &mut Table, pair: Pair, now: u64)
     requires endpoint { entry_of table.old.entries pair.endpoint ≡ None }
     ensures entries { table.new.entries
         ≡ put_in (entry_in (loaded_state table.old.owned pair.key.port.0) pair) table.old.entries }
+    ensures lives { table.new.lives
+        ≡ lives_taken now (record_of.Put pair) table.old.entries table.old.lives }
     ensures begins { IsPast table.new pair.key (came false now) }
     ensures others { KeepsOthers pair.key table.old.entries table.old.lives table.new.entries
         table.new.lives }
@@ -252,7 +254,9 @@ impl Loading {
             ≡ None) }
         ensures kept { self.new ≡ self.old }
         ensures err { OnErr result (table.new ≡ table.old) }
-        ensures lives { OnOk result (LivesGoOn now (record_of.Put pair) table.old table.new) }
+        ensures lives { OnOk result (table.new.lives
+            ≡ lives_taken now (record_of.Put pair) table.old.entries table.old.lives) }
+        ensures pasts { OnOk result (LivesGoOn now (record_of.Put pair) table.old table.new) }
         ensures same { OnOk result (table.new ≡ record table.old {
           entries = table.new.entries;
           lives = table.new.lives;
@@ -300,7 +304,9 @@ impl Loading {
         ensures refused { OnErr result (loaded (load_of self.old table.old) item ≡ None) }
         ensures kept { OnErr result (self.new ≡ self.old) }
         ensures err { OnErr result (table.new ≡ table.old) }
-        ensures lives { OnOk result (LivesGoOn now item table.old table.new) }
+        ensures lives { OnOk result (table.new.lives
+            ≡ lives_taken now item table.old.entries table.old.lives) }
+        ensures pasts { OnOk result (LivesGoOn now item table.old table.new) }
         ensures progress { self.new ≡ record self.old {
           begun = self.new.begun;
           named = self.new.named;
