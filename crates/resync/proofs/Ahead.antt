@@ -118,8 +118,8 @@ next-run from ports run rises h = at (ports_from_on from ports) refl h (rise-fro
               is =
                   ap runs_of is ∙ b.is
                   ∙ ap (λ qs. b.run ∷ runs_of qs)
-                    (sym (from-past (b.run.highest.0 + 1) p ps (omega arith)) ∙ ap (ports_from_on (b.run.highest.0 + 1)) (sym is)
-                    ∙ from-from (b.run.highest.0 + 1) from ports (omega arith));
+                  (sym (from-past (b.run.highest.0 + 1) p ps (omega arith)) ∙ ap (ports_from_on (b.run.highest.0 + 1)) (sym is)
+                  ∙ from-from (b.run.highest.0 + 1) from ports (omega arith));
               low = omega arith;
               order = omega arith;
               first = ap (λ q. is_listed q ports) begins ∙ first.1;

@@ -121,9 +121,9 @@ pairs-next last low (x ∷ xs) e s h =
     first : is_behind last x.pair ≡ true → pairs_behind last (x ∷ xs) ≡ cond (is_settled x.state) (x.pair ∷ pairs_behind (Some x.pair.key) (x ∷ xs)) (pairs_behind (Some x.pair.key) (x ∷ xs))
     first behind =
         let rest : pairs_behind last xs ≡ pairs_behind (Some x.pair.key) (x ∷ xs) =
-          all-behind last (suc (place_of x.pair)) xs s.1 (above-is last x behind)
-          ∙ sym (all-behind (Some x.pair.key) (suc (place_of x.pair)) xs s.1 (λ p above. lt-ltb (place_of x.pair) (place_of p) (omega arith)))
-          ∙ sym (left (Some x.pair.key) x xs (le-ltb (place_of x.pair) (place_of x.pair) (omega arith))) in
+        all-behind last (suc (place_of x.pair)) xs s.1 (above-is last x behind)
+        ∙ sym (all-behind (Some x.pair.key) (suc (place_of x.pair)) xs s.1 (λ p above. lt-ltb (place_of x.pair) (place_of p) (omega arith)))
+        ∙ sym (left (Some x.pair.key) x xs (le-ltb (place_of x.pair) (place_of x.pair) (omega arith))) in
         kept last x xs behind ∙ ap (λ ps. cond (is_settled x.state) (x.pair ∷ ps) ps) rest
 
 pub pairs-none : (last : Option Key) (es : List Entry) → after_key last es ≡ None → pairs_behind last es ≡ []

@@ -76,7 +76,7 @@ pub unnamed-on : (p last : ℕ) (xs : List ℕ) → p < last → unnamed (p + 1)
 unnamed-on p last xs lt =
     filter-filter (λ q. not (is_within (p + 1) last q)) (λ q. not (q == p)) xs
     ∙ filter_agree (λ q. not (q == p) && not (is_within (p + 1) last q)) (λ q. not (is_within p last q))
-      (λ q. not-or (q == p) (is_within (p + 1) last q) ∙ ap (λ b. not (b || is_within (p + 1) last q)) (turned q p) ∙ ap not (sym (within-less p last q lt))) xs
+    (λ q. not-or (q == p) (is_within (p + 1) last q) ∙ ap (λ b. not (b || is_within (p + 1) last q)) (turned q p) ∙ ap not (sym (within-less p last q lt))) xs
 
 pub unnamed-last : (p : ℕ) (xs : List ℕ) → unnamed p p xs ≡ without_port p xs
 unnamed-last p xs = filter_agree (λ q. not (is_within p p q)) (λ q. not (q == p)) (λ q. ap not (within-one p q ∙ turned p q)) xs
@@ -111,7 +111,7 @@ clash o x a b = cc
 pub never-refused : (t : Table) (p : Pair) (s : EntryState) (fault : TableFault) → IsTable t → AreInRanges t → in_either t.zero t.one p.key.port.0 ≡ true → slot_of t.entries p.key ≡ None → entry_of t.entries p.endpoint ≡ None → refusal_of t.capacity t.entries (entry_in s p) ≡ Some fault → ⊥
 never-refused t p s fault is within inside key endpoint refused =
     clash (refusal_of t.capacity t.entries (entry_in s p)) fault
-      (refusal-none t.capacity t.entries (entry_in s p) (has-room t is within p.key inside key) key (λ h. endpoint)) refused
+    (refusal-none t.capacity t.entries (entry_in s p) (has-room t is within p.key inside key) key (λ h. endpoint)) refused
 
 pub within-put : (t u : Table) (e : Entry) → AreInRanges t → in_either t.zero t.one e.pair.key.port.0 ≡ true → ((q : Key) → slot_of u.entries q ≡ set_at (slot_of t.entries) e.pair.key (Some e) q) → u.zero ≡ t.zero → u.one ≡ t.one → AreInRanges u
 within-put t u e within inside slots zero_same one_same q x h =

@@ -54,7 +54,7 @@ owners-load l [] tail begun none rises there =
 owners-load l (p ∷ ps) tail begun none rises there =
     runs-load l p p ps tail begun none rises.0 (omega arith) one rises.1 (λ q h. there q (or_right (p == q) (is_listed q ps) h))
     ∙ ap (λ (ports : List ℕ). let m : Load = record l { named = last_of p ps; owned = ports } in until_done m tail)
-      (filter_agree (λ q. not (is_within p p q || is_listed q ps)) (λ q. not ((p == q) || is_listed q ps)) (λ q. ap (λ b. not (b || is_listed q ps)) (within-one p q)) l.owned)
+    (filter_agree (λ q. not (is_within p p q || is_listed q ps)) (λ q. not ((p == q) || is_listed q ps)) (λ q. ap (λ b. not (b || is_listed q ps)) (within-one p q)) l.owned)
   where
     one : (q : ℕ) → p ≤ q → q ≤ p → in_either l.zero l.one q ≡ true
     one q low high =
@@ -95,9 +95,9 @@ batch-loads t l later is whole owned within =
     ap (λ (rs : List Record). until_done (begun l) rs) (joined (owners_of (runs_of t.owned)) (puts_of t.entries) (Done ∷ []) later)
     ∙ owners-load (begun l) t.owned (puts_of t.entries ++ Done ∷ later) refl refl is.rising owned
     ∙ puts-load (after_owners (begun l) t.owned) [] (pairs_in is_settled t.entries) later refl refl (none-before (pairs_in is_settled t.entries))
-      (are-apart l.zero l.one 0 t.entries is.order is.keys is.endpoints listed) inside
+    (are-apart l.zero l.one 0 t.entries is.order is.keys is.endpoints listed) inside
     ∙ ap (λ (es : List Entry). let m : Load = record { zero = l.zero; one = l.one; begun = false; named = last_of 0 t.owned; entries = es; owned = ports_left l.zero l.one t.owned } in Some (let e : Ended = record { load = m; behind = later } in e))
-      (states-loaded l.zero l.one t.owned (pairs_in is_settled t.entries) inside)
+    (states-loaded l.zero l.one t.owned (pairs_in is_settled t.entries) inside)
   where
     one : (k : Key) (x : Entry) → slot_of t.entries k ≡ Some x → IsListed l.zero l.one x
     one k x h = record { pair = whole k x h; inside = ap (λ (q : Key). in_either l.zero l.one q.port.0) (slot-key t.entries k x h) ∙ within k x h }

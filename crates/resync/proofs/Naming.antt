@@ -82,8 +82,8 @@ named-in-place : (l : Load) (first last : ℕ) → l.begun ≡ true → none_yet
 named-in-place l first last begun none above order within =
     let fits : all_in l.zero l.one first (last + 1 - first) ≡ true = all-in l.zero l.one first (last + 1 - first) (λ q low high. within q low (omega arith)) in
     let names : names_run l first last ≡ true =
-      and_from (nat_lt l.named first) (not (nat_lt last first) && all_in l.zero l.one first (last + 1 - first)) (lt-ltb l.named first above)
-      (ap (λ b. not b && all_in l.zero l.one first (last + 1 - first)) (le-ltb last first order) ∙ fits) in
+    and_from (nat_lt l.named first) (not (nat_lt last first) && all_in l.zero l.one first (last + 1 - first)) (lt-ltb l.named first above)
+    (ap (λ b. not b && all_in l.zero l.one first (last + 1 - first)) (le-ltb last first order) ∙ fits) in
     at (l.begun && (none_yet l.entries && names_run l first last)) (and_from l.begun (none_yet l.entries && names_run l first last) begun (and_from (none_yet l.entries) (names_run l first last) none names))
   where
     at : (b : Bool) → b ≡ true → (or_as_before l (where_ b (with_run l first last))) ≡ with_run l first last
@@ -95,7 +95,7 @@ runs-longer : (l : Load) (first last p : ℕ) (ps : List ℕ) → p ≡ suc last
 runs-longer l first last p ps is order =
     ap (λ (owned : List ℕ). let m : Load = record l { named = last_of p ps; owned = owned } in m)
     (filter_agree (λ q. not (is_within first p q || is_listed q ps)) (λ q. not (is_within first last q || ((p == q) || is_listed q ps)))
-      (λ q. ap (λ b. not (b || is_listed q ps)) (within-more first last p q is order) ∙ ap not (or-or (is_within first last q) (p == q) (is_listed q ps))) l.owned)
+    (λ q. ap (λ b. not (b || is_listed q ps)) (within-more first last p q is order) ∙ ap not (or-or (is_within first last q) (p == q) (is_listed q ps))) l.owned)
 
 -- a run that is named, and then the next ones
 runs-next : (l : Load) (first last p : ℕ) (ps : List ℕ) → after_runs (with_run l first last) p p ps ≡ after_runs l first last (p ∷ ps)
@@ -103,7 +103,7 @@ runs-next l first last p ps =
     ap (λ (owned : List ℕ). let m : Load = record l { named = last_of p ps; owned = owned } in m)
     (filter-filter (λ q. not (is_within p p q || is_listed q ps)) (λ q. not (is_within first last q)) l.owned
     ∙ filter_agree (λ q. not (is_within first last q) && not (is_within p p q || is_listed q ps)) (λ q. not (is_within first last q || ((p == q) || is_listed q ps)))
-      (λ q. not-or (is_within first last q) (is_within p p q || is_listed q ps) ∙ ap (λ b. not (is_within first last q || (b || is_listed q ps))) (within-one p q)) l.owned)
+    (λ q. not-or (is_within first last q) (is_within p p q || is_listed q ps) ∙ ap (λ b. not (is_within first last q || (b || is_listed q ps))) (within-one p q)) l.owned)
 
 run-last : (l : Load) (first last : ℕ) → with_run l first last ≡ after_runs l first last []
 run-last l first last =
@@ -118,8 +118,8 @@ runs-load l first last [] tail begun none above order within rises there =
     ap (λ (m : Load). until_done m tail) (named-in-place l first last begun none above order within ∙ run-last l first last)
 runs-load l first last (p ∷ ps) tail begun none above order within rises there =
     at (p == suc last) refl
-      (λ next more. runs-load l first p ps tail begun none above (omega arith) (longer next) rises.1 rest)
-      (runs-load (with_run l first last) p p ps tail begun none up (omega arith) one rises.1 rest)
+    (λ next more. runs-load l first p ps tail begun none above (omega arith) (longer next) rises.1 rest)
+    (runs-load (with_run l first last) p p ps tail begun none up (omega arith) one rises.1 rest)
   where
     up : last < p
     up = rises.0

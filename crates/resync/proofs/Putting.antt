@@ -57,7 +57,7 @@ no-entry : (owned : List ℕ) (before : List Pair) (p : Pair) → AreBefore befo
 no-entry owned [] p h = refl
 no-entry owned (q ∷ qs) p h = let one = h.0 in
     cond-false (serves p.endpoint (entry_at owned q)) (Some (entry_at owned q)) (entry_of (map (entry_at owned) qs) p.endpoint)
-      (and_right (is_pair (loaded_state owned q.key.port.0)) (same_endpoint q.endpoint p.endpoint) one.endpoint)
+    (and_right (is_pair (loaded_state owned q.key.port.0)) (same_endpoint q.endpoint p.endpoint) one.endpoint)
     ∙ no-entry owned qs p h.1
 
 put-last : (owned : List ℕ) (before : List Pair) (p : Pair) → AreBefore before p → put_in (entry_at owned p) (map (entry_at owned) before) ≡ map (entry_at owned) (before ++ p ∷ [])
@@ -76,8 +76,8 @@ put-in-place l before p begun entries h inside =
     let key : slot_of l.entries p.key ≡ None = ap (λ es. slot_of es p.key) entries ∙ no-slot l.owned before p h in
     let endpoint : entry_of l.entries p.endpoint ≡ None = ap (λ es. entry_of es p.endpoint) entries ∙ no-entry l.owned before p h in
     at (l.begun && is_new l p)
-      (and_from l.begun (is_new l p) begun (and_from (in_either l.zero l.one p.key.port.0) (is_none (slot_of l.entries p.key) && is_none (entry_of l.entries p.endpoint)) inside
-        (and_from (is_none (slot_of l.entries p.key)) (is_none (entry_of l.entries p.endpoint)) (is-none (slot_of l.entries p.key) key) (is-none (entry_of l.entries p.endpoint) endpoint))))
+    (and_from l.begun (is_new l p) begun (and_from (in_either l.zero l.one p.key.port.0) (is_none (slot_of l.entries p.key) && is_none (entry_of l.entries p.endpoint)) inside
+    (and_from (is_none (slot_of l.entries p.key)) (is_none (entry_of l.entries p.endpoint)) (is-none (slot_of l.entries p.key) key) (is-none (entry_of l.entries p.endpoint) endpoint))))
   where
     at : (b : Bool) → b ≡ true → or_as_before l (where_ b (with_pair l p)) ≡ with_pair l p
     at true h = refl

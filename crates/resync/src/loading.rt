@@ -211,12 +211,7 @@ impl Loading {
         self.named = Port(0);
     }
 
-    fn take_run(
-        &mut self,
-        table: &mut Table,
-        first: Port,
-        last: Port,
-    ) -> Result<Loaded, OutOfPlace>
+    fn take_run(&mut self, table: &mut Table, first: Port, last: Port) -> Result<Loaded, OutOfPlace>
         requires zero { self.old.zero ≡ table.old.zero }
         requires one { self.old.one ≡ table.old.one }
         ensures ok { OnOk result (loaded (load_of self.old table.old) (record_of.Owner first last)
@@ -237,12 +232,7 @@ impl Loading {
         Ok(Loaded::Prepared)
     }
 
-    fn take_pair(
-        &mut self,
-        table: &mut Table,
-        pair: Pair,
-        now: u64,
-    ) -> Result<Loaded, OutOfPlace>
+    fn take_pair(&mut self, table: &mut Table, pair: Pair, now: u64) -> Result<Loaded, OutOfPlace>
         requires zero { self.old.zero ≡ table.old.zero }
         requires one { self.old.one ≡ table.old.one }
         requires within { AreInRanges table.old }
@@ -288,12 +278,7 @@ impl Loading {
     /// Takes a record of the peer's batch. Begin empties the table, which is to own all ports of both ranges; an Owner
     /// takes its run out, and a Put adds its pair, whose life begins now; Done ends the loading. Before a Put the table
     /// has to be ready for one more pair.
-    pub fn take(
-        &mut self,
-        table: &mut Table,
-        item: Record,
-        now: u64,
-    ) -> Result<Loaded, OutOfPlace>
+    pub fn take(&mut self, table: &mut Table, item: Record, now: u64) -> Result<Loaded, OutOfPlace>
         requires zero { self.old.zero ≡ table.old.zero }
         requires one { self.old.one ≡ table.old.one }
         requires within { AreInRanges table.old }

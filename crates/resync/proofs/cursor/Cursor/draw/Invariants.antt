@@ -8,8 +8,8 @@ use Rattle.resync.proofs.cursor.Cursor.draw.Given as goal
 -- so many are drawn
 abbrev pub invariant-loop : goal.invariant-loop
 invariant-loop l = record {
-    len : array_vec_len l.out ≡ array_vec_len l.fn.out + l.counter;
-    drawn : l.out.items ≡ l.fn.out.items ++ take l.counter (coming l.fn.self l.table);
-    left : coming l.self l.table ≡ drop l.counter (coming l.fn.self l.table);
-    formed : AllByRecursion IsWellFormedRecord l.fn.out.items → AllByRecursion IsWellFormedRecord l.out.items;
-  }
+  len : array_vec_len l.out ≡ array_vec_len l.fn.out + l.counter;
+  drawn : l.out.items ≡ l.fn.out.items ++ take l.counter (coming l.fn.self l.table);
+  left : coming l.self l.table ≡ drop l.counter (coming l.fn.self l.table);
+  formed : AllByRecursion IsWellFormedRecord l.fn.out.items → AllByRecursion IsWellFormedRecord l.out.items;
+}
