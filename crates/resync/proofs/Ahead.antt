@@ -1,9 +1,9 @@
 -- The first run of the owned ports from one on, and those behind it.
-use Rattle.std.proofs.Common.{◌≡◌, ℕ, zero, suc, ◌+◌, ◌-◌, ◌<◌, ◌≤◌, ◌==◌, nat_le, Bool, true, false, cond, ◌&&◌, ◌||◌, Option, Some, None, ◌⊎◌, inl, inr, List, [], ◌∷◌, length, refl, sym, ap, ◌∙◌, subst, arith}
-use Rattle.std.proofs.lemmas.Bool.{both_ways, cond-false, and_from, and_parts, and_left, or_cases, or_left, or_right, eq-eqb, eqb-true, leb-true, le-leb, lt-leb, cases_lt}
+use Rattle.std.proofs.Common.{◌≡◌, ℕ, suc, ◌+◌, ◌-◌, ◌<◌, ◌≤◌, ◌==◌, nat_le, Bool, true, false, cond, ◌&&◌, Option, Some, None, ◌⊎◌, inl, inr, List, [], ◌∷◌, refl, sym, ap, ◌∙◌, subst, arith}
+use Rattle.std.proofs.lemmas.Bool.{both_ways, cond-false, and_parts, or_cases, or_left, or_right, eq-eqb, eqb-true, leb-true, le-leb, lt-leb, cases_lt}
 use Rattle.std.proofs.lemmas.List.Elements.{filter_agree}
 use Rattle.bindings.specs.declared.entries.PortBounds.{PortBounds}
-use Rattle.bindings.specs.Ports.{in_either, in_bounds}
+use Rattle.bindings.specs.Ports.{in_bounds}
 use Rattle.bindings.specs.Runs.{run_of, runs_on, runs_of, ports_from_on, first_of, first_run}
 use Rattle.bindings.specs.Table.{Table, IsTable}
 use Rattle.bindings.proofs.Rising.{not-below, listed-filter, rise-filter}

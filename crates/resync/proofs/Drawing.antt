@@ -1,20 +1,16 @@
 -- How the records to come go on.
-use Rattle.std.proofs.Common.{◌≡◌, ℕ, zero, suc, ◌+◌, ◌<◌, ◌≤◌, true, cond, Option, Some, None, List, [], ◌∷◌, ◌++◌, length, map, take, drop, refl, sym, ap, ◌∙◌, arith, append_assoc, length-append}
+use Rattle.std.proofs.Common.{◌≡◌, ℕ, zero, suc, ◌+◌, ◌≤◌, true, cond, Option, Some, None, List, [], ◌∷◌, ◌++◌, length, map, take, drop, refl, sym, ap, ◌∙◌, arith, length-append}
 use Rattle.std.specs.List.{filter, AllByRecursion}
-use Rattle.std.proofs.lemmas.List.{length-map, append-nil}
+use Rattle.std.proofs.lemmas.List.{length-map}
 use Rattle.addresses.specs.declared.transport.Port.{Port}
-use Rattle.nat_types.specs.declared.pairs.Key.{Key}
 use Rattle.nat_types.specs.declared.pairs.Pair.{Pair}
-use Rattle.nat_types.specs.declared.records.Record.{Record}
 use Rattle.nat_types.specs.declared.records.Record.TheVariants.{Put, Done, Owner}
 use Rattle.bindings.specs.declared.entries.Entry.{Entry}
-use Rattle.bindings.specs.declared.entries.PortBounds.{PortBounds}
-use Rattle.bindings.specs.Entries.{pairs_in, slot_of, HasDistinctKeys}
+use Rattle.bindings.specs.Entries.{pairs_in, HasDistinctKeys}
 use Rattle.bindings.specs.Runs.{runs_of, first_of}
 use Rattle.bindings.specs.Table.{Table}
 use Rattle.resync.specs.Batch.{is_settled, owners_of, puts_of, batch_of, HasNoPending}
 use Rattle.resync.specs.Cursor.{runs_from, coming}
-use Rattle.resync.specs.declared.cursor.Cursor.{Cursor}
 use Rattle.resync.specs.declared.cursor.Cursor.TheVariants as at
 use Rattle.resync.proofs.Behind.{behind-none}
 use Rattle.resync.proofs.Slotted.{all-slots}

@@ -1,5 +1,5 @@
 -- What is loaded of a whole batch.
-use Rattle.std.proofs.Common.{◌≡◌, ℕ, zero, suc, ◌<◌, ◌≤◌, ◌==◌, Bool, true, false, cond, not, ◌&&◌, ◌||◌, Option, Some, None, List, [], ◌∷◌, ◌++◌, map, take, drop, refl, sym, ap, ◌∙◌, subst, arith, append_assoc, append-nil}
+use Rattle.std.proofs.Common.{◌≡◌, ℕ, ◌≤◌, ◌==◌, Bool, true, false, cond, not, ◌&&◌, ◌||◌, Some, List, [], ◌∷◌, ◌++◌, map, take, drop, refl, sym, ap, ◌∙◌, arith, append_assoc, append-nil}
 use Rattle.std.specs.List.{filter, AllByRecursion}
 use Rattle.std.proofs.lemmas.Bool.{or_left, or_right, eq-eqb}
 use Rattle.std.proofs.lemmas.List.{take-append-drop}
@@ -9,7 +9,7 @@ use Rattle.nat_types.specs.declared.pairs.EntryState.TheVariants.{Live, Held}
 use Rattle.nat_types.specs.declared.pairs.Key.{Key}
 use Rattle.nat_types.specs.declared.pairs.Pair.{Pair}
 use Rattle.nat_types.specs.declared.records.Record.{Record}
-use Rattle.nat_types.specs.declared.records.Record.TheVariants.{Put, Done}
+use Rattle.nat_types.specs.declared.records.Record.TheVariants.{Done}
 use Rattle.bindings.specs.declared.entries.Entry.{Entry}
 use Rattle.bindings.specs.declared.entries.PortBounds.{PortBounds}
 use Rattle.bindings.specs.Entries.{slot_of, entry_in, pairs_in}
@@ -19,10 +19,10 @@ use Rattle.bindings.specs.Table.{Table, IsTable, AreInRanges}
 use Rattle.bindings.proofs.Rising.{listed-filter, listed-all}
 use Rattle.port_range.specs.Ports.{is_listed, is_within, RiseAbove}
 use Rattle.resync.specs.Batch.{is_settled, owners_of, puts_of, batch_of, HasNoDoomed}
-use Rattle.resync.specs.Loading.{Load, begun, loaded_state, none_yet}
+use Rattle.resync.specs.Loading.{Load, begun, none_yet}
 use Rattle.resync.specs.Whole.{Ended, drawn, undrawn, until_done, last_of, ports_left, entry_loaded, entries_loaded, load_of_table}
 use Rattle.resync.proofs.Naming.{runs-load, within-one}
-use Rattle.resync.proofs.Putting.{IsListed, AreApart, AreBefore, entry_at, puts-load, are-apart, all-inside, none-before}
+use Rattle.resync.proofs.Putting.{IsListed, entry_at, puts-load, are-apart, all-inside, none-before}
 use Rattle.bindings.proofs.Slots.{slot-key}
 use Rattle.resync.proofs.Slotted.{all-slots}
 

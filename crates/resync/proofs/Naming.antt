@@ -1,7 +1,7 @@
 -- The Owners of a batch are loaded, each in its place.
-use Rattle.std.proofs.Common.{◌≡◌, ℕ, zero, suc, ◌+◌, ◌-◌, ◌<◌, ◌≤◌, ◌==◌, nat_le, nat_lt, Bool, true, false, cond, not, ◌&&◌, ◌||◌, Some, None, inl, inr, List, [], ◌∷◌, ◌++◌, refl, sym, ap, ◌∙◌, subst, arith}
+use Rattle.std.proofs.Common.{◌≡◌, ℕ, zero, suc, ◌+◌, ◌-◌, ◌<◌, ◌≤◌, ◌==◌, nat_le, nat_lt, Bool, true, false, cond, not, ◌&&◌, ◌||◌, inl, inr, List, [], ◌∷◌, ◌++◌, refl, sym, ap, ◌∙◌, arith}
 use Rattle.std.specs.List.{filter}
-use Rattle.std.proofs.lemmas.Bool.{cond-true, cond-false, and_from, and_parts, or_left, or_right, eq-eqb, ne_eqb, eqb-true, lt-ltb, le-ltb, le-leb, lt-leb, leb-true, cases_lt, cases_eq}
+use Rattle.std.proofs.lemmas.Bool.{and_from, or_left, or_right, eq-eqb, ne_eqb, eqb-true, lt-ltb, le-ltb, le-leb, lt-leb, cases_lt, cases_eq}
 use Rattle.std.proofs.lemmas.List.Elements.{filter_agree}
 use Rattle.nat_types.specs.declared.records.Record.{Record}
 use Rattle.nat_types.specs.declared.records.Record.TheVariants.{Owner}
@@ -10,7 +10,7 @@ use Rattle.bindings.specs.Ports.{in_either}
 use Rattle.bindings.specs.Runs.{run_of, runs_on, port_at}
 use Rattle.port_range.specs.Ports.{is_listed, is_within, RiseAbove}
 use Rattle.resync.specs.Batch.{owners_of}
-use Rattle.resync.specs.Loading.{Load, loaded, unnamed, all_in, names_run, none_yet, with_run, where_}
+use Rattle.resync.specs.Loading.{Load, all_in, names_run, none_yet, with_run, where_}
 use Rattle.resync.specs.Whole.{or_as_before, after_record, until_done, last_of}
 
 -- so many ports from the first one on lie in the ranges, where each does

@@ -1,17 +1,15 @@
 -- The Puts of a batch are loaded, each in its place.
-use Rattle.std.proofs.Common.{◌≡◌, ℕ, ◌<◌, ◌≤◌, nat_lt, Bool, true, false, cond, not, ◌&&◌, is_none, is_some, Option, Some, None, List, [], ◌∷◌, ◌++◌, map, refl, sym, ap, ◌∙◌, subst, arith, append_assoc}
+use Rattle.std.proofs.Common.{◌≡◌, ℕ, ◌≤◌, nat_lt, Bool, true, false, cond, ◌&&◌, is_none, is_some, Option, Some, None, List, [], ◌∷◌, ◌++◌, map, refl, sym, ap, ◌∙◌, arith, append_assoc}
 use Rattle.std.specs.List.{filter, AllByRecursion}
-use Rattle.std.proofs.lemmas.Bool.{cond-true, cond-false, and_from, and_right, and_cases, both_ways, false_from_ne_true, le-ltb}
-use Rattle.std.proofs.lemmas.List.{map-append, append-nil}
+use Rattle.std.proofs.lemmas.Bool.{cond-false, and_from, and_right, both_ways, false_from_ne_true, le-ltb}
+use Rattle.std.proofs.lemmas.List.{append-nil}
 use Rattle.nat_types.specs.declared.pairs.EntryState.{EntryState}
-use Rattle.nat_types.specs.declared.pairs.EntryState.TheVariants.{Live, Held}
 use Rattle.nat_types.specs.declared.pairs.Endpoint.{Endpoint}
-use Rattle.nat_types.specs.declared.pairs.Key.{Key}
 use Rattle.nat_types.specs.declared.pairs.Pair.{Pair}
 use Rattle.nat_types.specs.declared.records.Record.{Record}
 use Rattle.nat_types.specs.declared.records.Record.TheVariants.{Put, Done}
 use Rattle.nat_types.specs.Same.{same_key, same_endpoint}
-use Rattle.nat_types.proofs.Equal.{key-eq, key-true, endpoint-eq, endpoint-true}
+use Rattle.nat_types.proofs.Equal.{endpoint-eq, endpoint-true}
 use Rattle.bindings.specs.declared.entries.Entry.{Entry}
 use Rattle.bindings.specs.declared.entries.PortBounds.{PortBounds}
 use Rattle.bindings.specs.Entries.{is_pair, has_key, serves, slot_of, entry_of, entry_in, place_of, pairs_in, HasDistinctKeys, HasDistinctEndpoints}

@@ -1,5 +1,5 @@
 -- What holds of each key's entry holds of each entry.
-use Rattle.std.proofs.Common.{◌≡◌, true, false, cond, Some, None, List, [], ◌∷◌, sym, ap, ◌∙◌, refl}
+use Rattle.std.proofs.Common.{◌≡◌, false, Some, None, List, [], ◌∷◌, sym, ap, ◌∙◌}
 use Rattle.std.specs.List.{AllByRecursion}
 use Rattle.std.proofs.lemmas.Bool.{cond-true, cond-false, false_from_ne_true}
 use Rattle.nat_types.specs.declared.pairs.Key.{Key}

@@ -1,4 +1,4 @@
-use Rattle.std.proofs.Common.{◌≡◌, arith}
+use Rattle.std.proofs.Common.{arith}
 use Rattle.resync.proofs.Drawing.{batch-length}
 use Rattle.resync.proofs.cursor.batch_len.Goals as goal
 

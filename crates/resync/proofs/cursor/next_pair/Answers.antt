@@ -1,4 +1,4 @@
-use Rattle.std.proofs.Common.{◌≡◌, ◌-◌, ◌<◌, ◌∷◌, Some, sym, ap, subst, ◌∙◌, arith}
+use Rattle.std.proofs.Common.{◌-◌, ◌<◌, ◌∷◌, Some, sym, ap, subst, ◌∙◌, arith}
 use Rattle.std.proofs.lemmas.Bool.{cond-true, cond-false}
 use Rattle.nat_types.specs.declared.pairs.Key.{Key}
 use Rattle.nat_types.specs.declared.pairs.Pair.{Pair}

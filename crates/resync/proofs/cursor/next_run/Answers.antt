@@ -1,4 +1,4 @@
-use Rattle.std.proofs.Common.{◌≡◌, ◌+◌, ◌<◌, ◌∷◌, Option, Some, List, sym, ap, subst, ◌∙◌, arith}
+use Rattle.std.proofs.Common.{◌<◌, ◌∷◌, Option, List, sym, ap, subst, ◌∙◌, arith}
 use Rattle.addresses.specs.declared.transport.Port.{Port}
 use Rattle.bindings.specs.declared.entries.PortBounds.{PortBounds}
 use Rattle.resync.specs.Cursor.{runs_from, ports_ahead}

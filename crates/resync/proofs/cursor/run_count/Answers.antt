@@ -1,4 +1,4 @@
-use Rattle.std.proofs.Common.{◌≡◌, ℕ, List, length, ap, arith}
+use Rattle.std.proofs.Common.{ℕ, List, length, ap, arith}
 use Rattle.bindings.specs.Runs.{runs_of}
 use Rattle.resync.proofs.Ahead.{all-ahead}
 use Rattle.resync.proofs.cursor.run_count.Goals as goal

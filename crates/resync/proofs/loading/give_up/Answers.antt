@@ -1,4 +1,4 @@
-use Rattle.std.proofs.Common.{◌≡◌, ℕ, List, sym, ap, ◌∙◌}
+use Rattle.std.proofs.Common.{ℕ, List, sym, ap, ◌∙◌}
 use Rattle.bindings.specs.Table.{Table}
 use Rattle.resync.proofs.Giving.{without-unlisted}
 use Rattle.resync.proofs.loading.give_up.Goals as goal

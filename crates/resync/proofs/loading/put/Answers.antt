@@ -1,4 +1,4 @@
-use Rattle.std.proofs.Common.{◌≡◌, ap}
+use Rattle.std.proofs.Common.{ap}
 use Rattle.bindings.specs.Entries.{entry_in}
 use Rattle.bindings.specs.Table.{Table}
 use Rattle.resync.proofs.Giving.{never-refused, within-put}

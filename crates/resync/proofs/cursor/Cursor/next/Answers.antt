@@ -1,4 +1,4 @@
-use Rattle.std.proofs.Common.{◌≡◌, ℕ, ◌∷◌, ◌++◌, [], List, sym, ap, ◌∙◌, drop}
+use Rattle.std.proofs.Common.{ℕ, ◌∷◌, ◌++◌, [], List, sym, ap, ◌∙◌, drop}
 use Rattle.nat_types.specs.declared.records.Record.TheVariants.{Done}
 use Rattle.bindings.specs.Runs.{runs_of}
 use Rattle.resync.specs.Batch.{owners_of, puts_of}

@@ -1,4 +1,4 @@
-use Rattle.std.proofs.Common.{◌≡◌, List, sym, ap, ◌∙◌, drop}
+use Rattle.std.proofs.Common.{List, sym, ap, ◌∙◌, drop}
 use Rattle.nat_types.specs.declared.records.Record.{Record}
 use Rattle.bindings.specs.Runs.{first_of}
 use Rattle.resync.proofs.Drawing.{no-owners}
