@@ -3,3 +3,4 @@ pub mod Rows
 pub mod Fits
 pub mod Resets
 pub mod Machine
+pub mod Ledgers

@@ -1,0 +1,9 @@
+mod Naming
+mod Putting
+mod Slotted
+mod Ahead
+mod Behind
+mod Drawing
+mod Giving
+mod Holding
+mod Steady
