@@ -2,7 +2,6 @@
 use Rattle.std.proofs.Common.{◌≡◌, ◌≢◌, ◌<◌, ◌^◌, ℕ, Bool, true, false, cond, not, ◌==◌, ◌&&◌, ◌||◌, is_none, Option, Some, None, Result, Ok, Err, List, refl, sym, ap, ◌∙◌, arith}
 use Rattle.std.specs.Option.{option_map}
 use Rattle.std.specs.Str.{bytes_eq}
-use Rattle.byteorder.specs.Endian.{big_number}
 use Rattle.sums.specs.Sum.{checksum_of, IsRight}
 use Rattle.addresses.specs.declared.internet.Ip.{Ip}
 use Rattle.frames.specs.Frame.{frame_of}

@@ -22,9 +22,7 @@ fn flow_text(alloc: Global, flow: Flow) -> Result<String> {
         destination,
         destination_port,
     } = flow;
-    Ok(format!(in alloc;
-        "{protocol} {source} {source_port} to {destination} {destination_port}"
-    )?)
+    Ok(format!(in alloc; "{protocol} {source} {source_port} to {destination} {destination_port}")?)
 }
 
 fn arp_text(alloc: Global, packet: &ArpPacket) -> Result<String> {
