@@ -64,7 +64,7 @@ port-keys low (p ∷ ps) r = (
 few-owned : (t : Table) → IsTable t → length t.owned ≤ key_count t.zero t.one
 few-owned t is =
     subst (λ (n : ℕ). n ≤ key_count t.zero t.one) (length-map t.owned port_entry)
-      (few t.zero t.one (map port_entry t.owned) (port-keys 0 t.owned is.rising) (λ k x h. is.owned k.port.0 (slot-listed t.owned k x h)))
+    (few t.zero t.one (map port_entry t.owned) (port-keys 0 t.owned is.rising) (λ k x h. is.owned k.port.0 (slot-listed t.owned k x h)))
 
 pub few-records : (t : Table) → IsTable t → length (batch_of t.owned t.entries) ≤ 2 * t.capacity + 2
 few-records t is =
@@ -75,7 +75,7 @@ few-records t is =
     let inner : length (puts_of t.entries ++ Done ∷ []) ≡ length (puts_of t.entries) + 1 = length-append (puts_of t.entries) (Done ∷ []) in
     let outer : length (owners_of (runs_of t.owned) ++ (puts_of t.entries ++ Done ∷ [])) ≡ length (owners_of (runs_of t.owned)) + length (puts_of t.entries ++ Done ∷ []) = length-append (owners_of (runs_of t.owned)) (puts_of t.entries ++ Done ∷ []) in
     sizes (length (batch_of t.owned t.entries)) (length (owners_of (runs_of t.owned))) (length (runs_of t.owned)) (length t.owned) (length (puts_of t.entries)) (length t.entries) t.capacity
-      (omega arith) owners (few-runs t.owned) (subst (λ (n : ℕ). length t.owned ≤ n) (sym is.room) (few-owned t is)) (omega arith) is.within
+    (omega arith) owners (few-runs t.owned) (subst (λ (n : ℕ). length t.owned ≤ n) (sym is.room) (few-owned t is)) (omega arith) is.within
   where
     sizes : (batch owners runs ports puts entries room : ℕ) → batch ≡ owners + puts + 2 → owners ≡ runs → runs ≤ ports → ports ≤ room → puts ≤ entries → entries ≤ room → batch ≤ 2 * room + 2
     sizes batch owners runs ports puts entries room a b c d e f = omega arith

@@ -22,10 +22,10 @@ had-pair f same [] q x h = cc
 had-pair f same (y ∷ ys) q x h =
     elim (find-some (has_key q (f y)) (f y) (slot_of (map f ys) q) x h) [
       | inl w ↦ record {
-          entry = y;
-          found = ap (λ b. cond b (Some y) (slot_of ys q)) (ap (λ (p : Pair). same_key p.key q) (sym (same y)) ∙ w.0);
-          same = sym (same y) ∙ ap (λ (e : Entry). e.pair) w.1;
-        }
+        entry = y;
+        found = ap (λ b. cond b (Some y) (slot_of ys q)) (ap (λ (p : Pair). same_key p.key q) (sym (same y)) ∙ w.0);
+        same = sym (same y) ∙ ap (λ (e : Entry). e.pair) w.1;
+      }
       | inr w ↦
           (let rest : HadPair ys q x.pair = had-pair f same ys q x w.1 in
           record {
