@@ -7,3 +7,4 @@ mod Drawing
 mod Giving
 mod Holding
 mod Steady
+mod Few

@@ -1,5 +1,6 @@
 //! Laws of the batch and of its loading.
-ghost use Rattle.std.specs.Prelude.{◌≡◌, ◌&&◌, ◌++◌, ℕ, Some, List, [], true, false, not};
+ghost use Rattle.std.specs.Prelude.{◌≡◌, ◌≤◌, ◌+◌, ◌*◌, ◌&&◌, ◌++◌, ℕ, Some, List, [], true, false};
+ghost use Rattle.std.specs.Prelude.{length, not};
 ghost use Rattle.nat_types.specs.declared.pairs.EntryState.{EntryState as State};
 ghost use Rattle.nat_types.specs.declared.pairs.Key.{Key as OutsidePort};
 ghost use Rattle.nat_types.specs.declared.records.Record.{Record as Rec};
@@ -41,4 +42,9 @@ pub fn steady_batch_law()
         → HasDistinctKeys es → is_settled s ≡ true
         → ((x : Row) → slot_of es key ≡ Some x → is_settled x.state ≡ true)
         → to_come c owned (with_state key s es) ≡ to_come c owned es }
+{}
+
+/// How long a batch can be: no table has more runs than keys, nor more entries.
+pub fn batch_room_law()
+    ensures { (t : Seen) → IsTable t → length (batch_of t.owned t.entries) ≤ 2 * t.capacity + 2 }
 {}

@@ -6,5 +6,5 @@ mod laws;
 mod loading;
 
 pub use cursor::{Cursor, batch_len};
-pub use laws::{steady_batch_law, whole_table_law};
+pub use laws::{batch_room_law, steady_batch_law, whole_table_law};
 pub use loading::{Loaded, Loading, OutOfPlace};
