@@ -72,7 +72,13 @@ fn sim<R: Files + AllocGlobal, O: Write, E: Write>(
 {
     match texts(rt, settings, script) {
         Ok((settings, script)) => {
-            simulate(rt.alloc(), settings.as_str(), script.as_str(), output, errors)
+            simulate(
+                rt.alloc(),
+                settings.as_str(),
+                script.as_str(),
+                output,
+                errors,
+            )
         }
         Err(fault) => fault.tell(errors),
     }

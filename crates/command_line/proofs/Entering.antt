@@ -1,5 +1,5 @@
 -- Words that clap takes enter one of the five commands.
-use Rattle.std.proofs.Common.{◌≡◌, ◌∙◌, ◌⊎◌, ◌&&◌, Bool, true, false, not, List, [], ◌∷◌, Option, Some, None, is_some, refl, sym, ap, inl, inr, subst, codes}
+use Rattle.std.proofs.Common.{◌≡◌, ◌&&◌, Bool, true, false, not, List, [], ◌∷◌, Option, Some, None, is_some, refl, inl, inr, subst, codes}
 use Rattle.std.specs.Prelude.{find}
 use Rattle.std.specs.List.{list_any}
 use Rattle.clap.specs.Facts.{explicit_source}

@@ -1,9 +1,9 @@
 -- What the getters of the matches read, by the rows.
-use Rattle.std.proofs.Common.{◌≡◌, ◌∙◌, ◌⊎◌, ◌^◌, ◌<◌, ℕ, List, Option, Some, None, Result, Ok, Err, refl, sym, ap, subst, inl, inr, codes}
+use Rattle.std.proofs.Common.{◌≡◌, ℕ, Option, Some, None, Result, Ok, Err, refl, ap, subst, inl, inr}
 use Rattle.std.specs.Option.{option_map, unwrap_or}
 use Rattle.std.specs.Borrow.{Bor}
 use Rattle.std.specs.Str.Parse.{ParsesUnsigned}
-use Rattle.clap.specs.Words.{ReadsOne, Text, one_of, one_text, rows_of}
+use Rattle.clap.specs.Words.{ReadsOne, Text, one_text, rows_of}
 use Rattle.clap.specs.declared.parser.matches.Found.{Found}
 use Rattle.clap.proofs.WalkLemmas.{one_text-rows}
 use Rattle.command_line.specs.Requests.{IsNumber, IsReadFrom}

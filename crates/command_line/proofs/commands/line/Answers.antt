@@ -1,7 +1,6 @@
-use Rattle.std.proofs.Common.{◌≡◌, ◌∙◌, ap₂}
+use Rattle.std.proofs.Common.{◌∙◌, ap₂}
 use Rattle.std.proofs.lemmas.Result.{IfOk-weaker}
-use Rattle.clap.specs.Words.{App, app_of, with_subcommand}
-use Rattle.command_line.specs.Line.{init_app, sim_app, loop_app, gate_app, peer_off_app, top_app, line_app}
+use Rattle.clap.specs.Words.{App, with_subcommand}
 use Rattle.command_line.proofs.commands.line.Goals as goal
 
 -- a command with one more beneath it

@@ -1,8 +1,6 @@
-use Rattle.std.proofs.Common.{◌≡◌, ◌∙◌, ap, subst, sym, true, refl, map, string_bytes, List, []}
-use Rattle.clap.specs.Words.{App, Text, app_of, fault_of, is_simple, is_simple_and_free, subcommand_of, subcommand_rows_of}
-use Rattle.command_line.specs.Line.{Takes, entered_by, line_app}
-use Rattle.command_line.specs.Requests.{Enters}
-use Rattle.command_line.proofs.Entering.{enters}
+use Rattle.std.proofs.Common.{◌≡◌, ◌∙◌, ap, sym, true, refl, map, string_bytes}
+use Rattle.clap.specs.Words.{App, fault_of, is_simple, is_simple_and_free}
+use Rattle.command_line.specs.Line.{line_app}
 use Rattle.command_line.proofs.requests.parse.Goals as goal
 
 is_free : is_simple_and_free line_app ≡ true

@@ -6,7 +6,7 @@ use Rattle.settings.specs.declared.whole.Settings.{Settings}
 use Rattle.settings_file.specs.Settings.{IsReadFrom}
 use Rattle.runs.specs.Faults.{IsTold, of_script}
 use Rattle.runs.specs.Script.{said}
-use Rattle.runs.specs.Status.{RunsScript, TellsRun}
+use Rattle.runs.specs.Status.{TellsRun}
 use Rattle.runs.specs.declared.scripts.ScriptFault.{ScriptFault}
 use Rattle.runs.specs.declared.scripts.ScriptFault.TheVariants as scripts
 use Rattle.runs.proofs.simulation.simulated.Goals as goal
