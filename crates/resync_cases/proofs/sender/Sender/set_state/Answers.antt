@@ -1,4 +1,4 @@
-use Rattle.std.proofs.Common.{◌≡◌, sym, subst}
+use Rattle.std.proofs.Common.{sym, subst}
 use Rattle.bindings.specs.Table.{Table}
 use Rattle.resync.specs.Batch.{CanBeSent}
 use Rattle.resync_cases.proofs.Turned.{sent-turned}
