@@ -46,7 +46,9 @@ impl Interfaces {
         let (inside, outside) = match call {
             "start" => {
                 let now = given.moment()?;
-                (self.inside.start(now), self.outside.start(now))
+                self.inside.start(now);
+                self.outside.start(now);
+                (Action::Nothing, Action::Nothing)
             }
             "tick" => {
                 let now = given.moment()?;

@@ -1,6 +1,7 @@
 //! An interface with its state.
 ghost use Rattle.std.specs.Prelude.{◌≡◌, ℕ, ◌≤◌, ◌+◌, ◌++◌, IfOk, IfSome, length, vec_len, vec_capacity};
 ghost use Rattle.arp.specs.Neighbours.{mac_at};
+ghost use Rattle.vrrp_states.specs.declared.Action.TheVariants.{Nothing};
 ghost use Rattle.vrrp_states.specs.Table.{IsMoment, IsInterval, Start, Stop, Heard, Tick};
 ghost use Rattle.packet_rules.specs.Arping.{is_learnable, answer_to};
 ghost use Rattle.packet_rules.specs.Adverts.{advert_frame};
@@ -16,6 +17,7 @@ use settings::Settings;
 use std::alloc::{AllocError, Global};
 use std::marker::Model;
 use vrrp_packet::Advert;
+use vrrp_states::laws::exactly_one_line;
 use vrrp_states::{Action, Router, State};
 
 /// One interface of a gateway: its network, its virtual router, and the neighbours that it knows.
@@ -123,12 +125,14 @@ impl Station {
         }
     }
 
-    /// Starts the router: where the gateway is founded, or loaded (RFC 9568, section 6.4.1).
-    pub fn start(&mut self, now: u64) -> Action
+    /// Starts the router, where the gateway is founded or loaded; nothing is sent yet (RFC 9568,
+    /// section 6.4.1).
+    pub fn start(&mut self, now: u64)
         requires { IsMoment now }
-        ensures { IsRouterStep self.old Start now result self.new }
+        ensures { IsRouterStep self.old Start now Nothing self.new }
     {
-        self.router.start(now)
+        exactly_one_line();
+        let _action = self.router.start(now);
     }
 
     /// At most one move of the router, where its timer is due.
