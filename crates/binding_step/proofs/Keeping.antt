@@ -51,7 +51,7 @@ use Rattle.binding_step.proofs.Loads.{is-fresh}
 use Rattle.binding_step.proofs.Members.{gained-is, gained-within, rise-gained}
 use Rattle.binding_step.proofs.Moves.{ranges-port}
 use Rattle.binding_step.proofs.Pairs.{listed-at, settled-pairs, woken-pair, woken-settled}
-use Rattle.binding_step.proofs.Rising.{listed-all, listed-filter, listed-range, rise-filter, rise-range}
+use Rattle.bindings.proofs.Rising.{listed-all, listed-filter, listed-range, rise-filter, rise-range}
 use Rattle.binding_step.proofs.Slots.{keys-revived, one-revived, one-set, was-there}
 use Rattle.binding_step.proofs.Taking.{fails, serves-of}
 use Rattle.binding_step.proofs.Unbroken.{machine_runs, runs-rising}

@@ -1,4 +1,3 @@
-pub mod Rising
 pub mod Slots
 pub mod Parts
 pub mod Taking

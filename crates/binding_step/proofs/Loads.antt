@@ -35,7 +35,7 @@ use Rattle.binding_step.specs.Machine.{box_at, machine_records, promised_of, ran
 use Rattle.binding_step.specs.Rows.{load_taken, load_what, unsynced_after, unsynced_what}
 use Rattle.binding_step.proofs.Members.{none-at, slot-free}
 use Rattle.binding_step.proofs.Parts.{act-step}
-use Rattle.binding_step.proofs.Rising.{listed-all, listed-filter}
+use Rattle.bindings.proofs.Rising.{listed-all, listed-filter}
 use Rattle.binding_step.proofs.Slots.{held-state, slots-at, slots-none, slots-put}
 use Rattle.binding_step.proofs.Taking.{IsReading, Makes, is-unbound, reads}
 

@@ -24,7 +24,7 @@ use Rattle.pair_machine.specs.Talk as machine
 use Rattle.binding_step.specs.Books.{Book, in_ranges, owns}
 use Rattle.binding_step.specs.Machine.{machine_slot, slots_of}
 use Rattle.binding_step.specs.Rows.{falling, is_gained, is_theirs, with_gained}
-use Rattle.binding_step.proofs.Rising.{listed-filter, listed-own_in, rise-own_in}
+use Rattle.bindings.proofs.Rising.{listed-filter, listed-own_in, rise-own_in}
 
 -- the machine's word for the same
 pub has-listed : (p : ℕ) (xs : List ℕ) → has p xs ≡ is_listed p xs

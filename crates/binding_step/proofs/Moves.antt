@@ -30,7 +30,7 @@ use Rattle.binding_step.specs.Machine.{box_at, machine_records, promised_of, ran
 use Rattle.binding_step.specs.Rows.{after, answered, as_ports, grant_row, granted, is_gained, is_theirs, numbers_of, ports_down, pushed_by, quiet, row, row_of, share, spares, synced_row, want_row, with_gained, without_ports}
 use Rattle.binding_step.proofs.Members.{above-none, below-highest, distinct-falling, distinct-filter, distinct-take, free-none, gained-box, gained-is, has-filter, has-listed, has-take, numbers-back, vacant-is}
 use Rattle.binding_step.proofs.Parts.{act-step}
-use Rattle.binding_step.proofs.Rising.{listed-filter}
+use Rattle.bindings.proofs.Rising.{listed-filter}
 use Rattle.binding_step.proofs.Taking.{IsReading, Makes, RowSteps, accept-steps, ask-steps, install-steps, no-steps, reads, refuse-steps, skip-row, yes-steps}
 
 -- ---- what is granted

@@ -27,7 +27,6 @@ use Rattle.pair_machine.specs.Step.{IsStep}
 use Rattle.pair_machine.specs.Talk as machine
 use Rattle.pair_machine.specs.Talk.{MachineRecord}
 use Rattle.pair_machine.proofs.Batches.{batch_new, batch_mirrored, runs_leave}
-use Rattle.binding_step.specs.declared.setups.Stage.TheVariants.{Paired}
 use Rattle.binding_step.specs.Books.{Book, IsBook, empty_book, in_ranges, is_synced, owns}
 use Rattle.binding_step.specs.Machine.{box_at, machine_records, machine_slot, promised_of, ranges_of, slots_of, Works}
 use Rattle.binding_step.specs.Resets.{back_in, begun_anew, put_alone, restart_batch, restart_link, restart_notes, restarted, retaken}
