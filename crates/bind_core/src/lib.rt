@@ -1,0 +1,4 @@
+//! One gateway's side of the binding protocol.
+#![tactic(auto)]
+
+mod rows;
