@@ -9,7 +9,7 @@ use Rattle.nat_types.specs.declared.pairs.EntryState.{EntryState}
 use Rattle.nat_types.specs.declared.pairs.Key.{Key}
 use Rattle.nat_types.specs.Same.{same_key}
 use Rattle.lives.specs.Lives.{Life}
-use Rattle.port_range.specs.Ports.{is_free, is_owned, is_within, is_listed}
+use Rattle.port_range.specs.Ports.{is_free, is_owned, is_within, is_listed, AreRising}
 use Rattle.bindings.specs.declared.entries.Entry.{Entry}
 use Rattle.bindings.specs.declared.entries.PortBounds.{PortBounds}
 use Rattle.bindings.specs.declared.ports.Ports.{Ports}
@@ -175,8 +175,8 @@ in-both low high port h =
     (λ a. between high.lowest.0 high.highest.0 port (lowest_of low high) (highest_of low high) l.1 g.1 a) h
 
 -- what callers see keeps it
-pub table-is : (es : List Entry) (ls : List Life) (ports : Ports) (low high : PortBounds) (cap er lr ready : ℕ) → IsStored es ls ports low high cap er lr → IsTable (record { entries = es; lives = ls; owned = ports.tcp.owned; zero = low; one = high; capacity = cap; ready = ready })
-table-is es ls ports low high cap er lr ready s = record {
+pub table-is : (es : List Entry) (ls : List Life) (ports : Ports) (low high : PortBounds) (cap er lr ready : ℕ) → IsStored es ls ports low high cap er lr → AreRising ports.tcp.owned → IsTable (record { entries = es; lives = ls; owned = ports.tcp.owned; zero = low; one = high; capacity = cap; ready = ready })
+table-is es ls ports low high cap er lr ready s rises = record {
   order = s.order;
   keys = s.keys;
   endpoints = s.endpoints;
@@ -185,6 +185,7 @@ table-is es ls ports low high cap er lr ready s = record {
   within = s.within;
   room = s.room;
   owned = s.owned;
+  rising = rises;
 }
 
 -- within a list the default isn't read

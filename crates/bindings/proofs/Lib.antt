@@ -8,5 +8,8 @@ pub mod Turned
 pub mod Pasts
 pub mod Holding
 pub mod Owning
+pub mod Rising
+pub mod Unbroken
 pub mod Resting
+pub mod Revived
 pub mod Rooms

@@ -5,10 +5,10 @@ use Rattle.lives.specs.Lives.{Life, Past, is_idle, looks_idle, is_unused}
 use Rattle.lives.proofs.Pasts.{looks-is}
 use Rattle.bindings.specs.declared.entries.Entry.{Entry}
 use Rattle.bindings.specs.Entries.{has_key, slot_of, translates, HasDistinctKeys}
-use Rattle.bindings.specs.Lives.{life_in, HasPast, is_idle_row, idle_keys_in, is_among}
+use Rattle.bindings.specs.Lives.{life_in, HasPast, is_idle_row, idle_keys_in, is_among, rests_by, rests_at, is_unused_by, is_unused_at}
 use Rattle.bindings.proofs.Found.{find-none}
 use Rattle.bindings.proofs.Places.{any_entry, at-position, rest-none}
-use Rattle.bindings.proofs.Pasts.{life-at}
+use Rattle.bindings.proofs.Pasts.{life-at, no-life}
 use Rattle.bindings.proofs.Holding.{get-any}
 
 -- one more entry is looked at
@@ -58,6 +58,29 @@ idle-at key es ls lives i now b found same e is past has =
 pub unused-at : (key : Key) (es : List Entry) (ls lives : List Life) (i : ℕ) (b : Bool) → position (has_key key) es ≡ Some i → length ls ≡ length es → lives ≡ ls → ((l : Life) → l ≡ get_or lives i l → b ≡ l.is_unused) → (past : Past) → HasPast es ls key past → b ≡ is_unused past
 unused-at key es ls lives i b found same e is past has =
     is has.0 (life-there key es ls i past found same has ∙ ap (λ xs. get_or xs i has.0) (sym e)) ∙ has.2.unused
+
+-- what is asked of one key's entry, by the life that stands there
+pub rests-at : (key : Key) (es : List Entry) (ls lives : List Life) (i now : ℕ) (b : Bool) → position (has_key key) es ≡ Some i → length ls ≡ length es → lives ≡ ls → ((l : Life) → l ≡ get_or lives i l → b ≡ looks_idle key.protocol l now) → b ≡ rests_at es ls key now
+rests-at key es ls lives i now b found same e is =
+    let at = at-position key es i any_entry found in
+    let low : i < length ls = (let h = at.low in omega (arith, same)) in
+    let l = get_or ls i any_life in
+    is l (get-any ls i any_life l low ∙ ap (λ xs. get_or xs i l) (sym e))
+    ∙ sym (ap (rests_by key now) (life-at key es ls i any_entry any_life at same))
+
+pub unused-is_at : (key : Key) (es : List Entry) (ls lives : List Life) (i : ℕ) (b : Bool) → position (has_key key) es ≡ Some i → length ls ≡ length es → lives ≡ ls → ((l : Life) → l ≡ get_or lives i l → b ≡ l.is_unused) → b ≡ is_unused_at es ls key
+unused-is_at key es ls lives i b found same e is =
+    let at = at-position key es i any_entry found in
+    let low : i < length ls = (let h = at.low in omega (arith, same)) in
+    let l = get_or ls i any_life in
+    is l (get-any ls i any_life l low ∙ ap (λ xs. get_or xs i l) (sym e))
+    ∙ sym (ap is_unused_by (life-at key es ls i any_entry any_life at same))
+
+pub rests-nowhere : (key : Key) (es : List Entry) (ls : List Life) (now : ℕ) → slot_of es key ≡ None → false ≡ rests_at es ls key now
+rests-nowhere key es ls now none = sym (ap (rests_by key now) (no-life key es ls none))
+
+pub unused-nowhere : (key : Key) (es : List Entry) (ls : List Life) → slot_of es key ≡ None → false ≡ is_unused_at es ls key
+unused-nowhere key es ls none = sym (ap is_unused_by (no-life key es ls none))
 
 -- ---- as a relation
 

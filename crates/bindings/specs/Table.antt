@@ -4,7 +4,7 @@ use Rattle.std.specs.List.{insert}
 use Rattle.nat_types.specs.declared.pairs.EntryState.{EntryState}
 use Rattle.nat_types.specs.declared.pairs.Key.{Key}
 use Rattle.lives.specs.Lives.{Past, Life}
-use Rattle.port_range.specs.Ports.{is_listed}
+use Rattle.port_range.specs.Ports.{is_listed, AreRising}
 use Rattle.bindings.specs.declared.entries.Entry.{Entry}
 use Rattle.bindings.specs.declared.entries.PortBounds.{PortBounds}
 use Rattle.bindings.specs.declared.ports.Ports.{Ports}
@@ -46,6 +46,7 @@ pub record IsTable (t : Table) : Type 0 where
   pub within : length t.entries ≤ t.capacity
   pub room : t.capacity ≡ key_count t.zero t.one
   pub owned : (port : ℕ) → owns t port ≡ true → in_either t.zero t.one port ≡ true
+  pub rising : AreRising t.owned
 
 -- each entry's port lies in one of the ranges
 abbrev pub AreInRanges : Table → Type 0

@@ -2,9 +2,11 @@
 ghost use Rattle.std.specs.Prelude.{◌≡◌, ◌+◌, ◌<◌, ◌≤◌, nat_lt, length, vec_len, vec_capacity, position, IfOk, IsSome, if◌then◌else◌};
 ghost use Rattle.std.specs.List.{insert};
 ghost use Rattle.bindings.specs.Entries.{is_pair, translates, has_key, serves, slot_of, entry_of, entry_in, refusal_of, pairs_in, place_of};
-ghost use Rattle.bindings.specs.Lists.{place_in, put_in, without, with_state};
+ghost use Rattle.bindings.specs.Lists.{place_in, put_in, without, with_state, key_place, stands_behind, after_key};
+ghost use Rattle.bindings.specs.Ports.{in_bounds, is_vacant};
+ghost use Rattle.bindings.specs.Revivals.{woken};
 
-use addresses::Port;
+use addresses::{Port, Protocol};
 use nat_types::{Endpoint, EntryState, Key, Pair};
 use std::alloc::{AllocError, Global};
 use thiserror::Error;
@@ -23,6 +25,15 @@ pub struct PortBounds {
     pub highest: Port,
 }
 
+impl PortBounds {
+    /// Whether a port lies in the range.
+    pub fn holds(self, port: Port) -> bool
+        ensures { result ≡ in_bounds self port.0 }
+    {
+        self.lowest.0 <= port.0 && port.0 <= self.highest.0
+    }
+}
+
 /// Why an entry can't come into the table.
 #[derive(Clone, Copy, Debug, PartialEq, Eq, Error)]
 pub enum TableFault {
@@ -34,7 +45,7 @@ pub enum TableFault {
     EndpointTaken,
 }
 
-fn is_pair_state(state: EntryState) -> bool
+pub(crate) fn is_pair_state(state: EntryState) -> bool
     ensures { result ≡ is_pair state }
 {
     match state {
@@ -49,6 +60,17 @@ pub(crate) fn is_translating(state: EntryState) -> bool
     match state {
         EntryState::Live | EntryState::Held => true,
         EntryState::Pending | EntryState::Doomed | EntryState::Closing => false,
+    }
+}
+
+/// The state of a pair once the peer begins anew: what was proposed or asked to be closed translates.
+pub(crate) fn woken_state(state: EntryState) -> EntryState
+    ensures { result ≡ woken state }
+{
+    match state {
+        EntryState::Pending | EntryState::Live | EntryState::Closing => EntryState::Live,
+        EntryState::Doomed => EntryState::Doomed,
+        EntryState::Held => EntryState::Held,
     }
 }
 
@@ -109,6 +131,46 @@ fn stands_before(pair: Pair, other: Pair) -> bool
     ensures { result ≡ nat_lt (place_of pair) (place_of other) }
 {
     place(pair) < place(other)
+}
+
+fn place_of_key(key: Key) -> u32
+    ensures { result ≡ key_place key }
+{
+    65536 * u32::from(key.protocol.number()) + u32::from(key.port.0)
+}
+
+fn is_behind(entry: Entry, last: Option<Key>) -> bool
+    ensures { result ≡ stands_behind last entry }
+{
+    match last {
+        None => true,
+        Some(key) => place_of_key(key) < place(entry.pair),
+    }
+}
+
+/// The first entry behind a key in the order, or the first of all.
+pub(crate) fn find_after(entries: &[Entry], last: Option<Key>) -> Option<Entry>
+    ensures { result ≡ after_key last entries.now }
+{
+    entries
+        .iter()
+        .copied()
+        .find(|entry| is_behind(*entry, last))
+}
+
+/// Whether no entry of either protocol has the port.
+pub(crate) fn is_vacant_port(entries: &[Entry], port: Port) -> bool
+    ensures { result ≡ is_vacant entries.now port.0 }
+{
+    let tcp = Key {
+        protocol: Protocol::Tcp,
+        port,
+    };
+    let udp = Key {
+        protocol: Protocol::Udp,
+        port,
+    };
+    find_key(entries, tcp).is_none() && find_key(entries, udp).is_none()
 }
 
 /// How many entries stand before a pair's place.

@@ -4,7 +4,9 @@
 mod entries;
 mod laws;
 mod ports;
+mod revivals;
 mod rows;
+mod runs;
 mod table;
 
 pub use entries::{Entry, PortBounds, TableFault};

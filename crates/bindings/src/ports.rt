@@ -1,11 +1,14 @@
 //! The free and owned ports of a table, for each protocol.
-ghost use Rattle.std.specs.Prelude.{◌≡◌, ℕ, true, false, IfOk, if◌then◌else◌, ◌&&◌, ◌==◌};
+ghost use Rattle.std.specs.Prelude.{◌≡◌, ℕ, [], true, false, IfOk, if◌then◌else◌, ◌&&◌, ◌||◌, ◌==◌, nat_lt, map};
 ghost use Rattle.addresses.specs.declared.transport.Protocol.{Protocol as Transport};
 ghost use Rattle.nat_types.specs.declared.pairs.Key.{Key as OutsidePort};
 ghost use Rattle.nat_types.specs.Same.{same_key};
 ghost use Rattle.port_range.specs.Ports.{is_bad, is_within, is_free, is_owned, IsRange, chosen_port};
-ghost use Rattle.bindings.specs.Ports.{range_of, is_free_at, AreAlike, SameBounds, SameOwned, SameFree};
+ghost use Rattle.bindings.specs.Ports.{range_of, is_free_at, in_either, lowest_of, highest_of, AreAlike, SameBounds, SameOwned, SameFree};
+ghost use Rattle.bindings.specs.Runs.{own_in, without_port, all_ports, first_run, port_at};
 
+use crate::PortBounds;
+use crate::runs::{find_run, list_owned};
 use addresses::{Parity, Port, Protocol};
 use nat_types::Key;
 use port_range::{Range, RangeFault};
@@ -16,6 +19,38 @@ use std::alloc::{AllocError, Global};
 pub(crate) struct Ports {
     pub tcp: Range,
     pub udp: Range,
+}
+
+fn lower(a: Port, b: Port) -> Port
+    ensures { result.0 ≡ (if nat_lt a.0 b.0 then a.0 else b.0) }
+{
+    if a.0 < b.0 { a } else { b }
+}
+
+fn higher(a: Port, b: Port) -> Port
+    ensures { result.0 ≡ (if nat_lt a.0 b.0 then b.0 else a.0) }
+{
+    if a.0 < b.0 { b } else { a }
+}
+
+/// The lowest port of two ranges.
+pub(crate) fn lowest_port(zero: PortBounds, one: PortBounds) -> Port
+    ensures { result.0 ≡ lowest_of zero one }
+{
+    lower(zero.lowest, one.lowest)
+}
+
+/// The highest port of two ranges.
+pub(crate) fn highest_port(zero: PortBounds, one: PortBounds) -> Port
+    ensures { result.0 ≡ highest_of zero one }
+{
+    higher(zero.highest, one.highest)
+}
+
+fn lies_in_either(zero: PortBounds, one: PortBounds, port: Port) -> bool
+    ensures { result ≡ in_either zero one port.0 }
+{
+    zero.holds(port) || one.holds(port)
 }
 
 fn unowned(alloc: Global, lowest: Port, highest: Port) -> Result<Range, AllocError>
@@ -106,11 +141,55 @@ impl Ports {
             else is_owned self.old.tcp p) }
         ensures udp { (p : ℕ) → is_owned self.new.udp p ≡ (if p == port.0 then true
             else is_owned self.old.udp p) }
+        ensures list { self.new.tcp.owned ≡ own_in port.0 self.old.tcp.owned }
         ensures free { SameFree self.old self.new }
         ensures bounds { SameBounds self.old self.new }
     {
+        self.tcp.recall();
         self.tcp.own(port);
         self.udp.own(port);
+        self.tcp.recall();
+    }
+
+    /// Makes a port an owned one if it lies in one of the ranges.
+    fn own_inside(&mut self, zero: PortBounds, one: PortBounds, port: Port)
+        requires { AreAlike (lowest_of zero one) (highest_of zero one) self.old }
+        ensures tcp { (p : ℕ) → is_owned self.new.tcp p ≡ (is_owned self.old.tcp p
+            || (p == port.0 && in_either zero one p)) }
+        ensures alike { AreAlike (lowest_of zero one) (highest_of zero one) self.new }
+        ensures free { SameFree self.old self.new }
+    {
+        if lies_in_either(zero, one, port) && !self.owns(port) {
+            self.own(port);
+        }
+    }
+
+    /// Makes all ports of the ranges owned ones. No other port was.
+    pub(crate) fn own_all(&mut self, zero: PortBounds, one: PortBounds)
+        requires alike { AreAlike (lowest_of zero one) (highest_of zero one) self.old }
+        requires inside { (p : ℕ) → is_owned self.old.tcp p ≡ true → in_either zero one p ≡ true }
+        ensures list { self.new.tcp.owned ≡ all_ports zero one }
+        ensures alike { AreAlike (lowest_of zero one) (highest_of zero one) self.new }
+        ensures free { SameFree self.old self.new }
+    {
+        let lowest = lowest_port(zero, one);
+        let highest = highest_port(zero, one);
+        for port in lowest.0..=highest.0 {
+            self.own_inside(zero, one, Port(port));
+        }
+        self.tcp.recall();
+    }
+
+    /// Makes all ports free, and owns none.
+    pub(crate) fn reset(&mut self)
+        requires { AreAlike self.old.tcp.lowest self.old.tcp.highest self.old }
+        ensures alike { AreAlike self.old.tcp.lowest self.old.tcp.highest self.new }
+        ensures free { let low = self.old.tcp.lowest in (q : OutsidePort) → is_free_at self.new q
+            ≡ is_within low self.old.tcp.highest q.port.0 }
+        ensures owned { self.new.tcp.owned ≡ [] }
+    {
+        self.tcp.reset();
+        self.udp.reset();
     }
 
     /// Gives up an owned port that is free for both protocols.
@@ -123,11 +202,43 @@ impl Ports {
             else is_owned self.old.tcp p) }
         ensures udp { (p : ℕ) → is_owned self.new.udp p ≡ (if p == port.0 then false
             else is_owned self.old.udp p) }
+        ensures list { self.new.tcp.owned ≡ without_port port.0 self.old.tcp.owned }
         ensures free { SameFree self.old self.new }
         ensures bounds { SameBounds self.old self.new }
     {
+        self.tcp.recall();
         self.tcp.disown(port);
         self.udp.disown(port);
+        self.tcp.recall();
+    }
+
+    /// Reminds the prover of what each range keeps; it does nothing when it runs.
+    pub(crate) fn recall(&self)
+        ensures { IsRange self.now.tcp }
+    {
+        self.tcp.recall();
+    }
+
+    /// The first unbroken run of the owned ports from one on.
+    pub(crate) fn first_run(&self, from: Port, highest: Port) -> Option<PortBounds>
+        requires { self.now.tcp.highest ≡ highest.0 }
+        ensures { result ≡ first_run from.0 self.now.tcp.owned }
+    {
+        find_run(&self.tcp, from, highest)
+    }
+
+    /// The owned ports, rising.
+    pub(crate) fn owned(
+        &self,
+        alloc: Global,
+        lowest: Port,
+        highest: Port,
+    ) -> Result<Vec<Port>, AllocError>
+        requires lowest { self.now.tcp.lowest ≡ lowest.0 }
+        requires highest { self.now.tcp.highest ≡ highest.0 }
+        ensures { IfOk result (λ v. v.items ≡ map port_at self.now.tcp.owned) }
+    {
+        list_owned(alloc, &self.tcp, lowest, highest)
     }
 
     pub(crate) fn owns(&self, port: Port) -> bool

@@ -116,7 +116,7 @@ pub(crate) fn count_idle(entries: &[Entry], lives: &[Life], now: u64) -> usize
     count
 }
 
-fn key_of_entry(entry: Entry) -> Key
+pub(crate) fn key_of_entry(entry: Entry) -> Key
     ensures { result ≡ entry.pair.key }
 {
     entry.pair.key

@@ -1,20 +1,24 @@
 //! The table of a gateway.
-ghost use Rattle.std.specs.Prelude.{◌≡◌, ◌+◌, ◌-◌, ◌<◌, ◌≤◌, ℕ, [], None, Some, true, false, ◌==◌, ◌++◌, ◌&&◌, nat_lt, length, vec_len, vec_capacity, IsOk, if◌then◌else◌, IfOk, IfErr, OnOk, OnErr};
+ghost use Rattle.std.specs.Prelude.{◌≡◌, ◌+◌, ◌-◌, ◌<◌, ◌≤◌, ℕ, [], None, Some, true, false, ◌==◌, ◌++◌, ◌&&◌, length, map, vec_len, vec_capacity, IsOk, if◌then◌else◌, IfOk, IfErr, OnOk, OnErr};
 ghost use Rattle.nat_types.specs.declared.pairs.Key.{Key as OutsidePort};
 ghost use Rattle.lives.specs.Lives.{Past, came, with_packet, renewed, is_idle, is_unused};
 ghost use Rattle.bindings.specs.declared.entries.Entry.{Entry as Row};
 ghost use Rattle.lives.specs.declared.packets.Packet.{Packet as Carried};
 ghost use Rattle.bindings.specs.Entries.{is_pair, translates, slot_of, entry_of, set_at, refusal_of, entry_in, pairs_in};
-ghost use Rattle.bindings.specs.Lists.{put_in};
+ghost use Rattle.bindings.specs.Lists.{put_in, after_key};
+ghost use Rattle.bindings.specs.Revivals.{revived_entries, revived_slot};
+ghost use Rattle.bindings.specs.Runs.{own_in, without_port, all_ports, first_run, port_at};
 ghost use Rattle.addresses.specs.declared.transport.Protocol.TheVariants.{Tcp, Udp};
-ghost use Rattle.bindings.specs.Lives.{KeepsOthers, is_among};
-ghost use Rattle.bindings.specs.Ports.{AreBounds, in_either, key_count, is_free_in, is_open_in, chosen_port, ports_in};
+ghost use Rattle.bindings.specs.Lives.{KeepsOthers, is_among, rests_at, is_unused_at};
+ghost use Rattle.bindings.specs.Ports.{AreBounds, in_either, key_count, is_free_in, is_open_in, is_vacant, is_spare, chosen_port, ports_in};
 ghost use Rattle.bindings.specs.Table.{IsTable, IsPast, owns, idle_keys_of, with_entry_state, without_entry};
 
 use crate::entries::{
-    find_endpoint, find_key, pairs_of, place_among, position_of, refusal, translating_pairs_of,
+    find_after, find_endpoint, find_key, is_vacant_port, pairs_of, place_among, position_of,
+    refusal, translating_pairs_of,
 };
-use crate::ports::Ports;
+use crate::ports::{Ports, highest_port, lowest_port};
+use crate::revivals::{drop_doomed, wake};
 use crate::rows::{
     carry, count_idle, insert_reserved, is_idle_at, is_unused_at, list_idle, renew, take_out, turn,
 };
@@ -66,18 +70,6 @@ fn port_count(bounds: PortBounds) -> usize
     usize::from(bounds.highest.0 - bounds.lowest.0) + 1
 }
 
-fn lower(a: Port, b: Port) -> Port
-    ensures { result.0 ≡ (if nat_lt a.0 b.0 then a.0 else b.0) }
-{
-    if a.0 < b.0 { a } else { b }
-}
-
-fn higher(a: Port, b: Port) -> Port
-    ensures { result.0 ≡ (if nat_lt a.0 b.0 then b.0 else a.0) }
-{
-    if a.0 < b.0 { b } else { a }
-}
-
 impl Table {
     /// An empty table for the ranges of both gateways, with room for all their ports for both protocols. It owns no port.
     pub fn new(alloc: Global, zero: PortBounds, one: PortBounds) -> Result<Table, AllocError>
@@ -92,9 +84,7 @@ impl Table {
         let capacity = 2 * (port_count(zero) + port_count(one));
         let entries = Vec::with_capacity(alloc, capacity)?;
         let lives = Vec::with_capacity(alloc, capacity)?;
-        let lowest = lower(zero.lowest, one.lowest);
-        let highest = higher(zero.highest, one.highest);
-        let ports = Ports::new(alloc, lowest, highest)?;
+        let ports = Ports::new(alloc, lowest_port(zero, one), highest_port(zero, one))?;
         Ok(Table {
             entries,
             lives,
@@ -110,7 +100,7 @@ impl Table {
     pub fn recall(&self)
         ensures { IsTable self.now }
     {
-        let _ = &self.entries;
+        self.ports.recall();
     }
 
     /// The entry of an outside port, whatever its state.
@@ -118,6 +108,21 @@ impl Table {
         ensures { result ≡ slot_of self.now.entries key }
     {
         find_key(&self.entries, key)
+    }
+
+    /// How many entries there are, whatever their state.
+    pub fn len(&self) -> usize
+        ensures { result ≡ length self.now.entries }
+    {
+        self.entries.len()
+    }
+
+    /// The entry that follows a key in the order by protocol (tcp first) and port, whatever its state; of `None` the
+    /// first one. The key needs no entry of its own.
+    pub fn entry_after(&self, last: Option<Key>) -> Option<Entry>
+        ensures { result ≡ after_key last self.now.entries }
+    {
+        find_after(&self.entries, last)
     }
 
     /// The entry of an endpoint. A Doomed one doesn't count.
@@ -202,6 +207,33 @@ impl Table {
         self.ports.put_back(key);
     }
 
+    /// The peer begins anew: what was proposed or asked to be closed translates, with the lives that it has, and
+    /// proposals given up are no more.
+    pub fn revive(&mut self)
+        ensures entries { self.new.entries ≡ revived_entries self.old.entries }
+        ensures slots { (q : OutsidePort) → slot_of self.new.entries q
+            ≡ revived_slot (slot_of self.old.entries q) }
+        ensures pasts { (q : OutsidePort) → (entry : Row) → (past : Past)
+            → slot_of self.old.entries q ≡ Some entry → is_pair entry.state ≡ true
+            → IsPast self.old q past → IsPast self.new q past }
+        ensures same { self.new ≡ record self.old {
+          entries = self.new.entries;
+          lives = self.new.lives;
+        } }
+    {
+        drop_doomed(&mut self.entries, &mut self.lives, &mut self.ports);
+        wake(&mut self.entries);
+    }
+
+    /// Takes all entries out, and gives all ports up. It stays ready for as many adds as it was.
+    pub fn clear(&mut self)
+        ensures { self.new ≡ record self.old { entries = []; lives = []; owned = [] } }
+    {
+        self.entries.clear();
+        self.lives.clear();
+        self.ports.reset();
+    }
+
     /// All pairs but Doomed ones, by protocol (tcp first) and port.
     pub fn pairs(&self) -> Result<Vec<Pair>, AllocError>
         ensures { IfOk result (λ v. v.items ≡ pairs_in is_pair self.now.entries) }
@@ -237,9 +269,17 @@ impl Table {
         requires foreign { owns self.old port.0 ≡ false }
         ensures owned { (p : ℕ) → owns self.new p ≡ (if p == port.0 then true
             else owns self.old p) }
+        ensures list { self.new.owned ≡ own_in port.0 self.old.owned }
         ensures same { self.new ≡ record self.old { owned = self.new.owned } }
     {
         self.ports.own(port);
+    }
+
+    /// The gateway owns all ports of the two ranges from now on.
+    pub fn own_all(&mut self)
+        ensures { self.new ≡ record self.old { owned = all_ports self.old.zero self.old.one } }
+    {
+        self.ports.own_all(self.zero, self.one);
     }
 
     /// The gateway gives up an owned port that no entry has.
@@ -249,9 +289,42 @@ impl Table {
         requires udp { is_free_in self.old.entries Udp port.0 ≡ true }
         ensures owned { (p : ℕ) → owns self.new p ≡ (if p == port.0 then false
             else owns self.old p) }
+        ensures list { self.new.owned ≡ without_port port.0 self.old.owned }
         ensures same { self.new ≡ record self.old { owned = self.new.owned } }
     {
         self.ports.disown(port);
+    }
+
+    /// The owned ports, rising.
+    pub fn owned(&self) -> Result<Vec<Port>, AllocError>
+        ensures { IfOk result (λ v. v.items ≡ map port_at self.now.owned) }
+    {
+        let alloc = *self.entries.allocator();
+        let lowest = lowest_port(self.zero, self.one);
+        self.ports
+            .owned(alloc, lowest, highest_port(self.zero, self.one))
+    }
+
+    /// The first unbroken run of the owned ports from one on, to its end. It may go from the one range into the other.
+    pub fn first_run(&self, from: Port) -> Option<PortBounds>
+        ensures { result ≡ first_run from.0 self.now.owned }
+    {
+        self.ports
+            .first_run(from, highest_port(self.zero, self.one))
+    }
+
+    /// Whether no entry of either protocol has a port.
+    pub fn is_vacant(&self, port: Port) -> bool
+        ensures { result ≡ is_vacant self.now.entries port.0 }
+    {
+        is_vacant_port(&self.entries, port)
+    }
+
+    /// Whether a port is owned and no entry has it, so that it may be given away.
+    pub fn is_spare(&self, port: Port) -> bool
+        ensures { result ≡ is_spare self.now.entries self.now.owned port.0 }
+    {
+        self.ports.owns(port) && is_vacant_port(&self.entries, port)
     }
 
     /// The pair of a key carried a packet, to or from a remote host. The flags of a UDP packet aren't read. A key without
@@ -294,10 +367,11 @@ impl Table {
         }
     }
 
-    /// Whether a key's pair is idle at a moment. Of a key without an entry the answer says nothing.
+    /// Whether a key's pair is idle at a moment. A key without an entry isn't.
     pub fn idle(&self, key: Key, now: u64) -> bool
-        ensures { (past : Past) → IsPast self.now key past → result
+        ensures idle { (past : Past) → IsPast self.now key past → result
             ≡ is_idle key.protocol past now }
+        ensures exact { result ≡ rests_at self.now.entries self.now.lives key now }
     {
         match position_of(&self.entries, key) {
             Some(i) => is_idle_at(&self.lives, i, key.protocol, now),
@@ -305,9 +379,10 @@ impl Table {
         }
     }
 
-    /// Whether a key's pair came by Install and carried nothing since. Of a key without an entry the answer says nothing.
+    /// Whether a key's pair came by Install and carried nothing since. A key without an entry didn't.
     pub fn unused(&self, key: Key) -> bool
-        ensures { (past : Past) → IsPast self.now key past → result ≡ is_unused past }
+        ensures unused { (past : Past) → IsPast self.now key past → result ≡ is_unused past }
+        ensures exact { result ≡ is_unused_at self.now.entries self.now.lives key }
     {
         match position_of(&self.entries, key) {
             Some(i) => is_unused_at(&self.lives, i),

@@ -3,7 +3,7 @@ use Rattle.std.proofs.Common.{◌≡◌, ℕ, zero, suc, ◌+◌, ◌-◌, ◌<�
 use Rattle.std.proofs.lemmas.Bool.{both_ways, cases_eq, cases_lt, eq-eqb, ne_eqb, or_left, or_from, and_from, and_left, and_right, le-leb, lt-leb, cond-true, cond-false, leb-true, and_parts}
 use Rattle.std.proofs.lemmas.List.{get_or-set_same, get_or-set_other, get_or_past, get_or-replicate, length-replicate}
 use Rattle.addresses.specs.declared.transport.Parity.{Parity}
-use Rattle.port_range.specs.Ports.{is_listed, is_within, is_available, is_open, fits, IsRange}
+use Rattle.port_range.specs.Ports.{is_listed, is_within, is_available, is_open, fits, IsRange, RiseAbove}
 use Rattle.port_range.specs.Flags.{ports_from, flagged, HasFlags}
 
 -- no port before the first flag's is listed
@@ -87,6 +87,10 @@ pub listed-none : (start count q : ℕ) → is_listed q (ports_from start (repli
 listed-none start zero q = refl
 listed-none start (suc count) q = listed-none (start + 1) count q
 
+pub listed-no_flag : (start count : ℕ) → ports_from start (replicate count false) ≡ []
+listed-no_flag start zero = refl
+listed-no_flag start (suc count) = listed-no_flag (start + 1) count
+
 -- where all flags are alike, the ports of the range are listed, or none
 pub listed-all : (start end count : ℕ) (flag : Bool) → start + count ≡ end + 1 → (q : ℕ) → is_listed q (ports_from start (replicate count flag)) ≡ (flag && is_within start end q)
 listed-all start end count true e q = listed-full start end count e q
@@ -102,6 +106,12 @@ flag-within lowest highest flags port order each listed =
     let in_flags = listed-within lowest flags port listed in
     and_from (nat_le lowest port) (nat_le port highest) (le-leb lowest port in_flags.0) (le-leb port highest (omega (arith, in_flags.1, each, order)))
 
+-- the ports of flags rise, above any number before the first one's
+rising-flags : (low start : ℕ) (flags : List Bool) → low < start → RiseAbove low (ports_from start flags)
+rising-flags low start [] before = tt
+rising-flags low start (true ∷ flags) before = (before, rising-flags start (start + 1) flags (omega arith))
+rising-flags low start (false ∷ flags) before = rising-flags low (start + 1) flags (omega arith)
+
 -- a range by its flags keeps what each range does
 pub kept-flags : (lowest highest : ℕ) (free owned : List Bool) → HasFlags lowest highest free owned → IsRange (flagged lowest highest free owned)
 kept-flags lowest highest free owned h = record {
@@ -110,6 +120,7 @@ kept-flags lowest highest free owned h = record {
   high = h.high;
   free = λ port listed. flag-within lowest highest free port h.order h.free_flags listed;
   owned = λ port listed. flag-within lowest highest owned port h.order h.owned_flags listed;
+  rising = rising-flags 0 lowest owned (let low : 1024 ≤ lowest = h.low in omega arith);
 }
 
 -- a port of a range has a flag

@@ -51,13 +51,14 @@ RiseAbove low (port ∷ ports) = (low < port) × RiseAbove port ports
 abbrev pub AreRising : List ℕ → Type 0
 AreRising ports = RiseAbove 0 ports
 
--- the range isn't bad, and each port that is free or owned lies in it
+-- the range isn't bad, each port that is free or owned lies in it, and the owned ones rise
 pub record IsRange (range : Range) : Type 0 where
   pub low : FIRST_PORT.0 ≤ range.lowest
   pub order : range.lowest ≤ range.highest
   pub high : range.highest ≤ 65535
   pub free : (port : ℕ) → is_free range port ≡ true → is_within range.lowest range.highest port ≡ true
   pub owned : (port : ℕ) → is_owned range port ≡ true → is_within range.lowest range.highest port ≡ true
+  pub rising : AreRising range.owned
 
 abbrev pub same_parity : Parity → Parity → Bool
 same_parity Even Even = true

@@ -79,6 +79,12 @@ pub(crate) fn put_flag(flags: &mut Vec<bool>, lowest: Port, port: Port, flag: bo
     flags[usize::from(port.0 - lowest.0)] = flag;
 }
 
+pub(crate) fn put_all(flags: &mut Vec<bool>, flag: bool)
+    ensures { flags.new.items ≡ replicate (length flags.old.items) flag }
+{
+    flags.fill(flag);
+}
+
 pub(crate) fn has_flag(flags: &[bool], lowest: Port, port: Port) -> bool
     ensures { result ≡ is_listed port.0 (ports_from lowest.0 flags.now) }
 {

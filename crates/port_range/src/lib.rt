@@ -1,13 +1,13 @@
 //! The ports of a range: which are free, which are owned, and which one an endpoint is given.
 #![tactic(auto)]
 
-ghost use Rattle.std.specs.Prelude.{◌≡◌, ℕ, true, false, OnOk, IfOk, IfErr, IfSome, IfNone, ◌==◌, ◌&&◌, if◌then◌else◌};
+ghost use Rattle.std.specs.Prelude.{◌≡◌, ℕ, [], true, false, OnOk, IfOk, IfErr, IfSome, IfNone, ◌==◌, ◌&&◌, if◌then◌else◌};
 ghost use Rattle.port_range.specs.Ports.{is_free, is_owned, is_available, is_within, is_bad, IsReason, IsRange, IsChosen, chosen_port};
 
 mod flags;
 mod laws;
 
-use crate::flags::{all_flags, choose_port, has_flag, put_flag};
+use crate::flags::{all_flags, choose_port, has_flag, put_all, put_flag};
 use addresses::{Parity, Port};
 pub use laws::limits_law;
 use std::alloc::{AllocError, Global};
@@ -195,5 +195,17 @@ impl Range {
         ensures highest { self.new.highest ≡ self.old.highest }
     {
         put_flag(&mut self.owned, self.lowest, port, false);
+    }
+
+    /// Makes all ports free, and owns none.
+    pub fn reset(&mut self)
+        ensures free { (port : ℕ) → is_free self.new port
+            ≡ is_within self.old.lowest self.old.highest port }
+        ensures owned { self.new.owned ≡ [] }
+        ensures lowest { self.new.lowest ≡ self.old.lowest }
+        ensures highest { self.new.highest ≡ self.old.highest }
+    {
+        put_all(&mut self.free, true);
+        put_all(&mut self.owned, false);
     }
 }

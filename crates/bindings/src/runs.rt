@@ -1,0 +1,77 @@
+//! The owned ports of a range, in order.
+ghost use Rattle.std.specs.Prelude.{◌≡◌, ◌+◌, [], ◌∷◌, true, Some, map, IfOk, IfSome, IfNone};
+ghost use Rattle.port_range.specs.Ports.{is_owned};
+ghost use Rattle.bindings.specs.Runs.{port_at, run_of, runs_on, first_of, ports_from_on, first_run};
+
+use crate::PortBounds;
+use addresses::Port;
+use port_range::Range;
+use std::alloc::{AllocError, Global};
+
+/// The first owned port from one on.
+fn first_owned(range: &Range, from: Port, highest: Port) -> Option<Port>
+    requires { range.now.highest ≡ highest.0 }
+    ensures owned { IfSome result (λ p. is_owned range.now p.0 ≡ true) }
+    ensures some { IfSome result (λ p. ports_from_on from.0 range.now.owned
+        ≡ p.0 ∷ ports_from_on (p.0 + 1) range.now.owned) }
+    ensures none { IfNone result (ports_from_on from.0 range.now.owned ≡ []) }
+{
+    range.recall();
+    for port in from.0..=highest.0 {
+        if range.owns(Port(port)) {
+            return Some(Port(port));
+        }
+    }
+    None
+}
+
+/// The last port of the unbroken run that begins with an owned one.
+fn end_of_run(range: &Range, first: Port, highest: Port) -> Port
+    requires highest { range.now.highest ≡ highest.0 }
+    requires owned { is_owned range.now first.0 ≡ true }
+    ensures { first_of (runs_on first.0 first.0 (ports_from_on (first.0 + 1) range.now.owned))
+        ≡ Some (run_of first.0 result.0) }
+{
+    range.recall();
+    for port in first.0..highest.0 {
+        if !range.owns(Port(port + 1)) {
+            return Port(port);
+        }
+    }
+    highest
+}
+
+/// The first unbroken run of the owned ports from one on.
+pub(crate) fn find_run(range: &Range, from: Port, highest: Port) -> Option<PortBounds>
+    requires { range.now.highest ≡ highest.0 }
+    ensures { result ≡ first_run from.0 range.now.owned }
+{
+    match first_owned(range, from, highest) {
+        Some(first) => Some(PortBounds {
+            lowest: first,
+            highest: end_of_run(range, first, highest),
+        }),
+        None => None,
+    }
+}
+
+/// The owned ports, rising.
+pub(crate) fn list_owned(
+    alloc: Global,
+    range: &Range,
+    lowest: Port,
+    highest: Port,
+) -> Result<Vec<Port>, AllocError>
+    requires lowest { range.now.lowest ≡ lowest.0 }
+    requires highest { range.now.highest ≡ highest.0 }
+    ensures { IfOk result (λ v. v.items ≡ map port_at range.now.owned) }
+{
+    range.recall();
+    let mut ports = Vec::new(alloc);
+    for port in lowest.0..=highest.0 {
+        if range.owns(Port(port)) {
+            ports.push(Port(port))?;
+        }
+    }
+    Ok(ports)
+}
