@@ -1,5 +1,5 @@
 -- What the binding protocol knows of a gateway: its book.
-use Rattle.std.specs.Prelude.{◌≡◌, ℕ, Bool, true, false, IsTrue, List, [], ◌∷◌, Some}
+use Rattle.std.specs.Prelude.{◌≡◌, ℕ, Bool, true, false, IsTrue, List, [], ◌∷◌, Some, ◌+◌, ◌-◌}
 use Rattle.nat_types.specs.declared.gateways.GatewayId.{GatewayId}
 use Rattle.nat_types.specs.declared.pairs.Key.{Key}
 use Rattle.nat_types.specs.declared.records.Record.{Record}
@@ -9,6 +9,10 @@ use Rattle.bindings.specs.Entries.{slot_of, HasDistinctKeys}
 use Rattle.bindings.specs.Lists.{AreInOrder, IsOneToOne}
 use Rattle.bindings.specs.Ports.{AreBounds, in_either}
 use Rattle.port_range.specs.Ports.{is_listed, AreRising}
+use Rattle.std.specs.List.{AllByRecursion, range_with_len}
+use Rattle.nat_types.specs.Granted.{IsPort}
+use Rattle.nat_types.specs.declared.gateways.GatewayId.TheVariants.{Zero}
+use Rattle.link.specs.Grammar.{IsWellFormedPair, IsWellFormedRecord}
 use Rattle.resync.specs.Loading.{Load}
 use Rattle.binding_step.specs.declared.setups.Stage.{Stage}
 use Rattle.binding_step.specs.declared.setups.Stage.TheVariants.{Unsynced, Paired, Lone}
@@ -68,6 +72,14 @@ empty_book id zero one = record {
   coming = [];
 }
 
+-- the ports of a range, rising
+abbrev pub ports_of : PortBounds → List ℕ
+ports_of range = range_with_len range.lowest.0 (range.highest.0 + 1 - range.lowest.0)
+
+-- gateway 0 as it is founded: alone, with range zero
+abbrev pub founded_book : PortBounds → PortBounds → Book
+founded_book zero one = record (empty_book Zero zero one) { stage = Lone; owned = ports_of zero }
+
 -- the table that is loaded
 abbrev pub load_of : Book → Load
 load_of b = record { zero = b.zero; one = b.one; begun = b.begun; named = b.named; entries = b.entries; owned = b.owned }
@@ -79,10 +91,13 @@ with_load b l = record b { begun = l.begun; named = l.named; entries = l.entries
 pub record IsBook (b : Book) : Type 0 where
   pub zero : AreBounds b.zero
   pub one : AreBounds b.one
+  pub highest : IsPort b.zero.highest.0 × IsPort b.one.highest.0
   pub order : AreInOrder b.entries
   pub keys : HasDistinctKeys b.entries
   pub endpoints : IsOneToOne b.entries
   pub within : (k : Key) (x : Entry) → slot_of b.entries k ≡ Some x → IsTrue (in_ranges b k.port.0)
+  pub formed : (k : Key) (x : Entry) → slot_of b.entries k ≡ Some x → IsWellFormedPair x.pair
+  pub coming : AllByRecursion IsWellFormedRecord b.coming
   pub rising : AreRising b.owned
   pub owned : (port : ℕ) → owns b port ≡ true → IsTrue (in_ranges b port)
   -- synced, it doesn't load; and without Begin it has nothing

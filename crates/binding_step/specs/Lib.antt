@@ -1,4 +1,5 @@
 pub mod Books
 pub mod Rows
+pub mod Fits
 pub mod Resets
 pub mod Machine

@@ -1,0 +1,209 @@
+//! What holds of each row of the record table, and of what resets a book. Each law is the contract of a function that does
+//! nothing.
+
+ghost use Rattle.std.specs.Prelude.{◌≡◌, ℕ, ◌+◌, ◌<◌, ◌≤◌, ◌∷◌, ◌++◌, ◌&&◌, [], suc, List, Bool, true, false};
+ghost use Rattle.std.specs.Prelude.{IfSome, Some, length, reverse, slice_get};
+ghost use Rattle.std.specs.List.{AllByRecursion};
+ghost use Rattle.nat_types.specs.Granted.{IsPort};
+ghost use Rattle.nat_types.specs.declared.gateways.GatewayId.{GatewayId};
+ghost use Rattle.nat_types.specs.declared.gateways.GatewayId.TheVariants.{Zero};
+ghost use Rattle.nat_types.specs.declared.notes.Note.{Note};
+ghost use Rattle.nat_types.specs.declared.pairs.Endpoint.{Endpoint};
+ghost use Rattle.nat_types.specs.declared.pairs.Key.{Key};
+ghost use Rattle.nat_types.specs.declared.records.Record.{Record};
+ghost use Rattle.bindings.specs.declared.entries.PortBounds.{PortBounds};
+ghost use Rattle.bindings.specs.Ports.{AreBounds};
+ghost use Rattle.link.specs.declared.datagrams.Datagram.{Datagram};
+ghost use Rattle.link.specs.declared.datagrams.Taken.{Taken};
+ghost use Rattle.link.specs.Grammar.{IsWellFormedRecord};
+ghost use Rattle.link.specs.Letters.{IsLetter};
+ghost use Rattle.link.specs.Link.{Link, Agrees, IsTaken, fresh, handed_count, met, with_fed};
+ghost use Rattle.pair_machine.specs.Box.{In, Letter, booted, founder};
+ghost use Rattle.pair_machine.specs.Step.{IsStep, WasSent};
+ghost use Rattle.binding_step.specs.declared.changes.Change.{Change};
+ghost use Rattle.binding_step.specs.Books.{Book, IsBook, empty_book, founded_book, is_lone, is_synced};
+ghost use Rattle.binding_step.specs.Fits.{Fits, IsWellFormedEndpoint};
+ghost use Rattle.binding_step.specs.Machine.{box_at, letter_of, promised_of, ranges_of};
+ghost use Rattle.binding_step.specs.Machine.{IsTurn, Stands, Works};
+ghost use Rattle.binding_step.specs.Resets.{back_in, put_alone, restart_batch, restart_link};
+ghost use Rattle.binding_step.specs.Resets.{restart_notes, restarted, retaken};
+ghost use Rattle.binding_step.specs.Rows.{after, answered, carry_row, changed, idle_row, noted_by};
+ghost use Rattle.binding_step.specs.Rows.{row_of, taken_answer, taken_book, taken_what, wish_of};
+
+/// What each row changes fits the book that it is decided on.
+pub fn rows_fit()
+    ensures taken { (b : Book) (rests : Bool) (r : Record) → IsBook b → IsWellFormedRecord r
+        → Fits b (row_of b rests r).change }
+    ensures wished { (b : Book) (full : Bool) (e : Endpoint) → IsBook b → IsWellFormedEndpoint e
+        → Fits b (wish_of b full e).row.change }
+    ensures idle { (b : Book) (ask : Bool) (k : Key) → IsBook b → Fits b (idle_row b ask k).change }
+    ensures carried { (b : Book) (k : Key) → IsBook b → Fits b (carry_row b k).change }
+{}
+
+/// What is pushed has a spelling.
+pub fn answers_fit()
+    ensures taken { (b : Book) (rests : Bool) (r : Record) → IsBook b → IsWellFormedRecord r
+        → IfSome (taken_answer b rests r) IsWellFormedRecord }
+    ensures row { (b : Book) (rests : Bool) (r : Record) → IsBook b → IsWellFormedRecord r
+        → IfSome (row_of b rests r).answer IsWellFormedRecord }
+    ensures wished { (b : Book) (full : Bool) (e : Endpoint) → IsBook b → IsWellFormedEndpoint e
+        → IfSome (wish_of b full e).row.answer IsWellFormedRecord }
+    ensures idle { (b : Book) (ask : Bool) (k : Key) → IsBook b
+        → IfSome (idle_row b ask k).answer IsWellFormedRecord }
+    ensures batch { (b : Book) → IsBook b
+        → AllByRecursion IsWellFormedRecord (restart_batch b) }
+    ensures fed { (b : Book) (records rest : List Record) → IsBook b
+        → b.coming ≡ records ++ rest → AllByRecursion IsWellFormedRecord records }
+{}
+
+/// What holds of every book is kept by each change that fits, at a synced gateway, and so by each row.
+pub fn books_keep()
+    ensures change { (b : Book) (c : Change) → IsBook b → is_synced b.stage ≡ true → Fits b c
+        → IsBook (changed c b) }
+    ensures taken { (b : Book) (rests : Bool) (r : Record) → IsBook b → IsWellFormedRecord r
+        → IsBook (taken_book b rests r) }
+    ensures wished { (b : Book) (full : Bool) (e : Endpoint) → IsBook b → IsWellFormedEndpoint e
+        → IsBook (after b (wish_of b full e).row) }
+    ensures idle { (b : Book) (ask : Bool) (k : Key) → IsBook b
+        → IsBook (after b (idle_row b ask k)) }
+    ensures carried { (b : Book) (k : Key) → IsBook b → IsBook (after b (carry_row b k)) }
+    ensures restarted { (b : Book) → IsBook b → IsBook (restarted b) }
+    ensures alone { (b : Book) → IsBook b → is_synced b.stage ≡ true → IsBook (put_alone b) }
+    ensures fed { (b : Book) (records rest : List Record) → IsBook b
+        → b.coming ≡ records ++ rest → IsBook (record b { coming = rest }) }
+{}
+
+/// A gateway without a table, and the founded one: they are books, and the boxes with which the machine begins.
+pub fn books_begin()
+    ensures empty { (id : GatewayId) (zero one : PortBounds) → AreBounds zero → AreBounds one
+        → IsPort zero.highest.0 → IsPort one.highest.0 → IsBook (empty_book id zero one) }
+    ensures founded { (zero one : PortBounds) → AreBounds zero → AreBounds one
+        → IsPort zero.highest.0 → IsPort one.highest.0 → IsBook (founded_book zero one) }
+    ensures booted { (id : GatewayId) (zero one : PortBounds) (boot capacity : ℕ)
+        → box_at (empty_book id zero one) (fresh id boot capacity) [] 0 ≡ booted boot }
+    ensures founder { (zero one : PortBounds) (capacity : ℕ) → AreBounds zero
+        → let b = founded_book zero one in let r = ranges_of b in
+        box_at b (fresh Zero 1 capacity) [] 0 ≡ founder (λ p. r.in_ranges p && r.at_start p) }
+{}
+
+/// A record that comes in its turn is an act of the machine: at a synced gateway that of its row, or where its batch is
+/// promised none but the taking; at one that loads that of the loading.
+pub fn record_works()
+    ensures { (now : ℕ) (b : Book) (e : Link) (n : ℕ) (h : List Record) (l : Letter) (offset : ℕ)
+        (rests : Bool) (r : Record) → IsBook b → is_lone b.stage ≡ false → Stands b e h
+        → IsTurn e n l offset r
+        → Works now (l ∷ []) [] b e n (taken_book b rests r) (answered e (taken_answer b rests r))
+        (suc n) (noted_by b.id now (taken_what b rests r)) h }
+{}
+
+/// A packet's wish is an act of the machine, or none.
+pub fn wish_works()
+    ensures { (now : ℕ) (b : Book) (e : Link) (n : ℕ) (h : List Record) (full : Bool) (x : Endpoint)
+        → IsBook b → Stands b e h → let row = (wish_of b full x).row in
+        Works now [] [] b e n (after b row) (answered e row.answer) n (noted_by b.id now row.what) h }
+{}
+
+/// An idle pair at a tick is let go by an act of the machine, or nothing happens.
+pub fn idle_works()
+    ensures { (now : ℕ) (b : Book) (e : Link) (n : ℕ) (h : List Record) (ask : Bool) (k : Key)
+        → IsBook b → Stands b e h → let row = idle_row b ask k in
+        Works now [] [] b e n (after b row) (answered e row.answer) n (noted_by b.id now row.what) h }
+{}
+
+/// A packet that is translated is an act of the machine.
+pub fn carry_works()
+    ensures { (now : ℕ) (b : Book) (e : Link) (n : ℕ) (h : List Record) (k : Key)
+        → IsBook b → Stands b e h → let row = carry_row b k in
+        Works now [] [] b e n (after b row) (answered e row.answer) n (noted_by b.id now row.what) h }
+{}
+
+/// A greater boot of the peer is heard: e is the end before the datagram, e1 the one after it.
+pub fn restart_works()
+    ensures { (now : ℕ) (b : Book) (e e1 : Link) (n : ℕ) (h : List Record) (l : Letter) → IsBook b
+        → Agrees [] [] e1 → e.boot ≡ e1.boot → e.known < e1.known → l.boot ≡ e1.known
+        → Works now (l ∷ []) [] b e n (restarted b) (restart_link b e1) 0 (restart_notes b now) h }
+{}
+
+/// The operator's word at a synced gateway: e is the end before, e1 the one whose session is closed.
+pub fn word_works()
+    ensures { (now : ℕ) (b : Book) (e e1 : Link) (n number : ℕ) (h : List Record) → IsBook b
+        → is_synced b.stage ≡ true → Agrees [] [] e1 → e.boot ≡ e1.boot → e1.known ≡ number
+        → Works now [] (number ∷ []) b e n (put_alone b) e1 0
+        (retaken b.id now (back_in b.entries)) h }
+{}
+
+/// Records of the promised batch are handed in. The machine sees only that the last one was.
+pub fn feed_works()
+    ensures { (now : ℕ) (b : Book) (e : Link) (n : ℕ) (h records rest : List Record) → IsBook b
+        → Stands b e h → b.coming ≡ records ++ rest
+        → Works now [] [] b e n (record b { coming = rest }) (with_fed e records) n [] h }
+{}
+
+/// Of a datagram that isn't of a greater boot the machine sees nothing until its records are taken. In general: two ends
+/// that speak of the same boots and have as much promised make the same box.
+pub fn heard_works()
+    ensures heard { (now : ℕ) (b : Book) (e e1 : Link) (n : ℕ) (h : List Record) (bytes : List ℕ)
+        (t : Taken) (d : Datagram) → Stands b e h → IsTaken bytes e now t e1 d
+        → t.restarted ≡ false → Works now [] [] b e n b e1 n [] h }
+    ensures alike { (now : ℕ) (b : Book) (e e1 : Link) (n : ℕ) (h : List Record) → Stands b e1 h
+        → e1.boot ≡ e.boot → e1.known ≡ e.known → promised_of e1 ≡ promised_of e
+        → Works now [] [] b e n b e1 n [] h }
+{}
+
+/// A part in which nothing happens.
+pub fn works_nothing()
+    ensures { (now : ℕ) (letters : List Letter) (words : List ℕ) (b : Book) (e : Link) (n : ℕ)
+        (h : List Record) → Stands b e h → Works now letters words b e n b e n [] h }
+{}
+
+/// Two parts make one: the second goes on from what was pushed by then.
+pub fn works_join()
+    ensures { (now : ℕ) (letters : List Letter) (words : List ℕ) (b b2 b3 : Book)
+        (e e2 e3 : Link) (n n2 n3 : ℕ) (ns ns2 : List Note) (h : List Record)
+        → (a : Works now letters words b e n b2 e2 n2 ns h)
+        → Works now letters words b2 e2 n2 b3 e3 n3 ns2 a.history
+        → Works now letters words b e n b3 e3 n3 (ns ++ ns2) h }
+{}
+
+/// A part that was handed these letters and words is one that was handed more.
+pub fn works_more()
+    ensures { (now : ℕ) (letters letters2 : List Letter) (words words2 : List ℕ) (b b2 : Book)
+        (e e2 : Link) (n n2 : ℕ) (ns : List Note) (h : List Record)
+        → WasSent letters letters2 → ((k : ℕ) → In k words → In k words2)
+        → Works now letters words b e n b2 e2 n2 ns h
+        → Works now letters2 words2 b e n b2 e2 n2 ns h }
+{}
+
+/// With the datagram behind it, of which all was handed in, a part is a step of the machine. e3 is the end once it is sent.
+pub fn works_sent()
+    ensures sent { (now : ℕ) (letters : List Letter) (words : List ℕ) (b b2 : Book)
+        (e e2 e3 : Link) (n n2 before count : ℕ) (ns : List Note) (h : List Record) (d : Datagram)
+        → (w : Works now letters words b e n b2 e2 n2 ns h) → IsLetter w.history e2 before count d
+        → before + count ≤ handed_count e2 → e3.boot ≡ e2.boot → e3.known ≡ e2.known
+        → promised_of e3 ≡ promised_of e2
+        → IsStep (ranges_of b) b.id now (box_at b e h n) (box_at b2 e3 w.history n2) letters words
+        [] (reverse ns) [] (letter_of d ∷ []) }
+    ensures unsent { (now : ℕ) (letters : List Letter) (words : List ℕ) (b b2 : Book)
+        (e e2 : Link) (n n2 : ℕ) (ns : List Note) (h : List Record)
+        → (w : Works now letters words b e n b2 e2 n2 ns h)
+        → IsStep (ranges_of b) b.id now (box_at b e h n) (box_at b2 e2 w.history n2) letters words
+        [] (reverse ns) [] [] }
+{}
+
+/// Each record that a datagram gives comes in its turn, at any end that speaks of the same boots as the one after it.
+pub fn records_come()
+    ensures turn { (bytes : List ℕ) (e e1 e2 : Link) (now : ℕ) (t : Taken) (d : Datagram)
+        → IsTaken bytes e now t e1 d → e2.boot ≡ e1.boot → e2.known ≡ e1.known
+        → (k : ℕ) (r : Record) → slice_get t.records.items k ≡ Some r
+        → (offset : ℕ) × IsTurn e2 ((met e d).taken + k) (letter_of d) offset r }
+    ensures anew { (bytes : List ℕ) (e e1 : Link) (now : ℕ) (t : Taken) (d : Datagram)
+        → IsTaken bytes e now t e1 d → t.restarted ≡ true → (met e d).taken ≡ 0 }
+    ensures on { (bytes : List ℕ) (e e1 : Link) (now : ℕ) (t : Taken) (d : Datagram)
+        → IsTaken bytes e now t e1 d → t.restarted ≡ false → (met e d).taken ≡ e.taken }
+    ensures all { (bytes : List ℕ) (e e1 : Link) (now : ℕ) (t : Taken) (d : Datagram)
+        → IsTaken bytes e now t e1 d → (met e d).taken + length t.records.items ≡ e1.taken }
+    ensures greater { (bytes : List ℕ) (e e1 : Link) (now : ℕ) (t : Taken) (d : Datagram)
+        → IsTaken bytes e now t e1 d → t.restarted ≡ true
+        → Agrees [] [] e1 × (e.boot ≡ e1.boot) × (e.known < e1.known)
+        × ((letter_of d).boot ≡ e1.known) }
+{}
