@@ -1,0 +1,113 @@
+-- What a change makes of a table, and of what its pairs carried.
+use Rattle.std.specs.Prelude.{ℕ, Bool, true, false, List, [], if◌then◌else◌, ◌≡◌}
+use Rattle.nat_types.specs.Same.{same_key}
+use Rattle.nat_types.specs.declared.gateways.GatewayId.TheVariants.{Zero}
+use Rattle.nat_types.specs.declared.pairs.EntryState.{EntryState}
+use Rattle.nat_types.specs.declared.pairs.EntryState.TheVariants.{Pending, Doomed, Live, Closing, Held}
+use Rattle.nat_types.specs.declared.pairs.Key.{Key}
+use Rattle.lives.specs.Lives.{Past, came, renewed}
+use Rattle.bindings.specs.Table.{Table, IsPast}
+use Rattle.binding_step.specs.declared.setups.Stage.TheVariants.{Paired}
+use Rattle.binding_step.specs.declared.changes.Change.{Change}
+use Rattle.binding_step.specs.declared.changes.Change.TheVariants.{Keep, Add, Turn, Renew, Drop, Yield, Want, Give, Gain}
+use Rattle.binding_step.specs.Books.{Book}
+use Rattle.bind_core.specs.declared.deeds.Bounds.{Bounds}
+
+-- the book with what stands in a table
+abbrev pub on_table : Table → Book → Book
+on_table t b = record b { zero = t.zero; one = t.one; entries = t.entries; owned = t.owned }
+
+-- the table as the book of a gateway that isn't lone
+abbrev pub table_book : Table → Book
+table_book t = record {
+  id = Zero;
+  zero = t.zero;
+  one = t.one;
+  stage = Paired;
+  begun = false;
+  named = 0;
+  entries = t.entries;
+  owned = t.owned;
+  wants = false;
+  coming = [];
+}
+
+-- the table's ranges are these
+pub record IsBetween (t : Table) (bounds : Bounds) : Type 0 where
+  pub zero : t.zero ≡ bounds.zero
+  pub one : t.one ≡ bounds.one
+
+-- whether a Want is open then
+abbrev pub wants_after : Change → Bool → Bool
+wants_after Keep wants = wants
+wants_after (Add e) wants = wants
+wants_after (Turn k s) wants = wants
+wants_after (Renew k) wants = wants
+wants_after (Drop k) wants = wants
+wants_after (Yield q p) wants = wants
+wants_after Want wants = true
+wants_after (Give g) wants = wants
+wants_after (Gain g) wants = false
+
+-- an entry comes with the change
+abbrev pub adds : Change → Bool
+adds Keep = false
+adds (Add e) = true
+adds (Turn k s) = false
+adds (Renew k) = false
+adds (Drop k) = false
+adds (Yield q p) = true
+adds Want = false
+adds (Give g) = false
+adds (Gain g) = false
+
+-- ---- lives
+
+-- what comes as the peer's pair came by Install
+abbrev pub is_held : EntryState → Bool
+is_held Pending = false
+is_held Doomed = false
+is_held Live = false
+is_held Closing = false
+is_held Held = true
+
+-- the key's entry leaves
+abbrev pub leaves : Change → Key → Bool
+leaves Keep q = false
+leaves (Add e) q = false
+leaves (Turn k s) q = false
+leaves (Renew k) q = false
+leaves (Drop k) q = same_key k q
+leaves (Yield p2 p) q = false
+leaves Want q = false
+leaves (Give g) q = false
+leaves (Gain g) q = false
+
+-- what becomes of a past that a key's entry agrees with: only a No begins it anew
+abbrev pub past_after : ℕ → Change → Key → Past → Past
+past_after now Keep q past = past
+past_after now (Add e) q past = past
+past_after now (Turn k s) q past = past
+past_after now (Renew k) q past = (if same_key k q then renewed now past else past)
+past_after now (Drop k) q past = past
+past_after now (Yield p2 p) q past = past
+past_after now Want q past = past
+past_after now (Give g) q past = past
+past_after now (Gain g) q past = past
+
+-- the life of the entry that comes begins now
+abbrev pub Begins : ℕ → Change → Table → Type 0
+Begins now Keep t = Unit {0}
+Begins now (Add e) t = IsPast t e.pair.key (came (is_held e.state) now)
+Begins now (Turn k s) t = Unit {0}
+Begins now (Renew k) t = Unit {0}
+Begins now (Drop k) t = Unit {0}
+Begins now (Yield q p) t = IsPast t p.key (came true now)
+Begins now Want t = Unit {0}
+Begins now (Give g) t = Unit {0}
+Begins now (Gain g) t = Unit {0}
+
+-- what the pairs carried, through a change
+pub record LivesOn (now : ℕ) (change : Change) (t t2 : Table) : Type 0 where
+  pub stays : (q : Key) (past : Past) → leaves change q ≡ false → IsPast t q past → IsPast t2 q (past_after now change q past)
+  pub begins : Begins now change t2
