@@ -3,6 +3,7 @@ use Rattle.std.proofs.Common.{◌≡◌, ℕ, zero, suc, ◌<◌, ◌≤◌, ◌
 use Rattle.std.specs.List.{insert}
 use Rattle.std.specs.Option.{option_map}
 use Rattle.std.proofs.lemmas.Bool.{eqb-true, and_parts, and_from, le-leb, leb-true, ltb-true, ltb-false}
+use Rattle.std.proofs.lemmas.List.{length-map}
 use Rattle.addresses.specs.declared.transport.Protocol.{Protocol}
 use Rattle.addresses.specs.declared.transport.Protocol.TheVariants.{Tcp, Udp}
 use Rattle.nat_types.specs.declared.pairs.EntryState.{EntryState}
@@ -13,14 +14,16 @@ use Rattle.port_range.specs.Ports.{is_free, is_owned, is_within, is_listed, AreR
 use Rattle.bindings.specs.declared.entries.Entry.{Entry}
 use Rattle.bindings.specs.declared.entries.PortBounds.{PortBounds}
 use Rattle.bindings.specs.declared.ports.Ports.{Ports}
-use Rattle.bindings.specs.Entries.{has_key, slot_of}
+use Rattle.bindings.specs.Entries.{is_pair, has_key, slot_of}
 use Rattle.bindings.specs.Lists.{place_in, put_in, without, with_state}
-use Rattle.bindings.specs.Ports.{range_of, is_free_at, SameBounds, SameOwned, SameFree, in_bounds, in_either, lowest_of, highest_of}
+use Rattle.bindings.specs.Ports.{range_of, is_free_at, AreAlike, AreFree, SameBounds, SameOwned, SameFree, in_bounds, in_either, lowest_of, highest_of}
+use Rattle.bindings.specs.Revivals.{woken_entry, revived_entries, lives_of_pairs}
 use Rattle.bindings.specs.Lives.{lives_without}
 use Rattle.bindings.specs.Table.{IsTable, IsStored}
-use Rattle.bindings.proofs.Slots.{IsWelcome, slot-put, keys-put, keys-filter, endpoints-put, endpoints-filter, one-to-one}
+use Rattle.bindings.proofs.Slots.{IsWelcome, slot-put, keys-put, keys-map, keys-filter, endpoints-put, endpoints-filter, one-to-one}
 use Rattle.bindings.proofs.Edits.{restated, either_slot, slot-without}
-use Rattle.bindings.proofs.Orders.{order-put, order-turn, order-drop}
+use Rattle.bindings.proofs.Orders.{rises-map, rises-filter, order-put, order-turn, order-drop}
+use Rattle.bindings.proofs.Revived.{pairs_of, none-kept, endpoints-woken, length-revived}
 use Rattle.bindings.proofs.Places.{length-put, length-keep}
 use Rattle.bindings.proofs.Turned.{IsPairAt, keys-turn, endpoints-turn, length-turn}
 use Rattle.bindings.proofs.Pasts.{length-lives_without}
@@ -138,6 +141,38 @@ stored-owned es ls ports ports2 low high cap er lr port b s tcp udp free bounds 
   };
   free = λ q. free-kept ports ports2 free q ∙ s.free q;
   owned = λ p h. owned-kept (p == port) b (is_owned ports.tcp p) (in_either low high p ≡ true) (λ here is. ap (in_either low high) (eqb-true p port here) ∙ inside is) (λ old. s.owned p old) (sym (tcp p) ∙ h);
+}
+
+-- any owned ports of the ranges
+pub stored-all : (es : List Entry) (ls : List Life) (ports ports2 : Ports) (low high : PortBounds) (cap er lr : ℕ) → IsStored es ls ports low high cap er lr → AreAlike (lowest_of low high) (highest_of low high) ports2 → SameFree ports ports2 → ((port : ℕ) → is_listed port ports2.tcp.owned ≡ true → in_either low high port ≡ true) → IsStored es ls ports2 low high cap er lr
+stored-all es ls ports ports2 low high cap er lr s alike free inside = record {
+  order = s.order;
+  keys = s.keys;
+  endpoints = s.endpoints;
+  alike = s.alike;
+  within = s.within;
+  room = s.room;
+  entries_fit = s.entries_fit;
+  lives_fit = s.lives_fit;
+  same = alike;
+  free = λ q. free-kept ports ports2 free q ∙ s.free q;
+  owned = inside;
+}
+
+-- the pairs and their lives once the peer begins anew
+pub stored-revived : (es : List Entry) (ls : List Life) (ports ports2 : Ports) (low high : PortBounds) (cap er lr er2 lr2 : ℕ) → IsStored es ls ports low high cap er lr → cap ≤ er2 → cap ≤ lr2 → AreFree (lowest_of low high) (highest_of low high) (pairs_of es) ports2 → SameBounds ports ports2 → SameOwned ports ports2 → IsStored (revived_entries es) (lives_of_pairs es ls) ports2 low high cap er2 lr2
+stored-revived es ls ports ports2 low high cap er lr er2 lr2 s fits more freed bounds owns = record {
+  order = rises-map 0 woken_entry (pairs_of es) (λ x. refl) (rises-filter 0 (λ x. is_pair x.state) es s.order);
+  keys = keys-map woken_entry (pairs_of es) (λ x. refl) (keys-filter (λ x. is_pair x.state) es s.keys);
+  endpoints = endpoints-woken (pairs_of es) (endpoints-filter (λ x. is_pair x.state) es s.endpoints);
+  alike = length-revived es ls s.alike;
+  within = (let n = length-keep (λ x. is_pair x.state) es in let m = length-map (pairs_of es) woken_entry in let h = s.within in omega (arith, n, m, h));
+  room = s.room;
+  entries_fit = fits;
+  lives_fit = more;
+  same = alike-same (lowest_of low high) (highest_of low high) ports ports2 s.same bounds owns;
+  free = free-same (lowest_of low high) (highest_of low high) (pairs_of es) (revived_entries es) ports2 freed (none-kept (pairs_of es));
+  owned = λ port h. s.owned port (ap (is_listed port) (sym owns.tcp) ∙ h);
 }
 
 -- a port of either range lies between the lowest and the highest of both

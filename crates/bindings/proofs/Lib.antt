@@ -6,10 +6,11 @@ pub mod Orders
 pub mod Places
 pub mod Turned
 pub mod Pasts
-pub mod Holding
 pub mod Owning
+pub mod Revived
+pub mod Holding
 pub mod Rising
 pub mod Unbroken
 pub mod Resting
-pub mod Revived
 pub mod Rooms
+pub mod Uses

@@ -21,14 +21,14 @@ rises-put low e (x ∷ xs) le r = at (nat_lt (place_of e.pair) (place_of x.pair)
     at true is ih = let lt : place_of e.pair < place_of x.pair = ltb-true (place_of e.pair) (place_of x.pair) is in (le, (omega arith, r.1))
     at false is ih = (r.0, ih (ltb-false (place_of e.pair) (place_of x.pair) is))
 
-rises-map : (low : ℕ) (f : Entry → Entry) (es : List Entry) → ((x : Entry) → (f x).pair ≡ x.pair) → Rises low es → Rises low (map f es)
+pub rises-map : (low : ℕ) (f : Entry → Entry) (es : List Entry) → ((x : Entry) → (f x).pair ≡ x.pair) → Rises low es → Rises low (map f es)
 rises-map low f [] same r = tt
 rises-map low f (x ∷ xs) same r = (
   subst (λ (p : Pair). low ≤ place_of p) (sym (same x)) r.0,
   subst (λ (p : Pair). Rises (place_of p) (map f xs)) (sym (same x)) (rises-map (place_of x.pair) f xs same r.1),
 )
 
-rises-filter : (low : ℕ) (p : Entry → Bool) (es : List Entry) → Rises low es → Rises low (filter p es)
+pub rises-filter : (low : ℕ) (p : Entry → Bool) (es : List Entry) → Rises low es → Rises low (filter p es)
 rises-filter low p [] r = tt
 rises-filter low p (x ∷ xs) r = at (p x) (rises-filter (place_of x.pair) p xs r.1)
   where

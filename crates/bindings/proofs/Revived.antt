@@ -1,13 +1,12 @@
 -- What is left of a table's lists once the peer begins anew.
-use Rattle.std.proofs.Common.{◌≡◌, ℕ, zero, suc, ◌<◌, ◌≤◌, Bool, true, false, cond, ◌&&◌, not, is_none, Option, Some, None, inl, inr, List, [], ◌∷◌, map, length, refl, sym, ap, ◌∙◌, arith}
+use Rattle.std.proofs.Common.{◌≡◌, suc, ◌<◌, ◌≤◌, Bool, true, false, cond, ◌&&◌, not, is_none, Some, None, List, [], ◌∷◌, map, length, refl, sym, ap, ◌∙◌, arith}
 use Rattle.std.specs.List.{find, filter}
-use Rattle.std.proofs.lemmas.Bool.{both_ways, cond-true, cond-false, and_right, false_from_ne_true}
-use Rattle.std.proofs.lemmas.List.{length-map}
+use Rattle.std.proofs.lemmas.Bool.{both_ways, cond-true, cond-false}
 use Rattle.nat_types.specs.declared.pairs.EntryState.{EntryState}
 use Rattle.nat_types.specs.declared.pairs.EntryState.TheVariants.{Pending, Doomed, Live, Closing, Held}
 use Rattle.nat_types.specs.declared.pairs.Endpoint.{Endpoint}
 use Rattle.nat_types.specs.declared.pairs.Key.{Key}
-use Rattle.nat_types.specs.Same.{same_key, same_endpoint}
+use Rattle.nat_types.specs.Same.{same_endpoint}
 use Rattle.lives.specs.Lives.{Life}
 use Rattle.bindings.specs.declared.entries.Entry.{Entry}
 use Rattle.bindings.specs.Entries.{is_pair, has_key, serves, slot_of, entry_of, HasDistinctKeys, HasDistinctEndpoints}
@@ -124,6 +123,15 @@ none-woken q (e ∷ es) h =
 pub endpoints-woken : (es : List Entry) → HasDistinctEndpoints es → HasDistinctEndpoints (map woken_entry es)
 endpoints-woken [] d = tt
 endpoints-woken (e ∷ es) d = (λ live. none-woken e.pair.endpoint es (d.0 (sym (woken-pair e.state) ∙ live)), endpoints-woken es d.1)
+
+-- a slot that is empty stays so, and no other becomes it
+pub none-kept : (es : List Entry) (q : Key) → is_none (slot_of (map woken_entry es) q) ≡ is_none (slot_of es q)
+none-kept [] q = refl
+none-kept (e ∷ es) q = at (has_key q e) (none-kept es q)
+  where
+    at : (b : Bool) → is_none (slot_of (map woken_entry es) q) ≡ is_none (slot_of es q) → is_none (cond b (Some (woken_entry e)) (slot_of (map woken_entry es) q)) ≡ is_none (cond b (Some e) (slot_of es q))
+    at true ih = refl
+    at false ih = ih
 
 -- what becomes of a slot
 pub slot-revived : (es : List Entry) (q : Key) → HasDistinctKeys es → slot_of (revived_entries es) q ≡ revived_slot (slot_of es q)

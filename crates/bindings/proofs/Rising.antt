@@ -1,7 +1,7 @@
 -- Rising lists of ports: what is listed settles them.
-use Rattle.std.proofs.Common.{◌≡◌, ℕ, zero, suc, ◌+◌, ◌-◌, ◌<◌, ◌≤◌, ◌==◌, nat_le, nat_lt, Bool, true, false, cond, ◌&&◌, ◌||◌, not, ◌⊎◌, inl, inr, List, [], ◌∷◌, refl, sym, ap, ◌∙◌, arith}
-use Rattle.std.specs.List.{filter, list_any, range_with_len}
-use Rattle.std.proofs.lemmas.Bool.{both_ways, cases_lt, cases_eq, cond-true, cond-false, or_from, or_left, or_right, or_cases, and_from, and_left, and_right, and_parts, eq-eqb, ne_eqb, eqb-true, false_from_ne_true, ltb-true, ltb-false, lt-ltb, le-ltb, le-leb, lt-leb, leb-true}
+use Rattle.std.proofs.Common.{◌≡◌, ℕ, zero, suc, ◌+◌, ◌-◌, ◌<◌, ◌≤◌, ◌==◌, nat_le, nat_lt, Bool, true, false, cond, ◌&&◌, ◌||◌, not, inl, inr, List, [], ◌∷◌, refl, sym, ap, ◌∙◌, arith}
+use Rattle.std.specs.List.{filter, range_with_len}
+use Rattle.std.proofs.lemmas.Bool.{both_ways, cases_lt, cases_eq, or_from, or_left, or_right, and_from, and_left, and_right, and_parts, eq-eqb, ne_eqb, false_from_ne_true, ltb-true, ltb-false, lt-ltb, le-ltb, leb-true}
 use Rattle.port_range.specs.Ports.{is_listed, is_within, RiseAbove, AreRising}
 use Rattle.bindings.specs.declared.entries.PortBounds.{PortBounds}
 use Rattle.bindings.specs.Ports.{in_either, lowest_of, highest_of}
@@ -177,3 +177,42 @@ owned-all low high xs rises above is =
     same-rising 0 xs (all_ports low high) rises
     (rise-filter 0 (in_either low high) (range_with_len (lowest_of low high) (highest_of low high + 1 - lowest_of low high)) (rise-range 0 (lowest_of low high) (highest_of low high + 1 - lowest_of low high) above))
     (λ q. is q ∙ sym (listed-all low high q))
+
+-- ---- all ports that lie in a range are made owned ones, one by one
+
+pub one-further : (o i : Bool) (p port : ℕ) → ((o || (nat_lt p port && i)) || (p == port && i)) ≡ (o || (nat_lt p (port + 1) && i))
+one-further true i p port = refl
+one-further false i p port =
+    elim (cases_lt p port) [
+      | inl below ↦
+          (ap (λ b. (b && i) || (p == port && i)) (lt-ltb p port below) ∙ here i (p == port) ∙ ap (λ b. b && i) (sym (lt-ltb p (port + 1) (omega arith))))
+      | inr from ↦ elim (cases_eq p port) [
+        | inl same ↦ (ap (λ b. (b && i) || (p == port && i)) (le-ltb p port from) ∙ ap (λ b. b && i) (eq-eqb p port same ∙ sym (lt-ltb p (port + 1) (omega arith))))
+        | inr other ↦ (ap (λ b. (b && i) || (p == port && i)) (le-ltb p port from) ∙ ap (λ b. b && i) (ne_eqb p port other ∙ sym (le-ltb p (port + 1) (omega (arith, other)))))
+      ]
+    ]
+  where
+    here : (i b : Bool) → (i || (b && i)) ≡ i
+    here true b = refl
+    here false true = refl
+    here false false = refl
+
+pub none-yet : (low high : PortBounds) (o : Bool) (p : ℕ) → o ≡ (o || (nat_lt p (lowest_of low high) && in_either low high p))
+none-yet low high true p = refl
+none-yet low high false p = at (in_either low high p) refl
+  where
+    at : (b : Bool) → in_either low high p ≡ b → false ≡ (nat_lt p (lowest_of low high) && b)
+    at true is =
+        let from : lowest_of low high ≤ p = leb-true (lowest_of low high) p (and_parts (nat_le (lowest_of low high) p) (nat_le p (highest_of low high)) (in-both low high p is)).0 in
+        sym (and_left (nat_lt p (lowest_of low high)) true (le-ltb p (lowest_of low high) from))
+    at false is = sym (and_right (nat_lt p (lowest_of low high)) false refl)
+
+pub all-of-them : (low high : PortBounds) (o : Bool) (p port : ℕ) → (o ≡ true → in_either low high p ≡ true) → highest_of low high < port → (o || (nat_lt p port && in_either low high p)) ≡ in_either low high p
+all-of-them low high true p port inside end = sym (inside refl)
+all-of-them low high false p port inside end = at (in_either low high p) refl
+  where
+    at : (b : Bool) → in_either low high p ≡ b → (nat_lt p port && b) ≡ b
+    at true is =
+        let to : p ≤ highest_of low high = leb-true p (highest_of low high) (and_parts (nat_le (lowest_of low high) p) (nat_le p (highest_of low high)) (in-both low high p is)).1 in
+        and_from (nat_lt p port) true (lt-ltb p port (omega arith)) refl
+    at false is = and_right (nat_lt p port) false refl

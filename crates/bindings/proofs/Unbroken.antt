@@ -1,10 +1,9 @@
 -- The ports of a rising list from one on, and their unbroken runs.
-use Rattle.std.proofs.Common.{◌≡◌, ℕ, zero, suc, ◌+◌, ◌<◌, ◌≤◌, ◌==◌, nat_le, Bool, true, false, cond, ◌&&◌, ◌||◌, Option, Some, None, inl, inr, List, [], ◌∷◌, refl, sym, ap, ◌∙◌, arith}
-use Rattle.std.specs.List.{filter}
-use Rattle.std.proofs.lemmas.Bool.{both_ways, cases_lt, cases_eq, cond-true, cond-false, or_parts, or_left, or_right, and_right, eq-eqb, ne_eqb, le-leb, lt-leb, false_from_ne_true}
-use Rattle.port_range.specs.Ports.{is_listed, RiseAbove}
+use Rattle.std.proofs.Common.{◌≡◌, ℕ, suc, ◌+◌, ◌<◌, ◌≤◌, ◌==◌, nat_le, true, false, cond, ◌||◌, Some, inl, inr, List, [], ◌∷◌, refl, sym, ap, ◌∙◌, arith}
+use Rattle.std.proofs.lemmas.Bool.{both_ways, cases_lt, cases_eq, cond-true, cond-false, or_parts, or_left, or_right, and_right, eq-eqb, ne_eqb, le-leb, lt-leb, false_from_ne_true, and_parts, leb-true}
+use Rattle.port_range.specs.Ports.{Range, IsRange, is_listed, RiseAbove}
 use Rattle.bindings.specs.declared.entries.PortBounds.{PortBounds}
-use Rattle.bindings.specs.Runs.{run_of, runs_on, runs_of, ports_from_on, first_of}
+use Rattle.bindings.specs.Runs.{run_of, runs_on, ports_from_on, first_of}
 use Rattle.bindings.proofs.Rising.{not-below, listed-filter}
 
 -- a port that isn't listed is passed over
@@ -37,6 +36,29 @@ from-none a [] h = refl
 from-none a (x ∷ xs) h =
     cond-false (nat_le a x) (x ∷ ports_from_on a xs) (ports_from_on a xs) (lt-leb a x (h x (or_left (x == x) (is_listed x xs) (eq-eqb x x refl))))
     ∙ from-none a xs (λ q there. h q (or_right (x == q) (is_listed q xs) there))
+
+-- the owned ports of a range, from one behind its end on, and from its start on
+pub none-owned : (r : Range) (a : ℕ) → IsRange r → r.highest < a → ports_from_on a r.owned ≡ []
+none-owned r a is h =
+    from-none a r.owned (λ q there.
+    let parts = and_parts (nat_le r.lowest q) (nat_le q r.highest) (is.owned q there) in
+    let high : q ≤ r.highest = leb-true q r.highest parts.1 in omega arith)
+
+pub all-owned : (r : Range) → IsRange r → ports_from_on r.lowest r.owned ≡ r.owned
+all-owned r is =
+    from-all r.lowest r.owned (λ q there.
+    leb-true r.lowest q (and_parts (nat_le r.lowest q) (nat_le q r.highest) (is.owned q there)).0)
+
+-- no port behind a range's end is owned
+pub not-owned : (r : Range) (a : ℕ) → IsRange r → r.highest < a → is_listed a r.owned ≡ false
+not-owned r a is h =
+    false_from_ne_true (is_listed a r.owned) (λ there.
+    let high : a ≤ r.highest = leb-true a r.highest (and_parts (nat_le r.lowest a) (nat_le a r.highest) (is.owned a there)).1 in
+    absurd (omega arith))
+
+-- an owned port isn't behind a range's end
+pub owned-high : (r : Range) (a : ℕ) → IsRange r → is_listed a r.owned ≡ true → a ≤ r.highest
+owned-high r a is there = leb-true a r.highest (and_parts (nat_le r.lowest a) (nat_le a r.highest) (is.owned a there)).1
 
 -- a port that is listed comes first, and then those behind it
 pub from-take : (low q : ℕ) (xs : List ℕ) → RiseAbove low xs → is_listed q xs ≡ true → ports_from_on q xs ≡ q ∷ ports_from_on (q + 1) xs

@@ -4,6 +4,7 @@ use Rattle.std.specs.List.{insert}
 use Rattle.nat_types.specs.declared.pairs.EntryState.{EntryState}
 use Rattle.nat_types.specs.declared.pairs.Key.{Key}
 use Rattle.lives.specs.Lives.{Past, Life}
+use Rattle.lives.specs.Rests.{AccountsFor}
 use Rattle.port_range.specs.Ports.{is_listed, AreRising}
 use Rattle.bindings.specs.declared.entries.Entry.{Entry}
 use Rattle.bindings.specs.declared.entries.PortBounds.{PortBounds}
@@ -31,6 +32,10 @@ owns t port = is_listed port t.owned
 -- the entry of a key agrees with a past
 abbrev pub IsPast : Table → Key → Past → Type 0
 IsPast t key past = HasPast t.entries t.lives key past
+
+-- the entry of a key agrees with a past that accounts for these uses
+abbrev pub Accounts : Table → Key → ℕ → List ℕ → Type 0
+Accounts t key now uses = (past : Past) × IsPast t key past × AccountsFor key.protocol now past uses
 
 -- the keys of its idle Live and Held entries, by protocol and port
 abbrev pub idle_keys_of : Table → ℕ → List Key

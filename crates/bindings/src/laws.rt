@@ -1,13 +1,51 @@
 //! Laws of the table.
-ghost use Rattle.std.specs.Prelude.{◌≡◌, ◌<◌, length, true, None};
+ghost use Rattle.std.specs.Prelude.{◌≡◌, ℕ, ◌<◌, ◌≤◌, List, ◌∷◌, length, Bool, true, Some, None};
 ghost use Rattle.nat_types.specs.declared.pairs.Key.{Key as OutsidePort};
 ghost use Rattle.bindings.specs.Entries.{slot_of};
 ghost use Rattle.bindings.specs.Ports.{in_either};
-ghost use Rattle.bindings.specs.Table.{Table as Seen, IsTable, AreInRanges};
+ghost use Rattle.bindings.specs.Table.{Table as Seen, IsTable, AreInRanges, IsPast, Accounts, idle_keys_of};
+ghost use Rattle.bindings.specs.Lives.{rests_at, is_unused_at, is_among};
+ghost use Rattle.bindings.specs.declared.entries.Entry.{Entry as Row};
+ghost use Rattle.lives.specs.Lives.{Past, came, with_packet, renewed};
+ghost use Rattle.lives.specs.Rests.{HaveRested, least_rest};
+ghost use Rattle.lives.specs.declared.packets.Packet.{Packet as Carried};
 
 /// Where all entries lie in the ranges, a key of the ranges without an entry never meets Full.
 pub fn room_law()
     ensures { (t : Seen) → IsTable t → AreInRanges t → (key : OutsidePort)
         → in_either t.zero t.one key.port.0 ≡ true → slot_of t.entries key ≡ None
         → length t.entries < t.capacity }
+{}
+
+/// A list of uses has the moments at which the gateway used a key's pair in its present life. `Accounts` says that the
+/// key's entry knows of them: it begins where they have rested and the entry comes in (`begins`) or is renewed
+/// (`renewed`), and goes on with a carried packet (`carried`) and with any change that leaves the entry its pasts (`kept`).
+/// Where the entry is idle, or unused, they have rested (`idle`, `listed`, `unused`): `HaveRested` of `lives` says what
+/// that gives to a trace.
+pub fn uses_law()
+    ensures begins { (t : Seen) → (key : OutsidePort) → (by_install : Bool) → (now : ℕ)
+        → (uses : List ℕ) → IsPast t key (came by_install now)
+        → HaveRested (least_rest key.protocol) now uses → Accounts t key now uses }
+    ensures carried { (t u : Seen) → (key : OutsidePort) → (since : ℕ) → (uses : List ℕ)
+        → (packet : Carried)
+        → ((past : Past) → IsPast t key past → IsPast u key (with_packet packet past))
+        → since ≤ packet.at → Accounts t key since uses
+        → Accounts u key packet.at (packet.at ∷ uses) }
+    ensures renewed { (t u : Seen) → (key : OutsidePort) → (since now : ℕ) → (uses : List ℕ)
+        → ((past : Past) → IsPast t key past → IsPast u key (renewed now past))
+        → HaveRested (least_rest key.protocol) now uses → Accounts t key since uses
+        → Accounts u key now uses }
+    ensures kept { (t u : Seen) → (key : OutsidePort) → (since now : ℕ) → (uses : List ℕ)
+        → ((past : Past) → IsPast t key past → IsPast u key past) → since ≤ now
+        → Accounts t key since uses → Accounts u key now uses }
+    ensures idle { (t : Seen) → (key : OutsidePort) → (now : ℕ) → (uses : List ℕ)
+        → Accounts t key now uses → rests_at t.entries t.lives key now ≡ true
+        → HaveRested (least_rest key.protocol) now uses }
+    ensures listed { (t : Seen) → (key : OutsidePort) → (entry : Row) → (now : ℕ)
+        → (uses : List ℕ) → IsTable t → slot_of t.entries key ≡ Some entry
+        → Accounts t key now uses → is_among key (idle_keys_of t now) ≡ true
+        → HaveRested (least_rest key.protocol) now uses }
+    ensures unused { (t : Seen) → (key : OutsidePort) → (now : ℕ) → (uses : List ℕ)
+        → Accounts t key now uses → is_unused_at t.entries t.lives key ≡ true
+        → HaveRested (least_rest key.protocol) now uses }
 {}

@@ -10,5 +10,5 @@ mod runs;
 mod table;
 
 pub use entries::{Entry, PortBounds, TableFault};
-pub use laws::room_law;
+pub use laws::{room_law, uses_law};
 pub use table::Table;

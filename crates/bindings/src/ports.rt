@@ -172,6 +172,7 @@ impl Ports {
         ensures alike { AreAlike (lowest_of zero one) (highest_of zero one) self.new }
         ensures free { SameFree self.old self.new }
     {
+        self.tcp.recall();
         let lowest = lowest_port(zero, one);
         let highest = highest_port(zero, one);
         for port in lowest.0..=highest.0 {

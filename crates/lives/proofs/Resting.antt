@@ -1,5 +1,5 @@
 -- An idle pair has rested since each use.
-use Rattle.std.proofs.Common.{◌≡◌, ℕ, zero, suc, ◌+◌, ◌-◌, ◌<◌, ◌≤◌, Bool, true, false, cond, ◌||◌, List, [], ◌∷◌, ◌++◌, length, map, get_or, refl, arith}
+use Rattle.std.proofs.Common.{◌≡◌, ℕ, zero, suc, ◌+◌, ◌-◌, ◌<◌, ◌≤◌, Bool, true, false, cond, ◌||◌, ◌⊎◌, inl, inr, List, [], ◌∷◌, ◌++◌, length, map, get_or, refl, arith}
 use Rattle.std.specs.List.{list_all}
 use Rattle.std.proofs.lemmas.Bool.{leb-true, and_parts}
 use Rattle.addresses.specs.declared.transport.Protocol.{Protocol}
@@ -13,8 +13,8 @@ use Rattle.lives.specs.declared.TheConstants.{UDP_REST, TRANSITORY_REST, ESTABLI
 use Rattle.lives.specs.Packets.{same_remote}
 use Rattle.lives.specs.Places.{changed_at, put_at, is_nowhere}
 use Rattle.lives.specs.Sessions.{has_rested, rest_of}
-use Rattle.lives.specs.Lives.{Course, Past, courses, course_place, is_crowded, is_empty, is_idle, is_unused, has_passed, first_course, longer, class_of, last_of}
-use Rattle.lives.specs.Rests.{least_rest, CameBy, AllRested, AllBefore}
+use Rattle.lives.specs.Lives.{Course, Past, came, with_packet, renewed, courses, course_place, is_crowded, is_empty, is_idle, is_unused, has_passed, first_course, longer, class_of, last_of}
+use Rattle.lives.specs.Rests.{least_rest, CameBy, AllRested, AllBefore, IsAmong, WasCarried, HaveRested, AccountsFor}
 use Rattle.lives.proofs.Items.{known-within, passed-within}
 
 -- where the newest of the packets rested, all did
@@ -91,3 +91,58 @@ later-rests rest since now (m ∷ ms) h all = (let low = all.0 in omega arith, l
 pub both-rest : (rest now : ℕ) (packets : List Packet) (moments : List ℕ) → AllRested rest now packets → AllBefore rest now moments → AllBefore rest now (map (λ (p : Packet). p.at) packets ++ moments)
 both-rest rest now [] moments rested all = all
 both-rest rest now (p ∷ older) moments rested all = (rested.0, both-rest rest now older moments rested.1 all)
+
+-- ---- a list of uses
+
+pub accounts-came : (protocol : Protocol) (by_install : Bool) (now : ℕ) (uses : List ℕ) → HaveRested (least_rest protocol) now uses → AccountsFor protocol now (came by_install now) uses
+accounts-came protocol by_install now uses rested = record { since = omega arith; packets = tt; accounted = λ at is. inr (rested at is) }
+
+pub accounts-renewed : (protocol : Protocol) (past : Past) (now : ℕ) (uses : List ℕ) → HaveRested (least_rest protocol) now uses → AccountsFor protocol now (renewed now past) uses
+accounts-renewed protocol past now uses rested = record { since = omega arith; packets = tt; accounted = λ at is. inr (rested at is) }
+
+came-later : (since now : ℕ) (packets : List Packet) → since ≤ now → CameBy since packets → CameBy now packets
+came-later since now [] h by = tt
+came-later since now (p ∷ older) h by = (let low = by.0 in omega (arith, low, h), by.1)
+
+pub accounts-later : (protocol : Protocol) (past : Past) (since now : ℕ) (uses : List ℕ) → since ≤ now → AccountsFor protocol since past uses → AccountsFor protocol now past uses
+accounts-later protocol past since now uses h a = record {
+  since = (let low = a.since in omega (arith, low, h));
+  packets = came-later since now past.packets h a.packets;
+  accounted = a.accounted;
+}
+
+pub accounts-more : (protocol : Protocol) (since : ℕ) (past : Past) (uses : List ℕ) (p : Packet) → since ≤ p.at → AccountsFor protocol since past uses → AccountsFor protocol p.at (with_packet p past) (p.at ∷ uses)
+accounts-more protocol since past uses p h a = record {
+  since = (let low = a.since in omega (arith, low, h));
+  packets = (omega arith, came-later since p.at past.packets h a.packets);
+  accounted = one;
+}
+  where
+    old : (at : ℕ) → WasCarried at past.packets ⊎ (at + least_rest protocol ≤ past.since) → WasCarried at (p ∷ past.packets) ⊎ (at + least_rest protocol ≤ past.since)
+    old at (inl carried) = inl (inr carried)
+    old at (inr rested) = inr rested
+
+    one : (at : ℕ) → IsAmong at (p.at ∷ uses) → WasCarried at (p ∷ past.packets) ⊎ (at + least_rest protocol ≤ past.since)
+    one at (inl here) = inl (inl here)
+    one at (inr is) = old at (a.accounted at is)
+
+carried-rested : (rest now at : ℕ) (packets : List Packet) → AllRested rest now packets → WasCarried at packets → at + rest ≤ now
+carried-rested rest now at [] rested was = absurd was
+carried-rested rest now at (p ∷ older) rested (inl here) = let low = rested.0 in omega (arith, low, here)
+carried-rested rest now at (p ∷ older) rested (inr was) = carried-rested rest now at older rested.1 was
+
+all-of-them : (protocol : Protocol) (past : Past) (now : ℕ) (uses : List ℕ) → AccountsFor protocol now past uses → AllRested (least_rest protocol) now past.packets → HaveRested (least_rest protocol) now uses
+all-of-them protocol past now uses a rested at is = each (a.accounted at is)
+  where
+    each : WasCarried at past.packets ⊎ (at + least_rest protocol ≤ past.since) → at + least_rest protocol ≤ now
+    each (inl was) = carried-rested (least_rest protocol) now at past.packets rested was
+    each (inr had) = let low = a.since in omega (arith, low, had)
+
+pub accounts-idle : (protocol : Protocol) (past : Past) (now : ℕ) (uses : List ℕ) → AccountsFor protocol now past uses → is_idle protocol past now ≡ true → HaveRested (least_rest protocol) now uses
+accounts-idle protocol past now uses a h = all-of-them protocol past now uses a (idle-rests protocol past now a.packets h)
+
+pub accounts-unused : (protocol : Protocol) (past : Past) (now : ℕ) (uses : List ℕ) → AccountsFor protocol now past uses → is_unused past ≡ true → HaveRested (least_rest protocol) now uses
+accounts-unused protocol past now uses a h = all-of-them protocol past now uses a (unused-rests past (least_rest protocol) now h)
+
+pub rested-later : (rest since now : ℕ) (uses : List ℕ) → since ≤ now → HaveRested rest since uses → HaveRested rest now uses
+rested-later rest since now uses h rested at is = let low = rested at is in omega (arith, low, h)

@@ -1,0 +1,13 @@
+use Rattle.bindings.proofs.Uses.{uses-begin, uses-carried, uses-renewed, uses-kept, uses-idle, uses-listed, uses-unused}
+use Rattle.bindings.proofs.laws.uses_law.Goals as goal
+
+pub returns : goal.returns
+returns c = record {
+  begins = uses-begin;
+  carried = uses-carried;
+  renewed = uses-renewed;
+  kept = uses-kept;
+  idle = uses-idle;
+  listed = uses-listed;
+  unused = uses-unused;
+}
