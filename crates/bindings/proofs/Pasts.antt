@@ -11,7 +11,8 @@ use Rattle.lives.specs.Lives.{Life, Past, Agrees}
 use Rattle.bindings.specs.declared.entries.Entry.{Entry}
 use Rattle.bindings.specs.Entries.{has_key, slot_of, place_of, HasDistinctKeys}
 use Rattle.bindings.specs.Lists.{place_in, put_in, without, with_state}
-use Rattle.bindings.specs.Lives.{life_in, lives_without, HasPast, KeepsOthers}
+use Rattle.lives.specs.Places.{changed_at}
+use Rattle.bindings.specs.Lives.{life_in, lives_with, lives_without, HasPast, KeepsOthers}
 use Rattle.bindings.proofs.Found.{find-none}
 use Rattle.bindings.proofs.Slots.{swap_choices}
 use Rattle.bindings.proofs.Orders.{turned-pair}
@@ -42,6 +43,23 @@ pub no-life : (key : Key) (es : List Entry) (ls : List Life) → slot_of es key 
 no-life key [] ls h = refl
 no-life key (x ∷ xs) [] h = refl
 no-life key (x ∷ xs) (l ∷ ls) h = let parts = find-none (has_key key) x xs h in cond-false (has_key key x) (Some l) (life_in xs ls key) parts.0 ∙ no-life key xs ls parts.1
+
+-- ---- a life changed
+
+pub lives-changed : (f : Life → Life) (key : Key) (es : List Entry) (ls : List Life) (i : ℕ) (d : Entry) → IsAt key es i d → length ls ≡ length es → changed_at i f ls ≡ lives_with f key es ls
+lives-changed f key [] ls i d at same = absurd (let h = at.low in omega (arith, h))
+lives-changed f key (x ∷ xs) [] i d at same = absurd (omega (arith, same))
+lives-changed f key (x ∷ xs) (l ∷ ls) zero d at same = sym (cond-true (has_key key x) (f l ∷ ls) (l ∷ lives_with f key xs ls) at.here)
+lives-changed f key (x ∷ xs) (l ∷ ls) (suc i) d at same =
+    ap (λ zs. l ∷ zs) (lives-changed f key xs ls i d (at-rest key x xs i d at) (omega (arith, same)))
+    ∙ sym (cond-false (has_key key x) (f l ∷ ls) (l ∷ lives_with f key xs ls) (at-not_first key x xs i d at))
+
+pub lives-unchanged : (f : Life → Life) (key : Key) (es : List Entry) (ls : List Life) → slot_of es key ≡ None → length ls ≡ length es → lives_with f key es ls ≡ ls
+lives-unchanged f key [] ls h same = refl
+lives-unchanged f key (x ∷ xs) [] h same = refl
+lives-unchanged f key (x ∷ xs) (l ∷ ls) h same =
+    let parts = find-none (has_key key) x xs h in
+    cond-false (has_key key x) (f l ∷ ls) (l ∷ lives_with f key xs ls) parts.0 ∙ ap (λ zs. l ∷ zs) (lives-unchanged f key xs ls parts.1 (omega (arith, same)))
 
 -- ---- an entry less
 

@@ -14,6 +14,13 @@ life_in [] ls key = None
 life_in (e ∷ es) [] key = None
 life_in (e ∷ es) (l ∷ ls) key = (if has_key key e then Some l else life_in es ls key)
 
+-- the lives, that of the key changed
+abbrev pub lives_with : (Life → Life) → Key → List Entry → List Life → List Life
+lives_with change key [] ls = ls
+lives_with change key (e ∷ es) [] = []
+lives_with change key (e ∷ es) (l ∷ ls) =
+    (if has_key key e then change l ∷ ls else l ∷ lives_with change key es ls)
+
 -- the lives but that of the key
 abbrev pub lives_without : Key → List Entry → List Life → List Life
 lives_without key [] ls = ls

@@ -4,7 +4,8 @@ ghost use Rattle.std.specs.List.{insert};
 ghost use Rattle.bindings.specs.Entries.{HasDistinctKeys, slot_of};
 ghost use Rattle.bindings.specs.Lists.{without, with_state};
 ghost use Rattle.bindings.specs.Lives.{lives_without, IsLifeSet, is_idle_row, idle_keys_in};
-ghost use Rattle.lives.specs.Lives.{Life as Seen, with_packet, renewed, looks_idle};
+ghost use Rattle.lives.specs.Lives.{Life as Seen, with_packet, renewed, looks_idle, life_carried, life_renewed};
+ghost use Rattle.lives.specs.Places.{changed_at};
 
 use crate::Entry;
 use crate::entries::{is_translating, position_of};
@@ -57,6 +58,7 @@ pub(crate) fn take_out(entries: &mut Vec<Entry>, lives: &mut Vec<Life>, key: Key
 pub(crate) fn carry(lives: &mut Vec<Life>, i: usize, protocol: Protocol, packet: Packet)
     requires { i < length lives.old.items }
     ensures life { IsLifeSet protocol (with_packet packet) lives.old.items lives.new.items i }
+    ensures exact { lives.new.items ≡ changed_at i (life_carried protocol packet) lives.old.items }
     ensures capacity { vec_capacity lives.new ≡ vec_capacity lives.old }
 {
     let life = &mut lives[i];
@@ -67,6 +69,7 @@ pub(crate) fn carry(lives: &mut Vec<Life>, i: usize, protocol: Protocol, packet:
 pub(crate) fn renew(lives: &mut Vec<Life>, i: usize, protocol: Protocol, now: u64)
     requires { i < length lives.old.items }
     ensures life { IsLifeSet protocol (renewed now) lives.old.items lives.new.items i }
+    ensures exact { lives.new.items ≡ changed_at i (life_renewed now) lives.old.items }
     ensures capacity { vec_capacity lives.new ≡ vec_capacity lives.old }
 {
     let _ = protocol;

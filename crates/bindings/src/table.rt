@@ -12,6 +12,10 @@ ghost use Rattle.addresses.specs.declared.transport.Protocol.TheVariants.{Tcp, U
 ghost use Rattle.bindings.specs.Lives.{KeepsOthers, is_among, rests_at, is_unused_at};
 ghost use Rattle.bindings.specs.Ports.{AreBounds, in_either, key_count, is_free_in, is_open_in, is_vacant, is_spare, chosen_port, ports_in};
 ghost use Rattle.bindings.specs.Table.{IsTable, IsPast, owns, idle_keys_of, with_entry_state, without_entry};
+ghost use Rattle.bindings.specs.Lives.{lives_with};
+ghost use Rattle.bindings.specs.Lists.{place_in};
+ghost use Rattle.std.specs.List.{insert};
+ghost use Rattle.lives.specs.Lives.{life_begun, life_carried, life_renewed};
 
 use crate::entries::{
     find_after, find_endpoint, find_key, is_vacant_port, pairs_of, place_among, position_of,
@@ -159,6 +163,8 @@ impl Table {
         ensures slots { OnOk result ((q : OutsidePort) → slot_of self.new.entries q
             ≡ set_at (slot_of self.old.entries) pair.key (Some (entry_in state pair)) q) }
         ensures begins { OnOk result (IsPast self.new pair.key (came by_install now)) }
+        ensures lives { OnOk result (self.new.lives ≡ insert self.old.lives
+            (place_in pair self.old.entries) (life_begun by_install now)) }
         ensures others { OnOk result (KeepsOthers pair.key self.old.entries self.old.lives
             self.new.entries self.new.lives) }
         ensures same { OnOk result (self.new ≡ record self.old {
@@ -338,6 +344,14 @@ impl Table {
         }
             in (past : Past) → IsPast self.old key past
             → IsPast self.new key (with_packet packet past) }
+        ensures lives { let packet : Carried = record {
+          remote = remote;
+          way = way;
+          flags = flags;
+          at = now;
+        }
+            in self.new.lives ≡ lives_with (life_carried key.protocol packet) key
+            self.old.entries self.old.lives }
         ensures others { KeepsOthers key self.old.entries self.old.lives self.new.entries
             self.new.lives }
         ensures same { self.new ≡ record self.old { lives = self.new.lives } }
@@ -358,6 +372,8 @@ impl Table {
     pub fn renew(&mut self, key: Key, now: u64)
         ensures renewed { (past : Past) → IsPast self.old key past
             → IsPast self.new key (renewed now past) }
+        ensures lives { self.new.lives ≡ lives_with (life_renewed now) key
+            self.old.entries self.old.lives }
         ensures others { KeepsOthers key self.old.entries self.old.lives self.new.entries
             self.new.lives }
         ensures same { self.new ≡ record self.old { lives = self.new.lives } }

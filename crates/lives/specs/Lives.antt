@@ -17,7 +17,7 @@ use Rattle.lives.specs.declared.TheConstants.{UDP_REST, ESTABLISHED_REST}
 use Rattle.lives.specs.Packets.{same_way, same_remote, is_fin, is_plain}
 use Rattle.lives.specs.Sessions.{is_closed, is_opening, first_class, rest_of, has_rested}
 use Rattle.lives.specs.Places.{place_by, put_at, is_nowhere}
-use Rattle.lives.specs.Kept.{all_passed}
+use Rattle.lives.specs.Kept.{all_passed, session_place, with_session}
 
 -- ---- one session: its segments, the newest first
 
@@ -147,6 +147,22 @@ looks_idle Tcp life now =
     (if life.is_crowded || is_empty life.sessions
     then has_rested ESTABLISHED_REST life.last now
     else all_passed now life.sessions)
+
+-- what is kept as a pair comes into a table, as it carries a packet, and as its list of packets begins empty
+abbrev pub life_begun : Bool → ℕ → Life
+life_begun by_install now = record { last = now; is_unused = by_install; is_crowded = false; sessions = [] }
+
+abbrev pub life_carried : Protocol → Packet → Life → Life
+life_carried Udp p life = record life { last = p.at; is_unused = false }
+life_carried Tcp p life = record {
+  last = p.at;
+  is_unused = false;
+  is_crowded = life.is_crowded || is_nowhere (session_place p life.sessions);
+  sessions = with_session p life.sessions;
+}
+
+abbrev pub life_renewed : ℕ → Life → Life
+life_renewed now life = record life { last = now; is_crowded = false; sessions = [] }
 
 -- which ways a kind of segment went
 abbrev pub marks_of : (TcpFlags → Bool) → List Packet → Marks

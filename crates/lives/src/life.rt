@@ -1,7 +1,7 @@
 //! The life of a pair in a table: what it needs to know whether the pair is idle.
 ghost use Rattle.std.specs.Prelude.{◌≡◌, ◌||◌, if◌then◌else◌};
 ghost use Rattle.addresses.specs.declared.transport.Protocol.{Protocol as Transport};
-ghost use Rattle.lives.specs.Lives.{Past, Agrees, came, with_packet, renewed, is_idle, looks_idle, is_unused, is_empty};
+ghost use Rattle.lives.specs.Lives.{Past, Agrees, came, with_packet, renewed, is_idle, looks_idle, is_unused, is_empty, life_begun, life_carried, life_renewed};
 ghost use Rattle.lives.specs.Sessions.{has_rested};
 ghost use Rattle.lives.specs.Kept.{all_passed};
 
@@ -49,7 +49,8 @@ fn is_tcp_idle(sessions: &[Session], is_crowded: bool, last: u64, now: u64) -> b
 impl Life {
     /// A pair comes into a table, by Install or otherwise.
     pub fn begin(by_install: bool, now: u64) -> Life
-        ensures { (protocol : Transport) → Agrees protocol (came by_install now) result }
+        ensures agrees { (protocol : Transport) → Agrees protocol (came by_install now) result }
+        ensures exact { result ≡ life_begun by_install now }
     {
         Life {
             last: now,
@@ -61,8 +62,9 @@ impl Life {
 
     /// The pair carried a packet.
     pub fn carried(&mut self, protocol: Protocol, packet: Packet)
-        ensures { (past : Past) → Agrees protocol past self.old
+        ensures agrees { (past : Past) → Agrees protocol past self.old
             → Agrees protocol (with_packet packet past) self.new }
+        ensures exact { self.new ≡ life_carried protocol packet self.old }
     {
         self.last = packet.at;
         self.is_unused = false;
@@ -77,8 +79,9 @@ impl Life {
 
     /// The list of packets begins empty.
     pub fn renew(&mut self, now: u64)
-        ensures { (protocol : Transport) → (past : Past) → Agrees protocol past self.old
+        ensures agrees { (protocol : Transport) → (past : Past) → Agrees protocol past self.old
             → Agrees protocol (renewed now past) self.new }
+        ensures exact { self.new ≡ life_renewed now self.old }
     {
         self.last = now;
         self.is_crowded = false;

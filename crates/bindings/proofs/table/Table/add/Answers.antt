@@ -56,7 +56,7 @@ returns-clause-begins c =
     let quiet : refusal_of i.capacity i.entries.items entry ≡ None = ap (λ es. refusal_of i.capacity es entry) (sym c.deref.ensures.value) ∙ sym c.refusal.ensures ∙ c.in_default.is in
     let fits = welcome i.capacity i.entries.items entry quiet in
     rw (put, alive)
-    (put-begins entry c.begin.result i.entries.items i.lives.items (came c.args.by_install c.args.now) c.self.invariant.alike fits.key (c.begin.ensures c.args.pair.key.protocol))
+    (put-begins entry c.begin.result i.entries.items i.lives.items (came c.args.by_install c.args.now) c.self.invariant.alike fits.key (c.begin.ensures.agrees c.args.pair.key.protocol))
 
 pub returns-clause-others : goal.returns-clause-others
 returns-clause-others c =
@@ -68,3 +68,10 @@ returns-clause-others c =
     let quiet : refusal_of i.capacity i.entries.items entry ≡ None = ap (λ es. refusal_of i.capacity es entry) (sym c.deref.ensures.value) ∙ sym c.refusal.ensures ∙ c.in_default.is in
     let fits = welcome i.capacity i.entries.items entry quiet in
     rw (put, alive, ← c.self.view_is) (put-keeps entry c.begin.result i.entries.items i.lives.items c.self.invariant.alike fits.key)
+
+pub returns-clause-lives : goal.returns-clause-lives
+returns-clause-lives c =
+    let i = c.self.inside in
+    let place : c.place_among-place.result ≡ place_in c.args.pair i.entries.items = c.place_among-place.ensures.place ∙ ap (place_in c.args.pair) c.deref-2.ensures.value in
+    let alive : c.insert_reserved-2.new.list.items ≡ insert i.lives.items (place_in c.args.pair i.entries.items) c.begin.result = c.insert_reserved-2.ensures.items ∙ ap (λ n. insert i.lives.items n c.begin.result) place in
+    rw (alive, ← c.self.view_is) (ap (insert i.lives.items (place_in c.args.pair i.entries.items)) c.begin.ensures.exact)

@@ -2,10 +2,10 @@ use Rattle.std.proofs.Common.{refl}
 use Rattle.lives.proofs.Pasts.{agrees-udp, agrees-tcp}
 use Rattle.lives.proofs.life.Life.carried.Goals as goal
 
-pub returns-in-Udp : goal.returns-in-Udp
-returns-in-Udp c = rw (c.in-Udp.is) (λ past agrees. agrees-udp past _ c.args.packet refl refl)
+pub returns-in-Udp-clause-agrees : goal.returns-in-Udp-clause-agrees
+returns-in-Udp-clause-agrees c = rw (c.in-Udp.is) (λ past agrees. agrees-udp past _ c.args.packet refl refl)
 
-pub returns-in-Tcp : goal.returns-in-Tcp
-returns-in-Tcp c =
+pub returns-in-Tcp-clause-agrees : goal.returns-in-Tcp-clause-agrees
+returns-in-Tcp-clause-agrees c =
     rw (c.in-Tcp.is, ← c.self.view_is)
     (λ past agrees. agrees-tcp past _ _ c.args.packet c.follow-nowhere.result agrees refl refl c.follow-nowhere.ensures.sessions c.follow-nowhere.ensures.nowhere refl)
