@@ -1,0 +1,5 @@
+mod Rising
+mod Unbroken
+mod Naming
+mod Putting
+mod Slotted

@@ -1,12 +1,13 @@
 -- A whole table as records: what a gateway pushes for a peer that begins anew.
-use Rattle.std.specs.Prelude.{ℕ, true, false, Bool, List, [], ◌∷◌, ◌++◌, map}
+use Rattle.std.specs.Prelude.{◌≡◌, ℕ, true, false, Bool, Some, List, [], ◌∷◌, ◌++◌, map}
 use Rattle.nat_types.specs.declared.pairs.EntryState.{EntryState}
 use Rattle.nat_types.specs.declared.pairs.EntryState.TheVariants.{Pending, Doomed, Live, Closing, Held}
+use Rattle.nat_types.specs.declared.pairs.Key.{Key}
 use Rattle.nat_types.specs.declared.records.Record.{Record}
 use Rattle.nat_types.specs.declared.records.Record.TheVariants.{Begin, Put, Done, Owner}
 use Rattle.bindings.specs.declared.entries.Entry.{Entry}
 use Rattle.bindings.specs.declared.entries.PortBounds.{PortBounds}
-use Rattle.bindings.specs.Entries.{pairs_in}
+use Rattle.bindings.specs.Entries.{is_pair, slot_of, pairs_in}
 use Rattle.bindings.specs.Runs.{runs_of}
 
 -- the pair was agreed: a proposal that waits for its answer is no part of a batch
@@ -28,3 +29,7 @@ puts_of entries = map (λ p. Put p) (pairs_in is_settled entries)
 -- Begin, the Owners, the Puts, Done
 abbrev pub batch_of : List ℕ → List Entry → List Record
 batch_of owned entries = Begin ∷ owners_of (runs_of owned) ++ (puts_of entries ++ Done ∷ [])
+
+-- no entry is a proposal given up, as none is once the peer has begun anew
+abbrev pub HasNoDoomed : List Entry → Type 0
+HasNoDoomed entries = (key : Key) (x : Entry) → slot_of entries key ≡ Some x → is_pair x.state ≡ true

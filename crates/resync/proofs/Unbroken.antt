@@ -1,0 +1,104 @@
+-- The ports of a rising list from one on, and their unbroken runs.
+use Rattle.std.proofs.Common.{◌≡◌, ℕ, suc, ◌+◌, ◌<◌, ◌≤◌, ◌==◌, nat_le, true, false, cond, ◌||◌, Some, inl, inr, List, [], ◌∷◌, refl, sym, ap, ◌∙◌, arith}
+use Rattle.std.proofs.lemmas.Bool.{both_ways, cases_lt, cases_eq, cond-true, cond-false, or_parts, or_left, or_right, and_right, eq-eqb, ne_eqb, le-leb, lt-leb, false_from_ne_true, and_parts, leb-true}
+use Rattle.port_range.specs.Ports.{Range, IsRange, is_listed, RiseAbove}
+use Rattle.bindings.specs.declared.entries.PortBounds.{PortBounds}
+use Rattle.bindings.specs.Runs.{run_of, runs_on, ports_from_on, first_of}
+use Rattle.resync.proofs.Rising.{not-below, listed-filter}
+
+-- a port that isn't listed is passed over
+pub from-skip : (q : ℕ) (xs : List ℕ) → is_listed q xs ≡ false → ports_from_on q xs ≡ ports_from_on (q + 1) xs
+from-skip q [] h = refl
+from-skip q (x ∷ xs) h =
+    let parts = or_parts (x == q) (is_listed q xs) h in
+    let differs : (x ≡ q → ⊥) = λ e. both_ways (x == q) parts.0 (eq-eqb x q e) in
+    let same : nat_le q x ≡ nat_le (q + 1) x = at differs in
+    ap (λ b. cond b (x ∷ ports_from_on q xs) (ports_from_on q xs)) same
+    ∙ ap (λ (zs : List ℕ). cond (nat_le (q + 1) x) (x ∷ zs) zs) (from-skip q xs parts.1)
+  where
+    at : (x ≡ q → ⊥) → nat_le q x ≡ nat_le (q + 1) x
+    at differs =
+        elim (cases_lt x q) [
+          | inl below ↦ lt-leb q x below ∙ sym (lt-leb (q + 1) x (omega arith))
+          | inr from ↦ le-leb q x from ∙ sym (le-leb (q + 1) x (omega (arith, differs)))
+        ]
+
+-- all of them, where each is as high
+pub from-all : (a : ℕ) (xs : List ℕ) → ((q : ℕ) → is_listed q xs ≡ true → a ≤ q) → ports_from_on a xs ≡ xs
+from-all a [] h = refl
+from-all a (x ∷ xs) h =
+    cond-true (nat_le a x) (x ∷ ports_from_on a xs) (ports_from_on a xs) (le-leb a x (h x (or_left (x == x) (is_listed x xs) (eq-eqb x x refl))))
+    ∙ ap (λ zs. x ∷ zs) (from-all a xs (λ q there. h q (or_right (x == q) (is_listed q xs) there)))
+
+-- none, where each is lower
+pub from-none : (a : ℕ) (xs : List ℕ) → ((q : ℕ) → is_listed q xs ≡ true → q < a) → ports_from_on a xs ≡ []
+from-none a [] h = refl
+from-none a (x ∷ xs) h =
+    cond-false (nat_le a x) (x ∷ ports_from_on a xs) (ports_from_on a xs) (lt-leb a x (h x (or_left (x == x) (is_listed x xs) (eq-eqb x x refl))))
+    ∙ from-none a xs (λ q there. h q (or_right (x == q) (is_listed q xs) there))
+
+-- the owned ports of a range, from one behind its end on, and from its start on
+pub none-owned : (r : Range) (a : ℕ) → IsRange r → r.highest < a → ports_from_on a r.owned ≡ []
+none-owned r a is h =
+    from-none a r.owned (λ q there.
+    let parts = and_parts (nat_le r.lowest q) (nat_le q r.highest) (is.owned q there) in
+    let high : q ≤ r.highest = leb-true q r.highest parts.1 in omega arith)
+
+pub all-owned : (r : Range) → IsRange r → ports_from_on r.lowest r.owned ≡ r.owned
+all-owned r is =
+    from-all r.lowest r.owned (λ q there.
+    leb-true r.lowest q (and_parts (nat_le r.lowest q) (nat_le q r.highest) (is.owned q there)).0)
+
+-- no port behind a range's end is owned
+pub not-owned : (r : Range) (a : ℕ) → IsRange r → r.highest < a → is_listed a r.owned ≡ false
+not-owned r a is h =
+    false_from_ne_true (is_listed a r.owned) (λ there.
+    let high : a ≤ r.highest = leb-true a r.highest (and_parts (nat_le r.lowest a) (nat_le a r.highest) (is.owned a there)).1 in
+    absurd (omega arith))
+
+-- an owned port isn't behind a range's end
+pub owned-high : (r : Range) (a : ℕ) → IsRange r → is_listed a r.owned ≡ true → a ≤ r.highest
+owned-high r a is there = leb-true a r.highest (and_parts (nat_le r.lowest a) (nat_le a r.highest) (is.owned a there)).1
+
+-- a port that is listed comes first, and then those behind it
+pub from-take : (low q : ℕ) (xs : List ℕ) → RiseAbove low xs → is_listed q xs ≡ true → ports_from_on q xs ≡ q ∷ ports_from_on (q + 1) xs
+from-take low q [] r h = cc
+from-take low q (x ∷ xs) r h =
+    elim (cases_eq x q) [
+      | inl same ↦
+          (let none : is_listed q xs ≡ false = not-below x xs q r.1 (omega arith) in
+          cond-true (nat_le q x) (x ∷ ports_from_on q xs) (ports_from_on q xs) (le-leb q x (omega arith))
+          ∙ ap (λ (z : ℕ). z ∷ ports_from_on q xs) same
+          ∙ ap (λ zs. q ∷ zs) (from-skip q xs none ∙ sym (cond-false (nat_le (q + 1) x) (x ∷ ports_from_on (q + 1) xs) (ports_from_on (q + 1) xs) (lt-leb (q + 1) x (omega arith)))))
+      | inr other ↦
+          (let there : is_listed q xs ≡ true = ap (λ b. b || is_listed q xs) (sym (ne_eqb x q other)) ∙ h in
+          let past : x < q = above there in
+          cond-false (nat_le q x) (x ∷ ports_from_on q xs) (ports_from_on q xs) (lt-leb q x past)
+          ∙ from-take x q xs r.1 there
+          ∙ ap (λ zs. q ∷ zs) (sym (cond-false (nat_le (q + 1) x) (x ∷ ports_from_on (q + 1) xs) (ports_from_on (q + 1) xs) (lt-leb (q + 1) x (omega arith)))))
+    ]
+  where
+    above : is_listed q xs ≡ true → x < q
+    above there =
+        elim (cases_lt x q) [
+          | inl past ↦ past
+          | inr before ↦ absurd (both_ways (is_listed q xs) (not-below x xs q r.1 before) there)
+        ]
+
+-- a run ends before a port that isn't listed
+ended : (first last next : ℕ) (ys : List ℕ) → next ≡ last + 1 → is_listed next ys ≡ false → first_of (runs_on first last ys) ≡ Some (run_of first last)
+ended first last next [] is h = refl
+ended first last next (y ∷ ys) is h =
+    let parts = or_parts (y == next) (is_listed next ys) h in
+    let differs : (y == suc last) ≡ false = ne_eqb y (suc last) (λ e. both_ways (y == next) parts.0 (eq-eqb y next (omega arith))) in
+    ap (λ (rs : List PortBounds). first_of rs) (cond-false (y == suc last) (runs_on first y ys) (run_of first last ∷ runs_on y y ys) differs)
+
+pub run-stops : (first last next : ℕ) (xs : List ℕ) → next ≡ last + 1 → is_listed next xs ≡ false → first_of (runs_on first last (ports_from_on next xs)) ≡ Some (run_of first last)
+run-stops first last next xs is h =
+    ended first last next (ports_from_on next xs) is (listed-filter (nat_le next) xs next ∙ and_right (nat_le next next) (is_listed next xs) h)
+
+-- and goes on with one that is
+pub run-goes : (low first last next : ℕ) (xs : List ℕ) → next ≡ last + 1 → RiseAbove low xs → is_listed next xs ≡ true → runs_on first last (ports_from_on next xs) ≡ runs_on first next (ports_from_on (next + 1) xs)
+run-goes low first last next xs is r h =
+    ap (runs_on first last) (from-take low next xs r h)
+    ∙ cond-true (next == suc last) (runs_on first next (ports_from_on (next + 1) xs)) (run_of first last ∷ runs_on next next (ports_from_on (next + 1) xs)) (eq-eqb next (suc last) (omega arith))
