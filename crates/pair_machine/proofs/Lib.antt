@@ -30,3 +30,4 @@ pub mod Batches
 pub mod Runs
 pub mod MoreRuns
 pub mod Taking
+pub mod Forged

@@ -48,7 +48,7 @@ module _ (r : Ranges) where
   kept_prop s = hlevel (fits_prop s.trace, silent_prop s.trace, props)
 
   -- the invariant holds of each
-  inv_world : (s : Scene) → IsWorld r s → ∥ Inv r Zero s ∥₁
+  pub inv_world : (s : Scene) → IsWorld r s → ∥ Inv r Zero s ∥₁
   inv_world s w = ∥∥₁_elim w (hlevel) (λ v. ∣ subst (λ (x : Scene). Inv r Zero x) v.ends (inv_run r v.events (founding r) (inv_start r) v.allowed) ∣₁)
 
   pub promises : (s : Scene) → IsWorld r s → IsKept s.trace (tables_of s)

@@ -1,6 +1,6 @@
 //! What holds of every pair. Each law is the contract of a function that does nothing.
 
-ghost use Rattle.std.specs.Prelude.{◌≡◌, ℕ, Bool, false, ◌&&◌, ◌++◌, List, [], ◌∷◌, Some, IsTrue, filter, true, reverse};
+ghost use Rattle.std.specs.Prelude.{◌≡◌, ◌≤◌, ℕ, Bool, false, ◌&&◌, ◌++◌, List, [], ◌∷◌, Some, IsTrue, filter, true, reverse};
 ghost use Rattle.nat_types.specs.Same.{other, same};
 ghost use Rattle.nat_types.specs.declared.gateways.GatewayId.{GatewayId};
 ghost use Rattle.nat_types.specs.declared.notes.Note.{Note};
@@ -67,6 +67,19 @@ pub fn takes_in_order()
     ensures { (r : Ranges) (s : Scene) (i : GatewayId) (l : Letter) (offset : ℕ) (q : MachineRecord)
         → IsWorld r s → let v = seen_by i s in IsTrue v.theirs.synced → In l v.their_mail →
         StandsNext v.mine l offset q → nth v.theirs.sent v.mine.taken ≡ Some q }
+{}
+
+/// What only a forger can do: while its batch is promised, a synced gateway that isn't lone never meets a letter of the
+/// other's with a record that stands next, and in the session with it the other took no more than may be sent.
+pub fn nothing_forged()
+    ensures waits { (r : Ranges) (s : Scene) (i : GatewayId) (m : ℕ) (l : Letter) (offset : ℕ)
+        (q : MachineRecord) → IsWorld r s → let v = seen_by i s in v.mine.synced ≡ true →
+        v.mine.lone ≡ false → v.mine.promised ≡ Some m → In l v.their_mail →
+        StandsNext v.mine l offset q → ⊥ }
+    ensures taken { (r : Ranges) (s : Scene) (i : GatewayId) (m : ℕ) → IsWorld r s →
+        let v = seen_by i s in v.mine.synced ≡ true → v.mine.lone ≡ false →
+        v.mine.promised ≡ Some m → v.theirs.up ≡ true → v.mine.peer ≡ v.theirs.boot →
+        v.theirs.taken ≤ m }
 {}
 
 /// A step of gateway i, as its own contract tells of it, leads from a scene that can come about to one that can, where

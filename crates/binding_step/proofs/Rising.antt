@@ -1,0 +1,131 @@
+-- Rising lists of ports: what is listed settles them.
+use Rattle.std.proofs.Common.{◌≡◌, ℕ, zero, suc, ◌+◌, ◌-◌, ◌<◌, ◌≤◌, ◌==◌, nat_le, nat_lt, Bool, true, false, cond, ◌&&◌, ◌||◌, not, ◌⊎◌, inl, inr, List, [], ◌∷◌, refl, sym, ap, ◌∙◌, arith}
+use Rattle.std.specs.List.{filter, list_any, range_with_len}
+use Rattle.std.proofs.lemmas.Bool.{both_ways, cases_lt, cases_eq, cond-true, cond-false, or_from, or_left, or_right, or_cases, and_from, and_left, and_right, and_parts, eq-eqb, ne_eqb, eqb-true, false_from_ne_true, ltb-true, ltb-false, lt-ltb, le-ltb, le-leb, lt-leb, leb-true}
+use Rattle.port_range.specs.Ports.{is_listed, is_within, RiseAbove, AreRising}
+use Rattle.bindings.specs.declared.entries.PortBounds.{PortBounds}
+use Rattle.bindings.specs.Ports.{in_either, lowest_of, highest_of}
+use Rattle.bindings.specs.Runs.{own_in, without_port, all_ports}
+use Rattle.bindings.proofs.Holding.{in-both}
+
+-- no number up to the one before a rising list stands in it
+pub not-below : (low : ℕ) (xs : List ℕ) (q : ℕ) → RiseAbove low xs → q ≤ low → is_listed q xs ≡ false
+not-below low [] q r h = refl
+not-below low (x ∷ xs) q r h =
+    let up : low < x = r.0 in
+    or_from (x == q) (is_listed q xs) (ne_eqb x q (λ e. absurd (omega arith))) (not-below x xs q r.1 (omega arith))
+
+pub rise-lower : (low high : ℕ) (xs : List ℕ) → low ≤ high → RiseAbove high xs → RiseAbove low xs
+rise-lower low high [] le r = tt
+rise-lower low high (x ∷ xs) le r = let up : high < x = r.0 in (omega arith, r.1)
+
+pub rise-filter : (low : ℕ) (p : ℕ → Bool) (xs : List ℕ) → RiseAbove low xs → RiseAbove low (filter p xs)
+rise-filter low p [] r = tt
+rise-filter low p (x ∷ xs) r = at (p x) (rise-filter x p xs r.1)
+  where
+    at : (b : Bool) → RiseAbove x (filter p xs) → RiseAbove low (cond b (x ∷ filter p xs) (filter p xs))
+    at true ih = (r.0, ih)
+    at false ih = let up : low < x = r.0 in rise-lower low x (filter p xs) (omega arith) ih
+
+pub rise-range : (low start count : ℕ) → low < start → RiseAbove low (range_with_len start count)
+rise-range low start zero h = tt
+rise-range low start (suc count) h = (h, rise-range start (start + 1) count (omega arith))
+
+-- ---- what is listed
+
+filtered : (p : ℕ → Bool) (x q : ℕ) (rest : Bool) (xs : List ℕ) (b : Bool) → p x ≡ b → is_listed q xs ≡ (p q && rest) → is_listed q (cond b (x ∷ xs) xs) ≡ (p q && ((x == q) || rest))
+filtered p x q rest xs true is h =
+    elim (cases_eq x q) [
+      | inl same ↦
+          (or_left (x == q) (is_listed q xs) (eq-eqb x q same)
+          ∙ sym (and_from (p q) ((x == q) || rest) (ap p (sym same) ∙ is) (or_left (x == q) rest (eq-eqb x q same))))
+      | inr other ↦
+          (ap (λ b. b || is_listed q xs) (ne_eqb x q other) ∙ h ∙ ap (λ b. p q && (b || rest)) (sym (ne_eqb x q other)))
+    ]
+filtered p x q rest xs false is h =
+    elim (cases_eq x q) [
+      | inl same ↦ (h ∙ and_left (p q) rest (ap p (sym same) ∙ is) ∙ sym (and_left (p q) ((x == q) || rest) (ap p (sym same) ∙ is)))
+      | inr other ↦ h ∙ ap (λ b. p q && (b || rest)) (sym (ne_eqb x q other))
+    ]
+
+and-false : (b : Bool) → false ≡ (b && false)
+and-false true = refl
+and-false false = refl
+
+pub listed-filter : (p : ℕ → Bool) (xs : List ℕ) (q : ℕ) → is_listed q (filter p xs) ≡ (p q && is_listed q xs)
+listed-filter p [] q = and-false (p q)
+listed-filter p (x ∷ xs) q = filtered p x q (is_listed q xs) (filter p xs) (p x) refl (listed-filter p xs q)
+
+pub listed-range : (start count q : ℕ) → start ≤ q → q < start + count → is_listed q (range_with_len start count) ≡ true
+listed-range start zero q low high = absurd (omega arith)
+listed-range start (suc count) q low high =
+    elim (cases_eq start q) [
+      | inl same ↦ or_left (start == q) (is_listed q (range_with_len (start + 1) count)) (eq-eqb start q same)
+      | inr other ↦ or_right (start == q) (is_listed q (range_with_len (start + 1) count)) (listed-range (start + 1) count q (omega arith) (omega arith))
+    ]
+
+swap : (a b c : Bool) → (a || (b || c)) ≡ (b || (a || c))
+swap true true c = refl
+swap true false c = refl
+swap false b c = refl
+
+or-cond : (b c : Bool) → (b || c) ≡ cond b true c
+or-cond true c = refl
+or-cond false c = refl
+
+turned : (a b : ℕ) → (a == b) ≡ (b == a)
+turned a b =
+    elim (cases_eq a b) [
+      | inl same ↦ eq-eqb a b same ∙ sym (eq-eqb b a (sym same))
+      | inr other ↦ ne_eqb a b other ∙ sym (ne_eqb b a (λ e. other (sym e)))
+    ]
+
+listed-put : (p : ℕ) (xs : List ℕ) (q : ℕ) → is_listed q (own_in p xs) ≡ ((p == q) || is_listed q xs)
+listed-put p [] q = refl
+listed-put p (x ∷ xs) q = at (nat_lt p x) (listed-put p xs q)
+  where
+    at : (b : Bool) → is_listed q (own_in p xs) ≡ ((p == q) || is_listed q xs) → is_listed q (cond b (p ∷ x ∷ xs) (x ∷ own_in p xs)) ≡ ((p == q) || ((x == q) || is_listed q xs))
+    at true ih = refl
+    at false ih = ap (λ b. (x == q) || b) ih ∙ swap (x == q) (p == q) (is_listed q xs)
+
+pub listed-own_in : (p : ℕ) (xs : List ℕ) (q : ℕ) → is_listed q (own_in p xs) ≡ cond (q == p) true (is_listed q xs)
+listed-own_in p xs q = listed-put p xs q ∙ ap (λ b. b || is_listed q xs) (turned p q) ∙ or-cond (q == p) (is_listed q xs)
+
+not-and : (b c : Bool) → (not b && c) ≡ cond b false c
+not-and true c = refl
+not-and false c = refl
+
+pub listed-without : (p : ℕ) (xs : List ℕ) (q : ℕ) → is_listed q (without_port p xs) ≡ cond (q == p) false (is_listed q xs)
+listed-without p xs q = listed-filter (λ x. not (x == p)) xs q ∙ not-and (q == p) (is_listed q xs)
+
+pub rise-own_in : (low p : ℕ) (xs : List ℕ) → low < p → RiseAbove low xs → is_listed p xs ≡ false → RiseAbove low (own_in p xs)
+rise-own_in low p [] above r h = (above, tt)
+rise-own_in low p (x ∷ xs) above r h = at (nat_lt p x) refl (λ past. rise-own_in x p xs past r.1 rest)
+  where
+    rest : is_listed p xs ≡ false
+    rest = false_from_ne_true (is_listed p xs) (λ there. both_ways (is_listed p (x ∷ xs)) h (or_right (x == p) (is_listed p xs) there))
+
+    apart : x ≡ p → ⊥
+    apart e = both_ways (is_listed p (x ∷ xs)) h (or_left (x == p) (is_listed p xs) (eq-eqb x p e))
+
+    at : (b : Bool) → nat_lt p x ≡ b → (x < p → RiseAbove x (own_in p xs)) → RiseAbove low (cond b (p ∷ x ∷ xs) (x ∷ own_in p xs))
+    at true is ih = (above, (ltb-true p x is, r.1))
+    at false is ih =
+        let le : x ≤ p = ltb-false p x is in
+        (r.0, ih (elim (cases_eq x p) [ inl same ↦ absurd (apart same) | inr other ↦ omega (arith, other) ]))
+
+-- all ports of both ranges
+pub listed-all : (low high : PortBounds) (q : ℕ) → is_listed q (all_ports low high) ≡ in_either low high q
+listed-all low high q =
+    listed-filter (in_either low high) (range_with_len (lowest_of low high) (highest_of low high + 1 - lowest_of low high)) q ∙ at (in_either low high q) refl
+  where
+    at : (b : Bool) → in_either low high q ≡ b → (b && is_listed q (range_with_len (lowest_of low high) (highest_of low high + 1 - lowest_of low high))) ≡ b
+    at true is =
+        let parts = and_parts (nat_le (lowest_of low high) q) (nat_le q (highest_of low high)) (in-both low high q is) in
+        let a : lowest_of low high ≤ q = leb-true (lowest_of low high) q parts.0 in
+        let b : q ≤ highest_of low high = leb-true q (highest_of low high) parts.1 in
+        listed-range (lowest_of low high) (highest_of low high + 1 - lowest_of low high) q a (between (lowest_of low high) (highest_of low high) a b)
+      where
+        between : (l h : ℕ) → l ≤ q → q ≤ h → q < l + (h + 1 - l)
+        between l h a b = omega arith
+    at false is = refl

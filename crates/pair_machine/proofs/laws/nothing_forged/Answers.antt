@@ -1,0 +1,8 @@
+use Rattle.pair_machine.proofs.Forged as forged
+use Rattle.pair_machine.proofs.laws.nothing_forged.Goals as goal
+
+pub returns-clause-waits : goal.returns-clause-waits
+returns-clause-waits c = forged.nothing_comes
+
+pub returns-clause-taken : goal.returns-clause-taken
+returns-clause-taken c = forged.no_more_taken
