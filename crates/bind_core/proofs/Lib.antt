@@ -1,2 +1,4 @@
 pub mod Changing
+pub mod Granting
+pub mod Performing
 pub mod Porting

@@ -10,6 +10,8 @@ use Rattle.addresses.specs.declared.transport.Port.{Port}
 use Rattle.port_range.specs.Ports.{is_listed}
 use Rattle.bindings.specs.Runs.{without_port, own_in}
 use Rattle.binding_step.specs.Books.{Book}
+use Rattle.bind_core.specs.Changes.{table_book, IsBetween}
+use Rattle.bind_core.specs.declared.deeds.Bounds.{Bounds}
 use Rattle.binding_step.specs.Rows.{without_ports, with_gained, is_gained}
 
 map-append : (xs ys : List Port) → map (λ (p : Port). p.0) (xs ++ ys) ≡ map (λ (p : Port). p.0) xs ++ map (λ (p : Port). p.0) ys
@@ -95,8 +97,24 @@ gained-more ports i d b h = ap (with_gained b) (one-more ports i d h) ∙ gained
 pub gained-step : (ports items : List Port) (i : ℕ) (d : Port) (b : Book) → items ≡ ports → i < length items → with_gained b (map (λ (p : Port). p.0) (take (i + 1) ports)) ≡ with_gained (with_gained b (map (λ (p : Port). p.0) (take i ports))) ((get_or items i d).0 ∷ [])
 gained-step ports items i d b same h = subst (λ (z : List Port). with_gained b (map (λ (p : Port). p.0) (take (i + 1) z)) ≡ with_gained (with_gained b (map (λ (p : Port). p.0) (take i z))) ((get_or items i d).0 ∷ [])) same (gained-more items i d b h)
 
-pub gained-next : (b0 b b2 : Book) (ports items : List Port) (i : ℕ) (d : Port) → items ≡ ports → i < length items
-    → b ≡ with_gained b0 (map (λ (p : Port). p.0) (take i ports)) → b2 ≡ with_gained b ((get_or items i d).0 ∷ [])
-    → b2 ≡ with_gained b0 (map (λ (p : Port). p.0) (take (i + 1) ports))
-gained-next b0 b b2 ports items i d same h was is =
-    is ∙ ap (λ (z : Book). with_gained z ((get_or items i d).0 ∷ [])) was ∙ sym (gained-step ports items i d b0 same h)
+-- only the ports change
+pub gained-rest : (b : Book) (xs : List ℕ) → with_gained b xs ≡ record b { owned = (with_gained b xs).owned }
+gained-rest b [] = refl
+gained-rest b (x ∷ xs) = at (is_gained b x)
+  where
+    at : (g : Bool) → with_gained (cond g (record b { owned = own_in x b.owned }) b) xs ≡ record b { owned = (with_gained (cond g (record b { owned = own_in x b.owned }) b) xs).owned }
+    at true = gained-rest (record b { owned = own_in x b.owned }) xs
+    at false = gained-rest b xs
+
+pub gained-next : (t t0 t2 : Table) (ports items : List Port) (i : ℕ) (d : Port) → items ≡ ports → i < length items
+    → t ≡ record t0 { owned = (with_gained (table_book t0) (map (λ (p : Port). p.0) (take i ports))).owned }
+    → t2 ≡ record t { owned = (with_gained (table_book t) ((get_or items i d).0 ∷ [])).owned }
+    → t2 ≡ record t0 { owned = (with_gained (table_book t0) (map (λ (p : Port). p.0) (take (i + 1) ports))).owned }
+gained-next t t0 t2 ports items i d same h was is =
+    is
+    ∙ ap (λ (u : Table). let v : Table = record u { owned = (with_gained (table_book u) ((get_or items i d).0 ∷ [])).owned } in v) was
+    ∙ ap (λ (b : Book). let v : Table = record t0 { owned = (with_gained b ((get_or items i d).0 ∷ [])).owned } in v) (sym (gained-rest (table_book t0) (map (λ (p : Port). p.0) (take i ports))))
+    ∙ ap (λ (b : Book). let v : Table = record t0 { owned = b.owned } in v) (sym (gained-step ports items i d (table_book t0) same h))
+
+pub gained-between : (t t0 : Table) (owned : List ℕ) (bounds : Bounds) → t ≡ record t0 { owned = owned } → IsBetween t0 bounds → IsBetween t bounds
+gained-between t t0 owned bounds same is = record { zero = ap (λ (z : Table). z.zero) same ∙ is.zero; one = ap (λ (z : Table). z.one) same ∙ is.one }

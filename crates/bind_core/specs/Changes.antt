@@ -1,21 +1,21 @@
 -- What a change makes of a table, and of what its pairs carried.
-use Rattle.std.specs.Prelude.{ℕ, Bool, true, false, List, [], if◌then◌else◌, ◌≡◌}
+use Rattle.std.specs.Prelude.{◌≡◌, ℕ, ◌-◌, Bool, true, false, List, [], if◌then◌else◌}
 use Rattle.nat_types.specs.Same.{same_key}
 use Rattle.nat_types.specs.declared.gateways.GatewayId.TheVariants.{Zero}
 use Rattle.nat_types.specs.declared.pairs.EntryState.{EntryState}
 use Rattle.nat_types.specs.declared.pairs.EntryState.TheVariants.{Pending, Doomed, Live, Closing, Held}
 use Rattle.nat_types.specs.declared.pairs.Key.{Key}
-use Rattle.lives.specs.Lives.{Past, came, renewed}
+use Rattle.lives.specs.Lives.{Past, Life, came, renewed, life_begun, life_renewed}
+use Rattle.bindings.specs.Lists.{place_in, with_state}
+use Rattle.bindings.specs.Lives.{lives_with, lives_without}
+use Rattle.std.specs.List.{insert}
 use Rattle.bindings.specs.Table.{Table, IsPast}
 use Rattle.binding_step.specs.declared.setups.Stage.TheVariants.{Paired}
 use Rattle.binding_step.specs.declared.changes.Change.{Change}
 use Rattle.binding_step.specs.declared.changes.Change.TheVariants.{Keep, Add, Turn, Renew, Drop, Yield, Want, Give, Gain}
 use Rattle.binding_step.specs.Books.{Book}
+use Rattle.binding_step.specs.Rows.{changed}
 use Rattle.bind_core.specs.declared.deeds.Bounds.{Bounds}
-
--- the book with what stands in a table
-abbrev pub on_table : Table → Book → Book
-on_table t b = record b { zero = t.zero; one = t.one; entries = t.entries; owned = t.owned }
 
 -- the table as the book of a gateway that isn't lone
 abbrev pub table_book : Table → Book
@@ -82,6 +82,36 @@ leaves (Yield p2 p) q = false
 leaves Want q = false
 leaves (Give g) q = false
 leaves (Gain g) q = false
+
+-- the lives then: each entry that comes has one that begins
+abbrev pub lives_after : ℕ → Change → Table → List Life
+lives_after now Keep t = t.lives
+lives_after now (Add e) t = insert t.lives (place_in e.pair t.entries) (life_begun (is_held e.state) now)
+lives_after now (Turn k s) t = t.lives
+lives_after now (Renew k) t = lives_with (life_renewed now) k t.entries t.lives
+lives_after now (Drop k) t = lives_without k t.entries t.lives
+lives_after now (Yield q p) t = insert t.lives (place_in p (with_state q Doomed t.entries)) (life_begun true now)
+lives_after now Want t = t.lives
+lives_after now (Give g) t = t.lives
+lives_after now (Gain g) t = t.lives
+
+-- for how many more entries the table is ready then
+abbrev pub ready_after : Change → ℕ → ℕ
+ready_after Keep n = n
+ready_after (Add e) n = n - 1
+ready_after (Turn k s) n = n
+ready_after (Renew k) n = n
+ready_after (Drop k) n = n
+ready_after (Yield q p) n = n - 1
+ready_after Want n = n
+ready_after (Give g) n = n
+ready_after (Gain g) n = n
+
+-- the table then
+abbrev pub table_after : ℕ → Change → Table → Table
+table_after now change t =
+    let b = changed change (table_book t) in
+    record t { entries = b.entries; owned = b.owned; lives = lives_after now change t; ready = ready_after change t.ready }
 
 -- what becomes of a past that a key's entry agrees with: only a No begins it anew
 abbrev pub past_after : ℕ → Change → Key → Past → Past

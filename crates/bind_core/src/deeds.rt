@@ -1,29 +1,32 @@
 //! What a row does to a table, and what of it is pushed and noted.
 ghost use Rattle.std.specs.Prelude.{◌≡◌, ◌+◌, ◌-◌, ◌<◌, ◌≤◌, ◌++◌, ◌∷◌, [], not, length, true};
-ghost use Rattle.std.specs.Prelude.{None, IsTrue, IfSome, is_some, vec_len, vec_capacity};
+ghost use Rattle.std.specs.Prelude.{None, IsTrue, IfSome, if◌then◌else◌, is_some, vec_len, vec_capacity};
 ghost use Rattle.nat_types.specs.declared.pairs.EntryState.TheVariants.{Doomed, Held, Live};
 ghost use Rattle.nat_types.specs.declared.pairs.Key.{Key as OutsidePort};
-ghost use Rattle.lives.specs.Lives.{Past, came};
+ghost use Rattle.lives.specs.Lives.{Past, came, with_packet, life_begun, life_carried};
 ghost use Rattle.bindings.specs.Entries.{is_pair, slot_of, entry_of, entry_in};
-ghost use Rattle.bindings.specs.Lists.{put_in, with_state};
-ghost use Rattle.bindings.specs.Lives.{KeepsOthers};
+ghost use Rattle.bindings.specs.Lists.{place_in, put_in, with_state};
+ghost use Rattle.std.specs.List.{insert};
+ghost use Rattle.bindings.specs.Lives.{KeepsOthers, lives_with};
 ghost use Rattle.bindings.specs.Ports.{in_bounds, in_either, is_vacant};
 ghost use Rattle.bindings.specs.Runs.{without_port};
 ghost use Rattle.bindings.specs.Table.{AreInRanges, IsPast};
 ghost use Rattle.link.specs.Grammar.{IsWellFormedRecord};
 ghost use Rattle.link.specs.Link.{free_places};
-ghost use Rattle.binding_step.specs.Books.{Book as Known};
 ghost use Rattle.binding_step.specs.declared.changes.Change.TheVariants.{Renew, Yield};
 ghost use Rattle.binding_step.specs.Fits.{Fits, GivesWay, HasPair, MayGive};
 ghost use Rattle.binding_step.specs.Rows.{answered, changed, noted_by, is_gained as is_gained_in};
 ghost use Rattle.binding_step.specs.Rows.{with_gained, without_ports, numbers_of, pushed_by};
-ghost use Rattle.bind_core.specs.Changes.{on_table, table_book, wants_after, adds, is_held};
-ghost use Rattle.bind_core.specs.Changes.{IsBetween, LivesOn};
+ghost use Rattle.bind_core.specs.Changes.{table_book, wants_after, adds, is_held};
+ghost use Rattle.bind_core.specs.Changes.{IsBetween, LivesOn, lives_after, table_after};
+
+ghost use Rattle.bind_core.specs.Ticks.{is_lately, may_ask as may_ask_at};
 
 use addresses::Port;
 use binding_step::{Change, Row};
 use bindings::{Entry, PortBounds, Table};
 use link::Link;
+use lives::Packet;
 use nat_types::{EntryState, GatewayId, Granted, Happening, Key, Note, Pair, Record};
 
 fn came_by_install(state: EntryState) -> bool
@@ -43,6 +46,8 @@ fn add_entry(table: &mut Table, entry: Entry, by_install: bool, now: u64)
     requires endpoint { entry_of table.old.entries entry.pair.endpoint ≡ None }
     ensures entries { table.new.entries ≡ put_in entry table.old.entries }
     ensures begins { IsPast table.new entry.pair.key (came by_install now) }
+    ensures exact { table.new.lives ≡ insert table.old.lives
+        (place_in entry.pair table.old.entries) (life_begun by_install now) }
     ensures others { KeepsOthers entry.pair.key table.old.entries table.old.lives table.new.entries
         table.new.lives }
     ensures same { table.new ≡ record table.old {
@@ -62,13 +67,14 @@ fn renew_entry(table: &mut Table, key: Key, now: u64)
     requires { HasPair (table_book table.old) key }
     ensures entries { table.new.entries ≡ with_state key Live table.old.entries }
     ensures lives { LivesOn now (Renew key) table.old table.new }
+    ensures exact { table.new.lives ≡ lives_after now (Renew key) table.old }
     ensures same { table.new ≡ record table.old {
       entries = table.new.entries;
       lives = table.new.lives;
     } }
 {
-    table.set_state(key, EntryState::Live);
     table.renew(key, now);
+    table.set_state(key, EntryState::Live);
 }
 
 fn yield_entry(table: &mut Table, key: Key, pair: Pair, now: u64)
@@ -78,6 +84,7 @@ fn yield_entry(table: &mut Table, key: Key, pair: Pair, now: u64)
     ensures entries { table.new.entries ≡ put_in (entry_in Held pair)
         (with_state key Doomed table.old.entries) }
     ensures lives { LivesOn now (Yield key pair) table.old table.new }
+    ensures exact { table.new.lives ≡ lives_after now (Yield key pair) table.old }
     ensures same { table.new ≡ record table.old {
       entries = table.new.entries;
       lives = table.new.lives;
@@ -142,9 +149,9 @@ fn is_gained(table: &Table, bounds: Bounds, port: Port) -> bool
 
 fn gain_port(table: &mut Table, bounds: Bounds, port: Port)
     requires { IsBetween table.old bounds }
-    ensures gained { (b : Known) → on_table table.new b
-        ≡ with_gained (on_table table.old b) (port.0 ∷ []) }
-    ensures same { table.new ≡ record table.old { owned = table.new.owned } }
+    ensures { table.new ≡ record table.old {
+      owned = (with_gained (table_book table.old) (port.0 ∷ [])).owned;
+    } }
 {
     if is_gained(table, bounds, port) {
         table.own(port);
@@ -153,9 +160,9 @@ fn gain_port(table: &mut Table, bounds: Bounds, port: Port)
 
 fn gain_ports(table: &mut Table, bounds: Bounds, granted: Granted)
     requires { IsBetween table.old bounds }
-    ensures gained { (b : Known) → on_table table.new b
-        ≡ with_gained (on_table table.old b) (numbers_of granted) }
-    ensures same { table.new ≡ record table.old { owned = table.new.owned } }
+    ensures { table.new ≡ record table.old {
+      owned = (with_gained (table_book table.old) (numbers_of granted)).owned;
+    } }
 {
     for port in granted.ports() {
         gain_port(table, bounds, *port);
@@ -168,12 +175,8 @@ pub(crate) fn change_table(table: &mut Table, bounds: Bounds, change: Change, no
     requires ranges { AreInRanges table.old }
     requires fits { Fits (table_book table.old) change }
     requires ready { adds change ≡ true → 0 < table.old.ready }
-    ensures book { (b : Known) → on_table table.new (record b { wants = wants_after change b.wants; })
-        ≡ changed change (on_table table.old b) }
+    ensures exact { table.new ≡ table_after now change table.old }
     ensures lives { LivesOn now change table.old table.new }
-    ensures bounds { IsBetween table.new bounds }
-    ensures capacity { table.new.capacity ≡ table.old.capacity }
-    ensures ready { table.old.ready ≤ table.new.ready + 1 }
 {
     table.recall();
     match change {
@@ -185,6 +188,17 @@ pub(crate) fn change_table(table: &mut Table, bounds: Bounds, change: Change, no
         Change::Yield(key, pair) => yield_entry(table, key, pair, now),
         Change::Give(granted) => give_away(table, granted),
         Change::Gain(granted) => gain_ports(table, bounds, granted),
+    }
+}
+
+/// Whether a Want is open after a change.
+pub(crate) fn is_wanting(change: Change, wants: bool) -> bool
+    ensures { result ≡ wants_after change wants }
+{
+    match change {
+        Change::Want => true,
+        Change::Gain(_) => false,
+        _ => wants,
     }
 }
 
@@ -201,7 +215,7 @@ fn push_answer(link: &mut Link, answer: Option<Record>)
     }
 }
 
-fn note(notes: &mut Vec<Note>, by: GatewayId, at: u64, what: Option<Happening>)
+pub(crate) fn note(notes: &mut Vec<Note>, by: GatewayId, at: u64, what: Option<Happening>)
     requires { vec_len notes.old < vec_capacity notes.old }
     ensures items { notes.new.items ≡ notes.old.items ++ noted_by by at what }
     ensures len { vec_len notes.new ≤ vec_len notes.old + 1 }
@@ -224,4 +238,37 @@ pub(crate) fn tell(link: &mut Link, notes: &mut Vec<Note>, by: GatewayId, now: u
 {
     push_answer(link, row.answer);
     note(notes, by, now, row.what);
+}
+
+/// A packet is carried, where the pair is used.
+pub(crate) fn carry_by(table: &mut Table, is_used: bool, key: Key, packet: Packet)
+    ensures same { table.new ≡ record table.old { lives = table.new.lives; } }
+    ensures lives { table.new.lives ≡ (if is_used then lives_with
+        (life_carried key.protocol packet) key table.old.entries table.old.lives
+        else table.old.lives) }
+    ensures longer { is_used ≡ true → (past : Past) → IsPast table.old key past
+        → IsPast table.new key (with_packet packet past) }
+    ensures others { KeepsOthers key table.old.entries table.old.lives table.new.entries
+        table.new.lives }
+{
+    if is_used {
+        table.carried(key, packet.remote, packet.way, packet.flags, packet.at);
+    }
+}
+
+/// Whether the peer was heard at most 300 cs ago.
+fn was_heard(heard: Option<u64>, now: u64) -> bool
+    ensures { result ≡ is_lately now heard }
+{
+    match heard {
+        None => false,
+        Some(heard) => now.saturating_sub(heard) <= 300,
+    }
+}
+
+/// Whether an idle pair's end may be asked for.
+pub(crate) fn may_ask(link: &Link, now: u64) -> bool
+    ensures { result ≡ may_ask_at now link.now }
+{
+    was_heard(link.heard(), now) && link.room() >= 65
 }

@@ -1,5 +1,9 @@
 //! One gateway's side of the binding protocol.
 #![tactic(auto)]
 
+mod cores;
 mod deeds;
+mod grants;
 mod rows;
+
+pub use cores::Core;

@@ -1,5 +1,5 @@
 //! What a record, or a wish, makes of one entry.
-ghost use Rattle.std.specs.Prelude.{◌≡◌, ◌≤◌, true};
+ghost use Rattle.std.specs.Prelude.{◌≡◌, true};
 ghost use Rattle.nat_types.specs.declared.pairs.EntryState.TheVariants.{Held, Live};
 ghost use Rattle.binding_step.specs.Books.{is_synced as is_synced_at, is_lone as is_lone_at};
 ghost use Rattle.binding_step.specs.Rows.{row as row_with, quiet as quiet_row};
@@ -7,7 +7,7 @@ ghost use Rattle.binding_step.specs.Rows.{answering as answering_row, ending as 
 ghost use Rattle.binding_step.specs.Rows.{gives_way as gives_way_at, accepted_row, accept_row};
 ghost use Rattle.binding_step.specs.Rows.{refused_row, refuse_row, asked_row, ask_row, left_row};
 ghost use Rattle.binding_step.specs.Rows.{yes_row, stayed_row, no_row, known_wish, used_row};
-ghost use Rattle.binding_step.specs.Rows.{use_row, released_row, release_row, share as share_of};
+ghost use Rattle.binding_step.specs.Rows.{use_row, released_row, release_row};
 ghost use Rattle.binding_step.specs.Rows.{wish as wish_with};
 
 use binding_step::{Change, Row, Stage, Want, Wish};
@@ -278,12 +278,4 @@ pub(crate) fn carry(entry: Option<Entry>) -> Row
         None => quiet(),
         Some(entry) => used(entry.pair, entry.state),
     }
-}
-
-/// How many of so many spare ports are granted.
-pub(crate) fn share(spare: usize) -> usize
-    ensures exact { result ≡ share_of spare }
-    ensures most { result ≤ 16 }
-{
-    (spare / 2).min(16)
 }

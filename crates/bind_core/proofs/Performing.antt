@@ -1,0 +1,65 @@
+-- What carrying out a row makes of a core.
+use Rattle.std.proofs.Common.{◌≡◌, ℕ, Bool, List, refl, sym, ap, subst, ◌∙◌}
+use Rattle.lives.specs.Lives.{Life}
+use Rattle.bindings.specs.Table.{Table}
+use Rattle.binding_step.specs.declared.changes.Change.{Change}
+use Rattle.binding_step.specs.declared.changes.Change.TheVariants.{Keep, Add, Turn, Renew, Drop, Yield, Want, Give, Gain}
+use Rattle.binding_step.specs.declared.changes.Row.{Row}
+use Rattle.binding_step.specs.Books.{Book, IsBook}
+use Rattle.binding_step.specs.Rows.{after, changed, with_gained, is_gained, numbers_of}
+use Rattle.bindings.specs.Runs.{own_in}
+use Rattle.std.proofs.Common.{true, false, cond, [], ◌∷◌}
+use Rattle.bind_core.specs.Changes.{table_book, table_after, wants_after, IsBetween}
+use Rattle.bind_core.specs.declared.deeds.Bounds.{Bounds}
+use Rattle.bind_core.specs.Cores.{Core, book_of, core_after}
+
+-- what is gained hangs on the ranges, the entries and the owned ports alone
+pub gained-alike : (b : Book) (t : Table) (xs : List ℕ) → record b { owned = (with_gained (table_book t) xs).owned } ≡ record b { owned = (with_gained (record b { zero = t.zero; one = t.one; entries = t.entries; owned = t.owned }) xs).owned }
+gained-alike b t [] = refl
+gained-alike b t (x ∷ xs) = at (is_gained (table_book t) x)
+  where
+    at : (g : Bool) → record b { owned = (with_gained (cond g (record (table_book t) { owned = own_in x t.owned }) (table_book t)) xs).owned }
+        ≡ record b { owned = (with_gained (cond g (record b { zero = t.zero; one = t.one; entries = t.entries; owned = own_in x t.owned }) (record b { zero = t.zero; one = t.one; entries = t.entries; owned = t.owned })) xs).owned }
+    at true = gained-alike b (record t { owned = own_in x t.owned }) xs
+    at false = gained-alike b t xs
+
+gained-owned : (b : Book) (t : Table) (xs : List ℕ) → (with_gained (table_book t) xs).owned ≡ (with_gained (record b { zero = t.zero; one = t.one; entries = t.entries; owned = t.owned }) xs).owned
+gained-owned b t xs = ap (λ (z : Book). z.owned) (gained-alike b t xs)
+
+gained-rest : (b : Book) (xs : List ℕ) → with_gained b xs ≡ record b { owned = (with_gained b xs).owned }
+gained-rest b [] = refl
+gained-rest b (x ∷ xs) = at (is_gained b x)
+  where
+    at : (g : Bool) → with_gained (cond g (record b { owned = own_in x b.owned }) b) xs ≡ record b { owned = (with_gained (cond g (record b { owned = own_in x b.owned }) b) xs).owned }
+    at true = gained-rest (record b { owned = own_in x b.owned }) xs
+    at false = gained-rest b xs
+
+-- the book then is the one that the row makes
+pub book-after : (now : ℕ) (c : Core) (r : Row) → book_of (core_after now c r) ≡ after (book_of c) r
+book-after now c r = at r.change
+  where
+    at : (ch : Change) → book_of (record c { table = table_after now ch c.table; wants = wants_after ch c.wants }) ≡ changed ch (book_of c)
+    at Keep = refl
+    at (Add e) = refl
+    at (Turn k s) = refl
+    at (Renew k) = refl
+    at (Drop k) = refl
+    at (Yield q p) = refl
+    at Want = refl
+    at (Give g) = refl
+    at (Gain g) =
+        ap (λ (z : List ℕ). let b : Book = record (book_of c) { owned = z; wants = false } in b) (gained-owned (book_of c) c.table (numbers_of g))
+        ∙ ap (λ (z : Book). let b : Book = record z { wants = false } in b) (sym (gained-rest (book_of c) (numbers_of g)))
+
+-- other lives change nothing else
+pub relived : (c : Core) (t2 : Table) (ls : List Life) → t2 ≡ record c.table { lives = ls } → IsBook (book_of c) → IsBook (book_of (record c { table = t2 }))
+relived c t2 ls same is = subst (λ (t : Table). IsBook (book_of (record c { table = t }))) (sym same) is
+
+pub still-between : (t t2 : Table) (bounds : Bounds) → t2.zero ≡ t.zero → t2.one ≡ t.one → IsBetween t bounds → IsBetween t2 bounds
+still-between t t2 bounds zero one is = record { zero = zero ∙ is.zero; one = one ∙ is.one }
+
+pub made-after : (now : ℕ) (c : Core) (r : Row) (t2 : Table) (w : Bool) → t2 ≡ table_after now r.change c.table → w ≡ wants_after r.change c.wants → record c { table = t2; wants = w } ≡ core_after now c r
+made-after now c r t2 w table wants = ap (λ (t : Table). let k : Core = record c { table = t; wants = w } in k) table ∙ ap (λ (z : Bool). let k : Core = record c { table = table_after now r.change c.table; wants = z } in k) wants
+
+pub kept-after : (now : ℕ) (c : Core) (r : Row) (c2 : Core) → c2 ≡ core_after now c r → IsBook (after (book_of c) r) → IsBook (book_of c2)
+kept-after now c r c2 same kept = subst (λ (k : Core). IsBook (book_of k)) (sym same) (subst IsBook (sym (book-after now c r)) kept)
