@@ -1,5 +1,9 @@
-mod Rising
-mod Unbroken
 mod Naming
 mod Putting
 mod Slotted
+mod Ahead
+mod Behind
+mod Drawing
+mod Giving
+mod Holding
+mod Steady

@@ -20,7 +20,7 @@ all-in z o first (suc count) h =
     and_from (in_either z o first) (all_in z o (first + 1) count) (h first (omega arith) (omega arith))
     (all-in z o (first + 1) count (λ q low high. h q (omega arith) (omega arith)))
 
-filter-filter : {X : Type 0} (p q : X → Bool) (xs : List X) → filter p (filter q xs) ≡ filter (λ x. q x && p x) xs
+pub filter-filter : {X : Type 0} (p q : X → Bool) (xs : List X) → filter p (filter q xs) ≡ filter (λ x. q x && p x) xs
 filter-filter p q [] = refl
 filter-filter p q (x ∷ xs) = at (q x) (filter-filter p q xs)
   where
@@ -62,7 +62,7 @@ within-more first last p q is order =
     ]
 
 -- a run of one port
-within-one : (p q : ℕ) → is_within p p q ≡ (p == q)
+pub within-one : (p q : ℕ) → is_within p p q ≡ (p == q)
 within-one p q =
     elim (cases_eq p q) [
       | inl same ↦ and_from (nat_le p q) (nat_le q p) (le-leb p q (omega arith)) (le-leb q p (omega arith)) ∙ sym (eq-eqb p q same)
