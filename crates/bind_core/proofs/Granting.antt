@@ -9,7 +9,9 @@ use Rattle.binding_step.specs.Rows.{falling, as_ports}
 
 pub falling-more : (high i : ℕ) → falling high (i + 1) ≡ falling high i ++ (high - i) ∷ []
 falling-more high zero = ap (λ (x : ℕ). x ∷ []) (let e : high ≡ high - 0 = omega arith in e)
-falling-more high (suc i) = ap (λ (z : List ℕ). high ∷ z) (falling-more (high - 1) i ∙ ap (λ (x : ℕ). falling (high - 1) i ++ x ∷ []) (let e : high - 1 - i ≡ high - suc i = omega arith in e))
+falling-more high (suc i) =
+    ap (falling high) (let e : suc i + 1 ≡ suc (i + 1) = omega arith in e)
+    ∙ ap (λ (z : List ℕ). high ∷ z) (falling-more (high - 1) i ∙ ap (λ (x : ℕ). falling (high - 1) i ++ x ∷ []) (let e : high - 1 - i ≡ high - suc i = omega arith in e))
 
 pub filtered-more : (f : ℕ → Bool) (high i : ℕ) → filter f (falling high (i + 1)) ≡ filter f (falling high i) ++ cond (f (high - i)) ((high - i) ∷ []) []
 filtered-more f high i = ap (filter f) (falling-more high i) ∙ filter-append f (falling high i) ((high - i) ∷ [])
@@ -27,7 +29,7 @@ take-again zero xs ys = refl
 take-again (suc k) [] ys = refl
 take-again (suc k) (x ∷ xs) ys = ap (λ (z : List ℕ). x ∷ z) (take-again k xs ys)
 
-to-port : ℕ → Port
+abbrev to-port : ℕ → Port
 to-port n = record { 0 = n }
 
 one-port : (b : Bool) (x : ℕ) → cond b (to-port x ∷ []) [] ≡ map to-port (cond b (x ∷ []) [])

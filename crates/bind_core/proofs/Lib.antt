@@ -1,4 +1,7 @@
 pub mod Changing
+pub mod Deciding
 pub mod Granting
 pub mod Performing
 pub mod Porting
+pub mod Releasing
+pub mod Steady

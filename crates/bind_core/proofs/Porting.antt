@@ -7,12 +7,14 @@ use Rattle.bindings.specs.Table.{Table}
 use Rattle.std.proofs.lemmas.List.{take_more}
 use Rattle.std.proofs.lemmas.List.Folds.{list_any-append}
 use Rattle.addresses.specs.declared.transport.Port.{Port}
+use Rattle.nat_types.specs.Granted.{Granted}
+use Rattle.binding_step.specs.declared.changes.Change.TheVariants.{Gain}
 use Rattle.port_range.specs.Ports.{is_listed}
 use Rattle.bindings.specs.Runs.{without_port, own_in}
 use Rattle.binding_step.specs.Books.{Book}
-use Rattle.bind_core.specs.Changes.{table_book, IsBetween}
+use Rattle.bind_core.specs.Changes.{table_book, table_after, IsBetween}
 use Rattle.bind_core.specs.declared.deeds.Bounds.{Bounds}
-use Rattle.binding_step.specs.Rows.{without_ports, with_gained, is_gained}
+use Rattle.binding_step.specs.Rows.{without_ports, with_gained, is_gained, numbers_of}
 
 map-append : (xs ys : List Port) → map (λ (p : Port). p.0) (xs ++ ys) ≡ map (λ (p : Port). p.0) xs ++ map (λ (p : Port). p.0) ys
 map-append [] ys = refl
@@ -100,11 +102,12 @@ gained-step ports items i d b same h = subst (λ (z : List Port). with_gained b 
 -- only the ports change
 pub gained-rest : (b : Book) (xs : List ℕ) → with_gained b xs ≡ record b { owned = (with_gained b xs).owned }
 gained-rest b [] = refl
-gained-rest b (x ∷ xs) = at (is_gained b x)
+gained-rest b (x ∷ xs) = at (is_gained b x) (gained-rest (record b { owned = own_in x b.owned }) xs) (gained-rest b xs)
   where
-    at : (g : Bool) → with_gained (cond g (record b { owned = own_in x b.owned }) b) xs ≡ record b { owned = (with_gained (cond g (record b { owned = own_in x b.owned }) b) xs).owned }
-    at true = gained-rest (record b { owned = own_in x b.owned }) xs
-    at false = gained-rest b xs
+    at : (g : Bool) → with_gained (record b { owned = own_in x b.owned }) xs ≡ record b { owned = (with_gained (record b { owned = own_in x b.owned }) xs).owned } → with_gained b xs ≡ record b { owned = (with_gained b xs).owned }
+        → with_gained (cond g (record b { owned = own_in x b.owned }) b) xs ≡ record b { owned = (with_gained (cond g (record b { owned = own_in x b.owned }) b) xs).owned }
+    at true more same = more
+    at false more same = same
 
 pub gained-next : (t t0 t2 : Table) (ports items : List Port) (i : ℕ) (d : Port) → items ≡ ports → i < length items
     → t ≡ record t0 { owned = (with_gained (table_book t0) (map (λ (p : Port). p.0) (take i ports))).owned }
@@ -118,3 +121,6 @@ gained-next t t0 t2 ports items i d same h was is =
 
 pub gained-between : (t t0 : Table) (owned : List ℕ) (bounds : Bounds) → t ≡ record t0 { owned = owned } → IsBetween t0 bounds → IsBetween t bounds
 gained-between t t0 owned bounds same is = record { zero = ap (λ (z : Table). z.zero) same ∙ is.zero; one = ap (λ (z : Table). z.one) same ∙ is.one }
+
+pub gained-table : (now : ℕ) (t : Table) (g : Granted) → record t { owned = (with_gained (table_book t) (numbers_of g)).owned } ≡ table_after now (Gain g) t
+gained-table now t g = ap (λ (b : Book). let u : Table = record t { entries = b.entries; owned = (with_gained (table_book t) (numbers_of g)).owned } in u) (sym (gained-rest (table_book t) (numbers_of g)))

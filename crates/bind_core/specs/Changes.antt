@@ -1,5 +1,5 @@
 -- What a change makes of a table, and of what its pairs carried.
-use Rattle.std.specs.Prelude.{◌≡◌, ℕ, ◌-◌, Bool, true, false, List, [], if◌then◌else◌}
+use Rattle.std.specs.Prelude.{◌≡◌, ℕ, ◌-◌, Bool, true, false, List, [], Some, if◌then◌else◌}
 use Rattle.nat_types.specs.Same.{same_key}
 use Rattle.nat_types.specs.declared.gateways.GatewayId.TheVariants.{Zero}
 use Rattle.nat_types.specs.declared.pairs.EntryState.{EntryState}
@@ -10,6 +10,9 @@ use Rattle.bindings.specs.Lists.{place_in, with_state}
 use Rattle.bindings.specs.Lives.{lives_with, lives_without}
 use Rattle.std.specs.List.{insert}
 use Rattle.bindings.specs.Table.{Table, IsPast}
+use Rattle.bindings.specs.declared.entries.Entry.{Entry}
+use Rattle.bindings.specs.Entries.{slot_of}
+use Rattle.resync.specs.Batch.{is_settled}
 use Rattle.binding_step.specs.declared.setups.Stage.TheVariants.{Paired}
 use Rattle.binding_step.specs.declared.changes.Change.{Change}
 use Rattle.binding_step.specs.declared.changes.Change.TheVariants.{Keep, Add, Turn, Renew, Drop, Yield, Want, Give, Gain}
@@ -141,3 +144,17 @@ Begins now (Gain g) t = Unit {0}
 pub record LivesOn (now : ℕ) (change : Change) (t t2 : Table) : Type 0 where
   pub stays : (q : Key) (past : Past) → leaves change q ≡ false → IsPast t q past → IsPast t2 q (past_after now change q past)
   pub begins : Begins now change t2
+
+-- ---- a promised batch
+
+-- what of a batch is still to be drawn stays so
+abbrev pub IsSteady : Book → Change → Type 0
+IsSteady b Keep = Unit {0}
+IsSteady b (Add e) = is_settled e.state ≡ false
+IsSteady b (Turn k s) = (is_settled s ≡ true) × ((x : Entry) → slot_of b.entries k ≡ Some x → is_settled x.state ≡ true)
+IsSteady b (Renew k) = ⊥
+IsSteady b (Drop k) = ⊥
+IsSteady b (Yield q p) = ⊥
+IsSteady b Want = Unit {0}
+IsSteady b (Give g) = ⊥
+IsSteady b (Gain g) = ⊥

@@ -9,7 +9,7 @@ use Rattle.lives.specs.declared.packets.Packet.{Packet}
 use Rattle.lives.specs.Lives.{Life, life_carried}
 use Rattle.bindings.specs.declared.entries.Entry.{Entry}
 use Rattle.bindings.specs.Entries.{slot_of, translates}
-use Rattle.bindings.specs.Lives.{lives_with}
+use Rattle.bindings.specs.Lives.{lives_with, rests_at, is_unused_at}
 use Rattle.bindings.specs.Table.{Table}
 use Rattle.binding_step.specs.declared.changes.Row.{Row}
 use Rattle.binding_step.specs.declared.setups.Stage.{Stage}

@@ -1,7 +1,7 @@
 //! One gateway's table, and how far it is.
 ghost use Rattle.std.specs.Prelude.{◌≡◌, ◌+◌, ◌-◌, ◌<◌, ◌≤◌, ◌++◌, ◌&&◌, not, ℕ, [], true};
 ghost use Rattle.std.specs.Prelude.{IsTrue, IfOk, IfSome, is_some, length, vec_len, vec_capacity};
-ghost use Rattle.std.specs.Prelude.{slice_index_or, Some};
+ghost use Rattle.std.specs.Prelude.{slice_get, Some};
 ghost use Rattle.nat_types.specs.declared.pairs.Key.{Key as OutsidePort};
 ghost use Rattle.lives.specs.declared.packets.Packet.{Packet as Carried};
 ghost use Rattle.lives.specs.Lives.{Past, with_packet};
@@ -10,18 +10,17 @@ ghost use Rattle.bindings.specs.Table.{IsPast};
 ghost use Rattle.link.specs.Grammar.{IsWellFormedRecord};
 ghost use Rattle.link.specs.Link.{free_places};
 ghost use Rattle.binding_step.specs.Books.{IsBook, is_synced as is_synced_at};
-ghost use Rattle.binding_step.specs.Books.{is_lone as is_lone_at};
+ghost use Rattle.binding_step.specs.Books.{is_lone as is_lone_at, is_promised};
 ghost use Rattle.binding_step.specs.Fits.{Fits};
 ghost use Rattle.binding_step.specs.Rows.{is_theirs as is_theirs_port, proposed_row, install_row};
 ghost use Rattle.binding_step.specs.Rows.{grant_row, want_row, none_row, synced_row, new_wish};
 ghost use Rattle.binding_step.specs.Rows.{wish_of, carry_row, noted_by, after, answered, is_full};
-ghost use Rattle.binding_step.specs.Rows.{idle_row};
-ghost use Rattle.bind_core.specs.Changes.{adds, LivesOn};
-ghost use Rattle.bind_core.specs.Ticks.{may_ask as may_ask_at};
+ghost use Rattle.binding_step.specs.Rows.{idle_row, row_of};
+ghost use Rattle.bind_core.specs.Changes.{adds, IsSteady, LivesOn};
 ghost use Rattle.bindings.specs.Table.{idle_keys_of};
 ghost use Rattle.bind_core.specs.Cores.{book_of, core_after, inbound_of, lives_carried, rests_in};
 
-use crate::deeds::{Bounds, carry_by, change_table, is_wanting, lies_in_either, may_ask, note, tell};
+use crate::deeds::{Bounds, carry_by, change_table, is_wanting, is_link_full, lies_in_either, note, tell};
 use crate::grants::{choose_granted, higher, lower};
 use crate::rows::{
     accept, answering, ask, carry, ending, gives_way, is_lone, is_synced, known, no, quiet, refuse,
@@ -35,7 +34,7 @@ use lives::{Packet, Remote, Way};
 use nat_types::{
     Endpoint, EntryState, GatewayId, Granted, Happening, Key, Note, Pair, Record,
 };
-use std::alloc::{AllocError, Global};
+use resync::{Cursor, Loading, steady_batch_law};
 use std::marker::Model;
 
 /// One gateway's side of the binding protocol. Moments are in centiseconds.
@@ -45,8 +44,12 @@ pub struct Core {
     bounds: Bounds,
     table: Table,
     stage: Stage,
+    /// How far a loading is.
+    loading: Loading,
     /// Whether a Want of its is open.
     wants: bool,
+    /// What of a promised batch is still to be handed in.
+    cursor: Cursor,
     /// What a tick finds idle.
     idle: Vec<Key>,
 }
@@ -161,7 +164,8 @@ impl Core {
     {
         let highest = higher(self.bounds.zero.highest, self.bounds.one.highest);
         let lowest = lower(self.bounds.zero.lowest, self.bounds.one.lowest);
-        let granted = choose_granted(&self.table, highest.0, highest.0 + 1 - lowest.0);
+        self.recall();
+        let granted = choose_granted(&self.table, lowest, highest);
         row(Change::Give(granted), Some(Record::Grant(granted)), None)
     }
 
@@ -183,12 +187,24 @@ impl Core {
     }
 
     /// Whether an Ask's pair is idle, or came by Install and carried nothing since.
-    fn rests(&self, entry: Record, now: u64) -> bool
-        ensures { result ≡ rests_in self.now.table entry now }
+    fn rests(&self, entry: &Record, now: u64) -> bool
+        ensures { result ≡ rests_in self.now.table entry.now now }
     {
         match entry {
-            Record::Ask(key) => self.table.idle(key, now) || self.table.unused(key),
+            Record::Ask(key) => self.table.idle(*key, now) || self.table.unused(*key),
             _ => false,
+        }
+    }
+
+    /// What a record makes of a synced gateway; while its batch is promised, nothing.
+    pub(crate) fn row_for(&self, entry: Record, now: u64) -> Row
+        ensures { result ≡ row_of (book_of self.now) (rests_in self.now.table entry now) entry }
+    {
+        if self.cursor.is_over() {
+            let rests = self.rests(&entry, now);
+            self.synced_row_of(entry, rests)
+        } else {
+            quiet()
         }
     }
 
@@ -256,7 +272,7 @@ impl Core {
     pub fn look(&self, link: &Link, endpoint: Endpoint) -> Want
         ensures { result ≡ (wish_of (book_of self.now) (is_full link.now) endpoint).answer }
     {
-        self.wish_for(link.room() < 65, endpoint).answer
+        self.wish_for(is_link_full(link), endpoint).answer
     }
 
     // ---- what a row does
@@ -266,6 +282,8 @@ impl Core {
         requires kept { IsBook (after (book_of self.old) row) }
         requires formed { IfSome row.answer IsWellFormedRecord }
         requires ready { adds row.change ≡ true → 0 < self.old.table.ready }
+        requires steady { is_promised (book_of self.old) ≡ true → IsSteady (book_of self.old)
+            row.change }
         requires places { IsTrue (is_some row.answer) → 0 < free_places link.old }
         requires reserved { vec_len notes.old < vec_capacity notes.old }
         ensures core { self.new ≡ core_after now self.old row }
@@ -275,6 +293,7 @@ impl Core {
         ensures len { vec_len notes.new ≤ vec_len notes.old + 1 }
         ensures capacity { vec_capacity notes.new ≡ vec_capacity notes.old }
     {
+        steady_batch_law();
         change_table(&mut self.table, self.bounds, row.change, now);
         self.wants = is_wanting(row.change, self.wants);
         tell(link, notes, self.id, now, row);
@@ -340,7 +359,7 @@ impl Core {
 
     // ---- ticks
 
-    fn idle_row_of(&self, ask: bool, key: Key) -> Row
+    pub(crate) fn idle_row_of(&self, ask: bool, key: Key) -> Row
         ensures { result ≡ idle_row (book_of self.now) ask key }
     {
         if is_synced(self.stage) {
@@ -353,6 +372,7 @@ impl Core {
     pub(crate) fn list_idle(&mut self, now: u64)
         ensures { self.new ≡ record self.old { idle = idle_keys_of self.old.table now; } }
     {
+        self.table.recall();
         self.idle.clear();
         match self.table.idle_keys(now, &mut self.idle) {
             Ok(()) => {}
@@ -360,13 +380,11 @@ impl Core {
         }
     }
 
-    pub(crate) fn idle_row_at(&self, i: usize, link: &Link, now: u64) -> Row
+    pub(crate) fn idle_key_at(&self, i: usize) -> Key
         requires { i < length self.now.idle }
-        ensures { result ≡ idle_row (book_of self.now) (may_ask_at now link.now)
-            (slice_index_or self.now.idle i) }
+        ensures { slice_get self.now.idle i ≡ Some result }
     {
-        let key = self.idle[i];
-        self.idle_row_of(may_ask(link, now), key)
+        self.idle[i]
     }
 
     pub(crate) fn idle_count(&self) -> usize

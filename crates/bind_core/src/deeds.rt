@@ -16,7 +16,7 @@ ghost use Rattle.link.specs.Link.{free_places};
 ghost use Rattle.binding_step.specs.declared.changes.Change.TheVariants.{Renew, Yield};
 ghost use Rattle.binding_step.specs.Fits.{Fits, GivesWay, HasPair, MayGive};
 ghost use Rattle.binding_step.specs.Rows.{answered, changed, noted_by, is_gained as is_gained_in};
-ghost use Rattle.binding_step.specs.Rows.{with_gained, without_ports, numbers_of, pushed_by};
+ghost use Rattle.binding_step.specs.Rows.{is_full, with_gained, without_ports, numbers_of};
 ghost use Rattle.bind_core.specs.Changes.{table_book, wants_after, adds, is_held};
 ghost use Rattle.bind_core.specs.Changes.{IsBetween, LivesOn, lives_after, table_after};
 
@@ -266,9 +266,16 @@ fn was_heard(heard: Option<u64>, now: u64) -> bool
     }
 }
 
+/// Whether fewer than 65 places are free.
+pub(crate) fn is_link_full(link: &Link) -> bool
+    ensures { result ≡ is_full link.now }
+{
+    link.room() < 65
+}
+
 /// Whether an idle pair's end may be asked for.
 pub(crate) fn may_ask(link: &Link, now: u64) -> bool
     ensures { result ≡ may_ask_at now link.now }
 {
-    was_heard(link.heard(), now) && link.room() >= 65
+    was_heard(link.heard(), now) && !is_link_full(link)
 }

@@ -66,15 +66,18 @@ fn greatest(table: &Table, highest: u16, count: u16, most: usize) -> Granted
     granted
 }
 
-/// The ports that are granted of so many from the highest down: the greatest spare ones, at most 16,
-/// and at most half of them.
-pub(crate) fn choose_granted(table: &Table, highest: u16, count: u16) -> Granted
-    requires { count ≤ highest }
-    ensures { let spares = filter (is_spare table.now.entries table.now.owned) (falling highest count)
+/// The ports that are granted of those from one to another: the greatest spare ones, at most 16, and
+/// at most half of them.
+pub(crate) fn choose_granted(table: &Table, lowest: Port, highest: Port) -> Granted
+    requires low { 0 < lowest.0 }
+    requires order { lowest.0 ≤ highest.0 }
+    ensures { let spares = filter (is_spare table.now.entries table.now.owned)
+            (falling highest.0 (highest.0 + 1 - lowest.0))
         in result ≡ as_ports (take (share_of (length spares)) spares) }
 {
-    let most = share(count_spare(table, highest, count));
-    greatest(table, highest, count, most)
+    let count = highest.0 - lowest.0 + 1;
+    let most = share(count_spare(table, highest.0, count));
+    greatest(table, highest.0, count, most)
 }
 
 /// The lower of two ports.

@@ -1,6 +1,7 @@
 //! One gateway's side of the binding protocol.
 #![tactic(auto)]
 
+mod calls;
 mod cores;
 mod deeds;
 mod grants;

@@ -1,4 +1,4 @@
-use Rattle.std.proofs.Common.{Bool, subst}
+use Rattle.std.proofs.Common.{Bool, subst, ◌∙◌}
 use Rattle.binding_step.specs.declared.changes.Change.{Change}
 use Rattle.binding_step.specs.declared.changes.Change.TheVariants.{Add}
 use Rattle.binding_step.specs.Fits.{Fits}
@@ -6,6 +6,7 @@ use Rattle.lives.specs.Lives.{came}
 use Rattle.bindings.specs.Table.{IsPast}
 use Rattle.bind_core.specs.Changes.{table_book}
 use Rattle.bind_core.proofs.Changing.{stays-added}
+use Rattle.bind_core.proofs.Porting.{gained-table}
 use Rattle.bind_core.proofs.deeds.change_table.Goals as goal
 
 pub returns-in-Add-clause-lives : goal.returns-in-Add-clause-lives
@@ -15,3 +16,6 @@ returns-in-Add-clause-lives c =
       stays = λ q past stays has. stays-added c.in-Add.entry.pair.key c.args.table.now c.add_entry.new.table fits.key c.add_entry.ensures.others q past has;
       begins = subst (λ (b : Bool). IsPast c.add_entry.new.table c.in-Add.entry.pair.key (came b c.args.now)) c.came_by_install.ensures c.add_entry.ensures.begins;
     }
+
+pub returns-in-Gain-clause-exact : goal.returns-in-Gain-clause-exact
+returns-in-Gain-clause-exact c = rw c.in-Gain.is (c.gain_ports.ensures ∙ gained-table c.args.now c.args.table.now c.in-Gain.granted)

@@ -1,0 +1,130 @@
+//! What a gateway asks of its core: rows carried out.
+ghost use Rattle.std.specs.Prelude.{◌≡◌, ◌+◌, ◌<◌, ◌≤◌, ◌++◌, ℕ, true, false, Some, IsTrue};
+ghost use Rattle.std.specs.Prelude.{length, vec_len, vec_capacity};
+ghost use Rattle.link.specs.Grammar.{IsWellFormedRecord};
+ghost use Rattle.link.specs.Link.{free_places, needs_answer};
+ghost use Rattle.binding_step.specs.Books.{is_synced as is_synced_at};
+ghost use Rattle.binding_step.specs.Fits.{IsWellFormedEndpoint};
+ghost use Rattle.binding_step.specs.Rows.{wish_of, row_of, noted_by, after, answered, is_full};
+ghost use Rattle.binding_step.specs.Rows.{taken_book, taken_answer, taken_what, taken_ended};
+ghost use Rattle.bind_core.specs.Changes.{LivesOn};
+ghost use Rattle.bind_core.specs.Cores.{book_of, core_after, rests_in};
+ghost use Rattle.bind_core.specs.Ticks.{ticked_core, IsReleased};
+
+
+use crate::Core;
+use crate::deeds::{is_link_full, may_ask};
+use binding_step::{Want, answers_fit, books_keep, rows_fit};
+use link::Link;
+use nat_types::{Endpoint, Key, Note, Record};
+
+impl Core {
+    /// What a packet of an endpoint, for which there may be no pair yet, has to do.
+    pub fn want(
+        &mut self,
+        endpoint: Endpoint,
+        link: &mut Link,
+        now: u64,
+        notes: &mut Vec<Note>,
+    ) -> Want
+        requires formed { IsWellFormedEndpoint endpoint }
+        requires ready { 0 < self.old.table.ready }
+        requires reserved { vec_len notes.old < vec_capacity notes.old }
+        ensures answer { result
+            ≡ (wish_of (book_of self.old) (is_full link.old) endpoint).answer }
+        ensures book { let row = (wish_of (book_of self.old) (is_full link.old) endpoint).row
+            in book_of self.new ≡ after (book_of self.old) row }
+        ensures core { let row = (wish_of (book_of self.old) (is_full link.old) endpoint).row
+            in self.new ≡ core_after now self.old row }
+        ensures link { let row = (wish_of (book_of self.old) (is_full link.old) endpoint).row
+            in link.new ≡ answered link.old row.answer }
+        ensures pasts { let row = (wish_of (book_of self.old) (is_full link.old) endpoint).row
+            in LivesOn now row.change self.old.table self.new.table }
+        ensures notes { let row = (wish_of (book_of self.old) (is_full link.old) endpoint).row
+            in notes.new.items ≡ notes.old.items ++ noted_by self.old.id now row.what }
+        ensures len { vec_len notes.new ≤ vec_len notes.old + 1 }
+        ensures capacity { vec_capacity notes.new ≡ vec_capacity notes.old }
+    {
+        self.recall();
+        rows_fit();
+        answers_fit();
+        books_keep();
+        let full = is_link_full(link);
+        let wish = self.wish_for(full, endpoint);
+        let answer = wish.answer;
+        self.perform(link, notes, now, wish.row);
+        answer
+    }
+
+    fn release(&mut self, key: Key, link: &mut Link, now: u64, notes: &mut Vec<Note>)
+        requires reserved { vec_len notes.old < vec_capacity notes.old }
+        ensures step { IsReleased now key self.old link.old notes.old.items self.new link.new
+            notes.new.items }
+        ensures idle { self.new.idle ≡ self.old.idle }
+        ensures len { vec_len notes.new ≤ vec_len notes.old + 1 }
+        ensures capacity { vec_capacity notes.new ≡ vec_capacity notes.old }
+    {
+        self.recall();
+        rows_fit();
+        answers_fit();
+        books_keep();
+        let ask = may_ask(link, now);
+        let row = self.idle_row_of(ask, key);
+        self.perform(link, notes, now, row);
+    }
+
+    /// The idle pairs of a tick, one after the other: a lone gateway drops each, another one asks for the end of each
+    /// Live one, where the peer was heard at most 300 cs ago and the link isn't full then.
+    pub fn tick(&mut self, link: &mut Link, now: u64, notes: &mut Vec<Note>)
+        requires reserved { vec_len notes.old + length self.old.table.entries
+            < vec_capacity notes.old }
+        ensures core { self.new ≡ (ticked_core now self.old link.old).core }
+        ensures link { link.new ≡ (ticked_core now self.old link.old).link }
+        ensures notes { notes.new.items ≡ notes.old.items
+            ++ (ticked_core now self.old link.old).notes }
+        ensures len { vec_len notes.new ≤ vec_len notes.old + length self.old.table.entries }
+        ensures capacity { vec_capacity notes.new ≡ vec_capacity notes.old }
+    {
+        self.list_idle(now);
+        for i in 0..self.idle_count() {
+            let key = self.idle_key_at(i);
+            self.release(key, link, now, notes);
+        }
+    }
+
+    /// Takes a record at a synced gateway.
+    fn take_synced(
+        &mut self,
+        entry: Record,
+        link: &mut Link,
+        now: u64,
+        notes: &mut Vec<Note>,
+    ) -> Option<Endpoint>
+        requires synced { is_synced_at self.old.stage ≡ true }
+        requires formed { IsWellFormedRecord entry }
+        requires ready { 0 < self.old.table.ready }
+        requires places { needs_answer entry ≡ true → 0 < free_places link.old }
+        requires reserved { vec_len notes.old < vec_capacity notes.old }
+        ensures ended { let row = row_of (book_of self.old) (rests_in self.old.table entry now) entry
+            in result ≡ row.ended }
+        ensures core { let row = row_of (book_of self.old) (rests_in self.old.table entry now) entry
+            in self.new ≡ core_after now self.old row }
+        ensures link { let row = row_of (book_of self.old) (rests_in self.old.table entry now) entry
+            in link.new ≡ answered link.old row.answer }
+        ensures pasts { let row = row_of (book_of self.old) (rests_in self.old.table entry now) entry
+            in LivesOn now row.change self.old.table self.new.table }
+        ensures notes { let row = row_of (book_of self.old) (rests_in self.old.table entry now) entry
+            in notes.new.items ≡ notes.old.items ++ noted_by self.old.id now row.what }
+        ensures len { vec_len notes.new ≤ vec_len notes.old + 1 }
+        ensures capacity { vec_capacity notes.new ≡ vec_capacity notes.old }
+    {
+        self.recall();
+        rows_fit();
+        answers_fit();
+        books_keep();
+        let row = self.row_for(entry, now);
+        let ended = row.ended;
+        self.perform(link, notes, now, row);
+        ended
+    }
+}
