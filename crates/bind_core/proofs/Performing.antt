@@ -5,6 +5,10 @@ use Rattle.bindings.specs.Entries.{HasDistinctKeys}
 use Rattle.resync.specs.Cursor.{coming}
 use Rattle.resync.specs.declared.cursor.Cursor.{Cursor}
 use Rattle.bind_core.proofs.Steady.{SteadyLaws, still-coming}
+use Rattle.nat_types.specs.declared.notes.Note.{Note}
+use Rattle.link.specs.Link.{Link}
+use Rattle.pair_machine.specs.Box.{Letter}
+use Rattle.binding_step.specs.Machine.{Works}
 use Rattle.lives.specs.Lives.{Life}
 use Rattle.bindings.specs.Table.{Table}
 use Rattle.binding_step.specs.declared.changes.Change.{Change}
@@ -90,3 +94,6 @@ same-book c cursor t t2 same is = subst (λ (u : Table). IsBook (book_of (record
 -- the book then, of a row that is worked out elsewhere
 pub book-then : (now : ℕ) (c c2 : Core) (r r2 : Row) → c2 ≡ core_after now c r → r ≡ r2 → book_of c2 ≡ after (book_of c) r2
 book-then now c c2 r r2 made is = ap book_of made ∙ book-after now c r ∙ ap (after (book_of c)) is
+
+pub works-as : (now : ℕ) (letters : List Letter) (words : List ℕ) (b : Book) (e : Link) (n : ℕ) (b2 b3 : Book) (e2 e3 : Link) (n2 : ℕ) (ns : List Note) (h : List Record) → b3 ≡ b2 → e3 ≡ e2 → Works now letters words b e n b2 e2 n2 ns h → Works now letters words b e n b3 e3 n2 ns h
+works-as now letters words b e n b2 b3 e2 e3 n2 ns h book link works = rw (book, link) works

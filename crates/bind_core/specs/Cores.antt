@@ -3,6 +3,8 @@ use Rattle.std.specs.Prelude.{ℕ, Bool, List, Option, Some, None, is_some, true
 use Rattle.nat_types.specs.declared.gateways.GatewayId.{GatewayId}
 use Rattle.nat_types.specs.declared.records.Record.{Record}
 use Rattle.nat_types.specs.declared.records.Record.TheVariants.{Install, Accept, Refuse, Ask, Yes, No, Begin, Put, Done, Want, Grant, Owner}
+use Rattle.nat_types.specs.declared.notes.Happening.{Happening}
+use Rattle.nat_types.specs.declared.notes.Happening.TheVariants.{Retaken, Synced}
 use Rattle.nat_types.specs.declared.pairs.Endpoint.{Endpoint}
 use Rattle.nat_types.specs.declared.pairs.Key.{Key}
 use Rattle.lives.specs.declared.packets.Packet.{Packet}
@@ -80,3 +82,35 @@ rests_in t Done now = false
 rests_in t Want now = false
 rests_in t (Grant g) now = false
 rests_in t (Owner first last) now = false
+
+-- ---- loading
+
+-- the record ends a loading
+abbrev pub is_whole : Record → Bool
+is_whole (Install p) = false
+is_whole (Accept k) = false
+is_whole (Refuse k) = false
+is_whole (Ask k) = false
+is_whole (Yes k) = false
+is_whole (No k) = false
+is_whole Begin = false
+is_whole (Put p) = false
+is_whole Done = true
+is_whole Want = false
+is_whole (Grant g) = false
+is_whole (Owner first last) = false
+
+-- what is noted of a record in its place
+abbrev pub what_loaded : Record → Option Happening
+what_loaded (Install p) = None
+what_loaded (Accept k) = None
+what_loaded (Refuse k) = None
+what_loaded (Ask k) = None
+what_loaded (Yes k) = None
+what_loaded (No k) = None
+what_loaded Begin = None
+what_loaded (Put p) = Some (Retaken p)
+what_loaded Done = Some Synced
+what_loaded Want = None
+what_loaded (Grant g) = None
+what_loaded (Owner first last) = None

@@ -1,12 +1,15 @@
 //! What a gateway asks of its core: rows carried out.
-ghost use Rattle.std.specs.Prelude.{◌≡◌, ◌+◌, ◌<◌, ◌≤◌, ◌++◌, ℕ, true, false, Some, IsTrue};
-ghost use Rattle.std.specs.Prelude.{length, vec_len, vec_capacity};
+ghost use Rattle.std.specs.Prelude.{◌≡◌, ◌+◌, ◌<◌, ◌≤◌, ◌++◌, ◌∷◌, [], ℕ, List, true, false, suc};
+ghost use Rattle.std.specs.Prelude.{length, vec_len, vec_capacity, OnOk, OnErr};
 ghost use Rattle.link.specs.Grammar.{IsWellFormedRecord};
 ghost use Rattle.link.specs.Link.{free_places, needs_answer};
-ghost use Rattle.binding_step.specs.Books.{is_synced as is_synced_at};
+ghost use Rattle.binding_step.specs.Books.{is_lone as is_lone_at, is_synced as is_synced_at};
 ghost use Rattle.binding_step.specs.Fits.{IsWellFormedEndpoint};
 ghost use Rattle.binding_step.specs.Rows.{wish_of, row_of, noted_by, after, answered, is_full};
 ghost use Rattle.binding_step.specs.Rows.{taken_book, taken_answer, taken_what, taken_ended};
+ghost use Rattle.binding_step.specs.Machine.{IsTurn, Stands, Works};
+ghost use Rattle.nat_types.specs.declared.records.Record.{Record as Rec};
+ghost use Rattle.pair_machine.specs.Box.{Letter};
 ghost use Rattle.bind_core.specs.Changes.{LivesOn};
 ghost use Rattle.bind_core.specs.Cores.{book_of, core_after, rests_in};
 ghost use Rattle.bind_core.specs.Ticks.{ticked_core, IsReleased};
@@ -14,9 +17,10 @@ ghost use Rattle.bind_core.specs.Ticks.{ticked_core, IsReleased};
 
 use crate::Core;
 use crate::deeds::{is_link_full, may_ask};
-use binding_step::{Want, answers_fit, books_keep, rows_fit};
+use binding_step::{Want, answers_fit, books_keep, record_works, rows_fit, wish_works};
 use link::Link;
 use nat_types::{Endpoint, Key, Note, Record};
+use std::alloc::AllocError;
 
 impl Core {
     /// What a packet of an endpoint, for which there may be no pair yet, has to do.
@@ -44,11 +48,16 @@ impl Core {
             in notes.new.items ≡ notes.old.items ++ noted_by self.old.id now row.what }
         ensures len { vec_len notes.new ≤ vec_len notes.old + 1 }
         ensures capacity { vec_capacity notes.new ≡ vec_capacity notes.old }
+        ensures works { (h : List Rec) (n : ℕ) → Stands (book_of self.old) link.old h
+            → let row = (wish_of (book_of self.old) (is_full link.old) endpoint).row in
+            Works now [] [] (book_of self.old) link.old n (book_of self.new) link.new n
+            (noted_by self.old.id now row.what) h }
     {
         self.recall();
         rows_fit();
         answers_fit();
         books_keep();
+        wish_works();
         let full = is_link_full(link);
         let wish = self.wish_for(full, endpoint);
         let answer = wish.answer;
@@ -126,5 +135,58 @@ impl Core {
         let ended = row.ended;
         self.perform(link, notes, now, row);
         ended
+    }
+
+    /// Takes a record of the peer's. The answer is the endpoint whose packets needn't wait for the peer any more.
+    pub fn take(
+        &mut self,
+        entry: Record,
+        link: &mut Link,
+        now: u64,
+        notes: &mut Vec<Note>,
+    ) -> Option<Endpoint>
+        requires formed { IsWellFormedRecord entry }
+        requires ready { 0 < self.old.table.ready }
+        requires places { needs_answer entry ≡ true → 0 < free_places link.old }
+        requires reserved { vec_len notes.old < vec_capacity notes.old }
+        ensures ended { result
+            ≡ taken_ended (book_of self.old) (rests_in self.old.table entry now) entry }
+        ensures book { book_of self.new
+            ≡ taken_book (book_of self.old) (rests_in self.old.table entry now) entry }
+        ensures link { let rests = rests_in self.old.table entry now
+            in link.new ≡ answered link.old (taken_answer (book_of self.old) rests entry) }
+        ensures notes { let rests = rests_in self.old.table entry now
+            in notes.new.items ≡ notes.old.items
+            ++ noted_by self.old.id now (taken_what (book_of self.old) rests entry) }
+        ensures len { vec_len notes.new ≤ vec_len notes.old + 1 }
+        ensures capacity { vec_capacity notes.new ≡ vec_capacity notes.old }
+        ensures core { let row = row_of (book_of self.old) (rests_in self.old.table entry now) entry
+            in is_synced_at self.old.stage ≡ true → self.new ≡ core_after now self.old row }
+        // Of the letter in which the record stands next; a lone gateway has none to take.
+        ensures works { (h : List Rec) (n : ℕ) (l : Letter) (offset : ℕ)
+            → is_lone_at self.old.stage ≡ false → Stands (book_of self.old) link.old h
+            → IsTurn link.old n l offset entry
+            → Works now (l ∷ []) [] (book_of self.old) link.old n (book_of self.new) link.new (suc n)
+            (noted_by self.old.id now
+            (taken_what (book_of self.old) (rests_in self.old.table entry now) entry)) h }
+    {
+        self.recall();
+        record_works();
+        if self.is_synced() {
+            self.take_synced(entry, link, now, notes)
+        } else {
+            self.load(entry, now, notes);
+            None
+        }
+    }
+
+    /// Makes the table ready for so many new pairs, until the next call.
+    pub fn ready(&mut self, endpoints: &[Endpoint]) -> Result<(), AllocError>
+        ensures ok { OnOk result (self.new ≡ record self.old { table = record self.old.table {
+          ready = length endpoints.now;
+        } }) }
+        ensures err { OnErr result (self.new ≡ self.old) }
+    {
+        self.make_ready(endpoints)
     }
 }

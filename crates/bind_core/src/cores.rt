@@ -1,7 +1,7 @@
 //! One gateway's table, and how far it is.
 ghost use Rattle.std.specs.Prelude.{◌≡◌, ◌+◌, ◌-◌, ◌<◌, ◌≤◌, ◌++◌, ◌&&◌, not, ℕ, [], true};
 ghost use Rattle.std.specs.Prelude.{IsTrue, IfOk, IfSome, is_some, length, vec_len, vec_capacity};
-ghost use Rattle.std.specs.Prelude.{slice_get, Some};
+ghost use Rattle.std.specs.Prelude.{slice_get, Some, false, OnOk, OnErr};
 ghost use Rattle.nat_types.specs.declared.pairs.Key.{Key as OutsidePort};
 ghost use Rattle.lives.specs.declared.packets.Packet.{Packet as Carried};
 ghost use Rattle.lives.specs.Lives.{Past, with_packet};
@@ -15,22 +15,24 @@ ghost use Rattle.binding_step.specs.Fits.{Fits};
 ghost use Rattle.binding_step.specs.Rows.{is_theirs as is_theirs_port, proposed_row, install_row};
 ghost use Rattle.binding_step.specs.Rows.{grant_row, want_row, none_row, synced_row, new_wish};
 ghost use Rattle.binding_step.specs.Rows.{wish_of, carry_row, noted_by, after, answered, is_full};
-ghost use Rattle.binding_step.specs.Rows.{idle_row, row_of};
+ghost use Rattle.binding_step.specs.Rows.{idle_row, row_of, unsynced_after, unsynced_what};
 ghost use Rattle.bind_core.specs.Changes.{adds, IsSteady, LivesOn};
 ghost use Rattle.bindings.specs.Table.{idle_keys_of};
 ghost use Rattle.bind_core.specs.Cores.{book_of, core_after, inbound_of, lives_carried, rests_in};
 
 use crate::deeds::{Bounds, carry_by, change_table, is_wanting, is_link_full, lies_in_either, note, tell};
 use crate::grants::{choose_granted, higher, lower};
+use crate::loads::{loading_of, stage_after};
 use crate::rows::{
     accept, answering, ask, carry, ending, gives_way, is_lone, is_synced, known, no, quiet, refuse,
     release, row, wish, yes,
 };
 use addresses::{Port, TcpFlags};
-use binding_step::{Change, Row, Stage, Want, Wish};
+use binding_step::{Change, Row, Stage, Want, Wish, books_keep};
 use bindings::{Entry, PortBounds, Table};
 use link::Link;
 use lives::{Packet, Remote, Way};
+use std::alloc::AllocError;
 use nat_types::{
     Endpoint, EntryState, GatewayId, Granted, Happening, Key, Note, Pair, Record,
 };
@@ -391,5 +393,37 @@ impl Core {
         ensures { result ≡ length self.now.idle }
     {
         self.idle.len()
+    }
+
+    pub(crate) fn make_ready(&mut self, endpoints: &[Endpoint]) -> Result<(), AllocError>
+        ensures ok { OnOk result (self.new ≡ record self.old { table = record self.old.table {
+          ready = length endpoints.now;
+        } }) }
+        ensures err { OnErr result (self.new ≡ self.old) }
+    {
+        self.table.ready(endpoints)
+    }
+
+    /// Takes a record at a gateway that isn't synced.
+    pub(crate) fn load(&mut self, entry: Record, now: u64, notes: &mut Vec<Note>)
+        requires unsynced { is_synced_at self.old.stage ≡ false }
+        requires formed { IsWellFormedRecord entry }
+        requires ready { 0 < self.old.table.ready }
+        requires reserved { vec_len notes.old < vec_capacity notes.old }
+        ensures book { book_of self.new ≡ unsynced_after (book_of self.old) entry }
+        ensures notes { notes.new.items ≡ notes.old.items ++ noted_by self.old.id now
+            (unsynced_what (book_of self.old) entry) }
+        ensures len { vec_len notes.new ≤ vec_len notes.old + 1 }
+        ensures capacity { vec_capacity notes.new ≡ vec_capacity notes.old }
+    {
+        books_keep();
+        let loads = loading_of(&entry);
+        match self.loading.take(&mut self.table, entry, now) {
+            Ok(_) => {
+                self.stage = stage_after(self.stage, loads.is_whole);
+                note(notes, self.id, now, loads.what);
+            }
+            Err(_out_of_place) => {}
+        }
     }
 }

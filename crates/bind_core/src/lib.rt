@@ -5,6 +5,7 @@ mod calls;
 mod cores;
 mod deeds;
 mod grants;
+mod loads;
 mod rows;
 
 pub use cores::Core;

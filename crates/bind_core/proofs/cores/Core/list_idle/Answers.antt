@@ -13,7 +13,8 @@ unreachable-requires c =
     let room = c.self.invariant.room in
     let len = c.clear.ensures.len in
     let capacity = c.clear.ensures.capacity in
-    c.in-Err.ensures.room (omega (arith, few, within, room, len, capacity))
+    let no = c.in-Err.ensures.room (omega (arith, few, within, room, len, capacity)) in
+    cc
 
 pub invariant_of-self : goal.invariant_of-self
 invariant_of-self c =

@@ -1,8 +1,9 @@
-use Rattle.std.proofs.Common.{ap, ◌∙◌}
+use Rattle.std.proofs.Common.{ap}
 use Rattle.binding_step.specs.declared.changes.Wish.{Wish}
+use Rattle.binding_step.specs.Rows.{wish_of, is_full}
 use Rattle.bind_core.specs.Cores.{book_of}
 use Rattle.bind_core.proofs.Deciding.{wish-steady}
-use Rattle.bind_core.proofs.Performing.{book-then}
+use Rattle.bind_core.proofs.Performing.{book-then, works-as}
 use Rattle.bind_core.proofs.cores.Core.want.Goals as goal
 
 pub perform-requires-clause-fits : goal.perform-requires-clause-fits
@@ -18,4 +19,12 @@ pub perform-requires-clause-steady : goal.perform-requires-clause-steady
 perform-requires-clause-steady c = rw c.wish_for-wish.ensures (wish-steady (book_of c.args.self.now) _ c.args.endpoint c.recall.ensures)
 
 pub returns-clause-book : goal.returns-clause-book
-returns-clause-book c = book-then c.args.now c.args.self.now c.perform.new.self _ _ c.perform.ensures.core (ap (λ (w : Wish). w.row) (rw (← c.is_link_full-full.ensures) c.wish_for-wish.ensures))
+returns-clause-book c =
+    rw (← c.is_link_full-full.ensures)
+    (book-then c.args.now c.args.self.now c.perform.new.self c.wish_for-wish.result.row (wish_of (book_of c.args.self.now) c.is_link_full-full.result c.args.endpoint).row c.perform.ensures.core
+    (ap (λ (w : Wish). w.row) c.wish_for-wish.ensures))
+
+pub returns-clause-works : goal.returns-clause-works
+returns-clause-works c = λ h n stands.
+    works-as c.args.now _ _ (book_of c.args.self.now) c.args.link.now n _ (book_of c.perform.new.self) _ c.perform.new.link n _ h (returns-clause-book c) (returns-clause-link c)
+    (c.wish_works.ensures c.args.now (book_of c.args.self.now) c.args.link.now n h (is_full c.args.link.now) c.args.endpoint stands)
