@@ -4,7 +4,7 @@ use Rattle.nat_types.specs.declared.records.Record.{Record}
 use Rattle.bindings.specs.Entries.{HasDistinctKeys}
 use Rattle.resync.specs.Cursor.{coming}
 use Rattle.resync.specs.declared.cursor.Cursor.{Cursor}
-use Rattle.bind_core.proofs.Steady.{SteadyLaws, still-coming}
+use Rattle.bind_core.proofs.Steady.{SteadyLaws, still-coming, none-coming}
 use Rattle.nat_types.specs.declared.notes.Note.{Note}
 use Rattle.link.specs.Link.{Link}
 use Rattle.pair_machine.specs.Box.{Letter}
@@ -14,13 +14,20 @@ use Rattle.bindings.specs.Table.{Table}
 use Rattle.binding_step.specs.declared.changes.Change.{Change}
 use Rattle.binding_step.specs.declared.changes.Change.TheVariants.{Keep, Add, Turn, Renew, Drop, Yield, Want, Give, Gain}
 use Rattle.binding_step.specs.declared.changes.Row.{Row}
-use Rattle.binding_step.specs.Books.{Book, IsBook, is_any, is_promised}
-use Rattle.binding_step.specs.Rows.{after, changed, with_gained, is_gained, numbers_of}
+use Rattle.binding_step.specs.Books.{Book, IsBook, is_any, is_promised, is_synced, load_of}
+use Rattle.binding_step.specs.Rows.{after, changed, with_gained, is_gained, numbers_of, row_of, taken_book, taken_answer, unsynced_after, load_taken, stage_after}
+use Rattle.binding_step.specs.declared.setups.Stage.{Stage}
+use Rattle.binding_step.specs.declared.setups.Stage.TheVariants.{Paired}
+use Rattle.nat_types.specs.declared.records.Record.TheVariants as rec
+use Rattle.bindings.specs.declared.entries.PortBounds.{PortBounds}
+use Rattle.resync.specs.Loading.{Progress, loaded}
+use Rattle.resync.specs.Loading as progress
+use Rattle.std.proofs.Common.{Option, Some, None}
 use Rattle.bindings.specs.Runs.{own_in}
 use Rattle.std.proofs.Common.{true, false, cond, [], ◌∷◌}
 use Rattle.bind_core.specs.Changes.{table_book, table_after, wants_after, IsBetween, IsSteady}
 use Rattle.bind_core.specs.declared.deeds.Bounds.{Bounds}
-use Rattle.bind_core.specs.Cores.{Core, book_of, core_after}
+use Rattle.bind_core.specs.Cores.{Core, book_of, core_after, is_whole}
 use Rattle.bind_core.proofs.Porting.{gained-rest}
 
 -- what is gained hangs on the ranges, the entries and the owned ports alone
@@ -97,3 +104,57 @@ book-then now c c2 r r2 made is = ap book_of made ∙ book-after now c r ∙ ap 
 
 pub works-as : (now : ℕ) (letters : List Letter) (words : List ℕ) (b : Book) (e : Link) (n : ℕ) (b2 b3 : Book) (e2 e3 : Link) (n2 : ℕ) (ns : List Note) (h : List Record) → b3 ≡ b2 → e3 ≡ e2 → Works now letters words b e n b2 e2 n2 ns h → Works now letters words b e n b3 e3 n2 ns h
 works-as now letters words b e n b2 b3 e2 e3 n2 ns h book link works = rw (book, link) works
+
+-- ---- a record, wherever it comes
+
+pub taken-book : (b : Book) (rests : Bool) (r : Record) → is_synced b.stage ≡ true → taken_book b rests r ≡ after b (row_of b rests r)
+taken-book b rests r h = ap (λ (t : Bool). let x : Book = cond t (after b (row_of b rests r)) (unsynced_after b r) in x) h
+
+pub taken-answer : (b : Book) (rests : Bool) (r : Record) → is_synced b.stage ≡ true → taken_answer b rests r ≡ (row_of b rests r).answer
+taken-answer b rests r h = ap (λ (t : Bool). let x : Option Record = cond t (row_of b rests r).answer None in x) h
+
+pub loaded-book : (b : Book) (rests : Bool) (r : Record) → is_synced b.stage ≡ false → taken_book b rests r ≡ unsynced_after b r
+loaded-book b rests r h = ap (λ (t : Bool). let x : Book = cond t (after b (row_of b rests r)) (unsynced_after b r) in x) h
+
+pub loaded-answer : (b : Book) (rests : Bool) (r : Record) → is_synced b.stage ≡ false → taken_answer b rests r ≡ None
+loaded-answer b rests r h = ap (λ (t : Bool). let x : Option Record = cond t (row_of b rests r).answer None in x) h
+
+-- ---- loading
+
+same-stage : (s : Stage) (r : Record) → (let x : Stage = cond (is_whole r) Paired s in x) ≡ stage_after s r
+same-stage s (rec.Install p) = refl
+same-stage s (rec.Accept k) = refl
+same-stage s (rec.Refuse k) = refl
+same-stage s (rec.Ask k) = refl
+same-stage s (rec.Yes k) = refl
+same-stage s (rec.No k) = refl
+same-stage s rec.Begin = refl
+same-stage s (rec.Put p) = refl
+same-stage s rec.Done = refl
+same-stage s rec.Want = refl
+same-stage s (rec.Grant g) = refl
+same-stage s (rec.Owner first last) = refl
+
+pub load-book : (c : Core) (r : Record) (t2 : Table) (p2 : Progress) (s2 : Stage) (cs : List Record) → loaded (load_of (book_of c)) r ≡ Some (progress.load_of p2 t2) → s2 ≡ cond (is_whole r) Paired c.stage → cs ≡ c.coming → t2.zero ≡ c.table.zero → t2.one ≡ c.table.one
+    → book_of (record c { table = t2; stage = s2; begun = p2.begun; named = p2.named; coming = cs }) ≡ unsynced_after (book_of c) r
+load-book c r t2 p2 s2 cs ok stage comes zero one =
+    ap (λ (x : Stage). of x cs t2.zero t2.one) (stage ∙ same-stage c.stage r)
+    ∙ ap (λ (x : List Record). of (stage_after c.stage r) x t2.zero t2.one) comes
+    ∙ ap (λ (x : PortBounds). of (stage_after c.stage r) c.coming x t2.one) zero
+    ∙ ap (λ (x : PortBounds). of (stage_after c.stage r) c.coming c.table.zero x) one
+    ∙ sym (ap (load_taken (book_of c) r) ok)
+  where
+    of : Stage → List Record → PortBounds → PortBounds → Book
+    of s cs z o = record { id = c.id; zero = z; one = o; stage = s; begun = p2.begun; named = p2.named; entries = t2.entries; owned = t2.owned; wants = c.wants; coming = cs }
+
+unpaired : (b : Book) → is_synced b.stage ≡ false → IsBook b → is_promised b ≡ true → ⊥
+unpaired b h is promised = let paired : is_synced b.stage ≡ true = ap is_synced (is.promised promised) in cc
+
+pub load-comes : (c : Core) (cursor : Cursor) (t2 : Table) → is_synced c.stage ≡ false → IsBook (book_of c) → c.coming ≡ coming cursor c.table → coming cursor t2 ≡ c.coming
+load-comes c cursor t2 h is are = none-coming cursor c.table t2 (λ any. unpaired (book_of c) h is (ap is_any are ∙ any)) ∙ sym are
+
+pub load-kept : (b : Book) (r : Record) → is_synced b.stage ≡ false → IsBook (taken_book b false r) → IsBook (unsynced_after b r)
+load-kept b r h is = subst IsBook (loaded-book b false r h) is
+
+pub whole-stage : (s : Stage) (whole whole2 : Bool) → whole ≡ whole2 → (let x : Stage = cond whole Paired s in x) ≡ cond whole2 Paired s
+whole-stage s whole whole2 same = ap (λ (t : Bool). let x : Stage = cond t Paired s in x) same

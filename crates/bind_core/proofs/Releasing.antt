@@ -1,5 +1,6 @@
 -- The idle pairs of a tick.
-use Rattle.std.proofs.Common.{◌≡◌, ℕ, zero, suc, ◌+◌, ◌<◌, ◌≤◌, Bool, true, false, cond, nat_lt, List, [], ◌∷◌, ◌++◌, length, get_or, drop, refl, sym, ap, ◌∙◌, arith, append_assoc}
+use Rattle.std.proofs.Common.{◌≡◌, ℕ, zero, suc, ◌+◌, ◌<◌, ◌≤◌, Bool, true, false, cond, nat_lt, List, [], ◌∷◌, ◌++◌, length, get_or, drop, refl, sym, ap, subst, ◌∙◌, arith, append_assoc, slice_get, Some}
+use Rattle.std.proofs.lemmas.Option.{get_or_from_slice_get, slice_get_within}
 use Rattle.std.proofs.Math.Seq.{drop-cons}
 use Rattle.nat_types.specs.declared.notes.Note.{Note}
 use Rattle.link.specs.Link.{Link}
@@ -70,3 +71,7 @@ all-done zero [] h = refl
 all-done (suc i) [] h = refl
 all-done zero (k ∷ ks) h = absurd (omega (arith, h))
 all-done (suc i) (k ∷ ks) h = all-done i ks (omega (arith, h))
+
+pub one-more-at : (now : ℕ) (i : ℕ) (keys : List Key) (k : Key) (c : Core) (e : Link) (ns : List Note) (c2 : Core) (e2 : Link) (ns2 : List Note) → slice_get keys i ≡ Some k → IsReleased now k c e ns c2 e2 ns2 → IsOneMore now i keys c e ns c2 e2 ns2
+one-more-at now i keys k c e ns c2 e2 ns2 h is =
+    one-more now i keys k c e ns c2 e2 ns2 (slice_get_within keys i k h) (subst (λ (z : Key). IsReleased now z c e ns c2 e2 ns2) (sym (get_or_from_slice_get keys i k k h)) is)

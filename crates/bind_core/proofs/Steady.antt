@@ -51,3 +51,10 @@ still-coming laws (place.Owners from) now ch t keys is =
     steadily laws (place.Owners from) now ch t keys (is (any-behind (owners_of (runs_from from t.owned)) (puts_of t.entries ++ Done ∷ []) (any-last (puts_of t.entries) Done)))
 still-coming laws (place.Puts last) now ch t keys is = steadily laws (place.Puts last) now ch t keys (is (any-last (puts_behind last t.entries) Done))
 still-coming laws place.Over now ch t keys is = refl
+
+-- where nothing is to come, nothing is, whatever the table
+pub none-coming : (c : Cursor) (t t2 : Table) → (is_any (coming c t) ≡ true → ⊥) → coming c t2 ≡ coming c t
+none-coming place.Begin t t2 none = absurd (none refl)
+none-coming (place.Owners from) t t2 none = absurd (none (any-behind (owners_of (runs_from from t.owned)) (puts_of t.entries ++ Done ∷ []) (any-last (puts_of t.entries) Done)))
+none-coming (place.Puts last) t t2 none = absurd (none (any-last (puts_behind last t.entries) Done))
+none-coming place.Over t t2 none = refl

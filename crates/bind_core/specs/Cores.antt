@@ -1,5 +1,5 @@
 -- What callers see of a core.
-use Rattle.std.specs.Prelude.{ℕ, Bool, List, Option, Some, None, is_some, true, false, ◌||◌, if◌then◌else◌}
+use Rattle.std.specs.Prelude.{ℕ, Bool, List, Option, Some, None, is_some, true, false, ◌||◌, [], map, if◌then◌else◌}
 use Rattle.nat_types.specs.declared.gateways.GatewayId.{GatewayId}
 use Rattle.nat_types.specs.declared.records.Record.{Record}
 use Rattle.nat_types.specs.declared.records.Record.TheVariants.{Install, Accept, Refuse, Ask, Yes, No, Begin, Put, Done, Want, Grant, Owner}
@@ -12,6 +12,8 @@ use Rattle.lives.specs.Lives.{Life, life_carried}
 use Rattle.bindings.specs.declared.entries.Entry.{Entry}
 use Rattle.bindings.specs.Entries.{slot_of, translates}
 use Rattle.bindings.specs.Lives.{lives_with, rests_at, is_unused_at}
+use Rattle.bindings.specs.Runs.{port_at}
+use Rattle.addresses.specs.declared.transport.Port.{Port}
 use Rattle.bindings.specs.Table.{Table}
 use Rattle.binding_step.specs.declared.changes.Row.{Row}
 use Rattle.binding_step.specs.declared.setups.Stage.{Stage}
@@ -114,3 +116,7 @@ what_loaded Done = Some Synced
 what_loaded Want = None
 what_loaded (Grant g) = None
 what_loaded (Owner first last) = None
+
+-- the ports that a synced gateway owns
+abbrev pub owned_of : Core → List Port
+owned_of c = (if is_synced c.stage then map port_at c.table.owned else [])

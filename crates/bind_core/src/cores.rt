@@ -1,14 +1,16 @@
 //! One gateway's table, and how far it is.
 ghost use Rattle.std.specs.Prelude.{◌≡◌, ◌+◌, ◌-◌, ◌<◌, ◌≤◌, ◌++◌, ◌&&◌, not, ℕ, [], true};
 ghost use Rattle.std.specs.Prelude.{IsTrue, IfOk, IfSome, is_some, length, vec_len, vec_capacity};
-ghost use Rattle.std.specs.Prelude.{slice_get, Some, false, OnOk, OnErr};
+ghost use Rattle.std.specs.Prelude.{slice_get, Some, false, OnOk, OnErr, drop, take, List};
 ghost use Rattle.nat_types.specs.declared.pairs.Key.{Key as OutsidePort};
 ghost use Rattle.lives.specs.declared.packets.Packet.{Packet as Carried};
 ghost use Rattle.lives.specs.Lives.{Past, with_packet};
 ghost use Rattle.bindings.specs.Lives.{KeepsOthers};
 ghost use Rattle.bindings.specs.Table.{IsPast};
 ghost use Rattle.link.specs.Grammar.{IsWellFormedRecord};
-ghost use Rattle.link.specs.Link.{free_places};
+ghost use Rattle.link.specs.Link.{free_places, wanted, with_fed};
+ghost use Rattle.nat_types.specs.declared.records.Record.{Record as Rec};
+ghost use Rattle.binding_step.specs.Machine.{Stands, Works};
 ghost use Rattle.binding_step.specs.Books.{IsBook, is_synced as is_synced_at};
 ghost use Rattle.binding_step.specs.Books.{is_lone as is_lone_at, is_promised};
 ghost use Rattle.binding_step.specs.Fits.{Fits};
@@ -18,7 +20,7 @@ ghost use Rattle.binding_step.specs.Rows.{wish_of, carry_row, noted_by, after, a
 ghost use Rattle.binding_step.specs.Rows.{idle_row, row_of, unsynced_after, unsynced_what};
 ghost use Rattle.bind_core.specs.Changes.{adds, IsSteady, LivesOn};
 ghost use Rattle.bindings.specs.Table.{idle_keys_of};
-ghost use Rattle.bind_core.specs.Cores.{book_of, core_after, inbound_of, lives_carried, rests_in};
+ghost use Rattle.bind_core.specs.Cores.{book_of, core_after, inbound_of, lives_carried, owned_of, rests_in};
 
 use crate::deeds::{Bounds, carry_by, change_table, is_wanting, is_link_full, lies_in_either, note, tell};
 use crate::grants::{choose_granted, higher, lower};
@@ -28,7 +30,8 @@ use crate::rows::{
     release, row, wish, yes,
 };
 use addresses::{Port, TcpFlags};
-use binding_step::{Change, Row, Stage, Want, Wish, books_keep};
+use arrayvec::ArrayVec;
+use binding_step::{Change, Row, Stage, Want, Wish, books_keep, feed_works};
 use bindings::{Entry, PortBounds, Table};
 use link::Link;
 use lives::{Packet, Remote, Way};
@@ -424,6 +427,37 @@ impl Core {
                 note(notes, self.id, now, loads.what);
             }
             Err(_out_of_place) => {}
+        }
+    }
+
+    // ---- a promised batch
+
+    /// Hands in what the link wants of a promised batch. Afterwards it wants none.
+    pub fn hand_in(&mut self, link: &mut Link)
+        requires promised { length self.old.coming ≡ link.old.promised }
+        ensures core { self.new ≡ record self.old {
+          coming = drop (wanted link.old) self.old.coming;
+        } }
+        ensures link { link.new ≡ with_fed link.old (take (wanted link.old) self.old.coming) }
+        ensures enough { wanted link.new ≡ 0 }
+        ensures works { (now : ℕ) (h : List Rec) (n : ℕ) → Stands (book_of self.old) link.old h
+            → Works now [] [] (book_of self.old) link.old n (book_of self.new) link.new n [] h }
+    {
+        books_keep();
+        feed_works();
+        let mut records = ArrayVec::new();
+        self.cursor.draw(&self.table, link.wanted(), &mut records);
+        link.feed(records.as_slice());
+    }
+
+    /// The ports that it owns, rising; none where it isn't synced.
+    pub fn owned(&self) -> Result<Vec<Port>, AllocError>
+        ensures { IfOk result (λ v. v.items ≡ owned_of self.now) }
+    {
+        if is_synced(self.stage) {
+            self.table.owned()
+        } else {
+            Ok(Vec::new(*self.idle.allocator()))
         }
     }
 }

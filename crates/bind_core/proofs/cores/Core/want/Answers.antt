@@ -1,6 +1,6 @@
-use Rattle.std.proofs.Common.{ap}
+use Rattle.std.proofs.Common.{◌≡◌, ap, ◌∙◌}
 use Rattle.binding_step.specs.declared.changes.Wish.{Wish}
-use Rattle.binding_step.specs.Rows.{wish_of, is_full}
+use Rattle.binding_step.specs.Rows.{wish_of, is_full, answered}
 use Rattle.bind_core.specs.Cores.{book_of}
 use Rattle.bind_core.proofs.Deciding.{wish-steady}
 use Rattle.bind_core.proofs.Performing.{book-then, works-as}
@@ -26,5 +26,7 @@ returns-clause-book c =
 
 pub returns-clause-works : goal.returns-clause-works
 returns-clause-works c = λ h n stands.
-    works-as c.args.now _ _ (book_of c.args.self.now) c.args.link.now n _ (book_of c.perform.new.self) _ c.perform.new.link n _ h (returns-clause-book c) (returns-clause-link c)
+    let link : c.perform.new.link ≡ answered c.args.link.now (wish_of (book_of c.args.self.now) (is_full c.args.link.now) c.args.endpoint).row.answer =
+    rw (← c.is_link_full-full.ensures) (c.perform.ensures.link ∙ ap (λ (w : Wish). answered c.args.link.now w.row.answer) c.wish_for-wish.ensures) in
+    works-as c.args.now _ _ (book_of c.args.self.now) c.args.link.now n _ (book_of c.perform.new.self) _ c.perform.new.link n _ h (returns-clause-book c) link
     (c.wish_works.ensures c.args.now (book_of c.args.self.now) c.args.link.now n h (is_full c.args.link.now) c.args.endpoint stands)
