@@ -5,3 +5,4 @@ pub mod Performing
 pub mod Porting
 pub mod Releasing
 pub mod Steady
+pub mod Walking

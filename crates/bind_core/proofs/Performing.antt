@@ -6,7 +6,8 @@ use Rattle.resync.specs.Cursor.{coming}
 use Rattle.resync.specs.declared.cursor.Cursor.{Cursor}
 use Rattle.bind_core.proofs.Steady.{SteadyLaws, still-coming, none-coming}
 use Rattle.nat_types.specs.declared.notes.Note.{Note}
-use Rattle.link.specs.Link.{Link}
+use Rattle.link.specs.Link.{Link, with_fed}
+use Rattle.std.proofs.lemmas.List.{take-append-drop}
 use Rattle.pair_machine.specs.Box.{Letter}
 use Rattle.binding_step.specs.Machine.{Works}
 use Rattle.lives.specs.Lives.{Life}
@@ -24,7 +25,7 @@ use Rattle.resync.specs.Loading.{Progress, loaded}
 use Rattle.resync.specs.Loading as progress
 use Rattle.std.proofs.Common.{Option, Some, None}
 use Rattle.bindings.specs.Runs.{own_in}
-use Rattle.std.proofs.Common.{true, false, cond, [], ◌∷◌}
+use Rattle.std.proofs.Common.{true, false, cond, [], ◌∷◌, ◌++◌, take, drop}
 use Rattle.bind_core.specs.Changes.{table_book, table_after, wants_after, IsBetween, IsSteady}
 use Rattle.bind_core.specs.declared.deeds.Bounds.{Bounds}
 use Rattle.bind_core.specs.Cores.{Core, book_of, core_after, is_whole}
@@ -158,3 +159,15 @@ load-kept b r h is = subst IsBook (loaded-book b false r h) is
 
 pub whole-stage : (s : Stage) (whole whole2 : Bool) → whole ≡ whole2 → (let x : Stage = cond whole Paired s in x) ≡ cond whole2 Paired s
 whole-stage s whole whole2 same = ap (λ (t : Bool). let x : Stage = cond t Paired s in x) same
+
+-- ---- a promised batch
+
+pub drawn-first : (out out2 more : List Record) → out ≡ [] → out2 ≡ out ++ more → out2 ≡ more
+drawn-first out out2 more none drawn = drawn ∙ ap (λ (z : List Record). z ++ more) none
+
+pub fed-works : (now : ℕ) (c : Core) (rest records : List Record) (e e2 : Link) (n : ℕ) (h : List Record) (k : ℕ) → records ≡ take k c.coming → rest ≡ drop k c.coming → e2 ≡ with_fed e records
+    → (c.coming ≡ records ++ rest → Works now [] [] (book_of c) e n (record (book_of c) { coming = rest }) (with_fed e records) n [] h)
+    → Works now [] [] (book_of c) e n (book_of (record c { coming = rest })) e2 n [] h
+fed-works now c rest records e e2 n h k first left link works =
+    works-as now [] [] (book_of c) e n (record (book_of c) { coming = rest }) (book_of (record c { coming = rest })) (with_fed e records) e2 n [] h refl link
+    (works (sym (ap (λ (z : List Record). z ++ rest) first ∙ ap (λ (z : List Record). take k c.coming ++ z) left ∙ take-append-drop k c.coming)))

@@ -1,4 +1,4 @@
-//! One gateway's side of the binding protocol.
+//! One gateway's side of the binding protocol: its table, consent, deletion, the restart of the peer, and ports that move.
 #![tactic(auto)]
 
 mod calls;
@@ -6,6 +6,7 @@ mod cores;
 mod deeds;
 mod grants;
 mod loads;
+mod resets;
 mod rows;
 
 pub use cores::Core;
