@@ -2,7 +2,7 @@
 use Rattle.std.proofs.Common.{◌≡◌, ℕ, Bool, List, refl, sym, ap, subst, ◌∙◌}
 use Rattle.nat_types.specs.declared.records.Record.{Record}
 use Rattle.bindings.specs.Entries.{HasDistinctKeys}
-use Rattle.resync.specs.Cursor.{coming}
+use Rattle.resync.specs.Cursor.{coming, to_come}
 use Rattle.resync.specs.declared.cursor.Cursor.{Cursor}
 use Rattle.bind_core.proofs.Steady.{SteadyLaws, still-coming, none-coming}
 use Rattle.nat_types.specs.declared.notes.Note.{Note}
@@ -10,15 +10,22 @@ use Rattle.link.specs.Link.{Link, with_fed}
 use Rattle.std.proofs.lemmas.List.{take-append-drop}
 use Rattle.pair_machine.specs.Box.{Letter}
 use Rattle.binding_step.specs.Machine.{Works}
+use Rattle.nat_types.specs.declared.gateways.GatewayId.{GatewayId}
+use Rattle.bindings.specs.declared.entries.Entry.{Entry}
+use Rattle.bindings.specs.Revivals.{revived_entries}
+use Rattle.port_range.specs.Ports.{is_listed}
+use Rattle.std.proofs.Common.{◌==◌}
+use Rattle.std.proofs.lemmas.Bool.{or_left, eq-eqb}
+use Rattle.binding_step.specs.Resets.{revived}
 use Rattle.lives.specs.Lives.{Life}
 use Rattle.bindings.specs.Table.{Table}
 use Rattle.binding_step.specs.declared.changes.Change.{Change}
 use Rattle.binding_step.specs.declared.changes.Change.TheVariants.{Keep, Add, Turn, Renew, Drop, Yield, Want, Give, Gain}
 use Rattle.binding_step.specs.declared.changes.Row.{Row}
-use Rattle.binding_step.specs.Books.{Book, IsBook, is_any, is_promised, is_synced, load_of}
+use Rattle.binding_step.specs.Books.{Book, IsBook, is_any, is_promised, is_synced, load_of, empty_book}
 use Rattle.binding_step.specs.Rows.{after, changed, with_gained, is_gained, numbers_of, row_of, taken_book, taken_answer, unsynced_after, load_taken, stage_after}
 use Rattle.binding_step.specs.declared.setups.Stage.{Stage}
-use Rattle.binding_step.specs.declared.setups.Stage.TheVariants.{Paired}
+use Rattle.binding_step.specs.declared.setups.Stage.TheVariants.{Paired, Unsynced}
 use Rattle.nat_types.specs.declared.records.Record.TheVariants as rec
 use Rattle.bindings.specs.declared.entries.PortBounds.{PortBounds}
 use Rattle.resync.specs.Loading.{Progress, loaded}
@@ -28,7 +35,7 @@ use Rattle.bindings.specs.Runs.{own_in}
 use Rattle.std.proofs.Common.{true, false, cond, [], ◌∷◌, ◌++◌, take, drop}
 use Rattle.bind_core.specs.Changes.{table_book, table_after, wants_after, IsBetween, IsSteady}
 use Rattle.bind_core.specs.declared.deeds.Bounds.{Bounds}
-use Rattle.bind_core.specs.Cores.{Core, book_of, core_after, is_whole}
+use Rattle.bind_core.specs.Cores.{Core, book_of, core_after, is_whole, revived_with}
 use Rattle.bind_core.proofs.Porting.{gained-rest}
 
 -- what is gained hangs on the ranges, the entries and the owned ports alone
@@ -171,3 +178,27 @@ pub fed-works : (now : ℕ) (c : Core) (rest records : List Record) (e e2 : Link
 fed-works now c rest records e e2 n h k first left link works =
     works-as now [] [] (book_of c) e n (record (book_of c) { coming = rest }) (book_of (record c { coming = rest })) (with_fed e records) e2 n [] h refl link
     (works (sym (ap (λ (z : List Record). z ++ rest) first ∙ ap (λ (z : List Record). take k c.coming ++ z) left ∙ take-append-drop k c.coming)))
+
+-- ---- beginnings and resets
+
+none-owned : (xs : List ℕ) → ((p : ℕ) → is_listed p xs ≡ false) → xs ≡ []
+none-owned [] h = refl
+none-owned (x ∷ xs) h = let here = or_left (x == x) (is_listed x xs) (eq-eqb x x refl) in let none = h x in cc
+
+pub empty-is : (id : GatewayId) (zero one : PortBounds) (t : Table) (p : Progress) → t.zero ≡ zero → t.one ≡ one → t.entries ≡ [] → ((port : ℕ) → is_listed port t.owned ≡ false) → p ≡ progress.fresh zero one
+    → (let b : Book = record { id = id; zero = t.zero; one = t.one; stage = Unsynced; begun = p.begun; named = p.named; entries = t.entries; owned = t.owned; wants = false; coming = [] } in b) ≡ empty_book id zero one
+empty-is id zero one t p z o es owned is =
+    ap (λ (x : Progress). of t.zero t.one x.begun x.named t.entries t.owned) is
+    ∙ ap (λ (x : PortBounds). of x t.one false 0 t.entries t.owned) z
+    ∙ ap (λ (x : PortBounds). of zero x false 0 t.entries t.owned) o
+    ∙ ap (λ (x : List Entry). of zero one false 0 x t.owned) es
+    ∙ ap (λ (x : List ℕ). of zero one false 0 [] x) (none-owned t.owned owned)
+  where
+    of : PortBounds → PortBounds → Bool → ℕ → List Entry → List ℕ → Book
+    of z o begun named entries owned = record { id = id; zero = z; one = o; stage = Unsynced; begun = begun; named = named; entries = entries; owned = owned; wants = false; coming = [] }
+
+pub revived-book : (c : Core) (t2 : Table) (stage : Stage) (cursor : Cursor) → t2 ≡ record c.table { entries = t2.entries; lives = t2.lives } → t2.entries ≡ revived_entries c.table.entries
+    → book_of (record c { table = t2; stage = stage; wants = false; coming = coming cursor t2 }) ≡ revived_with stage cursor c
+revived-book c t2 stage cursor same entries =
+    ap (λ (t : Table). book_of (record c { table = t; stage = stage; wants = false; coming = coming cursor t })) same
+    ∙ ap (λ (es : List Entry). let b : Book = record (revived (book_of c)) { entries = es; stage = stage; coming = to_come cursor c.table.owned es } in b) entries

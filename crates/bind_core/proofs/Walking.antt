@@ -1,5 +1,5 @@
 -- A walk over a table's entries in their order.
-use Rattle.std.proofs.Common.{◌≡◌, ℕ, suc, ◌+◌, ◌<◌, ◌≤◌, nat_lt, Bool, true, false, cond, Option, Some, None, inl, inr, List, [], ◌∷◌, ◌++◌, length, refl, sym, ap, ◌∙◌, arith, append_assoc}
+use Rattle.std.proofs.Common.{◌≡◌, ℕ, suc, ◌+◌, ◌<◌, ◌≤◌, nat_lt, Bool, true, false, cond, Option, Some, None, inl, inr, List, [], ◌∷◌, ◌++◌, length, map, refl, sym, ap, ◌∙◌, arith, append_assoc}
 use Rattle.std.specs.List.{filter}
 use Rattle.std.proofs.lemmas.Bool.{cond-true, cond-false, ltb-true, lt-ltb, le-ltb}
 use Rattle.std.proofs.lemmas.List.{map-append}
@@ -74,7 +74,8 @@ behind-none last (x ∷ xs) h =
 back-cons : (e : Entry) (es : List Entry) → back_in (e ∷ es) ≡ back_in (e ∷ []) ++ back_in es
 back-cons e es = at (comes_back e.state)
   where
-    at : (b : Bool) → (let ps : List Pair = cond b (e.pair ∷ back_in es) (back_in es) in ps) ≡ (let ps : List Pair = cond b (e.pair ∷ []) [] in ps) ++ back_in es
+    at : (b : Bool) → map (λ (x : Entry). x.pair) (cond b (e ∷ filter (λ (x : Entry). comes_back x.state) es) (filter (λ (x : Entry). comes_back x.state) es))
+        ≡ map (λ (x : Entry). x.pair) (let xs : List Entry = cond b (e ∷ []) [] in xs) ++ map (λ (x : Entry). x.pair) (filter (λ (x : Entry). comes_back x.state) es)
     at true = refl
     at false = refl
 

@@ -15,6 +15,10 @@ use Rattle.bindings.specs.Lives.{lives_with, rests_at, is_unused_at}
 use Rattle.bindings.specs.Runs.{port_at}
 use Rattle.addresses.specs.declared.transport.Port.{Port}
 use Rattle.bindings.specs.Table.{Table}
+use Rattle.bindings.specs.Revivals.{revived_entries}
+use Rattle.resync.specs.Cursor.{to_come}
+use Rattle.resync.specs.declared.cursor.Cursor.{Cursor}
+use Rattle.binding_step.specs.Resets.{revived}
 use Rattle.binding_step.specs.declared.changes.Row.{Row}
 use Rattle.binding_step.specs.declared.setups.Stage.{Stage}
 use Rattle.binding_step.specs.Books.{Book, is_synced}
@@ -120,3 +124,9 @@ what_loaded (Owner first last) = None
 -- the ports that a synced gateway owns
 abbrev pub owned_of : Core → List Port
 owned_of c = (if is_synced c.stage then map port_at c.table.owned else [])
+
+-- ---- resets
+
+-- the pairs are revived, and a batch is to come from there
+abbrev pub revived_with : Stage → Cursor → Core → Book
+revived_with stage cursor c = record (revived (book_of c)) { stage = stage; coming = to_come cursor c.table.owned (revived_entries c.table.entries) }

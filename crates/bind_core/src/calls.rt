@@ -7,6 +7,8 @@ ghost use Rattle.binding_step.specs.Books.{is_lone as is_lone_at, is_synced as i
 ghost use Rattle.binding_step.specs.Fits.{IsWellFormedEndpoint};
 ghost use Rattle.binding_step.specs.Rows.{wish_of, row_of, noted_by, after, answered, is_full};
 ghost use Rattle.binding_step.specs.Rows.{taken_book, taken_answer, taken_what, taken_ended};
+ghost use Rattle.binding_step.specs.Resets.{back_in, put_alone, retaken};
+ghost use Rattle.link.specs.Link.{Agrees, Link as End};
 ghost use Rattle.binding_step.specs.Machine.{IsTurn, Stands, Works};
 ghost use Rattle.nat_types.specs.declared.records.Record.{Record as Rec};
 ghost use Rattle.pair_machine.specs.Box.{Letter};
@@ -17,7 +19,10 @@ ghost use Rattle.bind_core.specs.Ticks.{ticked_core, IsReleased};
 
 use crate::Core;
 use crate::deeds::{is_link_full, may_ask};
-use binding_step::{Want, answers_fit, books_keep, record_works, rows_fit, wish_works};
+use binding_step::{
+    Stage, Want, answers_fit, books_keep, record_works, rows_fit, wish_works, word_works,
+};
+use resync::Cursor;
 use link::Link;
 use nat_types::{Endpoint, Key, Note, Record};
 use std::alloc::AllocError;
@@ -188,5 +193,29 @@ impl Core {
         ensures err { OnErr result (self.new ≡ self.old) }
     {
         self.make_ready(endpoints)
+    }
+
+    /// The operator's word that the peer is off: the link's session was closed just before. Each pair that it waited for
+    /// translates again, and from then on nobody's consent is needed.
+    pub fn peer_off(&mut self, link: &Link, now: u64, notes: &mut Vec<Note>)
+        requires synced { is_synced_at self.old.stage ≡ true }
+        requires reserved { vec_len notes.old + length self.old.table.entries
+            ≤ vec_capacity notes.old }
+        ensures book { book_of self.new ≡ put_alone (book_of self.old) }
+        ensures notes { notes.new.items ≡ notes.old.items ++ retaken self.old.id now
+            (back_in self.old.table.entries) }
+        ensures len { vec_len notes.new ≤ vec_len notes.old + length self.old.table.entries }
+        ensures capacity { vec_capacity notes.new ≡ vec_capacity notes.old }
+        // Of the end as it was before the word of this number closed it.
+        ensures works { (e : End) (h : List Rec) (n number : ℕ) → Agrees [] [] link.now
+            → e.boot ≡ link.now.boot → link.now.known ≡ number
+            → Works now [] (number ∷ []) (book_of self.old) e n (book_of self.new) link.now 0
+            (retaken self.old.id now (back_in self.old.table.entries)) h }
+    {
+        self.recall();
+        books_keep();
+        word_works();
+        self.revive(Stage::Lone, Cursor::Over, now, notes);
+        let _ = link;
     }
 }

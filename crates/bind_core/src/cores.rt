@@ -20,22 +20,30 @@ ghost use Rattle.binding_step.specs.Rows.{wish_of, carry_row, noted_by, after, a
 ghost use Rattle.binding_step.specs.Rows.{idle_row, row_of, unsynced_after, unsynced_what};
 ghost use Rattle.bind_core.specs.Changes.{adds, IsSteady, LivesOn};
 ghost use Rattle.bindings.specs.Table.{idle_keys_of};
-ghost use Rattle.bind_core.specs.Cores.{book_of, core_after, inbound_of, lives_carried, owned_of, rests_in};
+ghost use Rattle.bindings.specs.Ports.{AreBounds, key_count};
+ghost use Rattle.binding_step.specs.Books.{empty_book};
+ghost use Rattle.binding_step.specs.Resets.{back_in, retaken};
+ghost use Rattle.bindings.specs.declared.entries.Entry.{Entry as Known};
+ghost use Rattle.bindings.specs.Entries.{is_pair, slot_of};
+ghost use Rattle.bind_core.specs.Cores.{book_of, core_after, inbound_of, lives_carried, owned_of, rests_in, revived_with};
 
-use crate::deeds::{Bounds, carry_by, change_table, is_wanting, is_link_full, lies_in_either, note, tell};
+use crate::deeds::{Bounds, carry_by, count_keys, change_table, is_wanting, is_link_full, lies_in_either, note, recall_port,
+    tell,
+};
 use crate::grants::{choose_granted, higher, lower};
 use crate::loads::{loading_of, stage_after};
+use crate::resets::note_back;
 use crate::rows::{
     accept, answering, ask, carry, ending, gives_way, is_lone, is_synced, known, no, quiet, refuse,
     release, row, wish, yes,
 };
 use addresses::{Port, TcpFlags};
 use arrayvec::ArrayVec;
-use binding_step::{Change, Row, Stage, Want, Wish, books_keep, feed_works};
+use binding_step::{Change, Row, Stage, Want, Wish, books_begin, books_keep, feed_works};
 use bindings::{Entry, PortBounds, Table};
 use link::Link;
 use lives::{Packet, Remote, Way};
-use std::alloc::AllocError;
+use std::alloc::{AllocError, Global};
 use nat_types::{
     Endpoint, EntryState, GatewayId, Granted, Happening, Key, Note, Pair, Record,
 };
@@ -459,5 +467,69 @@ impl Core {
         } else {
             Ok(Vec::new(*self.idle.allocator()))
         }
+    }
+
+    // ---- resets
+
+    /// What was proposed or asked to be closed translates again, and is noted.
+    pub(crate) fn revive(
+        &mut self,
+        stage: Stage,
+        cursor: Cursor,
+        now: u64,
+        notes: &mut Vec<Note>,
+    )
+        requires kept { IsBook (revived_with stage cursor self.old) }
+        requires reserved { vec_len notes.old + length self.old.table.entries
+            ≤ vec_capacity notes.old }
+        ensures book { book_of self.new ≡ revived_with stage cursor self.old }
+        ensures notes { notes.new.items ≡ notes.old.items ++ retaken self.old.id now
+            (back_in self.old.table.entries) }
+        ensures len { vec_len notes.new ≤ vec_len notes.old + length self.old.table.entries }
+        ensures capacity { vec_capacity notes.new ≡ vec_capacity notes.old }
+        ensures pasts { (q : OutsidePort) → (entry : Known) → (past : Past)
+            → slot_of self.old.table.entries q ≡ Some entry → is_pair entry.state ≡ true
+            → IsPast self.old.table q past → IsPast self.new.table q past }
+        ensures table { self.new.table ≡ record self.old.table {
+          entries = self.new.table.entries;
+          lives = self.new.table.lives;
+        } }
+    {
+        note_back(&self.table, notes, self.id, now);
+        self.table.revive();
+        self.wants = false;
+        self.stage = stage;
+        self.cursor = cursor;
+    }
+
+    // ---- beginnings
+
+    /// A gateway that begins without a table, with the ranges of gateway 0 and of gateway 1.
+    pub fn unsynced(
+        alloc: Global,
+        id: GatewayId,
+        zero: PortBounds,
+        one: PortBounds,
+    ) -> Result<Core, AllocError>
+        requires zero { AreBounds zero }
+        requires one { AreBounds one }
+        ensures book { IfOk result (λ c. book_of c ≡ empty_book id zero one) }
+        ensures capacity { IfOk result (λ c. c.table.capacity ≡ key_count zero one) }
+    {
+        books_begin();
+        recall_port(zero.highest);
+        recall_port(one.highest);
+        let table = Table::new(alloc, zero, one)?;
+        let idle = Vec::with_capacity(alloc, count_keys(zero, one))?;
+        Ok(Core {
+            id,
+            bounds: Bounds { zero, one },
+            table,
+            stage: Stage::Unsynced,
+            loading: Loading::new(zero, one),
+            wants: false,
+            cursor: Cursor::Over,
+            idle,
+        })
     }
 }

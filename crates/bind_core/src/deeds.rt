@@ -1,5 +1,5 @@
 //! What a row does to a table, and what of it is pushed and noted.
-ghost use Rattle.std.specs.Prelude.{◌≡◌, ◌+◌, ◌-◌, ◌<◌, ◌≤◌, ◌++◌, ◌∷◌, [], not, length, true};
+ghost use Rattle.std.specs.Prelude.{◌≡◌, ◌+◌, ◌-◌, ◌<◌, ◌≤◌, ◌^◌, ◌++◌, ◌∷◌, [], length, true};
 ghost use Rattle.std.specs.Prelude.{None, IsTrue, IfSome, if◌then◌else◌, is_some, vec_len, vec_capacity};
 ghost use Rattle.nat_types.specs.declared.pairs.EntryState.TheVariants.{Doomed, Held, Live};
 ghost use Rattle.nat_types.specs.declared.pairs.Key.{Key as OutsidePort};
@@ -8,7 +8,7 @@ ghost use Rattle.bindings.specs.Entries.{is_pair, slot_of, entry_of, entry_in};
 ghost use Rattle.bindings.specs.Lists.{place_in, put_in, with_state};
 ghost use Rattle.std.specs.List.{insert};
 ghost use Rattle.bindings.specs.Lives.{KeepsOthers, lives_with};
-ghost use Rattle.bindings.specs.Ports.{in_bounds, in_either, is_vacant};
+ghost use Rattle.bindings.specs.Ports.{in_bounds, in_either, is_vacant, key_count, ports_in};
 ghost use Rattle.bindings.specs.Runs.{without_port};
 ghost use Rattle.bindings.specs.Table.{AreInRanges, IsPast};
 ghost use Rattle.link.specs.Grammar.{IsWellFormedRecord};
@@ -124,6 +124,29 @@ fn lies_within(bounds: PortBounds, port: Port) -> bool
     ensures { result ≡ in_bounds bounds port.0 }
 {
     bounds.lowest.0 <= port.0 && port.0 <= bounds.highest.0
+}
+
+fn count_ports(bounds: PortBounds) -> usize
+    requires { bounds.lowest.0 ≤ bounds.highest.0 }
+    ensures { result ≡ ports_in bounds }
+{
+    usize::from(bounds.highest.0 - bounds.lowest.0) + 1
+}
+
+/// Reminds the prover that a port has 16 bits; it does nothing when it runs.
+pub(crate) fn recall_port(port: Port)
+    ensures { port.0 < 2 ^ 16 }
+{
+    let _ = port.0;
+}
+
+/// How many keys both ranges have.
+pub(crate) fn count_keys(zero: PortBounds, one: PortBounds) -> usize
+    requires zero { zero.lowest.0 ≤ zero.highest.0 }
+    requires one { one.lowest.0 ≤ one.highest.0 }
+    ensures { result ≡ key_count zero one }
+{
+    2 * (count_ports(zero) + count_ports(one))
 }
 
 /// The ports of gateway 0 and of gateway 1.

@@ -29,8 +29,8 @@ fn note_if_back(notes: &mut Vec<Note>, entry: Entry, by: GatewayId, at: u64)
     }
 }
 
-fn key_of(entry: Entry) -> Key
-    ensures { result ≡ entry.pair.key }
+fn key_of(entry: &Entry) -> Key
+    ensures { result ≡ entry.now.pair.key }
 {
     entry.pair.key
 }
@@ -47,7 +47,7 @@ pub(crate) fn note_back(table: &Table, notes: &mut Vec<Note>, by: GatewayId, at:
     table.recall();
     let mut last = None;
     while let Some(entry) = table.entry_after(last) {
-        last = Some(key_of(entry));
+        last = Some(key_of(&entry));
         note_if_back(notes, entry, by, at);
     }
 }
