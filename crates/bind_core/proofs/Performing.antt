@@ -6,17 +6,27 @@ use Rattle.resync.specs.Cursor.{coming, to_come}
 use Rattle.resync.specs.declared.cursor.Cursor.{Cursor}
 use Rattle.bind_core.proofs.Steady.{SteadyLaws, still-coming, none-coming}
 use Rattle.nat_types.specs.declared.notes.Note.{Note}
-use Rattle.link.specs.Link.{Link, with_fed}
+use Rattle.link.specs.Link.{Link, with_fed, with_promised}
+use Rattle.std.proofs.Common.{length}
 use Rattle.std.proofs.lemmas.List.{take-append-drop}
 use Rattle.pair_machine.specs.Box.{Letter}
 use Rattle.binding_step.specs.Machine.{Works}
 use Rattle.nat_types.specs.declared.gateways.GatewayId.{GatewayId}
 use Rattle.bindings.specs.declared.entries.Entry.{Entry}
-use Rattle.bindings.specs.Revivals.{revived_entries}
+use Rattle.bindings.specs.Revivals.{revived_entries, woken_entry}
+use Rattle.bindings.specs.Revivals.{woken as woken_state}
+use Rattle.bindings.proofs.Found.{find-some}
+use Rattle.bindings.specs.Entries.{is_pair, has_key, slot_of}
+use Rattle.nat_types.specs.declared.pairs.EntryState.{EntryState}
+use Rattle.nat_types.specs.declared.pairs.EntryState.TheVariants as state
+use Rattle.nat_types.specs.declared.pairs.Key.{Key}
+use Rattle.resync.specs.Batch.{HasNoPending, is_settled}
+use Rattle.std.specs.List.{filter}
+use Rattle.std.proofs.Common.{map, inl, inr}
 use Rattle.port_range.specs.Ports.{is_listed}
 use Rattle.std.proofs.Common.{◌==◌}
 use Rattle.std.proofs.lemmas.Bool.{or_left, eq-eqb}
-use Rattle.binding_step.specs.Resets.{revived}
+use Rattle.binding_step.specs.Resets.{revived, restarted, restart_batch, restart_link}
 use Rattle.lives.specs.Lives.{Life}
 use Rattle.bindings.specs.Table.{Table}
 use Rattle.binding_step.specs.declared.changes.Change.{Change}
@@ -202,3 +212,39 @@ pub revived-book : (c : Core) (t2 : Table) (stage : Stage) (cursor : Cursor) →
 revived-book c t2 stage cursor same entries =
     ap (λ (t : Table). book_of (record c { table = t; stage = stage; wants = false; coming = coming cursor t })) same
     ∙ ap (λ (es : List Entry). let b : Book = record (revived (book_of c)) { entries = es; stage = stage; coming = to_come cursor c.table.owned es } in b) entries
+
+pub settled-revived : (es : List Entry) → HasNoPending (revived_entries es)
+settled-revived es k x h = woken (filter (λ (e : Entry). is_pair e.state) es) h
+  where
+    settles : (s : EntryState) → is_settled (woken_state s) ≡ true
+    settles state.Pending = refl
+    settles state.Doomed = refl
+    settles state.Live = refl
+    settles state.Closing = refl
+    settles state.Held = refl
+
+    woken : (xs : List Entry) → slot_of (map woken_entry xs) k ≡ Some x → is_settled x.state ≡ true
+    woken [] h = cc
+    woken (y ∷ ys) h =
+        elim (find-some (has_key k (woken_entry y)) (woken_entry y) (slot_of (map woken_entry ys) k) x h) [
+          | inl w ↦ sym (ap (λ (z : Entry). is_settled z.state) w.1) ∙ settles y.state
+          | inr w ↦ woken ys w.1
+        ]
+
+pub restarted-synced : (b : Book) → is_synced b.stage ≡ true → restarted b ≡ record (revived b) { stage = Paired; coming = restart_batch b }
+restarted-synced b h = ap (λ (t : Bool). let x : Book = cond t (record (revived b) { stage = Paired; coming = restart_batch b }) (empty_book b.id b.zero b.one) in x) h
+
+pub restarted-bare : (b : Book) → is_synced b.stage ≡ false → restarted b ≡ empty_book b.id b.zero b.one
+restarted-bare b h = ap (λ (t : Bool). let x : Book = cond t (record (revived b) { stage = Paired; coming = restart_batch b }) (empty_book b.id b.zero b.one) in x) h
+
+pub forgotten : (c : Core) (t2 : Table) (p : Progress) (zero one : PortBounds) → t2 ≡ record c.table { entries = []; lives = []; owned = [] } → c.table.zero ≡ zero → c.table.one ≡ one → p ≡ progress.fresh zero one
+    → (let b : Book = record { id = c.id; zero = t2.zero; one = t2.one; stage = Unsynced; begun = p.begun; named = p.named; entries = t2.entries; owned = t2.owned; wants = false; coming = [] } in b) ≡ empty_book c.id c.table.zero c.table.one
+forgotten c t2 p zero one same z o is =
+    empty-is c.id c.table.zero c.table.one t2 p (ap (λ (t : Table). t.zero) same) (ap (λ (t : Table). t.one) same) (ap (λ (t : Table). t.entries) same) (λ port. ap (λ (t : Table). is_listed port t.owned) same)
+    (is ∙ ap (λ (x : PortBounds). progress.fresh x one) (sym z) ∙ ap (λ (x : PortBounds). progress.fresh c.table.zero x) (sym o))
+
+pub link-synced : (b : Book) (e : Link) → is_synced b.stage ≡ true → restart_link b e ≡ with_promised e (length (restart_batch b))
+link-synced b e h = ap (λ (t : Bool). let x : Link = cond t (with_promised e (length (restart_batch b))) e in x) h
+
+pub link-bare : (b : Book) (e : Link) → is_synced b.stage ≡ false → restart_link b e ≡ e
+link-bare b e h = ap (λ (t : Bool). let x : Link = cond t (with_promised e (length (restart_batch b))) e in x) h

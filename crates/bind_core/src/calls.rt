@@ -7,7 +7,9 @@ ghost use Rattle.binding_step.specs.Books.{is_lone as is_lone_at, is_synced as i
 ghost use Rattle.binding_step.specs.Fits.{IsWellFormedEndpoint};
 ghost use Rattle.binding_step.specs.Rows.{wish_of, row_of, noted_by, after, answered, is_full};
 ghost use Rattle.binding_step.specs.Rows.{taken_book, taken_answer, taken_what, taken_ended};
-ghost use Rattle.binding_step.specs.Resets.{back_in, put_alone, retaken};
+ghost use Rattle.binding_step.specs.Resets.{back_in, put_alone, retaken, restarted};
+ghost use Rattle.binding_step.specs.Resets.{restart_batch, restart_link, restart_notes};
+ghost use Rattle.link.specs.Link.{occupied};
 ghost use Rattle.link.specs.Link.{Agrees, Link as End};
 ghost use Rattle.binding_step.specs.Machine.{IsTurn, Stands, Works};
 ghost use Rattle.nat_types.specs.declared.records.Record.{Record as Rec};
@@ -20,7 +22,8 @@ ghost use Rattle.bind_core.specs.Ticks.{ticked_core, IsReleased};
 use crate::Core;
 use crate::deeds::{is_link_full, may_ask};
 use binding_step::{
-    Stage, Want, answers_fit, books_keep, record_works, rows_fit, wish_works, word_works,
+    Stage, Want, answers_fit, books_keep, record_works, restart_works, rows_fit, wish_works,
+    word_works,
 };
 use resync::Cursor;
 use link::Link;
@@ -217,5 +220,34 @@ impl Core {
         word_works();
         self.revive(Stage::Lone, Cursor::Over, now, notes);
         let _ = link;
+    }
+
+    /// The peer began anew: the link was reset just before, and has counted what came with the news. A synced gateway
+    /// promises its table, and needs consent from then on; another one begins its loading anew.
+    pub fn peer_restarted(&mut self, link: &mut Link, now: u64, notes: &mut Vec<Note>)
+        requires begins { occupied link.old ≡ 0 }
+        requires room { length (restart_batch (book_of self.old)) ≤ free_places link.old }
+        requires reserved { vec_len notes.old + length self.old.table.entries
+            ≤ vec_capacity notes.old }
+        ensures book { book_of self.new ≡ restarted (book_of self.old) }
+        ensures link { link.new ≡ restart_link (book_of self.old) link.old }
+        ensures notes { notes.new.items ≡ notes.old.items ++ restart_notes (book_of self.old) now }
+        ensures len { vec_len notes.new ≤ vec_len notes.old + length self.old.table.entries }
+        ensures capacity { vec_capacity notes.new ≡ vec_capacity notes.old }
+        // Of the end as it was before it took the datagram, and with none of the new session's records taken.
+        ensures works { (e : End) (h : List Rec) (n : ℕ) (l : Letter) → Agrees [] [] link.old
+            → e.boot ≡ link.old.boot → e.known < link.old.known → l.boot ≡ link.old.known
+            → Works now (l ∷ []) [] (book_of self.old) e n (book_of self.new) link.new 0
+            (restart_notes (book_of self.old) now) h }
+    {
+        self.recall();
+        books_keep();
+        restart_works();
+        if self.is_synced() {
+            self.revive(Stage::Paired, Cursor::new(), now, notes);
+            self.promise(link);
+        } else {
+            self.forget();
+        }
     }
 }

@@ -8,7 +8,8 @@ ghost use Rattle.lives.specs.Lives.{Past, with_packet};
 ghost use Rattle.bindings.specs.Lives.{KeepsOthers};
 ghost use Rattle.bindings.specs.Table.{IsPast};
 ghost use Rattle.link.specs.Grammar.{IsWellFormedRecord};
-ghost use Rattle.link.specs.Link.{free_places, wanted, with_fed};
+ghost use Rattle.link.specs.Link.{free_places, occupied, wanted, with_fed, with_promised};
+ghost use Rattle.resync.specs.Batch.{HasNoPending, batch_of};
 ghost use Rattle.nat_types.specs.declared.records.Record.{Record as Rec};
 ghost use Rattle.binding_step.specs.Machine.{Stands, Works};
 ghost use Rattle.binding_step.specs.Books.{IsBook, is_synced as is_synced_at};
@@ -47,7 +48,7 @@ use std::alloc::{AllocError, Global};
 use nat_types::{
     Endpoint, EntryState, GatewayId, Granted, Happening, Key, Note, Pair, Record,
 };
-use resync::{Cursor, Loading, steady_batch_law};
+use resync::{Cursor, Loading, batch_len, steady_batch_law};
 use std::marker::Model;
 
 /// One gateway's side of the binding protocol. Moments are in centiseconds.
@@ -500,6 +501,32 @@ impl Core {
         self.wants = false;
         self.stage = stage;
         self.cursor = cursor;
+    }
+
+    /// The table is empty, and nothing is loaded.
+    pub(crate) fn forget(&mut self)
+        requires kept { IsBook (empty_book self.old.id self.old.table.zero self.old.table.one) }
+        ensures book { book_of self.new
+            ≡ empty_book self.old.id self.old.table.zero self.old.table.one }
+    {
+        self.table.clear();
+        self.loading = Loading::new(self.bounds.zero, self.bounds.one);
+        self.wants = false;
+        self.stage = Stage::Unsynced;
+        self.cursor = Cursor::Over;
+    }
+
+    /// Promises the table's batch, where no pair waits for its answer.
+    pub(crate) fn promise(&self, link: &mut Link)
+        requires settled { HasNoPending self.now.table.entries }
+        requires begins { occupied link.old ≡ 0 }
+        requires room { length (batch_of self.now.table.owned self.now.table.entries)
+            ≤ free_places link.old }
+        ensures { link.new ≡ with_promised link.old (length (batch_of self.now.table.owned
+            self.now.table.entries)) }
+    {
+        self.recall();
+        link.promise(batch_len(&self.table));
     }
 
     // ---- beginnings
