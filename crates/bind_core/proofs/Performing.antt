@@ -20,6 +20,7 @@ use Rattle.bindings.specs.Entries.{is_pair, has_key, slot_of}
 use Rattle.nat_types.specs.declared.pairs.EntryState.{EntryState}
 use Rattle.nat_types.specs.declared.pairs.EntryState.TheVariants as state
 use Rattle.nat_types.specs.declared.pairs.Key.{Key}
+use Rattle.nat_types.specs.declared.pairs.Pair.{Pair}
 use Rattle.resync.specs.Batch.{HasNoPending, is_settled}
 use Rattle.std.specs.List.{filter}
 use Rattle.std.proofs.Common.{map, inl, inr}
@@ -33,7 +34,7 @@ use Rattle.binding_step.specs.declared.changes.Change.{Change}
 use Rattle.binding_step.specs.declared.changes.Change.TheVariants.{Keep, Add, Turn, Renew, Drop, Yield, Want, Give, Gain}
 use Rattle.binding_step.specs.declared.changes.Row.{Row}
 use Rattle.binding_step.specs.Books.{Book, IsBook, is_any, is_promised, is_synced, load_of, empty_book}
-use Rattle.binding_step.specs.Rows.{after, changed, with_gained, is_gained, numbers_of, row_of, taken_book, taken_answer, unsynced_after, load_taken, stage_after}
+use Rattle.binding_step.specs.Rows.{after, changed, with_gained, is_gained, numbers_of, row_of, carry_row, use_row, used_row, quiet, answered, taken_book, taken_answer, unsynced_after, load_taken, stage_after}
 use Rattle.binding_step.specs.declared.setups.Stage.{Stage}
 use Rattle.binding_step.specs.declared.setups.Stage.TheVariants.{Paired, Unsynced}
 use Rattle.nat_types.specs.declared.records.Record.TheVariants as rec
@@ -248,3 +249,22 @@ link-synced b e h = ap (λ (t : Bool). let x : Link = cond t (with_promised e (l
 
 pub link-bare : (b : Book) (e : Link) → is_synced b.stage ≡ false → restart_link b e ≡ e
 link-bare b e h = ap (λ (t : Bool). let x : Link = cond t (with_promised e (length (restart_batch b))) e in x) h
+
+used-quiet : (b : Book) (e : Link) (p : Pair) (s : EntryState) → (after b (used_row p s) ≡ b) × (answered e (used_row p s).answer ≡ e)
+used-quiet b e p state.Pending = (refl, refl)
+used-quiet b e p state.Doomed = (refl, refl)
+used-quiet b e p state.Live = (refl, refl)
+used-quiet b e p state.Closing = (refl, refl)
+used-quiet b e p state.Held = (refl, refl)
+
+-- a packet changes nothing of the book, and nothing is pushed
+pub carry-quiet : (b : Book) (e : Link) (k : Key) → (after b (carry_row b k) ≡ b) × (answered e (carry_row b k).answer ≡ e)
+carry-quiet b e k = at (is_synced b.stage) (slot_of b.entries k)
+  where
+    at : (t : Bool) (o : Option Entry) → (let r : Row = cond t (use_row o) quiet in (after b r ≡ b) × (answered e r.answer ≡ e))
+    at false o = (refl, refl)
+    at true None = (refl, refl)
+    at true (Some x) = used-quiet b e x.pair x.state
+
+pub same-carried : (c : Core) (t2 : Table) (cursor : Cursor) → t2 ≡ record c.table { lives = t2.lives } → book_of (record c { table = t2; coming = coming cursor t2 }) ≡ book_of (record c { coming = coming cursor c.table })
+same-carried c t2 cursor same = ap (λ (t : Table). book_of (record c { table = t; coming = coming cursor t })) same

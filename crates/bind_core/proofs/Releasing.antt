@@ -4,8 +4,13 @@ use Rattle.std.proofs.lemmas.Option.{get_or_from_slice_get, slice_get_within}
 use Rattle.std.proofs.Math.Seq.{drop-cons}
 use Rattle.nat_types.specs.declared.notes.Note.{Note}
 use Rattle.link.specs.Link.{Link}
-use Rattle.binding_step.specs.Rows.{idle_row, answered, noted_by}
+use Rattle.binding_step.specs.Rows.{idle_row, after, answered, noted_by}
 use Rattle.bind_core.specs.Cores.{Core, book_of, core_after}
+use Rattle.nat_types.specs.declared.records.Record.{Record}
+use Rattle.pair_machine.specs.Box.{Letter}
+use Rattle.binding_step.specs.Books.{Book}
+use Rattle.binding_step.specs.Machine.{Stands, Works}
+use Rattle.bind_core.proofs.Performing.{book-after, works-as}
 use Rattle.bind_core.specs.Ticks.{may_ask, ticked, IsReleased}
 use Rattle.std.proofs.lemmas.Bool.{ltb-true, ltb-false}
 use Rattle.addresses.specs.declared.transport.Port.{Port}
@@ -75,3 +80,24 @@ all-done (suc i) (k ∷ ks) h = all-done i ks (omega (arith, h))
 pub one-more-at : (now : ℕ) (i : ℕ) (keys : List Key) (k : Key) (c : Core) (e : Link) (ns : List Note) (c2 : Core) (e2 : Link) (ns2 : List Note) → slice_get keys i ≡ Some k → IsReleased now k c e ns c2 e2 ns2 → IsOneMore now i keys c e ns c2 e2 ns2
 one-more-at now i keys k c e ns c2 e2 ns2 h is =
     one-more now i keys k c e ns c2 e2 ns2 (slice_get_within keys i k h) (subst (λ (z : Key). IsReleased now z c e ns c2 e2 ns2) (sym (get_or_from_slice_get keys i k k h)) is)
+
+-- ---- acts
+
+pub record TickLaws : Type 0 where
+  pub idle : (now : ℕ) (b : Book) (e : Link) (n : ℕ) (h : List Record) (ask : Bool) (k : Key) → Stands b e h
+      → Works now [] [] b e n (after b (idle_row b ask k)) (answered e (idle_row b ask k).answer) n (noted_by b.id now (idle_row b ask k).what) h
+  pub join : (now : ℕ) (letters : List Letter) (words : List ℕ) (b b2 b3 : Book) (e e2 e3 : Link) (n n2 n3 : ℕ) (ns ns2 : List Note) (h : List Record)
+      → (a : Works now letters words b e n b2 e2 n2 ns h) → Works now letters words b2 e2 n2 b3 e3 n3 ns2 a.history → Works now letters words b e n b3 e3 n3 (ns ++ ns2) h
+  pub nothing : (now : ℕ) (letters : List Letter) (words : List ℕ) (b : Book) (e : Link) (n : ℕ) (h : List Record) → Stands b e h → Works now letters words b e n b e n [] h
+
+pub ticked-works : (laws : TickLaws) (now : ℕ) (keys : List Key) (c : Core) (e : Link) (n : ℕ) (h : List Record) → Stands (book_of c) e h
+    → Works now [] [] (book_of c) e n (book_of (ticked now keys c e).core) (ticked now keys c e).link n (ticked now keys c e).notes h
+ticked-works laws now [] c e n h stands = laws.nothing now [] [] (book_of c) e n h stands
+ticked-works laws now (k ∷ ks) c e n h stands =
+    let row = idle_row (book_of c) (may_ask now e) k in
+    let c2 = core_after now c row in
+    let e2 = answered e row.answer in
+    let first : Works now [] [] (book_of c) e n (book_of c2) e2 n (noted_by c.id now row.what) h =
+    works-as now [] [] (book_of c) e n (after (book_of c) row) (book_of c2) e2 e2 n _ h (book-after now c row) refl (laws.idle now (book_of c) e n h (may_ask now e) k stands) in
+    laws.join now [] [] (book_of c) (book_of c2) (book_of (ticked now ks c2 e2).core) e e2 (ticked now ks c2 e2).link n n n (noted_by c.id now row.what) (ticked now ks c2 e2).notes h first
+    (ticked-works laws now ks c2 e2 n first.history first.agrees)

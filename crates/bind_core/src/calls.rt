@@ -18,16 +18,15 @@ ghost use Rattle.bind_core.specs.Changes.{LivesOn};
 ghost use Rattle.bind_core.specs.Cores.{book_of, core_after, rests_in};
 ghost use Rattle.bind_core.specs.Ticks.{ticked_core, IsReleased};
 
-
 use crate::Core;
 use crate::deeds::{is_link_full, may_ask};
 use binding_step::{
-    Stage, Want, answers_fit, books_keep, record_works, restart_works, rows_fit, wish_works,
-    word_works,
+    Stage, Want, answers_fit, books_keep, idle_works, record_works, restart_works, rows_fit,
+    wish_works, word_works, works_join, works_nothing,
 };
-use resync::Cursor;
 use link::Link;
 use nat_types::{Endpoint, Key, Note, Record};
+use resync::Cursor;
 use std::alloc::AllocError;
 
 impl Core {
@@ -101,7 +100,13 @@ impl Core {
             ++ (ticked_core now self.old link.old).notes }
         ensures len { vec_len notes.new ≤ vec_len notes.old + length self.old.table.entries }
         ensures capacity { vec_capacity notes.new ≡ vec_capacity notes.old }
+        ensures works { (h : List Rec) (n : ℕ) → Stands (book_of self.old) link.old h
+            → Works now [] [] (book_of self.old) link.old n (book_of self.new) link.new n
+            (ticked_core now self.old link.old).notes h }
     {
+        idle_works();
+        works_join();
+        works_nothing();
         self.list_idle(now);
         for i in 0..self.idle_count() {
             let key = self.idle_key_at(i);
@@ -190,9 +195,11 @@ impl Core {
 
     /// Makes the table ready for so many new pairs, until the next call.
     pub fn ready(&mut self, endpoints: &[Endpoint]) -> Result<(), AllocError>
-        ensures ok { OnOk result (self.new ≡ record self.old { table = record self.old.table {
-          ready = length endpoints.now;
-        } }) }
+        ensures ok { OnOk result (self.new ≡ record self.old {
+          table = record self.old.table {
+            ready = length endpoints.now;
+          };
+        }) }
         ensures err { OnErr result (self.new ≡ self.old) }
     {
         self.make_ready(endpoints)

@@ -10,6 +10,7 @@ ghost use Rattle.bindings.specs.Table.{IsPast};
 ghost use Rattle.link.specs.Grammar.{IsWellFormedRecord};
 ghost use Rattle.link.specs.Link.{free_places, occupied, wanted, with_fed, with_promised};
 ghost use Rattle.resync.specs.Batch.{HasNoPending, batch_of};
+ghost use Rattle.link.specs.Link.{Link as End};
 ghost use Rattle.nat_types.specs.declared.records.Record.{Record as Rec};
 ghost use Rattle.binding_step.specs.Machine.{Stands, Works};
 ghost use Rattle.binding_step.specs.Books.{IsBook, is_synced as is_synced_at};
@@ -28,8 +29,9 @@ ghost use Rattle.bindings.specs.declared.entries.Entry.{Entry as Known};
 ghost use Rattle.bindings.specs.Entries.{is_pair, slot_of};
 ghost use Rattle.bind_core.specs.Cores.{book_of, core_after, inbound_of, lives_carried, owned_of, rests_in, revived_with};
 
-use crate::deeds::{Bounds, carry_by, count_keys, change_table, is_wanting, is_link_full, lies_in_either, note, recall_port,
-    tell,
+use crate::deeds::{
+    Bounds, carry_by, change_table, count_keys, is_link_full, is_wanting, lies_in_either, note,
+    recall_port, tell,
 };
 use crate::grants::{choose_granted, higher, lower};
 use crate::loads::{loading_of, stage_after};
@@ -40,15 +42,15 @@ use crate::rows::{
 };
 use addresses::{Port, TcpFlags};
 use arrayvec::ArrayVec;
-use binding_step::{Change, Row, Stage, Want, Wish, books_begin, books_keep, feed_works};
+use binding_step::{
+    Change, Row, Stage, Want, Wish, books_begin, books_keep, carry_works, feed_works,
+};
 use bindings::{Entry, PortBounds, Table};
 use link::Link;
 use lives::{Packet, Remote, Way};
-use std::alloc::{AllocError, Global};
-use nat_types::{
-    Endpoint, EntryState, GatewayId, Granted, Happening, Key, Note, Pair, Record,
-};
+use nat_types::{Endpoint, EntryState, GatewayId, Granted, Happening, Key, Note, Pair, Record};
 use resync::{Cursor, Loading, batch_len, steady_batch_law};
+use std::alloc::{AllocError, Global};
 use std::marker::Model;
 
 /// One gateway's side of the binding protocol. Moments are in centiseconds.
@@ -334,9 +336,11 @@ impl Core {
         notes: &mut Vec<Note>,
     )
         requires reserved { vec_len notes.old < vec_capacity notes.old }
-        ensures same { self.new ≡ record self.old { table = record self.old.table {
-          lives = self.new.table.lives;
-        } } }
+        ensures same { self.new ≡ record self.old {
+          table = record self.old.table {
+            lives = self.new.table.lives;
+          };
+        } }
         ensures lives { let packet : Carried = record {
           remote = remote;
           way = way;
@@ -359,7 +363,12 @@ impl Core {
             (carry_row (book_of self.old) key).what }
         ensures len { vec_len notes.new ≤ vec_len notes.old + 1 }
         ensures capacity { vec_capacity notes.new ≡ vec_capacity notes.old }
+        // Whatever the end of the link: nothing is pushed.
+        ensures works { (e : End) (h : List Rec) (n : ℕ) → Stands (book_of self.old) e h
+            → Works now [] [] (book_of self.old) e n (book_of self.new) e n
+            (noted_by self.old.id now (carry_row (book_of self.old) key).what) h }
     {
+        carry_works();
         let row = self.carry_row_of(key);
         let packet = Packet {
             remote,
@@ -384,7 +393,7 @@ impl Core {
     }
 
     pub(crate) fn list_idle(&mut self, now: u64)
-        ensures { self.new ≡ record self.old { idle = idle_keys_of self.old.table now; } }
+        ensures { self.new ≡ record self.old { idle = idle_keys_of self.old.table now } }
     {
         self.table.recall();
         self.idle.clear();
@@ -408,9 +417,11 @@ impl Core {
     }
 
     pub(crate) fn make_ready(&mut self, endpoints: &[Endpoint]) -> Result<(), AllocError>
-        ensures ok { OnOk result (self.new ≡ record self.old { table = record self.old.table {
-          ready = length endpoints.now;
-        } }) }
+        ensures ok { OnOk result (self.new ≡ record self.old {
+          table = record self.old.table {
+            ready = length endpoints.now;
+          };
+        }) }
         ensures err { OnErr result (self.new ≡ self.old) }
     {
         self.table.ready(endpoints)
@@ -473,13 +484,7 @@ impl Core {
     // ---- resets
 
     /// What was proposed or asked to be closed translates again, and is noted.
-    pub(crate) fn revive(
-        &mut self,
-        stage: Stage,
-        cursor: Cursor,
-        now: u64,
-        notes: &mut Vec<Note>,
-    )
+    pub(crate) fn revive(&mut self, stage: Stage, cursor: Cursor, now: u64, notes: &mut Vec<Note>)
         requires kept { IsBook (revived_with stage cursor self.old) }
         requires reserved { vec_len notes.old + length self.old.table.entries
             ≤ vec_capacity notes.old }

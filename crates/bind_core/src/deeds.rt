@@ -19,7 +19,6 @@ ghost use Rattle.binding_step.specs.Rows.{answered, changed, noted_by, is_gained
 ghost use Rattle.binding_step.specs.Rows.{is_full, with_gained, without_ports, numbers_of};
 ghost use Rattle.bind_core.specs.Changes.{table_book, wants_after, adds, is_held};
 ghost use Rattle.bind_core.specs.Changes.{IsBetween, LivesOn, lives_after, table_after};
-
 ghost use Rattle.bind_core.specs.Ticks.{is_lately, may_ask as may_ask_at};
 
 use addresses::Port;
@@ -102,7 +101,7 @@ fn yield_entry(table: &mut Table, key: Key, pair: Pair, now: u64)
 
 fn give_port(table: &mut Table, port: Port)
     requires { is_vacant table.old.entries port.0 ≡ true }
-    ensures { table.new ≡ record table.old { owned = without_port port.0 table.old.owned; } }
+    ensures { table.new ≡ record table.old { owned = without_port port.0 table.old.owned } }
 {
     if table.owns(port) {
         table.disown(port);
@@ -265,7 +264,7 @@ pub(crate) fn tell(link: &mut Link, notes: &mut Vec<Note>, by: GatewayId, now: u
 
 /// A packet is carried, where the pair is used.
 pub(crate) fn carry_by(table: &mut Table, is_used: bool, key: Key, packet: Packet)
-    ensures same { table.new ≡ record table.old { lives = table.new.lives; } }
+    ensures same { table.new ≡ record table.old { lives = table.new.lives } }
     ensures lives { table.new.lives ≡ (if is_used then lives_with
         (life_carried key.protocol packet) key table.old.entries table.old.lives
         else table.old.lives) }

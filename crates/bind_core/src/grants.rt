@@ -72,7 +72,7 @@ pub(crate) fn choose_granted(table: &Table, lowest: Port, highest: Port) -> Gran
     requires low { 0 < lowest.0 }
     requires order { lowest.0 ≤ highest.0 }
     ensures { let spares = filter (is_spare table.now.entries table.now.owned)
-            (falling highest.0 (highest.0 + 1 - lowest.0))
+        (falling highest.0 (highest.0 + 1 - lowest.0))
         in result ≡ as_ports (take (share_of (length spares)) spares) }
 {
     let count = highest.0 - lowest.0 + 1;

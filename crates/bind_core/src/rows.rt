@@ -238,13 +238,7 @@ fn released(is_lone: bool, may_ask: bool, pair: Pair, state: EntryState) -> Row
 {
     match state {
         EntryState::Live => released_live(is_lone, may_ask, pair),
-        EntryState::Held => {
-            if is_lone {
-                drop_row(pair)
-            } else {
-                quiet()
-            }
-        }
+        EntryState::Held => { if is_lone { drop_row(pair) } else { quiet() } }
         EntryState::Pending | EntryState::Doomed | EntryState::Closing => quiet(),
     }
 }

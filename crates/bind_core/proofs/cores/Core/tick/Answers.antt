@@ -1,7 +1,9 @@
-use Rattle.std.proofs.Common.{◌≡◌, Some, slice_get, length, sym, ap, ◌∙◌, arith}
+use Rattle.std.proofs.Common.{◌≡◌, [], Some, slice_get, length, sym, ap, ◌∙◌, arith}
 use Rattle.bindings.specs.Table.{idle_keys_of}
-use Rattle.bind_core.specs.Cores.{Core}
-use Rattle.bind_core.proofs.Releasing.{few-idle, one-more-at}
+use Rattle.bind_core.specs.Cores.{Core, book_of}
+use Rattle.bind_core.specs.Ticks.{ticked, ticked_core}
+use Rattle.bind_core.proofs.Performing.{works-as}
+use Rattle.bind_core.proofs.Releasing.{few-idle, one-more-at, all-done, TickLaws, ticked-works}
 use Rattle.bind_core.proofs.cores.Core.tick.Goals as goal
 
 pub returns-clause-len : goal.returns-clause-len
@@ -38,3 +40,16 @@ loop-i-preserved c =
       len = omega (arith, len, longer);
       capacity = c.release.ensures.capacity ∙ c.loop-i.invariant.capacity;
     }
+
+pub returns-clause-works : goal.returns-clause-works
+returns-clause-works c = λ h n stands.
+    let keys = idle_keys_of c.args.self.now.table c.args.now in
+    let sizes = ap (λ (k : Core). length k.idle) c.list_idle.ensures in
+    let end = c.idle_count-i-end.ensures in
+    let past = c.loop-i-test.false in
+    let none = all-done c.loop-i.i keys (omega (arith, sizes, end, past)) in
+    let begun : Core = record c.args.self.now { idle = keys } in
+    let laws : TickLaws = record { idle = c.idle_works.ensures; join = c.works_join.ensures; nothing = c.works_nothing.ensures } in
+    works-as c.args.now [] [] (book_of c.args.self.now) c.args.link.now n (book_of (ticked_core c.args.now c.args.self.now c.args.link.now).core) (book_of c.loop-i.self) (ticked_core c.args.now c.args.self.now c.args.link.now).link c.loop-i.link n _ h
+    (ap book_of (sym (ap (λ ks. (ticked c.args.now ks c.loop-i.self c.loop-i.link).core) none) ∙ c.loop-i.invariant.core)) (sym (ap (λ ks. (ticked c.args.now ks c.loop-i.self c.loop-i.link).link) none) ∙ c.loop-i.invariant.link)
+    (ticked-works laws c.args.now keys begun c.args.link.now n h stands)
