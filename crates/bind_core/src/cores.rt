@@ -23,7 +23,8 @@ ghost use Rattle.binding_step.specs.Rows.{idle_row, row_of, unsynced_after, unsy
 ghost use Rattle.bind_core.specs.Changes.{adds, IsSteady, LivesOn};
 ghost use Rattle.bindings.specs.Table.{idle_keys_of};
 ghost use Rattle.bindings.specs.Ports.{AreBounds, key_count};
-ghost use Rattle.binding_step.specs.Books.{empty_book};
+ghost use Rattle.binding_step.specs.Books.{empty_book, founded_book};
+ghost use Rattle.nat_types.specs.declared.gateways.GatewayId.TheVariants.{Zero};
 ghost use Rattle.binding_step.specs.Resets.{back_in, retaken};
 ghost use Rattle.bindings.specs.declared.entries.Entry.{Entry as Known};
 ghost use Rattle.bindings.specs.Entries.{is_pair, slot_of};
@@ -31,7 +32,7 @@ ghost use Rattle.bind_core.specs.Cores.{book_of, core_after, inbound_of, lives_c
 
 use crate::deeds::{
     Bounds, carry_by, change_table, count_keys, is_link_full, is_wanting, lies_in_either, note,
-    recall_port, tell,
+    own_range, recall_port, tell,
 };
 use crate::grants::{choose_granted, higher, lower};
 use crate::loads::{loading_of, stage_after};
@@ -563,5 +564,31 @@ impl Core {
             cursor: Cursor::Over,
             idle,
         })
+    }
+
+    /// Gateway 0, founded alone, with the ports of its range.
+    pub fn founder(alloc: Global, zero: PortBounds, one: PortBounds) -> Result<Core, AllocError>
+        requires zero { AreBounds zero }
+        requires one { AreBounds one }
+        ensures book { IfOk result (λ c. book_of c ≡ founded_book zero one) }
+        ensures capacity { IfOk result (λ c. c.table.capacity ≡ key_count zero one) }
+    {
+        let mut core = Core::unsynced(alloc, GatewayId::Zero, zero, one)?;
+        core.found(zero, one);
+        Ok(core)
+    }
+
+    fn found(&mut self, zero: PortBounds, one: PortBounds)
+        requires zero { AreBounds zero }
+        requires one { AreBounds one }
+        requires empty { book_of self.old ≡ empty_book Zero zero one }
+        ensures book { book_of self.new ≡ founded_book zero one }
+        ensures capacity { self.new.table.capacity ≡ self.old.table.capacity }
+    {
+        books_begin();
+        recall_port(zero.highest);
+        recall_port(one.highest);
+        own_range(&mut self.table, zero);
+        self.stage = Stage::Lone;
     }
 }

@@ -1,5 +1,5 @@
 //! What a row does to a table, and what of it is pushed and noted.
-ghost use Rattle.std.specs.Prelude.{◌≡◌, ◌+◌, ◌-◌, ◌<◌, ◌≤◌, ◌^◌, ◌++◌, ◌∷◌, [], length, true};
+ghost use Rattle.std.specs.Prelude.{◌≡◌, ℕ, ◌+◌, ◌-◌, ◌<◌, ◌≤◌, ◌^◌, ◌++◌, ◌∷◌, [], length, true};
 ghost use Rattle.std.specs.Prelude.{None, IsTrue, IfSome, if◌then◌else◌, is_some, vec_len, vec_capacity};
 ghost use Rattle.nat_types.specs.declared.pairs.EntryState.TheVariants.{Doomed, Held, Live};
 ghost use Rattle.nat_types.specs.declared.pairs.Key.{Key as OutsidePort};
@@ -14,6 +14,7 @@ ghost use Rattle.bindings.specs.Table.{AreInRanges, IsPast};
 ghost use Rattle.link.specs.Grammar.{IsWellFormedRecord};
 ghost use Rattle.link.specs.Link.{free_places};
 ghost use Rattle.binding_step.specs.declared.changes.Change.TheVariants.{Renew, Yield};
+ghost use Rattle.binding_step.specs.Books.{ports_of};
 ghost use Rattle.binding_step.specs.Fits.{Fits, GivesWay, HasPair, MayGive};
 ghost use Rattle.binding_step.specs.Rows.{answered, changed, noted_by, is_gained as is_gained_in};
 ghost use Rattle.binding_step.specs.Rows.{is_full, with_gained, without_ports, numbers_of};
@@ -153,6 +154,20 @@ pub(crate) fn count_keys(zero: PortBounds, one: PortBounds) -> usize
 pub(crate) struct Bounds {
     pub zero: PortBounds,
     pub one: PortBounds,
+}
+
+/// The table owns the ports of a range, and no others.
+pub(crate) fn own_range(table: &mut Table, range: PortBounds)
+    requires order { range.lowest.0 ≤ range.highest.0 }
+    requires within { (p : ℕ) → in_bounds range p ≡ true
+        → in_either table.old.zero table.old.one p ≡ true }
+    requires none { table.old.owned ≡ [] }
+    ensures { table.new ≡ record table.old { owned = ports_of range } }
+{
+    for port in range.lowest.0..range.highest.0 {
+        table.own(Port(port));
+    }
+    table.own(range.highest);
 }
 
 /// Whether a port lies in one of the ranges.
