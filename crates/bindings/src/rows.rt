@@ -130,7 +130,8 @@ pub(crate) fn list_idle(entries: &[Entry], lives: &[Life], now: u64, out: &mut V
     requires alike { length lives.now ≡ length entries.now }
     requires room { vec_len out.old + length (idle_keys_in now entries.now lives.now) ≤ vec_capacity
         out.old }
-    ensures { out.new.items ≡ out.old.items ++ idle_keys_in now entries.now lives.now }
+    ensures items { out.new.items ≡ out.old.items ++ idle_keys_in now entries.now lives.now }
+    ensures capacity { vec_capacity out.new ≡ vec_capacity out.old }
 {
     for (i, entry) in entries.iter().enumerate() {
         if is_idle_entry(*entry, lives, i, now) {

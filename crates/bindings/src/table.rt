@@ -420,6 +420,7 @@ impl Table {
         ensures err { OnErr result (out.new.items ≡ out.old.items) }
         ensures room { vec_len out.old + length (idle_keys_of self.old now) ≤ vec_capacity out.old
             → IsOk result }
+        ensures capacity { vec_capacity out.old ≤ vec_capacity out.new }
     {
         out.reserve(count_idle(&self.entries, &self.lives, now))?;
         list_idle(&self.entries, &self.lives, now, out);

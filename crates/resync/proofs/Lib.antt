@@ -2,7 +2,7 @@ mod Naming
 mod Putting
 mod Slotted
 mod Ahead
-mod Behind
+pub mod Behind
 mod Drawing
 mod Giving
 mod Holding

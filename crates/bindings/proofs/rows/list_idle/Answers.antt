@@ -25,6 +25,7 @@ loop-i-preserved c =
           let out = c.loop-i.out.items in
           rw (w.out-is) (record {
             room = (let len = w.push_reserved.ensures.len in let same = w.push_reserved.ensures.capacity in let room = c.loop-i.invariant.room in omega (arith, fewer));
+            same = w.push_reserved.ensures.capacity ∙ c.loop-i.invariant.same;
             found = ap (λ xs. xs ++ rest) w.push_reserved.ensures.items ∙ append_assoc out (w.key_of_entry.result ∷ []) rest
                 ∙ ap (λ k. out ++ (k ∷ rest)) w.key_of_entry.ensures ∙ ap (λ r. out ++ r) (sym more) ∙ c.loop-i.invariant.found;
           }))
@@ -32,6 +33,7 @@ loop-i-preserved c =
           (let more = step ∙ ap (λ b. cond b (c.index-entries-i.result.pair.key ∷ rest) rest) w.if-is_idle_entry.false in
           rw (w.out-is) (record {
             room = rw (← more) c.loop-i.invariant.room;
+            same = c.loop-i.invariant.same;
             found = ap (λ r. c.loop-i.out.items ++ r) (sym more) ∙ c.loop-i.invariant.found;
           }))
     ]

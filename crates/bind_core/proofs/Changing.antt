@@ -1,0 +1,88 @@
+-- What a change needs of a table, and what it makes of the lives.
+use Rattle.std.proofs.Common.{◌≡◌, ℕ, Bool, true, false, cond, Option, Some, None, List, refl, sym, ap, subst, ◌∙◌}
+use Rattle.std.specs.Option.{option_map}
+use Rattle.std.proofs.lemmas.Bool.{cond-true, cond-false}
+use Rattle.nat_types.specs.declared.pairs.EntryState.{EntryState}
+use Rattle.nat_types.specs.declared.pairs.EntryState.TheVariants.{Doomed}
+use Rattle.nat_types.specs.declared.pairs.Endpoint.{Endpoint}
+use Rattle.nat_types.specs.declared.pairs.Key.{Key}
+use Rattle.nat_types.specs.Same.{same_key}
+use Rattle.nat_types.proofs.Equal.{key-eq, key-true}
+use Rattle.lives.specs.Lives.{Past, renewed}
+use Rattle.bindings.specs.declared.entries.Entry.{Entry}
+use Rattle.bindings.specs.Entries.{slot_of, entry_of, entry_in, is_pair, has_key, refusal_of, HasDistinctKeys}
+use Rattle.bindings.specs.Lists.{with_state, IsOneToOne}
+use Rattle.bindings.specs.Lives.{KeepsOthers}
+use Rattle.bindings.specs.Ports.{in_either}
+use Rattle.bindings.specs.Table.{Table, IsTable, IsPast, AreInRanges}
+use Rattle.bindings.proofs.Edits.{slot-with_state, either_slot, restated}
+use Rattle.bindings.proofs.Pasts.{no-past}
+use Rattle.bindings.proofs.Rooms.{has-room}
+use Rattle.bindings.proofs.Slots.{refusal-none, entry-serves, found-slot, keys-map}
+
+-- a new entry in the ranges is refused for no reason
+pub welcomed : (t : Table) (e : Entry) → IsTable t → AreInRanges t → in_either t.zero t.one e.pair.key.port.0 ≡ true → slot_of t.entries e.pair.key ≡ None → entry_of t.entries e.pair.endpoint ≡ None → refusal_of t.capacity t.entries e ≡ None
+welcomed t e is ranges within key endpoint =
+    refusal-none t.capacity t.entries e (has-room t is ranges e.pair.key within key) key (λ pair. endpoint)
+
+-- another key's past stays where an entry comes in
+pub stays-added : (k : Key) (t t2 : Table) → slot_of t.entries k ≡ None → KeepsOthers k t.entries t.lives t2.entries t2.lives → (q : Key) (past : Past) → IsPast t q past → IsPast t2 q past
+stays-added k t t2 free others q past has = at (same_key k q) refl
+  where
+    at : (b : Bool) → same_key k q ≡ b → IsPast t2 q past
+    at true same = absurd (no-past k t.entries t.lives past free (subst (λ (z : Key). IsPast t z past) (sym (key-eq k q same)) has))
+    at false same = others q past same has
+
+pub stays-renewed : (now : ℕ) (k : Key) (t t2 : Table) → ((past : Past) → IsPast t k past → IsPast t2 k (renewed now past)) → KeepsOthers k t.entries t.lives t2.entries t2.lives → (q : Key) (past : Past) → IsPast t q past → IsPast t2 q (cond (same_key k q) (renewed now past) past)
+stays-renewed now k t t2 renews others q past has = at (same_key k q) refl
+  where
+    at : (b : Bool) → same_key k q ≡ b → IsPast t2 q (cond b (renewed now past) past)
+    at true same = subst (λ (z : Key). IsPast t2 z (renewed now past)) (key-eq k q same) (renews past (subst (λ (z : Key). IsPast t z past) (sym (key-eq k q same)) has))
+    at false same = others q past same has
+
+-- ---- an entry in another state
+
+pub turned-ranges : (t : Table) (k : Key) (s : EntryState) → AreInRanges t → AreInRanges (record t { entries = with_state k s t.entries })
+turned-ranges t k s ranges q x found = at (slot_of t.entries q) refl
+  where
+    at : (o : Option Entry) → slot_of t.entries q ≡ o → in_either t.zero t.one q.port.0 ≡ true
+    at (Some y) there = ranges q y there
+    at None none = absurd (bad (same_key k q) (sym (either_slot k s t.entries q) ∙ found))
+      where
+        bad : (b : Bool) → cond b (option_map (restated s) (slot_of t.entries q)) (slot_of t.entries q) ≡ Some x → ⊥
+        bad true h = let gone = none in cc
+        bad false h = let gone = none in cc
+
+pub yielded-free : (es : List Entry) (q k : Key) (x : Entry) → slot_of es q ≡ Some x → slot_of es k ≡ None → slot_of (with_state q Doomed es) k ≡ None
+yielded-free es q k x found free = slot-with_state q Doomed es x k found ∙ at (same_key q k) refl
+  where
+    at : (b : Bool) → same_key q k ≡ b → cond b (Some (entry_in Doomed x.pair)) (slot_of es k) ≡ None
+    at true same = let bad : slot_of es k ≡ Some x = ap (slot_of es) (sym (key-eq q k same)) ∙ found in cc
+    at false same = free
+
+-- where the own proposal is given up, its endpoint has no pair
+pub yielded-new : (es : List Entry) (q : Key) (x : Entry) (e : Endpoint) → IsOneToOne es → HasDistinctKeys (with_state q Doomed es) → slot_of es q ≡ Some x → is_pair x.state ≡ true → x.pair.endpoint ≡ e → entry_of (with_state q Doomed es) e ≡ None
+yielded-new es q x e one keys found pair same = at (entry_of (with_state q Doomed es) e) refl
+  where
+    clash : (y : Entry) (b : Bool) → same_key q y.pair.key ≡ b → is_pair y.state ≡ true → y.pair.endpoint ≡ e → cond b (Some (entry_in Doomed x.pair)) (slot_of es y.pair.key) ≡ Some y → ⊥
+    clash y true is live serves there =
+        let doomed : Some (entry_in Doomed x.pair) ≡ Some y = there in
+        let it : entry_in Doomed x.pair ≡ y = cc in
+        let dead : is_pair y.state ≡ false = ap (λ (z : Entry). is_pair z.state) (sym it) in cc
+    clash y false is live serves there =
+        let key : q ≡ y.pair.key = one q y.pair.key x y found there pair live (same ∙ sym serves) in
+        let too : same_key q y.pair.key ≡ true = key-true q y.pair.key key in cc
+
+    at : (o : Option Entry) → entry_of (with_state q Doomed es) e ≡ o → o ≡ None
+    at None h = refl
+    at (Some y) h =
+        let parts = entry-serves (with_state q Doomed es) e y h in
+        let there : slot_of (with_state q Doomed es) y.pair.key ≡ Some y = found-slot _ (with_state q Doomed es) y keys h in
+        absurd (clash y (same_key q y.pair.key) refl parts.0 parts.1 (sym (slot-with_state q Doomed es x y.pair.key found) ∙ there))
+
+pub yielded-distinct : (es : List Entry) (q : Key) → HasDistinctKeys es → HasDistinctKeys (with_state q Doomed es)
+yielded-distinct es q keys = keys-map (λ x. cond (has_key q x) (entry_in Doomed x.pair) x) es (λ x. at x (has_key q x)) keys
+  where
+    at : (x : Entry) (b : Bool) → (let y : Entry = cond b (entry_in Doomed x.pair) x in y).pair.key ≡ x.pair.key
+    at x true = refl
+    at x false = refl

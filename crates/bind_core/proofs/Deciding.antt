@@ -1,0 +1,127 @@
+-- What the rows of wishes and of idle pairs ask of a core.
+use Rattle.std.proofs.Common.{◌≡◌, ℕ, ◌<◌, Bool, true, false, cond, ◌&&◌, not, IsTrue, is_some, Option, Some, None, refl, sym, ap, ◌∙◌, arith}
+use Rattle.std.proofs.lemmas.Bool.{and_parts, ltb-false}
+use Rattle.addresses.specs.declared.transport.Port.{Port}
+use Rattle.nat_types.specs.declared.pairs.Endpoint.{Endpoint}
+use Rattle.nat_types.specs.declared.pairs.EntryState.{EntryState}
+use Rattle.nat_types.specs.declared.pairs.EntryState.TheVariants as state
+use Rattle.nat_types.specs.declared.pairs.Key.{Key}
+use Rattle.nat_types.specs.declared.pairs.Pair.{Pair}
+use Rattle.nat_types.specs.declared.notes.Happening.TheVariants as happens
+use Rattle.nat_types.specs.declared.records.Record.TheVariants as rec
+use Rattle.bindings.specs.declared.entries.Entry.{Entry}
+use Rattle.bindings.specs.Entries.{slot_of, entry_of, entry_in}
+use Rattle.bindings.proofs.Slots.{slot-key}
+use Rattle.link.specs.Link.{Link, free_places}
+use Rattle.resync.specs.Batch.{is_settled}
+use Rattle.binding_step.specs.declared.setups.Stage.{Stage}
+use Rattle.binding_step.specs.declared.setups.Stage.TheVariants.{Paired}
+use Rattle.binding_step.specs.declared.changes.Change.TheVariants as change
+use Rattle.binding_step.specs.declared.changes.Row.{Row}
+use Rattle.binding_step.specs.declared.changes.Wish.{Wish}
+use Rattle.binding_step.specs.declared.changes.Want.TheVariants as want
+use Rattle.binding_step.specs.Books.{Book, IsBook, is_synced, is_lone, is_promised}
+use Rattle.binding_step.specs.Rows.{row, quiet, wish, wish_of, wish_by, known_wish, new_wish, new_pair, none_row, may_want, port_for, idle_row, release_row, released_row, is_full}
+use Rattle.bind_core.specs.Changes.{IsSteady, adds}
+use Rattle.bind_core.specs.Ticks.{may_ask, is_lately}
+
+known-steady : (b : Book) (p : Pair) (s : EntryState) → IsSteady b (known_wish p s).row.change
+known-steady b p state.Pending = tt
+known-steady b p state.Doomed = tt
+known-steady b p state.Live = tt
+known-steady b p state.Closing = tt
+known-steady b p state.Held = tt
+
+none-steady : (b : Book) (full : Bool) → IsSteady b (none_row b full).change
+none-steady b full = at (may_want b full)
+  where
+    at : (t : Bool) → IsSteady b (let r : Row = cond t (row change.Want (Some rec.Want) None) quiet in r).change
+    at true = tt
+    at false = tt
+
+new-steady : (b : Book) (full : Bool) (e : Endpoint) (o : Option Port) → is_lone b.stage ≡ false → IsSteady b (new_wish b full e o).row.change
+new-steady b full e None h = none-steady b full
+new-steady b full e (Some port) h = at (is_lone b.stage) full h
+  where
+    at : (lone full : Bool) → lone ≡ false → IsSteady b (let w : Wish = cond lone (wish (want.Port port) (row (change.Add (entry_in state.Live (new_pair e port))) None (Some (happens.Retaken (new_pair e port))))) (cond full (wish want.NotNow quiet) (wish want.Wait (row (change.Add (entry_in state.Pending (new_pair e port))) (Some (rec.Install (new_pair e port))) None))) in w).row.change
+    at true full h = cc
+    at false true h = tt
+    at false false h = refl
+
+lone-paired : (s : Stage) → s ≡ Paired → is_lone s ≡ false
+lone-paired s is = ap is_lone is
+
+pub wish-steady : (b : Book) (full : Bool) (e : Endpoint) → IsBook b → is_promised b ≡ true → IsSteady b (wish_of b full e).row.change
+wish-steady b full e is promised = at (is_synced b.stage) (entry_of b.entries e)
+  where
+    at : (t : Bool) (o : Option Entry) → IsSteady b (let w : Wish = cond t (wish_by b full e o) (wish want.NotNow quiet) in w).row.change
+    at true (Some x) = known-steady b x.pair x.state
+    at true None = new-steady b full e (port_for b e) (lone-paired b.stage (is.promised promised))
+    at false o = tt
+
+-- ---- idle pairs
+
+-- a lone row drops; another one turns what was Live
+released-steady : (b : Book) (ask : Bool) (x : Entry) (s : EntryState) → x.state ≡ s → slot_of b.entries x.pair.key ≡ Some x → IsSteady b (released_row false ask x.pair s).change
+released-steady b ask x state.Pending at found = tt
+released-steady b ask x state.Doomed at found = tt
+released-steady b true x state.Live at found = (refl, λ y there. let one : Some x ≡ Some y = sym found ∙ there in let same : x ≡ y = cc in ap (λ (z : Entry). is_settled z.state) (sym same) ∙ ap is_settled at)
+released-steady b false x state.Live at found = tt
+released-steady b ask x state.Closing at found = tt
+released-steady b ask x state.Held at found = tt
+
+pub idle-steady : (b : Book) (ask : Bool) (k : Key) → IsBook b → is_promised b ≡ true → IsSteady b (idle_row b ask k).change
+idle-steady b ask k is promised = at (is_synced b.stage) (is_lone b.stage) (lone-paired b.stage (is.promised promised)) (slot_of b.entries k) refl
+  where
+    at : (t lone : Bool) → lone ≡ false → (o : Option Entry) → slot_of b.entries k ≡ o → IsSteady b (let r : Row = cond t (release_row lone ask o) quiet in r).change
+    at false lone h o there = tt
+    at true lone h None there = tt
+    at true true h (Some x) there = cc
+    at true false h (Some x) there = released-steady b ask x x.state refl (ap (slot_of b.entries) (slot-key b.entries k x there) ∙ there)
+
+released-adds : (lone ask : Bool) (p : Pair) (s : EntryState) → adds (released_row lone ask p s).change ≡ false
+released-adds lone ask p state.Pending = refl
+released-adds lone ask p state.Doomed = refl
+released-adds true ask p state.Live = refl
+released-adds false true p state.Live = refl
+released-adds false false p state.Live = refl
+released-adds lone ask p state.Closing = refl
+released-adds true ask p state.Held = refl
+released-adds false ask p state.Held = refl
+
+pub idle-adds : (b : Book) (ask : Bool) (k : Key) → adds (idle_row b ask k).change ≡ false
+idle-adds b ask k = at (is_synced b.stage) (slot_of b.entries k)
+  where
+    at : (t : Bool) (o : Option Entry) → adds (let r : Row = cond t (release_row (is_lone b.stage) ask o) quiet in r).change ≡ false
+    at false o = refl
+    at true None = refl
+    at true (Some x) = released-adds (is_lone b.stage) ask x.pair x.state
+
+released-asks : (lone ask : Bool) (p : Pair) (s : EntryState) → is_some (released_row lone ask p s).answer ≡ true → ask ≡ true
+released-asks lone ask p state.Pending h = cc
+released-asks lone ask p state.Doomed h = cc
+released-asks true ask p state.Live h = cc
+released-asks false true p state.Live h = refl
+released-asks false false p state.Live h = cc
+released-asks lone ask p state.Closing h = cc
+released-asks true ask p state.Held h = cc
+released-asks false ask p state.Held h = cc
+
+idle-asks : (b : Book) (ask : Bool) (k : Key) → is_some (idle_row b ask k).answer ≡ true → ask ≡ true
+idle-asks b ask k = at (is_synced b.stage) (slot_of b.entries k)
+  where
+    at : (t : Bool) (o : Option Entry) → is_some (let r : Row = cond t (release_row (is_lone b.stage) ask o) quiet in r).answer ≡ true → ask ≡ true
+    at false o h = cc
+    at true None h = cc
+    at true (Some x) h = released-asks (is_lone b.stage) ask x.pair x.state h
+
+pub idle-places : (b : Book) (now : ℕ) (e : Link) (k : Key) → is_some (idle_row b (may_ask now e) k).answer ≡ true → 0 < free_places e
+idle-places b now e k h =
+    let asks = idle-asks b (may_ask now e) k h in
+    let parts = and_parts (is_lately now e.heard) (not (is_full e)) asks in
+    let room = ltb-false (free_places e) 65 (not-true (is_full e) parts.1) in
+    omega (arith, room)
+  where
+    not-true : (t : Bool) → not t ≡ true → t ≡ false
+    not-true true h = cc
+    not-true false h = refl

@@ -1,0 +1,9 @@
+pub mod Changing
+pub mod Deciding
+pub mod Founding
+pub mod Granting
+pub mod Performing
+pub mod Porting
+pub mod Releasing
+pub mod Steady
+pub mod Walking

@@ -1,0 +1,270 @@
+-- What carrying out a row makes of a core.
+use Rattle.std.proofs.Common.{◌≡◌, ℕ, Bool, List, refl, sym, ap, subst, ◌∙◌}
+use Rattle.nat_types.specs.declared.records.Record.{Record}
+use Rattle.bindings.specs.Entries.{HasDistinctKeys}
+use Rattle.resync.specs.Cursor.{coming, to_come}
+use Rattle.resync.specs.declared.cursor.Cursor.{Cursor}
+use Rattle.bind_core.proofs.Steady.{SteadyLaws, still-coming, none-coming}
+use Rattle.nat_types.specs.declared.notes.Note.{Note}
+use Rattle.link.specs.Link.{Link, with_fed, with_promised}
+use Rattle.std.proofs.Common.{length}
+use Rattle.std.proofs.lemmas.List.{take-append-drop}
+use Rattle.pair_machine.specs.Box.{Letter}
+use Rattle.binding_step.specs.Machine.{Works}
+use Rattle.nat_types.specs.declared.gateways.GatewayId.{GatewayId}
+use Rattle.bindings.specs.declared.entries.Entry.{Entry}
+use Rattle.bindings.specs.Revivals.{revived_entries, woken_entry}
+use Rattle.bindings.specs.Revivals.{woken as woken_state}
+use Rattle.bindings.proofs.Found.{find-some}
+use Rattle.bindings.specs.Entries.{is_pair, has_key, slot_of}
+use Rattle.nat_types.specs.declared.pairs.EntryState.{EntryState}
+use Rattle.nat_types.specs.declared.pairs.EntryState.TheVariants as state
+use Rattle.nat_types.specs.declared.pairs.Key.{Key}
+use Rattle.nat_types.specs.declared.pairs.Pair.{Pair}
+use Rattle.resync.specs.Batch.{HasNoPending, is_settled}
+use Rattle.std.specs.List.{filter}
+use Rattle.std.proofs.Common.{map, inl, inr}
+use Rattle.port_range.specs.Ports.{is_listed}
+use Rattle.std.proofs.Common.{◌==◌}
+use Rattle.std.proofs.lemmas.Bool.{or_left, eq-eqb}
+use Rattle.binding_step.specs.Resets.{revived, restarted, restart_batch, restart_link}
+use Rattle.lives.specs.Lives.{Life}
+use Rattle.bindings.specs.Table.{Table}
+use Rattle.binding_step.specs.declared.changes.Change.{Change}
+use Rattle.binding_step.specs.declared.changes.Change.TheVariants.{Keep, Add, Turn, Renew, Drop, Yield, Want, Give, Gain}
+use Rattle.binding_step.specs.declared.changes.Row.{Row}
+use Rattle.binding_step.specs.Books.{Book, IsBook, is_any, is_promised, is_synced, load_of, empty_book}
+use Rattle.binding_step.specs.Rows.{after, changed, with_gained, is_gained, numbers_of, row_of, carry_row, use_row, used_row, quiet, answered, taken_book, taken_answer, unsynced_after, load_taken, stage_after}
+use Rattle.binding_step.specs.declared.setups.Stage.{Stage}
+use Rattle.binding_step.specs.declared.setups.Stage.TheVariants.{Paired, Unsynced}
+use Rattle.nat_types.specs.declared.records.Record.TheVariants as rec
+use Rattle.bindings.specs.declared.entries.PortBounds.{PortBounds}
+use Rattle.resync.specs.Loading.{Progress, loaded}
+use Rattle.resync.specs.Loading as progress
+use Rattle.std.proofs.Common.{Option, Some, None}
+use Rattle.bindings.specs.Runs.{own_in}
+use Rattle.std.proofs.Common.{true, false, cond, [], ◌∷◌, ◌++◌, take, drop}
+use Rattle.bind_core.specs.Changes.{table_book, table_after, wants_after, IsBetween, IsSteady}
+use Rattle.bind_core.specs.declared.deeds.Bounds.{Bounds}
+use Rattle.bind_core.specs.Cores.{Core, book_of, core_after, is_whole, revived_with}
+use Rattle.bind_core.proofs.Porting.{gained-rest}
+
+-- what is gained hangs on the ranges, the entries and the owned ports alone
+pub gained-alike : (b : Book) (t : Table) (xs : List ℕ) → record b { owned = (with_gained (table_book t) xs).owned } ≡ record b { owned = (with_gained (record b { zero = t.zero; one = t.one; entries = t.entries; owned = t.owned }) xs).owned }
+gained-alike b t [] = refl
+gained-alike b t (x ∷ xs) = at (is_gained (table_book t) x) (gained-alike b (record t { owned = own_in x t.owned }) xs) (gained-alike b t xs)
+  where
+    at : (g : Bool) → record b { owned = (with_gained (table_book (record t { owned = own_in x t.owned })) xs).owned } ≡ record b { owned = (with_gained (record b { zero = t.zero; one = t.one; entries = t.entries; owned = own_in x t.owned }) xs).owned }
+        → record b { owned = (with_gained (table_book t) xs).owned } ≡ record b { owned = (with_gained (record b { zero = t.zero; one = t.one; entries = t.entries; owned = t.owned }) xs).owned }
+        → record b { owned = (with_gained (cond g (record (table_book t) { owned = own_in x t.owned }) (table_book t)) xs).owned }
+        ≡ record b { owned = (with_gained (cond g (record b { zero = t.zero; one = t.one; entries = t.entries; owned = own_in x t.owned }) (record b { zero = t.zero; one = t.one; entries = t.entries; owned = t.owned })) xs).owned }
+    at true more same = more
+    at false more same = same
+
+gained-owned : (b : Book) (t : Table) (xs : List ℕ) → (with_gained (table_book t) xs).owned ≡ (with_gained (record b { zero = t.zero; one = t.one; entries = t.entries; owned = t.owned }) xs).owned
+gained-owned b t xs = ap (λ (z : Book). z.owned) (gained-alike b t xs)
+
+-- the book then is the one that the row makes
+pub book-after : (now : ℕ) (c : Core) (r : Row) → book_of (core_after now c r) ≡ after (book_of c) r
+book-after now c r = at r.change
+  where
+    at : (ch : Change) → book_of (record c { table = table_after now ch c.table; wants = wants_after ch c.wants }) ≡ changed ch (book_of c)
+    at Keep = refl
+    at (Add e) = refl
+    at (Turn k s) = refl
+    at (Renew k) = refl
+    at (Drop k) = refl
+    at (Yield q p) = refl
+    at Want = refl
+    at (Give g) = refl
+    at (Gain g) =
+        ap (λ (z : Book). let b : Book = record (book_of c) { entries = z.entries; owned = z.owned; wants = false } in b) (gained-rest (table_book c.table) (numbers_of g))
+        ∙ ap (λ (z : List ℕ). let b : Book = record (book_of c) { owned = z; wants = false } in b) (gained-owned (book_of c) c.table (numbers_of g))
+        ∙ ap (λ (z : Book). let b : Book = record z { wants = false } in b) (sym (gained-rest (book_of c) (numbers_of g)))
+
+-- other lives change nothing else
+pub relived : (c : Core) (t2 : Table) (ls : List Life) → t2 ≡ record c.table { lives = ls } → IsBook (book_of c) → IsBook (book_of (record c { table = t2 }))
+relived c t2 ls same is = subst (λ (t : Table). IsBook (book_of (record c { table = t }))) (sym same) is
+
+pub still-between : (t t2 : Table) (bounds : Bounds) → t2.zero ≡ t.zero → t2.one ≡ t.one → IsBetween t bounds → IsBetween t2 bounds
+still-between t t2 bounds zero one is = record { zero = zero ∙ is.zero; one = one ∙ is.one }
+
+pub made-after : (now : ℕ) (c : Core) (r : Row) (t2 : Table) (w : Bool) (cs : List Record) → t2 ≡ table_after now r.change c.table → w ≡ wants_after r.change c.wants → cs ≡ c.coming → record c { table = t2; wants = w; coming = cs } ≡ core_after now c r
+made-after now c r t2 w cs table wants comes =
+    ap (λ (t : Table). let k : Core = record c { table = t; wants = w; coming = cs } in k) table
+    ∙ ap (λ (z : Bool). let k : Core = record c { table = table_after now r.change c.table; wants = z; coming = cs } in k) wants
+    ∙ ap (λ (z : List Record). let k : Core = record (core_after now c r) { coming = z } in k) comes
+
+-- what is fit for the book is fit for the table alone
+steady-table : (c : Core) (ch : Change) → IsSteady (book_of c) ch → IsSteady (table_book c.table) ch
+steady-table c Keep is = is
+steady-table c (Add e) is = is
+steady-table c (Turn k s) is = is
+steady-table c (Renew k) is = is
+steady-table c (Drop k) is = is
+steady-table c (Yield q p) is = is
+steady-table c Want is = is
+steady-table c (Give g) is = is
+steady-table c (Gain g) is = is
+
+pub coming-after : (laws : SteadyLaws) (cursor : Cursor) (now : ℕ) (ch : Change) (c : Core) (t2 : Table) → HasDistinctKeys c.table.entries → c.coming ≡ coming cursor c.table → (is_promised (book_of c) ≡ true → IsSteady (book_of c) ch) → t2 ≡ table_after now ch c.table → coming cursor t2 ≡ c.coming
+coming-after laws cursor now ch c t2 keys are is same =
+    ap (coming cursor) same ∙ still-coming laws cursor now ch c.table keys (λ h. steady-table c ch (is (ap is_any are ∙ h))) ∙ sym are
+
+pub kept-after : (now : ℕ) (c : Core) (r : Row) (c2 : Core) → c2 ≡ core_after now c r → IsBook (after (book_of c) r) → IsBook (book_of c2)
+kept-after now c r c2 same kept = subst (λ (k : Core). IsBook (book_of k)) (sym same) (subst IsBook (sym (book-after now c r)) kept)
+
+pub same-book : (c : Core) (cursor : Cursor) (t t2 : Table) → t2 ≡ t → IsBook (book_of (record c { table = t; coming = coming cursor t })) → IsBook (book_of (record c { table = t2; coming = coming cursor t2 }))
+same-book c cursor t t2 same is = subst (λ (u : Table). IsBook (book_of (record c { table = u; coming = coming cursor u }))) (sym same) is
+
+-- the book then, of a row that is worked out elsewhere
+pub book-then : (now : ℕ) (c c2 : Core) (r r2 : Row) → c2 ≡ core_after now c r → r ≡ r2 → book_of c2 ≡ after (book_of c) r2
+book-then now c c2 r r2 made is = ap book_of made ∙ book-after now c r ∙ ap (after (book_of c)) is
+
+pub works-as : (now : ℕ) (letters : List Letter) (words : List ℕ) (b : Book) (e : Link) (n : ℕ) (b2 b3 : Book) (e2 e3 : Link) (n2 : ℕ) (ns : List Note) (h : List Record) → b3 ≡ b2 → e3 ≡ e2 → Works now letters words b e n b2 e2 n2 ns h → Works now letters words b e n b3 e3 n2 ns h
+works-as now letters words b e n b2 b3 e2 e3 n2 ns h book link works = rw (book, link) works
+
+-- ---- a record, wherever it comes
+
+pub taken-book : (b : Book) (rests : Bool) (r : Record) → is_synced b.stage ≡ true → taken_book b rests r ≡ after b (row_of b rests r)
+taken-book b rests r h = ap (λ (t : Bool). let x : Book = cond t (after b (row_of b rests r)) (unsynced_after b r) in x) h
+
+pub taken-answer : (b : Book) (rests : Bool) (r : Record) → is_synced b.stage ≡ true → taken_answer b rests r ≡ (row_of b rests r).answer
+taken-answer b rests r h = ap (λ (t : Bool). let x : Option Record = cond t (row_of b rests r).answer None in x) h
+
+pub loaded-book : (b : Book) (rests : Bool) (r : Record) → is_synced b.stage ≡ false → taken_book b rests r ≡ unsynced_after b r
+loaded-book b rests r h = ap (λ (t : Bool). let x : Book = cond t (after b (row_of b rests r)) (unsynced_after b r) in x) h
+
+pub loaded-answer : (b : Book) (rests : Bool) (r : Record) → is_synced b.stage ≡ false → taken_answer b rests r ≡ None
+loaded-answer b rests r h = ap (λ (t : Bool). let x : Option Record = cond t (row_of b rests r).answer None in x) h
+
+-- ---- loading
+
+same-stage : (s : Stage) (r : Record) → (let x : Stage = cond (is_whole r) Paired s in x) ≡ stage_after s r
+same-stage s (rec.Install p) = refl
+same-stage s (rec.Accept k) = refl
+same-stage s (rec.Refuse k) = refl
+same-stage s (rec.Ask k) = refl
+same-stage s (rec.Yes k) = refl
+same-stage s (rec.No k) = refl
+same-stage s rec.Begin = refl
+same-stage s (rec.Put p) = refl
+same-stage s rec.Done = refl
+same-stage s rec.Want = refl
+same-stage s (rec.Grant g) = refl
+same-stage s (rec.Owner first last) = refl
+
+pub load-book : (c : Core) (r : Record) (t2 : Table) (p2 : Progress) (s2 : Stage) (cs : List Record) → loaded (load_of (book_of c)) r ≡ Some (progress.load_of p2 t2) → s2 ≡ cond (is_whole r) Paired c.stage → cs ≡ c.coming → t2.zero ≡ c.table.zero → t2.one ≡ c.table.one
+    → book_of (record c { table = t2; stage = s2; begun = p2.begun; named = p2.named; coming = cs }) ≡ unsynced_after (book_of c) r
+load-book c r t2 p2 s2 cs ok stage comes zero one =
+    ap (λ (x : Stage). of x cs t2.zero t2.one) (stage ∙ same-stage c.stage r)
+    ∙ ap (λ (x : List Record). of (stage_after c.stage r) x t2.zero t2.one) comes
+    ∙ ap (λ (x : PortBounds). of (stage_after c.stage r) c.coming x t2.one) zero
+    ∙ ap (λ (x : PortBounds). of (stage_after c.stage r) c.coming c.table.zero x) one
+    ∙ sym (ap (load_taken (book_of c) r) ok)
+  where
+    of : Stage → List Record → PortBounds → PortBounds → Book
+    of s cs z o = record { id = c.id; zero = z; one = o; stage = s; begun = p2.begun; named = p2.named; entries = t2.entries; owned = t2.owned; wants = c.wants; coming = cs }
+
+unpaired : (b : Book) → is_synced b.stage ≡ false → IsBook b → is_promised b ≡ true → ⊥
+unpaired b h is promised = let paired : is_synced b.stage ≡ true = ap is_synced (is.promised promised) in cc
+
+pub load-comes : (c : Core) (cursor : Cursor) (t2 : Table) → is_synced c.stage ≡ false → IsBook (book_of c) → c.coming ≡ coming cursor c.table → coming cursor t2 ≡ c.coming
+load-comes c cursor t2 h is are = none-coming cursor c.table t2 (λ any. unpaired (book_of c) h is (ap is_any are ∙ any)) ∙ sym are
+
+pub load-kept : (b : Book) (r : Record) → is_synced b.stage ≡ false → IsBook (taken_book b false r) → IsBook (unsynced_after b r)
+load-kept b r h is = subst IsBook (loaded-book b false r h) is
+
+pub whole-stage : (s : Stage) (whole whole2 : Bool) → whole ≡ whole2 → (let x : Stage = cond whole Paired s in x) ≡ cond whole2 Paired s
+whole-stage s whole whole2 same = ap (λ (t : Bool). let x : Stage = cond t Paired s in x) same
+
+-- ---- a promised batch
+
+pub drawn-first : (out out2 more : List Record) → out ≡ [] → out2 ≡ out ++ more → out2 ≡ more
+drawn-first out out2 more none drawn = drawn ∙ ap (λ (z : List Record). z ++ more) none
+
+pub fed-works : (now : ℕ) (c : Core) (rest records : List Record) (e e2 : Link) (n : ℕ) (h : List Record) (k : ℕ) → records ≡ take k c.coming → rest ≡ drop k c.coming → e2 ≡ with_fed e records
+    → (c.coming ≡ records ++ rest → Works now [] [] (book_of c) e n (record (book_of c) { coming = rest }) (with_fed e records) n [] h)
+    → Works now [] [] (book_of c) e n (book_of (record c { coming = rest })) e2 n [] h
+fed-works now c rest records e e2 n h k first left link works =
+    works-as now [] [] (book_of c) e n (record (book_of c) { coming = rest }) (book_of (record c { coming = rest })) (with_fed e records) e2 n [] h refl link
+    (works (sym (ap (λ (z : List Record). z ++ rest) first ∙ ap (λ (z : List Record). take k c.coming ++ z) left ∙ take-append-drop k c.coming)))
+
+-- ---- beginnings and resets
+
+none-owned : (xs : List ℕ) → ((p : ℕ) → is_listed p xs ≡ false) → xs ≡ []
+none-owned [] h = refl
+none-owned (x ∷ xs) h = let here = or_left (x == x) (is_listed x xs) (eq-eqb x x refl) in let none = h x in cc
+
+pub empty-is : (id : GatewayId) (zero one : PortBounds) (t : Table) (p : Progress) → t.zero ≡ zero → t.one ≡ one → t.entries ≡ [] → ((port : ℕ) → is_listed port t.owned ≡ false) → p ≡ progress.fresh zero one
+    → (let b : Book = record { id = id; zero = t.zero; one = t.one; stage = Unsynced; begun = p.begun; named = p.named; entries = t.entries; owned = t.owned; wants = false; coming = [] } in b) ≡ empty_book id zero one
+empty-is id zero one t p z o es owned is =
+    ap (λ (x : Progress). of t.zero t.one x.begun x.named t.entries t.owned) is
+    ∙ ap (λ (x : PortBounds). of x t.one false 0 t.entries t.owned) z
+    ∙ ap (λ (x : PortBounds). of zero x false 0 t.entries t.owned) o
+    ∙ ap (λ (x : List Entry). of zero one false 0 x t.owned) es
+    ∙ ap (λ (x : List ℕ). of zero one false 0 [] x) (none-owned t.owned owned)
+  where
+    of : PortBounds → PortBounds → Bool → ℕ → List Entry → List ℕ → Book
+    of z o begun named entries owned = record { id = id; zero = z; one = o; stage = Unsynced; begun = begun; named = named; entries = entries; owned = owned; wants = false; coming = [] }
+
+pub revived-book : (c : Core) (t2 : Table) (stage : Stage) (cursor : Cursor) → t2 ≡ record c.table { entries = t2.entries; lives = t2.lives } → t2.entries ≡ revived_entries c.table.entries
+    → book_of (record c { table = t2; stage = stage; wants = false; coming = coming cursor t2 }) ≡ revived_with stage cursor c
+revived-book c t2 stage cursor same entries =
+    ap (λ (t : Table). book_of (record c { table = t; stage = stage; wants = false; coming = coming cursor t })) same
+    ∙ ap (λ (es : List Entry). let b : Book = record (revived (book_of c)) { entries = es; stage = stage; coming = to_come cursor c.table.owned es } in b) entries
+
+pub settled-revived : (es : List Entry) → HasNoPending (revived_entries es)
+settled-revived es k x h = woken (filter (λ (e : Entry). is_pair e.state) es) h
+  where
+    settles : (s : EntryState) → is_settled (woken_state s) ≡ true
+    settles state.Pending = refl
+    settles state.Doomed = refl
+    settles state.Live = refl
+    settles state.Closing = refl
+    settles state.Held = refl
+
+    woken : (xs : List Entry) → slot_of (map woken_entry xs) k ≡ Some x → is_settled x.state ≡ true
+    woken [] h = cc
+    woken (y ∷ ys) h =
+        elim (find-some (has_key k (woken_entry y)) (woken_entry y) (slot_of (map woken_entry ys) k) x h) [
+          | inl w ↦ sym (ap (λ (z : Entry). is_settled z.state) w.1) ∙ settles y.state
+          | inr w ↦ woken ys w.1
+        ]
+
+pub restarted-synced : (b : Book) → is_synced b.stage ≡ true → restarted b ≡ record (revived b) { stage = Paired; coming = restart_batch b }
+restarted-synced b h = ap (λ (t : Bool). let x : Book = cond t (record (revived b) { stage = Paired; coming = restart_batch b }) (empty_book b.id b.zero b.one) in x) h
+
+pub restarted-bare : (b : Book) → is_synced b.stage ≡ false → restarted b ≡ empty_book b.id b.zero b.one
+restarted-bare b h = ap (λ (t : Bool). let x : Book = cond t (record (revived b) { stage = Paired; coming = restart_batch b }) (empty_book b.id b.zero b.one) in x) h
+
+pub forgotten : (c : Core) (t2 : Table) (p : Progress) (zero one : PortBounds) → t2 ≡ record c.table { entries = []; lives = []; owned = [] } → c.table.zero ≡ zero → c.table.one ≡ one → p ≡ progress.fresh zero one
+    → (let b : Book = record { id = c.id; zero = t2.zero; one = t2.one; stage = Unsynced; begun = p.begun; named = p.named; entries = t2.entries; owned = t2.owned; wants = false; coming = [] } in b) ≡ empty_book c.id c.table.zero c.table.one
+forgotten c t2 p zero one same z o is =
+    empty-is c.id c.table.zero c.table.one t2 p (ap (λ (t : Table). t.zero) same) (ap (λ (t : Table). t.one) same) (ap (λ (t : Table). t.entries) same) (λ port. ap (λ (t : Table). is_listed port t.owned) same)
+    (is ∙ ap (λ (x : PortBounds). progress.fresh x one) (sym z) ∙ ap (λ (x : PortBounds). progress.fresh c.table.zero x) (sym o))
+
+pub link-synced : (b : Book) (e : Link) → is_synced b.stage ≡ true → restart_link b e ≡ with_promised e (length (restart_batch b))
+link-synced b e h = ap (λ (t : Bool). let x : Link = cond t (with_promised e (length (restart_batch b))) e in x) h
+
+pub link-bare : (b : Book) (e : Link) → is_synced b.stage ≡ false → restart_link b e ≡ e
+link-bare b e h = ap (λ (t : Bool). let x : Link = cond t (with_promised e (length (restart_batch b))) e in x) h
+
+used-quiet : (b : Book) (e : Link) (p : Pair) (s : EntryState) → (after b (used_row p s) ≡ b) × (answered e (used_row p s).answer ≡ e)
+used-quiet b e p state.Pending = (refl, refl)
+used-quiet b e p state.Doomed = (refl, refl)
+used-quiet b e p state.Live = (refl, refl)
+used-quiet b e p state.Closing = (refl, refl)
+used-quiet b e p state.Held = (refl, refl)
+
+-- a packet changes nothing of the book, and nothing is pushed
+pub carry-quiet : (b : Book) (e : Link) (k : Key) → (after b (carry_row b k) ≡ b) × (answered e (carry_row b k).answer ≡ e)
+carry-quiet b e k = at (is_synced b.stage) (slot_of b.entries k)
+  where
+    at : (t : Bool) (o : Option Entry) → (let r : Row = cond t (use_row o) quiet in (after b r ≡ b) × (answered e r.answer ≡ e))
+    at false o = (refl, refl)
+    at true None = (refl, refl)
+    at true (Some x) = used-quiet b e x.pair x.state
+
+pub same-carried : (c : Core) (t2 : Table) (cursor : Cursor) → t2 ≡ record c.table { lives = t2.lives } → book_of (record c { table = t2; coming = coming cursor t2 }) ≡ book_of (record c { coming = coming cursor c.table })
+same-carried c t2 cursor same = ap (λ (t : Table). book_of (record c { table = t; coming = coming cursor t })) same

@@ -1,0 +1,88 @@
+-- A walk over a table's entries in their order.
+use Rattle.std.proofs.Common.{◌≡◌, ℕ, suc, ◌+◌, ◌<◌, ◌≤◌, nat_lt, Bool, true, false, cond, Option, Some, None, inl, inr, List, [], ◌∷◌, ◌++◌, length, map, refl, sym, ap, ◌∙◌, arith, append_assoc}
+use Rattle.std.specs.List.{filter}
+use Rattle.std.proofs.lemmas.Bool.{cond-true, cond-false, ltb-true, lt-ltb, le-ltb}
+use Rattle.std.proofs.lemmas.List.{map-append}
+use Rattle.nat_types.specs.declared.gateways.GatewayId.{GatewayId}
+use Rattle.nat_types.specs.declared.notes.Note.{Note}
+use Rattle.nat_types.specs.declared.notes.Happening.TheVariants.{Retaken}
+use Rattle.nat_types.specs.declared.pairs.Key.{Key}
+use Rattle.nat_types.specs.declared.pairs.Pair.{Pair}
+use Rattle.bindings.specs.declared.entries.Entry.{Entry}
+use Rattle.bindings.specs.Entries.{place_of}
+use Rattle.bindings.specs.Lists.{key_place, stands_behind, after_key}
+use Rattle.bindings.proofs.Found.{find-none, find-some}
+use Rattle.bindings.specs.Revivals.{comes_back}
+use Rattle.binding_step.specs.Resets.{back_in, retaken}
+use Rattle.resync.proofs.Behind.{IsStrict}
+
+-- the entries behind a key
+abbrev pub behind : Option Key → List Entry → List Entry
+behind last es = filter (stands_behind last) es
+
+-- behind a place all stand
+all-behind : (k : Key) (low : ℕ) (es : List Entry) → key_place k < low → IsStrict low es → behind (Some k) es ≡ es
+all-behind k low [] h s = refl
+all-behind k low (x ∷ xs) h s =
+    let from = s.0 in
+    cond-true (nat_lt (key_place k) (place_of x.pair)) (x ∷ behind (Some k) xs) (behind (Some k) xs) (lt-ltb (key_place k) (place_of x.pair) (omega (arith, from, h)))
+    ∙ ap (λ (z : List Entry). x ∷ z) (all-behind k (suc (place_of x.pair)) xs (omega (arith, from, h)) s.1)
+
+pub none-all : (es : List Entry) → behind None es ≡ es
+none-all [] = refl
+none-all (x ∷ xs) = ap (λ (z : List Entry). x ∷ z) (none-all xs)
+
+-- once one stands behind it, all of them do
+rest-behind : (last : Option Key) (x : Entry) (xs : List Entry) → IsStrict (suc (place_of x.pair)) xs → stands_behind last x ≡ true → behind last xs ≡ xs
+rest-behind None x xs s h = none-all xs
+rest-behind (Some k) x xs s h = let before = ltb-true (key_place k) (place_of x.pair) h in all-behind k (suc (place_of x.pair)) xs (omega (arith, before)) s
+
+above : (low : ℕ) (es : List Entry) (e : Entry) (last : Option Key) → IsStrict low es → after_key last es ≡ Some e → low ≤ place_of e.pair
+above low [] e last s h = cc
+above low (x ∷ xs) e last s h =
+    let from = s.0 in
+    elim (find-some (stands_behind last x) x (after_key last xs) e h) [
+      | inl w ↦ (let same : place_of x.pair ≡ place_of e.pair = ap (λ (z : Entry). place_of z.pair) w.1 in omega (arith, from, same))
+      | inr w ↦ (let more = above (suc (place_of x.pair)) xs e last s.1 w.1 in omega (arith, from, more))
+    ]
+
+-- the first behind a key, and then those behind it
+pub behind-next : (last : Option Key) (low : ℕ) (es : List Entry) (e : Entry) → IsStrict low es → after_key last es ≡ Some e → behind last es ≡ e ∷ behind (Some e.pair.key) es
+behind-next last low [] e s h = cc
+behind-next last low (x ∷ xs) e s h =
+    elim (find-some (stands_behind last x) x (after_key last xs) e h) [
+      | inl w ↦ (
+          cond-true (stands_behind last x) (x ∷ behind last xs) (behind last xs) w.0
+          ∙ ap (λ (z : List Entry). x ∷ z) (rest-behind last x xs s.1 w.0)
+          ∙ ap (λ (z : List Entry). x ∷ z) (sym (cond-false (nat_lt (place_of x.pair) (place_of x.pair)) (x ∷ behind (Some x.pair.key) xs) (behind (Some x.pair.key) xs) (le-ltb (place_of x.pair) (place_of x.pair) (omega arith)) ∙ all-behind x.pair.key (suc (place_of x.pair)) xs (omega arith) s.1))
+          ∙ ap (λ (z : Entry). z ∷ behind (Some z.pair.key) (x ∷ xs)) w.1)
+      | inr w ↦
+          (let on = above (suc (place_of x.pair)) xs e last s.1 w.1 in
+          cond-false (stands_behind last x) (x ∷ behind last xs) (behind last xs) w.0
+          ∙ behind-next last (suc (place_of x.pair)) xs e s.1 w.1
+          ∙ ap (λ (z : List Entry). e ∷ z) (sym (cond-false (nat_lt (place_of e.pair) (place_of x.pair)) (x ∷ behind (Some e.pair.key) xs) (behind (Some e.pair.key) xs) (le-ltb (place_of e.pair) (place_of x.pair) (omega (arith, on))))))
+    ]
+
+pub behind-none : (last : Option Key) (es : List Entry) → after_key last es ≡ None → behind last es ≡ []
+behind-none last [] h = refl
+behind-none last (x ∷ xs) h =
+    let parts = find-none (stands_behind last) x xs h in
+    cond-false (stands_behind last x) (x ∷ behind last xs) (behind last xs) parts.0 ∙ behind-none last xs parts.1
+
+-- ---- notes
+
+back-cons : (e : Entry) (es : List Entry) → back_in (e ∷ es) ≡ back_in (e ∷ []) ++ back_in es
+back-cons e es = at (comes_back e.state)
+  where
+    at : (b : Bool) → map (λ (x : Entry). x.pair) (cond b (e ∷ filter (λ (x : Entry). comes_back x.state) es) (filter (λ (x : Entry). comes_back x.state) es))
+        ≡ map (λ (x : Entry). x.pair) (let xs : List Entry = cond b (e ∷ []) [] in xs) ++ map (λ (x : Entry). x.pair) (filter (λ (x : Entry). comes_back x.state) es)
+    at true = refl
+    at false = refl
+
+pub noted-next : (i : GatewayId) (at : ℕ) (e : Entry) (all rest : List Entry) (ns ns2 : List Note) → all ≡ e ∷ rest → ns2 ≡ ns ++ retaken i at (back_in (e ∷ [])) → ns2 ++ retaken i at (back_in rest) ≡ ns ++ retaken i at (back_in all)
+noted-next i at e all rest ns ns2 here is =
+    ap (λ (z : List Note). z ++ retaken i at (back_in rest)) is
+    ∙ append_assoc ns (retaken i at (back_in (e ∷ []))) (retaken i at (back_in rest))
+    ∙ ap (λ (z : List Note). ns ++ z) (sym (map-append (λ (p : Pair). let n : Note = record { by = i; at = at; what = Retaken p } in n) (back_in (e ∷ [])) (back_in rest)))
+    ∙ ap (λ (z : List Pair). ns ++ retaken i at z) (sym (back-cons e rest))
+    ∙ ap (λ (z : List Entry). ns ++ retaken i at (back_in z)) (sym here)

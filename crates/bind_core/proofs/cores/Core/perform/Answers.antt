@@ -1,0 +1,32 @@
+use Rattle.std.proofs.Common.{◌≡◌, true, refl, subst, sym, ap, ◌∙◌, arith}
+use Rattle.bindings.specs.Table.{Table}
+use Rattle.binding_step.specs.Books.{IsBook, is_promised}
+use Rattle.binding_step.specs.Rows.{after}
+use Rattle.bind_core.specs.Changes.{IsSteady}
+use Rattle.bind_core.specs.Cores.{Core, book_of}
+use Rattle.bind_core.specs.View.{core_of}
+use Rattle.bind_core.proofs.Performing.{made-after, kept-after, still-between, coming-after}
+use Rattle.bind_core.proofs.cores.Core.perform.Goals as goal
+
+pub invariant_of-self : goal.invariant_of-self
+invariant_of-self c =
+    let steady = subst (λ (k : Core). is_promised (book_of k) ≡ true → IsSteady (book_of k) c.args.row.change) (sym c.self.view_is) c.requires.steady in
+    let same = c.change_table.ensures.exact in
+    let made = made-after c.args.now (core_of c.self.inside) c.args.row c.change_table.new.table c.is_wanting-self-inside.result _ same c.is_wanting-self-inside.ensures
+    (coming-after record { proposed = c.steady_batch_law.ensures.proposed; turned = c.steady_batch_law.ensures.turned } c.self.inside.cursor c.args.now c.args.row.change (core_of c.self.inside) c.change_table.new.table c.self.invariant.book.keys refl steady same) in
+    let kept = c.self.invariant.room in
+    let places = ap (λ (t : Table). t.capacity) same in
+    record {
+      book = kept-after c.args.now (core_of c.self.inside) c.args.row _ made (subst (λ (k : Core). IsBook (after (book_of k) c.args.row)) (sym c.self.view_is) c.requires.kept);
+      bounds = still-between c.self.inside.table c.change_table.new.table c.self.inside.bounds (ap (λ (t : Table). t.zero) same) (ap (λ (t : Table). t.one) same) c.self.invariant.bounds;
+      zero = c.self.invariant.zero ∙ sym (ap (λ (t : Table). t.zero) same);
+      one = c.self.invariant.one ∙ sym (ap (λ (t : Table). t.one) same);
+      room = omega (arith, kept, places);
+    }
+
+pub returns-clause-core : goal.returns-clause-core
+returns-clause-core c =
+    let steady = subst (λ (k : Core). is_promised (book_of k) ≡ true → IsSteady (book_of k) c.args.row.change) (sym c.self.view_is) c.requires.steady in
+    let same = c.change_table.ensures.exact in
+    rw (← c.self.view_is) (made-after c.args.now (core_of c.self.inside) c.args.row c.change_table.new.table c.is_wanting-self-inside.result _ same c.is_wanting-self-inside.ensures
+    (coming-after record { proposed = c.steady_batch_law.ensures.proposed; turned = c.steady_batch_law.ensures.turned } c.self.inside.cursor c.args.now c.args.row.change (core_of c.self.inside) c.change_table.new.table c.self.invariant.book.keys refl steady same))

@@ -1,0 +1,28 @@
+use Rattle.std.proofs.Common.{refl, sym, subst, ◌∙◌, arith}
+use Rattle.binding_step.specs.Books.{IsBook}
+use Rattle.resync.specs.Loading.{Progress}
+use Rattle.std.proofs.Common.{ap}
+use Rattle.bind_core.proofs.Performing.{empty-is}
+use Rattle.bind_core.proofs.cores.Core.unsynced.Goals as goal
+
+pub invariant_of-result : goal.invariant_of-result
+invariant_of-result c =
+    let t = c.in_ok-table.ensures in
+    let low0 = c.requires.zero.low in
+    let low1 = c.requires.one.low in
+    let order0 = c.requires.zero.order in
+    let order1 = c.requires.one.order in
+    let exact = c.in_ok-idle.ensures.capacity in
+    record {
+      book = subst IsBook (sym (empty-is c.args.id c.args.zero c.args.one c.in_ok-table.table c.new-2.result t.zero t.one t.entries t.owned c.new-2.ensures))
+          (c.books_begin.ensures.empty c.args.id c.args.zero c.args.one c.requires.zero c.requires.one (omega (arith, low0, order0), c.recall_port.ensures) (omega (arith, low1, order1), c.recall_port-2.ensures));
+      bounds = record { zero = t.zero; one = t.one };
+      zero = ap (λ (p : Progress). p.zero) c.new-2.ensures ∙ sym t.zero;
+      one = ap (λ (p : Progress). p.one) c.new-2.ensures ∙ sym t.one;
+      room = let a = t.capacity in let b = c.count_keys.ensures in omega (arith, a, b, exact);
+    }
+
+pub returns-clause-book : goal.returns-clause-book
+returns-clause-book c =
+    let t = c.in_ok-table.ensures in
+    empty-is c.args.id c.args.zero c.args.one c.in_ok-table.table c.new-2.result t.zero t.one t.entries t.owned c.new-2.ensures

@@ -1,0 +1,20 @@
+use Rattle.bind_core.proofs.Changing.{turned-ranges, yielded-free, yielded-new, stays-added, yielded-distinct}
+use Rattle.bind_core.proofs.deeds.yield_entry.Goals as goal
+
+pub add_entry-requires-clause-ranges : goal.add_entry-requires-clause-ranges
+add_entry-requires-clause-ranges c = rw c.set_state.ensures.entries (turned-ranges c.args.table.now c.args.key _ c.requires.ranges)
+
+pub add_entry-requires-clause-key : goal.add_entry-requires-clause-key
+add_entry-requires-clause-key c = rw c.set_state.ensures.entries (yielded-free c.args.table.now.entries c.args.key c.args.pair.key c.requires.fits.entry c.requires.fits.found c.requires.fits.key)
+
+pub add_entry-requires-clause-endpoint : goal.add_entry-requires-clause-endpoint
+add_entry-requires-clause-endpoint c =
+    rw c.set_state.ensures.entries
+    (yielded-new c.args.table.now.entries c.args.key c.requires.fits.entry c.args.pair.endpoint c.recall.ensures.one_to_one
+    (yielded-distinct c.args.table.now.entries c.args.key c.recall.ensures.keys) c.requires.fits.found c.requires.fits.pair c.requires.fits.endpoint)
+
+pub returns-clause-lives : goal.returns-clause-lives
+returns-clause-lives c = record {
+  stays = λ q past stays has. stays-added c.args.pair.key c.set_state.new.self c.add_entry.new.table (rw c.set_state.ensures.entries (yielded-free c.args.table.now.entries c.args.key c.args.pair.key c.requires.fits.entry c.requires.fits.found c.requires.fits.key)) c.add_entry.ensures.others q past (c.set_state.ensures.pasts q past has);
+  begins = c.add_entry.ensures.begins;
+}

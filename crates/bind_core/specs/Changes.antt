@@ -1,0 +1,160 @@
+-- What a change makes of a table, and of what its pairs carried.
+use Rattle.std.specs.Prelude.{◌≡◌, ℕ, ◌-◌, Bool, true, false, List, [], Some, if◌then◌else◌}
+use Rattle.nat_types.specs.Same.{same_key}
+use Rattle.nat_types.specs.declared.gateways.GatewayId.TheVariants.{Zero}
+use Rattle.nat_types.specs.declared.pairs.EntryState.{EntryState}
+use Rattle.nat_types.specs.declared.pairs.EntryState.TheVariants.{Pending, Doomed, Live, Closing, Held}
+use Rattle.nat_types.specs.declared.pairs.Key.{Key}
+use Rattle.lives.specs.Lives.{Past, Life, came, renewed, life_begun, life_renewed}
+use Rattle.bindings.specs.Lists.{place_in, with_state}
+use Rattle.bindings.specs.Lives.{lives_with, lives_without}
+use Rattle.std.specs.List.{insert}
+use Rattle.bindings.specs.Table.{Table, IsPast}
+use Rattle.bindings.specs.declared.entries.Entry.{Entry}
+use Rattle.bindings.specs.Entries.{slot_of}
+use Rattle.resync.specs.Batch.{is_settled}
+use Rattle.binding_step.specs.declared.setups.Stage.TheVariants.{Paired}
+use Rattle.binding_step.specs.declared.changes.Change.{Change}
+use Rattle.binding_step.specs.declared.changes.Change.TheVariants.{Keep, Add, Turn, Renew, Drop, Yield, Want, Give, Gain}
+use Rattle.binding_step.specs.Books.{Book}
+use Rattle.binding_step.specs.Rows.{changed}
+use Rattle.bind_core.specs.declared.deeds.Bounds.{Bounds}
+
+-- the table as the book of a gateway that isn't lone
+abbrev pub table_book : Table → Book
+table_book t = record {
+  id = Zero;
+  zero = t.zero;
+  one = t.one;
+  stage = Paired;
+  begun = false;
+  named = 0;
+  entries = t.entries;
+  owned = t.owned;
+  wants = false;
+  coming = [];
+}
+
+-- the table's ranges are these
+pub record IsBetween (t : Table) (bounds : Bounds) : Type 0 where
+  pub zero : t.zero ≡ bounds.zero
+  pub one : t.one ≡ bounds.one
+
+-- whether a Want is open then
+abbrev pub wants_after : Change → Bool → Bool
+wants_after Keep wants = wants
+wants_after (Add e) wants = wants
+wants_after (Turn k s) wants = wants
+wants_after (Renew k) wants = wants
+wants_after (Drop k) wants = wants
+wants_after (Yield q p) wants = wants
+wants_after Want wants = true
+wants_after (Give g) wants = wants
+wants_after (Gain g) wants = false
+
+-- an entry comes with the change
+abbrev pub adds : Change → Bool
+adds Keep = false
+adds (Add e) = true
+adds (Turn k s) = false
+adds (Renew k) = false
+adds (Drop k) = false
+adds (Yield q p) = true
+adds Want = false
+adds (Give g) = false
+adds (Gain g) = false
+
+-- ---- lives
+
+-- what comes as the peer's pair came by Install
+abbrev pub is_held : EntryState → Bool
+is_held Pending = false
+is_held Doomed = false
+is_held Live = false
+is_held Closing = false
+is_held Held = true
+
+-- the key's entry leaves
+abbrev pub leaves : Change → Key → Bool
+leaves Keep q = false
+leaves (Add e) q = false
+leaves (Turn k s) q = false
+leaves (Renew k) q = false
+leaves (Drop k) q = same_key k q
+leaves (Yield p2 p) q = false
+leaves Want q = false
+leaves (Give g) q = false
+leaves (Gain g) q = false
+
+-- the lives then: each entry that comes has one that begins
+abbrev pub lives_after : ℕ → Change → Table → List Life
+lives_after now Keep t = t.lives
+lives_after now (Add e) t = insert t.lives (place_in e.pair t.entries) (life_begun (is_held e.state) now)
+lives_after now (Turn k s) t = t.lives
+lives_after now (Renew k) t = lives_with (life_renewed now) k t.entries t.lives
+lives_after now (Drop k) t = lives_without k t.entries t.lives
+lives_after now (Yield q p) t = insert t.lives (place_in p (with_state q Doomed t.entries)) (life_begun true now)
+lives_after now Want t = t.lives
+lives_after now (Give g) t = t.lives
+lives_after now (Gain g) t = t.lives
+
+-- for how many more entries the table is ready then
+abbrev pub ready_after : Change → ℕ → ℕ
+ready_after Keep n = n
+ready_after (Add e) n = n - 1
+ready_after (Turn k s) n = n
+ready_after (Renew k) n = n
+ready_after (Drop k) n = n
+ready_after (Yield q p) n = n - 1
+ready_after Want n = n
+ready_after (Give g) n = n
+ready_after (Gain g) n = n
+
+-- the table then
+abbrev pub table_after : ℕ → Change → Table → Table
+table_after now change t =
+    let b = changed change (table_book t) in
+    record t { entries = b.entries; owned = b.owned; lives = lives_after now change t; ready = ready_after change t.ready }
+
+-- what becomes of a past that a key's entry agrees with: only a No begins it anew
+abbrev pub past_after : ℕ → Change → Key → Past → Past
+past_after now Keep q past = past
+past_after now (Add e) q past = past
+past_after now (Turn k s) q past = past
+past_after now (Renew k) q past = (if same_key k q then renewed now past else past)
+past_after now (Drop k) q past = past
+past_after now (Yield p2 p) q past = past
+past_after now Want q past = past
+past_after now (Give g) q past = past
+past_after now (Gain g) q past = past
+
+-- the life of the entry that comes begins now
+abbrev pub Begins : ℕ → Change → Table → Type 0
+Begins now Keep t = Unit {0}
+Begins now (Add e) t = IsPast t e.pair.key (came (is_held e.state) now)
+Begins now (Turn k s) t = Unit {0}
+Begins now (Renew k) t = Unit {0}
+Begins now (Drop k) t = Unit {0}
+Begins now (Yield q p) t = IsPast t p.key (came true now)
+Begins now Want t = Unit {0}
+Begins now (Give g) t = Unit {0}
+Begins now (Gain g) t = Unit {0}
+
+-- what the pairs carried, through a change
+pub record LivesOn (now : ℕ) (change : Change) (t t2 : Table) : Type 0 where
+  pub stays : (q : Key) (past : Past) → leaves change q ≡ false → IsPast t q past → IsPast t2 q (past_after now change q past)
+  pub begins : Begins now change t2
+
+-- ---- a promised batch
+
+-- what of a batch is still to be drawn stays so
+abbrev pub IsSteady : Book → Change → Type 0
+IsSteady b Keep = Unit {0}
+IsSteady b (Add e) = is_settled e.state ≡ false
+IsSteady b (Turn k s) = (is_settled s ≡ true) × ((x : Entry) → slot_of b.entries k ≡ Some x → is_settled x.state ≡ true)
+IsSteady b (Renew k) = ⊥
+IsSteady b (Drop k) = ⊥
+IsSteady b (Yield q p) = ⊥
+IsSteady b Want = Unit {0}
+IsSteady b (Give g) = ⊥
+IsSteady b (Gain g) = ⊥

@@ -1,0 +1,132 @@
+-- What callers see of a core.
+use Rattle.std.specs.Prelude.{ℕ, Bool, List, Option, Some, None, is_some, true, false, ◌||◌, [], map, if◌then◌else◌}
+use Rattle.nat_types.specs.declared.gateways.GatewayId.{GatewayId}
+use Rattle.nat_types.specs.declared.records.Record.{Record}
+use Rattle.nat_types.specs.declared.records.Record.TheVariants.{Install, Accept, Refuse, Ask, Yes, No, Begin, Put, Done, Want, Grant, Owner}
+use Rattle.nat_types.specs.declared.notes.Happening.{Happening}
+use Rattle.nat_types.specs.declared.notes.Happening.TheVariants.{Retaken, Synced}
+use Rattle.nat_types.specs.declared.pairs.Endpoint.{Endpoint}
+use Rattle.nat_types.specs.declared.pairs.Key.{Key}
+use Rattle.lives.specs.declared.packets.Packet.{Packet}
+use Rattle.lives.specs.Lives.{Life, life_carried}
+use Rattle.bindings.specs.declared.entries.Entry.{Entry}
+use Rattle.bindings.specs.Entries.{slot_of, translates}
+use Rattle.bindings.specs.Lives.{lives_with, rests_at, is_unused_at}
+use Rattle.bindings.specs.Runs.{port_at}
+use Rattle.addresses.specs.declared.transport.Port.{Port}
+use Rattle.bindings.specs.Table.{Table}
+use Rattle.bindings.specs.Revivals.{revived_entries}
+use Rattle.resync.specs.Cursor.{to_come}
+use Rattle.resync.specs.declared.cursor.Cursor.{Cursor}
+use Rattle.binding_step.specs.Resets.{revived}
+use Rattle.binding_step.specs.declared.changes.Row.{Row}
+use Rattle.binding_step.specs.declared.setups.Stage.{Stage}
+use Rattle.binding_step.specs.Books.{Book, is_synced}
+use Rattle.binding_step.specs.Rows.{carry_row}
+use Rattle.bind_core.specs.Changes.{table_after, wants_after}
+
+-- Who it is, its table, how far it is, whether Begin was taken and not yet Done, the last port that an Owner named,
+-- whether a Want of its is open, and what of a promised batch is still to be handed in.
+pub record Core : Type 0 where
+  pub id : GatewayId
+  pub table : Table
+  pub stage : Stage
+  pub begun : Bool
+  pub named : ℕ
+  pub wants : Bool
+  pub coming : List Record
+  pub idle : List Key  -- what the last tick found idle
+
+-- what the protocol knows of it
+abbrev pub book_of : Core → Book
+book_of c = record {
+  id = c.id;
+  zero = c.table.zero;
+  one = c.table.one;
+  stage = c.stage;
+  begun = c.begun;
+  named = c.named;
+  entries = c.table.entries;
+  owned = c.table.owned;
+  wants = c.wants;
+  coming = c.coming;
+}
+
+-- once a row is carried out
+abbrev pub core_after : ℕ → Core → Row → Core
+core_after now c r = record c { table = table_after now r.change c.table; wants = wants_after r.change c.wants }
+
+-- ---- packets
+
+-- the endpoint of a pair that translates
+abbrev pub endpoint_in : Option Entry → Option Endpoint
+endpoint_in None = None
+endpoint_in (Some x) = (if translates x.state then Some x.pair.endpoint else None)
+
+-- where a packet to an outside port goes: a gateway that isn't synced translates nothing
+abbrev pub inbound_of : Book → Key → Option Endpoint
+inbound_of b k = (if is_synced b.stage then endpoint_in (slot_of b.entries k) else None)
+
+-- what is kept of the pairs once one carried a packet, where it translates
+abbrev pub lives_carried : Core → Key → Packet → List Life
+lives_carried c k p =
+    if is_some (carry_row (book_of c) k).what
+    then lives_with (life_carried k.protocol p) k c.table.entries c.table.lives
+    else c.table.lives
+
+-- an Ask's pair is idle, or came by Install and carried nothing since
+abbrev pub rests_in : Table → Record → ℕ → Bool
+rests_in t (Install p) now = false
+rests_in t (Accept k) now = false
+rests_in t (Refuse k) now = false
+rests_in t (Ask k) now = rests_at t.entries t.lives k now || is_unused_at t.entries t.lives k
+rests_in t (Yes k) now = false
+rests_in t (No k) now = false
+rests_in t Begin now = false
+rests_in t (Put p) now = false
+rests_in t Done now = false
+rests_in t Want now = false
+rests_in t (Grant g) now = false
+rests_in t (Owner first last) now = false
+
+-- ---- loading
+
+-- the record ends a loading
+abbrev pub is_whole : Record → Bool
+is_whole (Install p) = false
+is_whole (Accept k) = false
+is_whole (Refuse k) = false
+is_whole (Ask k) = false
+is_whole (Yes k) = false
+is_whole (No k) = false
+is_whole Begin = false
+is_whole (Put p) = false
+is_whole Done = true
+is_whole Want = false
+is_whole (Grant g) = false
+is_whole (Owner first last) = false
+
+-- what is noted of a record in its place
+abbrev pub what_loaded : Record → Option Happening
+what_loaded (Install p) = None
+what_loaded (Accept k) = None
+what_loaded (Refuse k) = None
+what_loaded (Ask k) = None
+what_loaded (Yes k) = None
+what_loaded (No k) = None
+what_loaded Begin = None
+what_loaded (Put p) = Some (Retaken p)
+what_loaded Done = Some Synced
+what_loaded Want = None
+what_loaded (Grant g) = None
+what_loaded (Owner first last) = None
+
+-- the ports that a synced gateway owns
+abbrev pub owned_of : Core → List Port
+owned_of c = (if is_synced c.stage then map port_at c.table.owned else [])
+
+-- ---- resets
+
+-- the pairs are revived, and a batch is to come from there
+abbrev pub revived_with : Stage → Cursor → Core → Book
+revived_with stage cursor c = record (revived (book_of c)) { stage = stage; coming = to_come cursor c.table.owned (revived_entries c.table.entries) }

@@ -1,0 +1,4 @@
+pub mod Changes
+pub mod Cores
+pub mod Ticks
+pub mod View

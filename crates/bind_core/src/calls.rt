@@ -1,0 +1,260 @@
+//! What a gateway asks of its core: rows carried out.
+ghost use Rattle.std.specs.Prelude.{◌≡◌, ◌+◌, ◌<◌, ◌≤◌, ◌++◌, ◌∷◌, [], ℕ, List, true, false, suc};
+ghost use Rattle.std.specs.Prelude.{length, vec_len, vec_capacity, OnOk, OnErr};
+ghost use Rattle.link.specs.Grammar.{IsWellFormedRecord};
+ghost use Rattle.link.specs.Link.{free_places, needs_answer};
+ghost use Rattle.binding_step.specs.Books.{is_lone as is_lone_at, is_synced as is_synced_at};
+ghost use Rattle.binding_step.specs.Fits.{IsWellFormedEndpoint};
+ghost use Rattle.binding_step.specs.Rows.{wish_of, row_of, noted_by, after, answered, is_full};
+ghost use Rattle.binding_step.specs.Rows.{taken_book, taken_answer, taken_what, taken_ended};
+ghost use Rattle.binding_step.specs.Resets.{back_in, put_alone, retaken, restarted};
+ghost use Rattle.binding_step.specs.Resets.{restart_batch, restart_link, restart_notes};
+ghost use Rattle.link.specs.Link.{occupied};
+ghost use Rattle.link.specs.Link.{Agrees, Link as End};
+ghost use Rattle.binding_step.specs.Machine.{IsTurn, Stands, Works};
+ghost use Rattle.nat_types.specs.declared.records.Record.{Record as Rec};
+ghost use Rattle.pair_machine.specs.Box.{Letter};
+ghost use Rattle.bind_core.specs.Changes.{LivesOn};
+ghost use Rattle.bind_core.specs.Cores.{book_of, core_after, rests_in};
+ghost use Rattle.bind_core.specs.Ticks.{ticked_core, IsReleased};
+
+use crate::Core;
+use crate::deeds::{is_link_full, may_ask};
+use binding_step::{
+    Stage, Want, answers_fit, books_keep, idle_works, record_works, restart_works, rows_fit,
+    wish_works, word_works, works_join, works_nothing,
+};
+use link::Link;
+use nat_types::{Endpoint, Key, Note, Record};
+use resync::Cursor;
+use std::alloc::AllocError;
+
+impl Core {
+    /// What a packet of an endpoint, for which there may be no pair yet, has to do.
+    pub fn want(
+        &mut self,
+        endpoint: Endpoint,
+        link: &mut Link,
+        now: u64,
+        notes: &mut Vec<Note>,
+    ) -> Want
+        requires formed { IsWellFormedEndpoint endpoint }
+        requires ready { 0 < self.old.table.ready }
+        requires reserved { vec_len notes.old < vec_capacity notes.old }
+        ensures answer { result
+            ≡ (wish_of (book_of self.old) (is_full link.old) endpoint).answer }
+        ensures book { let row = (wish_of (book_of self.old) (is_full link.old) endpoint).row
+            in book_of self.new ≡ after (book_of self.old) row }
+        ensures core { let row = (wish_of (book_of self.old) (is_full link.old) endpoint).row
+            in self.new ≡ core_after now self.old row }
+        ensures link { let row = (wish_of (book_of self.old) (is_full link.old) endpoint).row
+            in link.new ≡ answered link.old row.answer }
+        ensures pasts { let row = (wish_of (book_of self.old) (is_full link.old) endpoint).row
+            in LivesOn now row.change self.old.table self.new.table }
+        ensures notes { let row = (wish_of (book_of self.old) (is_full link.old) endpoint).row
+            in notes.new.items ≡ notes.old.items ++ noted_by self.old.id now row.what }
+        ensures len { vec_len notes.new ≤ vec_len notes.old + 1 }
+        ensures capacity { vec_capacity notes.new ≡ vec_capacity notes.old }
+        ensures works { (h : List Rec) (n : ℕ) → Stands (book_of self.old) link.old h
+            → let row = (wish_of (book_of self.old) (is_full link.old) endpoint).row in
+            Works now [] [] (book_of self.old) link.old n (book_of self.new) link.new n
+            (noted_by self.old.id now row.what) h }
+    {
+        self.recall();
+        rows_fit();
+        answers_fit();
+        books_keep();
+        wish_works();
+        let full = is_link_full(link);
+        let wish = self.wish_for(full, endpoint);
+        let answer = wish.answer;
+        self.perform(link, notes, now, wish.row);
+        answer
+    }
+
+    fn release(&mut self, key: Key, link: &mut Link, now: u64, notes: &mut Vec<Note>)
+        requires reserved { vec_len notes.old < vec_capacity notes.old }
+        ensures step { IsReleased now key self.old link.old notes.old.items self.new link.new
+            notes.new.items }
+        ensures idle { self.new.idle ≡ self.old.idle }
+        ensures len { vec_len notes.new ≤ vec_len notes.old + 1 }
+        ensures capacity { vec_capacity notes.new ≡ vec_capacity notes.old }
+    {
+        self.recall();
+        rows_fit();
+        answers_fit();
+        books_keep();
+        let ask = may_ask(link, now);
+        let row = self.idle_row_of(ask, key);
+        self.perform(link, notes, now, row);
+    }
+
+    /// The idle pairs of a tick, one after the other: a lone gateway drops each, another one asks for the end of each
+    /// Live one, where the peer was heard at most 300 cs ago and the link isn't full then.
+    pub fn tick(&mut self, link: &mut Link, now: u64, notes: &mut Vec<Note>)
+        requires reserved { vec_len notes.old + length self.old.table.entries
+            < vec_capacity notes.old }
+        ensures core { self.new ≡ (ticked_core now self.old link.old).core }
+        ensures link { link.new ≡ (ticked_core now self.old link.old).link }
+        ensures notes { notes.new.items ≡ notes.old.items
+            ++ (ticked_core now self.old link.old).notes }
+        ensures len { vec_len notes.new ≤ vec_len notes.old + length self.old.table.entries }
+        ensures capacity { vec_capacity notes.new ≡ vec_capacity notes.old }
+        ensures works { (h : List Rec) (n : ℕ) → Stands (book_of self.old) link.old h
+            → Works now [] [] (book_of self.old) link.old n (book_of self.new) link.new n
+            (ticked_core now self.old link.old).notes h }
+    {
+        idle_works();
+        works_join();
+        works_nothing();
+        self.list_idle(now);
+        for i in 0..self.idle_count() {
+            let key = self.idle_key_at(i);
+            self.release(key, link, now, notes);
+        }
+    }
+
+    /// Takes a record at a synced gateway.
+    fn take_synced(
+        &mut self,
+        entry: Record,
+        link: &mut Link,
+        now: u64,
+        notes: &mut Vec<Note>,
+    ) -> Option<Endpoint>
+        requires synced { is_synced_at self.old.stage ≡ true }
+        requires formed { IsWellFormedRecord entry }
+        requires ready { 0 < self.old.table.ready }
+        requires places { needs_answer entry ≡ true → 0 < free_places link.old }
+        requires reserved { vec_len notes.old < vec_capacity notes.old }
+        ensures ended { let row = row_of (book_of self.old) (rests_in self.old.table entry now) entry
+            in result ≡ row.ended }
+        ensures core { let row = row_of (book_of self.old) (rests_in self.old.table entry now) entry
+            in self.new ≡ core_after now self.old row }
+        ensures link { let row = row_of (book_of self.old) (rests_in self.old.table entry now) entry
+            in link.new ≡ answered link.old row.answer }
+        ensures pasts { let row = row_of (book_of self.old) (rests_in self.old.table entry now) entry
+            in LivesOn now row.change self.old.table self.new.table }
+        ensures notes { let row = row_of (book_of self.old) (rests_in self.old.table entry now) entry
+            in notes.new.items ≡ notes.old.items ++ noted_by self.old.id now row.what }
+        ensures len { vec_len notes.new ≤ vec_len notes.old + 1 }
+        ensures capacity { vec_capacity notes.new ≡ vec_capacity notes.old }
+    {
+        self.recall();
+        rows_fit();
+        answers_fit();
+        books_keep();
+        let row = self.row_for(entry, now);
+        let ended = row.ended;
+        self.perform(link, notes, now, row);
+        ended
+    }
+
+    /// Takes a record of the peer's. The answer is the endpoint whose packets needn't wait for the peer any more.
+    pub fn take(
+        &mut self,
+        entry: Record,
+        link: &mut Link,
+        now: u64,
+        notes: &mut Vec<Note>,
+    ) -> Option<Endpoint>
+        requires formed { IsWellFormedRecord entry }
+        requires ready { 0 < self.old.table.ready }
+        requires places { needs_answer entry ≡ true → 0 < free_places link.old }
+        requires reserved { vec_len notes.old < vec_capacity notes.old }
+        ensures ended { result
+            ≡ taken_ended (book_of self.old) (rests_in self.old.table entry now) entry }
+        ensures book { book_of self.new
+            ≡ taken_book (book_of self.old) (rests_in self.old.table entry now) entry }
+        ensures link { let rests = rests_in self.old.table entry now
+            in link.new ≡ answered link.old (taken_answer (book_of self.old) rests entry) }
+        ensures notes { let rests = rests_in self.old.table entry now
+            in notes.new.items ≡ notes.old.items
+            ++ noted_by self.old.id now (taken_what (book_of self.old) rests entry) }
+        ensures len { vec_len notes.new ≤ vec_len notes.old + 1 }
+        ensures capacity { vec_capacity notes.new ≡ vec_capacity notes.old }
+        ensures core { let row = row_of (book_of self.old) (rests_in self.old.table entry now) entry
+            in is_synced_at self.old.stage ≡ true → self.new ≡ core_after now self.old row }
+        // Of the letter in which the record stands next; a lone gateway has none to take.
+        ensures works { (h : List Rec) (n : ℕ) (l : Letter) (offset : ℕ)
+            → is_lone_at self.old.stage ≡ false → Stands (book_of self.old) link.old h
+            → IsTurn link.old n l offset entry
+            → Works now (l ∷ []) [] (book_of self.old) link.old n (book_of self.new) link.new (suc n)
+            (noted_by self.old.id now
+            (taken_what (book_of self.old) (rests_in self.old.table entry now) entry)) h }
+    {
+        self.recall();
+        record_works();
+        if self.is_synced() {
+            self.take_synced(entry, link, now, notes)
+        } else {
+            self.load(entry, now, notes);
+            None
+        }
+    }
+
+    /// Makes the table ready for so many new pairs, until the next call.
+    pub fn ready(&mut self, endpoints: &[Endpoint]) -> Result<(), AllocError>
+        ensures ok { OnOk result (self.new ≡ record self.old {
+          table = record self.old.table {
+            ready = length endpoints.now;
+          };
+        }) }
+        ensures err { OnErr result (self.new ≡ self.old) }
+    {
+        self.make_ready(endpoints)
+    }
+
+    /// The operator's word that the peer is off: the link's session was closed just before. Each pair that it waited for
+    /// translates again, and from then on nobody's consent is needed.
+    pub fn peer_off(&mut self, link: &Link, now: u64, notes: &mut Vec<Note>)
+        requires synced { is_synced_at self.old.stage ≡ true }
+        requires reserved { vec_len notes.old + length self.old.table.entries
+            ≤ vec_capacity notes.old }
+        ensures book { book_of self.new ≡ put_alone (book_of self.old) }
+        ensures notes { notes.new.items ≡ notes.old.items ++ retaken self.old.id now
+            (back_in self.old.table.entries) }
+        ensures len { vec_len notes.new ≤ vec_len notes.old + length self.old.table.entries }
+        ensures capacity { vec_capacity notes.new ≡ vec_capacity notes.old }
+        // Of the end as it was before the word of this number closed it.
+        ensures works { (e : End) (h : List Rec) (n number : ℕ) → Agrees [] [] link.now
+            → e.boot ≡ link.now.boot → link.now.known ≡ number
+            → Works now [] (number ∷ []) (book_of self.old) e n (book_of self.new) link.now 0
+            (retaken self.old.id now (back_in self.old.table.entries)) h }
+    {
+        self.recall();
+        books_keep();
+        word_works();
+        self.revive(Stage::Lone, Cursor::Over, now, notes);
+        let _ = link;
+    }
+
+    /// The peer began anew: the link was reset just before, and has counted what came with the news. A synced gateway
+    /// promises its table, and needs consent from then on; another one begins its loading anew.
+    pub fn peer_restarted(&mut self, link: &mut Link, now: u64, notes: &mut Vec<Note>)
+        requires begins { occupied link.old ≡ 0 }
+        requires room { length (restart_batch (book_of self.old)) ≤ free_places link.old }
+        requires reserved { vec_len notes.old + length self.old.table.entries
+            ≤ vec_capacity notes.old }
+        ensures book { book_of self.new ≡ restarted (book_of self.old) }
+        ensures link { link.new ≡ restart_link (book_of self.old) link.old }
+        ensures notes { notes.new.items ≡ notes.old.items ++ restart_notes (book_of self.old) now }
+        ensures len { vec_len notes.new ≤ vec_len notes.old + length self.old.table.entries }
+        ensures capacity { vec_capacity notes.new ≡ vec_capacity notes.old }
+        // Of the end as it was before it took the datagram, and with none of the new session's records taken.
+        ensures works { (e : End) (h : List Rec) (n : ℕ) (l : Letter) → Agrees [] [] link.old
+            → e.boot ≡ link.old.boot → e.known < link.old.known → l.boot ≡ link.old.known
+            → Works now (l ∷ []) [] (book_of self.old) e n (book_of self.new) link.new 0
+            (restart_notes (book_of self.old) now) h }
+    {
+        self.recall();
+        books_keep();
+        restart_works();
+        if self.is_synced() {
+            self.revive(Stage::Paired, Cursor::new(), now, notes);
+            self.promise(link);
+        } else {
+            self.forget();
+        }
+    }
+}

@@ -1,0 +1,594 @@
+//! One gateway's table, and how far it is.
+ghost use Rattle.std.specs.Prelude.{◌≡◌, ◌+◌, ◌-◌, ◌<◌, ◌≤◌, ◌++◌, ◌&&◌, not, ℕ, [], true};
+ghost use Rattle.std.specs.Prelude.{IsTrue, IfOk, IfSome, is_some, length, vec_len, vec_capacity};
+ghost use Rattle.std.specs.Prelude.{slice_get, Some, false, OnOk, OnErr, drop, take, List};
+ghost use Rattle.nat_types.specs.declared.pairs.Key.{Key as OutsidePort};
+ghost use Rattle.lives.specs.declared.packets.Packet.{Packet as Carried};
+ghost use Rattle.lives.specs.Lives.{Past, with_packet};
+ghost use Rattle.bindings.specs.Lives.{KeepsOthers};
+ghost use Rattle.bindings.specs.Table.{IsPast};
+ghost use Rattle.link.specs.Grammar.{IsWellFormedRecord};
+ghost use Rattle.link.specs.Link.{free_places, occupied, wanted, with_fed, with_promised};
+ghost use Rattle.resync.specs.Batch.{HasNoPending, batch_of};
+ghost use Rattle.link.specs.Link.{Link as End};
+ghost use Rattle.nat_types.specs.declared.records.Record.{Record as Rec};
+ghost use Rattle.binding_step.specs.Machine.{Stands, Works};
+ghost use Rattle.binding_step.specs.Books.{IsBook, is_synced as is_synced_at};
+ghost use Rattle.binding_step.specs.Books.{is_lone as is_lone_at, is_promised};
+ghost use Rattle.binding_step.specs.Fits.{Fits};
+ghost use Rattle.binding_step.specs.Rows.{is_theirs as is_theirs_port, proposed_row, install_row};
+ghost use Rattle.binding_step.specs.Rows.{grant_row, want_row, none_row, synced_row, new_wish};
+ghost use Rattle.binding_step.specs.Rows.{wish_of, carry_row, noted_by, after, answered, is_full};
+ghost use Rattle.binding_step.specs.Rows.{idle_row, row_of, unsynced_after, unsynced_what};
+ghost use Rattle.bind_core.specs.Changes.{adds, IsSteady, LivesOn};
+ghost use Rattle.bindings.specs.Table.{idle_keys_of};
+ghost use Rattle.bindings.specs.Ports.{AreBounds, key_count};
+ghost use Rattle.binding_step.specs.Books.{empty_book, founded_book};
+ghost use Rattle.nat_types.specs.declared.gateways.GatewayId.TheVariants.{Zero};
+ghost use Rattle.binding_step.specs.Resets.{back_in, retaken};
+ghost use Rattle.bindings.specs.declared.entries.Entry.{Entry as Known};
+ghost use Rattle.bindings.specs.Entries.{is_pair, slot_of};
+ghost use Rattle.bind_core.specs.Cores.{book_of, core_after, inbound_of, lives_carried, owned_of, rests_in, revived_with};
+
+use crate::deeds::{
+    Bounds, carry_by, change_table, count_keys, is_link_full, is_wanting, lies_in_either, note,
+    own_range, recall_port, tell,
+};
+use crate::grants::{choose_granted, higher, lower};
+use crate::loads::{loading_of, stage_after};
+use crate::resets::note_back;
+use crate::rows::{
+    accept, answering, ask, carry, ending, gives_way, is_lone, is_synced, known, no, quiet, refuse,
+    release, row, wish, yes,
+};
+use addresses::{Port, TcpFlags};
+use arrayvec::ArrayVec;
+use binding_step::{
+    Change, Row, Stage, Want, Wish, books_begin, books_keep, carry_works, feed_works,
+};
+use bindings::{Entry, PortBounds, Table};
+use link::Link;
+use lives::{Packet, Remote, Way};
+use nat_types::{Endpoint, EntryState, GatewayId, Granted, Happening, Key, Note, Pair, Record};
+use resync::{Cursor, Loading, batch_len, steady_batch_law};
+use std::alloc::{AllocError, Global};
+use std::marker::Model;
+
+/// One gateway's side of the binding protocol. Moments are in centiseconds.
+#[derive(Drop)]
+pub struct Core {
+    id: GatewayId,
+    bounds: Bounds,
+    table: Table,
+    stage: Stage,
+    /// How far a loading is.
+    loading: Loading,
+    /// Whether a Want of its is open.
+    wants: bool,
+    /// What of a promised batch is still to be handed in.
+    cursor: Cursor,
+    /// What a tick finds idle.
+    idle: Vec<Key>,
+}
+
+impl Model for Core {
+    ghost use Rattle.bind_core.specs.Cores.{Core as Shown};
+    ghost use Rattle.bind_core.specs.View.{core_of, IsStored};
+
+    ghost Value = { Shown };
+
+    ghost view = { core_of };
+
+    ghost invariant = { IsStored };
+}
+
+impl Core {
+    /// Reminds the prover of what each core keeps; it does nothing when it runs.
+    pub fn recall(&self)
+        ensures { IsBook (book_of self.now) }
+    {
+        let _ = &self.id;
+    }
+
+    /// Whether its table is loaded.
+    pub fn is_synced(&self) -> bool
+        ensures { result ≡ is_synced_at self.now.stage }
+    {
+        is_synced(self.stage)
+    }
+
+    /// Whether it needs nobody's consent: no boot of the peer was heard since the founding, or since the operator's word.
+    pub fn is_lone(&self) -> bool
+        ensures { result ≡ is_lone_at self.now.stage }
+    {
+        is_lone(self.stage)
+    }
+
+    /// Its table, lent.
+    pub fn table(&self) -> &Table
+        ensures { result.now ≡ self.now.table }
+    {
+        &self.table
+    }
+
+    /// Where a packet to an outside port goes: the endpoint of a Live or Held pair. A gateway that isn't synced has none.
+    pub fn inbound(&self, key: Key) -> Option<Endpoint>
+        ensures { result ≡ inbound_of (book_of self.now) key }
+    {
+        if !is_synced(self.stage) {
+            return None;
+        }
+        match self.table.pair_of_port(key) {
+            Some(entry) => match entry.state {
+                EntryState::Live | EntryState::Held => Some(entry.pair.endpoint),
+                EntryState::Pending | EntryState::Doomed | EntryState::Closing => None,
+            },
+            None => None,
+        }
+    }
+
+    // ---- the record table
+
+    fn is_theirs(&self, port: Port) -> bool
+        ensures { result ≡ is_theirs_port (book_of self.now) port.0 }
+    {
+        lies_in_either(self.bounds, port) && !self.table.owns(port)
+    }
+
+    fn proposed(&self, pair: Pair, other: Option<Entry>) -> Row
+        ensures { result ≡ proposed_row (book_of self.now) pair other }
+    {
+        let accept = Some(Record::Accept(pair.key));
+        let retaken = Some(Happening::Retaken(pair));
+        match other {
+            None => {
+                let state = EntryState::Held;
+                row(Change::Add(Entry { pair, state }), accept, retaken)
+            }
+            Some(entry) => {
+                if gives_way(self.id, entry.state) {
+                    let change = Change::Yield(entry.pair.key, pair);
+                    ending(pair.endpoint, row(change, accept, retaken))
+                } else {
+                    answering(Record::Refuse(pair.key))
+                }
+            }
+        }
+    }
+
+    fn install(&self, pair: Pair) -> Row
+        ensures { result ≡ install_row (book_of self.now) pair }
+    {
+        if self.is_theirs(pair.key.port) && self.table.pair_of_port(pair.key).is_none() {
+            self.proposed(pair, self.table.port_of(pair.endpoint))
+        } else {
+            answering(Record::Refuse(pair.key))
+        }
+    }
+
+    fn grant_taken(&self, granted: Granted) -> Row
+        ensures { result ≡ grant_row (book_of self.now) granted }
+    {
+        if self.wants {
+            row(Change::Gain(granted), None, None)
+        } else {
+            quiet()
+        }
+    }
+
+    fn want_taken(&self) -> Row
+        ensures { result ≡ want_row (book_of self.now) }
+    {
+        let highest = higher(self.bounds.zero.highest, self.bounds.one.highest);
+        let lowest = lower(self.bounds.zero.lowest, self.bounds.one.lowest);
+        self.recall();
+        let granted = choose_granted(&self.table, lowest, highest);
+        row(Change::Give(granted), Some(Record::Grant(granted)), None)
+    }
+
+    /// What a record makes of a synced gateway.
+    fn synced_row_of(&self, entry: Record, rests: bool) -> Row
+        ensures { result ≡ synced_row (book_of self.now) rests entry }
+    {
+        match entry {
+            Record::Install(pair) => self.install(pair),
+            Record::Accept(key) => accept(self.table.pair_of_port(key)),
+            Record::Refuse(key) => refuse(self.table.pair_of_port(key)),
+            Record::Ask(key) => ask(key, rests, self.table.pair_of_port(key)),
+            Record::Yes(key) => yes(self.table.pair_of_port(key)),
+            Record::No(key) => no(self.table.pair_of_port(key)),
+            Record::Want => self.want_taken(),
+            Record::Grant(granted) => self.grant_taken(granted),
+            Record::Begin | Record::Put(_) | Record::Done | Record::Owner { .. } => quiet(),
+        }
+    }
+
+    /// Whether an Ask's pair is idle, or came by Install and carried nothing since.
+    fn rests(&self, entry: &Record, now: u64) -> bool
+        ensures { result ≡ rests_in self.now.table entry.now now }
+    {
+        match entry {
+            Record::Ask(key) => self.table.idle(*key, now) || self.table.unused(*key),
+            _ => false,
+        }
+    }
+
+    /// What a record makes of a synced gateway; while its batch is promised, nothing.
+    pub(crate) fn row_for(&self, entry: Record, now: u64) -> Row
+        ensures { result ≡ row_of (book_of self.now) (rests_in self.now.table entry now) entry }
+    {
+        if self.cursor.is_over() {
+            let rests = self.rests(&entry, now);
+            self.synced_row_of(entry, rests)
+        } else {
+            quiet()
+        }
+    }
+
+    // ---- wishes
+
+    fn no_port(&self, full: bool) -> Row
+        ensures { result ≡ none_row (book_of self.now) full }
+    {
+        if !is_lone(self.stage) && !self.wants && !full {
+            row(Change::Want, Some(Record::Want), None)
+        } else {
+            quiet()
+        }
+    }
+
+    fn new_pair(&self, full: bool, pair: Pair) -> Wish
+        ensures { result ≡ new_wish (book_of self.now) full pair.endpoint (Some pair.key.port) }
+    {
+        if is_lone(self.stage) {
+            let state = EntryState::Live;
+            let change = Change::Add(Entry { pair, state });
+            let row = row(change, None, Some(Happening::Retaken(pair)));
+            return wish(Want::Port(pair.key.port), row);
+        }
+        if full {
+            return wish(Want::NotNow, quiet());
+        }
+        let state = EntryState::Pending;
+        let change = Change::Add(Entry { pair, state });
+        wish(Want::Wait, row(change, Some(Record::Install(pair)), None))
+    }
+
+    fn new_wish_for(&self, full: bool, endpoint: Endpoint, port: Option<Port>) -> Wish
+        ensures { result ≡ new_wish (book_of self.now) full endpoint port }
+    {
+        match port {
+            None => wish(Want::NoPort, self.no_port(full)),
+            Some(port) => {
+                let key = Key {
+                    protocol: endpoint.protocol,
+                    port,
+                };
+                self.new_pair(full, Pair::new(key, endpoint.address, endpoint.port))
+            }
+        }
+    }
+
+    pub(crate) fn wish_for(&self, full: bool, endpoint: Endpoint) -> Wish
+        ensures { result ≡ wish_of (book_of self.now) full endpoint }
+    {
+        if !is_synced(self.stage) {
+            return wish(Want::NotNow, quiet());
+        }
+        match self.table.port_of(endpoint) {
+            Some(entry) => known(entry.pair, entry.state),
+            None => {
+                let parity = endpoint.port.parity();
+                let port = self.table.free_like(endpoint.protocol, parity);
+                self.new_wish_for(full, endpoint, port)
+            }
+        }
+    }
+
+    /// What `want` would answer; nothing changes.
+    pub fn look(&self, link: &Link, endpoint: Endpoint) -> Want
+        ensures { result ≡ (wish_of (book_of self.now) (is_full link.now) endpoint).answer }
+    {
+        self.wish_for(is_link_full(link), endpoint).answer
+    }
+
+    // ---- what a row does
+
+    pub(crate) fn perform(&mut self, link: &mut Link, notes: &mut Vec<Note>, now: u64, row: Row)
+        requires fits { Fits (book_of self.old) row.change }
+        requires kept { IsBook (after (book_of self.old) row) }
+        requires formed { IfSome row.answer IsWellFormedRecord }
+        requires ready { adds row.change ≡ true → 0 < self.old.table.ready }
+        requires steady { is_promised (book_of self.old) ≡ true → IsSteady (book_of self.old)
+            row.change }
+        requires places { IsTrue (is_some row.answer) → 0 < free_places link.old }
+        requires reserved { vec_len notes.old < vec_capacity notes.old }
+        ensures core { self.new ≡ core_after now self.old row }
+        ensures link { link.new ≡ answered link.old row.answer }
+        ensures pasts { LivesOn now row.change self.old.table self.new.table }
+        ensures notes { notes.new.items ≡ notes.old.items ++ noted_by self.old.id now row.what }
+        ensures len { vec_len notes.new ≤ vec_len notes.old + 1 }
+        ensures capacity { vec_capacity notes.new ≡ vec_capacity notes.old }
+    {
+        steady_batch_law();
+        change_table(&mut self.table, self.bounds, row.change, now);
+        self.wants = is_wanting(row.change, self.wants);
+        tell(link, notes, self.id, now, row);
+    }
+
+    fn carry_row_of(&self, key: Key) -> Row
+        ensures { result ≡ carry_row (book_of self.now) key }
+    {
+        if is_synced(self.stage) {
+            carry(self.table.pair_of_port(key))
+        } else {
+            quiet()
+        }
+    }
+
+    /// The pair of a key carried a packet, to or from a remote host: it is used. A pair that doesn't translate carries none.
+    pub fn carried(
+        &mut self,
+        key: Key,
+        remote: Remote,
+        way: Way,
+        flags: TcpFlags,
+        now: u64,
+        notes: &mut Vec<Note>,
+    )
+        requires reserved { vec_len notes.old < vec_capacity notes.old }
+        ensures same { self.new ≡ record self.old {
+          table = record self.old.table {
+            lives = self.new.table.lives;
+          };
+        } }
+        ensures lives { let packet : Carried = record {
+          remote = remote;
+          way = way;
+          flags = flags;
+          at = now;
+        }
+            in self.new.table.lives ≡ lives_carried self.old key packet }
+        ensures longer { let packet : Carried = record {
+          remote = remote;
+          way = way;
+          flags = flags;
+          at = now;
+        }
+            in is_some (carry_row (book_of self.old) key).what ≡ true → (past : Past)
+            → IsPast self.old.table key past
+            → IsPast self.new.table key (with_packet packet past) }
+        ensures others { KeepsOthers key self.old.table.entries self.old.table.lives
+            self.new.table.entries self.new.table.lives }
+        ensures notes { notes.new.items ≡ notes.old.items ++ noted_by self.old.id now
+            (carry_row (book_of self.old) key).what }
+        ensures len { vec_len notes.new ≤ vec_len notes.old + 1 }
+        ensures capacity { vec_capacity notes.new ≡ vec_capacity notes.old }
+        // Whatever the end of the link: nothing is pushed.
+        ensures works { (e : End) (h : List Rec) (n : ℕ) → Stands (book_of self.old) e h
+            → Works now [] [] (book_of self.old) e n (book_of self.new) e n
+            (noted_by self.old.id now (carry_row (book_of self.old) key).what) h }
+    {
+        carry_works();
+        let row = self.carry_row_of(key);
+        let packet = Packet {
+            remote,
+            way,
+            flags,
+            at: now,
+        };
+        carry_by(&mut self.table, row.what.is_some(), key, packet);
+        note(notes, self.id, now, row.what);
+    }
+
+    // ---- ticks
+
+    pub(crate) fn idle_row_of(&self, ask: bool, key: Key) -> Row
+        ensures { result ≡ idle_row (book_of self.now) ask key }
+    {
+        if is_synced(self.stage) {
+            release(is_lone(self.stage), ask, self.table.pair_of_port(key))
+        } else {
+            quiet()
+        }
+    }
+
+    pub(crate) fn list_idle(&mut self, now: u64)
+        ensures { self.new ≡ record self.old { idle = idle_keys_of self.old.table now } }
+    {
+        self.table.recall();
+        self.idle.clear();
+        match self.table.idle_keys(now, &mut self.idle) {
+            Ok(()) => {}
+            Err(_no_room) => unreachable!(),
+        }
+    }
+
+    pub(crate) fn idle_key_at(&self, i: usize) -> Key
+        requires { i < length self.now.idle }
+        ensures { slice_get self.now.idle i ≡ Some result }
+    {
+        self.idle[i]
+    }
+
+    pub(crate) fn idle_count(&self) -> usize
+        ensures { result ≡ length self.now.idle }
+    {
+        self.idle.len()
+    }
+
+    pub(crate) fn make_ready(&mut self, endpoints: &[Endpoint]) -> Result<(), AllocError>
+        ensures ok { OnOk result (self.new ≡ record self.old {
+          table = record self.old.table {
+            ready = length endpoints.now;
+          };
+        }) }
+        ensures err { OnErr result (self.new ≡ self.old) }
+    {
+        self.table.ready(endpoints)
+    }
+
+    /// Takes a record at a gateway that isn't synced.
+    pub(crate) fn load(&mut self, entry: Record, now: u64, notes: &mut Vec<Note>)
+        requires unsynced { is_synced_at self.old.stage ≡ false }
+        requires formed { IsWellFormedRecord entry }
+        requires ready { 0 < self.old.table.ready }
+        requires reserved { vec_len notes.old < vec_capacity notes.old }
+        ensures book { book_of self.new ≡ unsynced_after (book_of self.old) entry }
+        ensures notes { notes.new.items ≡ notes.old.items ++ noted_by self.old.id now
+            (unsynced_what (book_of self.old) entry) }
+        ensures len { vec_len notes.new ≤ vec_len notes.old + 1 }
+        ensures capacity { vec_capacity notes.new ≡ vec_capacity notes.old }
+    {
+        books_keep();
+        let loads = loading_of(&entry);
+        match self.loading.take(&mut self.table, entry, now) {
+            Ok(_) => {
+                self.stage = stage_after(self.stage, loads.is_whole);
+                note(notes, self.id, now, loads.what);
+            }
+            Err(_out_of_place) => {}
+        }
+    }
+
+    // ---- a promised batch
+
+    /// Hands in what the link wants of a promised batch. Afterwards it wants none.
+    pub fn hand_in(&mut self, link: &mut Link)
+        requires promised { length self.old.coming ≡ link.old.promised }
+        ensures core { self.new ≡ record self.old {
+          coming = drop (wanted link.old) self.old.coming;
+        } }
+        ensures link { link.new ≡ with_fed link.old (take (wanted link.old) self.old.coming) }
+        ensures enough { wanted link.new ≡ 0 }
+        ensures works { (now : ℕ) (h : List Rec) (n : ℕ) → Stands (book_of self.old) link.old h
+            → Works now [] [] (book_of self.old) link.old n (book_of self.new) link.new n [] h }
+    {
+        books_keep();
+        feed_works();
+        let mut records = ArrayVec::new();
+        self.cursor.draw(&self.table, link.wanted(), &mut records);
+        link.feed(records.as_slice());
+    }
+
+    /// The ports that it owns, rising; none where it isn't synced.
+    pub fn owned(&self) -> Result<Vec<Port>, AllocError>
+        ensures { IfOk result (λ v. v.items ≡ owned_of self.now) }
+    {
+        if is_synced(self.stage) {
+            self.table.owned()
+        } else {
+            Ok(Vec::new(*self.idle.allocator()))
+        }
+    }
+
+    // ---- resets
+
+    /// What was proposed or asked to be closed translates again, and is noted.
+    pub(crate) fn revive(&mut self, stage: Stage, cursor: Cursor, now: u64, notes: &mut Vec<Note>)
+        requires kept { IsBook (revived_with stage cursor self.old) }
+        requires reserved { vec_len notes.old + length self.old.table.entries
+            ≤ vec_capacity notes.old }
+        ensures book { book_of self.new ≡ revived_with stage cursor self.old }
+        ensures notes { notes.new.items ≡ notes.old.items ++ retaken self.old.id now
+            (back_in self.old.table.entries) }
+        ensures len { vec_len notes.new ≤ vec_len notes.old + length self.old.table.entries }
+        ensures capacity { vec_capacity notes.new ≡ vec_capacity notes.old }
+        ensures pasts { (q : OutsidePort) → (entry : Known) → (past : Past)
+            → slot_of self.old.table.entries q ≡ Some entry → is_pair entry.state ≡ true
+            → IsPast self.old.table q past → IsPast self.new.table q past }
+        ensures table { self.new.table ≡ record self.old.table {
+          entries = self.new.table.entries;
+          lives = self.new.table.lives;
+        } }
+    {
+        note_back(&self.table, notes, self.id, now);
+        self.table.revive();
+        self.wants = false;
+        self.stage = stage;
+        self.cursor = cursor;
+    }
+
+    /// The table is empty, and nothing is loaded.
+    pub(crate) fn forget(&mut self)
+        requires kept { IsBook (empty_book self.old.id self.old.table.zero self.old.table.one) }
+        ensures book { book_of self.new
+            ≡ empty_book self.old.id self.old.table.zero self.old.table.one }
+    {
+        self.table.clear();
+        self.loading = Loading::new(self.bounds.zero, self.bounds.one);
+        self.wants = false;
+        self.stage = Stage::Unsynced;
+        self.cursor = Cursor::Over;
+    }
+
+    /// Promises the table's batch, where no pair waits for its answer.
+    pub(crate) fn promise(&self, link: &mut Link)
+        requires settled { HasNoPending self.now.table.entries }
+        requires begins { occupied link.old ≡ 0 }
+        requires room { length (batch_of self.now.table.owned self.now.table.entries)
+            ≤ free_places link.old }
+        ensures { link.new ≡ with_promised link.old (length (batch_of self.now.table.owned
+            self.now.table.entries)) }
+    {
+        self.recall();
+        link.promise(batch_len(&self.table));
+    }
+
+    // ---- beginnings
+
+    /// A gateway that begins without a table, with the ranges of gateway 0 and of gateway 1.
+    pub fn unsynced(
+        alloc: Global,
+        id: GatewayId,
+        zero: PortBounds,
+        one: PortBounds,
+    ) -> Result<Core, AllocError>
+        requires zero { AreBounds zero }
+        requires one { AreBounds one }
+        ensures book { IfOk result (λ c. book_of c ≡ empty_book id zero one) }
+        ensures capacity { IfOk result (λ c. c.table.capacity ≡ key_count zero one) }
+    {
+        books_begin();
+        recall_port(zero.highest);
+        recall_port(one.highest);
+        let table = Table::new(alloc, zero, one)?;
+        let idle = Vec::with_capacity(alloc, count_keys(zero, one))?;
+        Ok(Core {
+            id,
+            bounds: Bounds { zero, one },
+            table,
+            stage: Stage::Unsynced,
+            loading: Loading::new(zero, one),
+            wants: false,
+            cursor: Cursor::Over,
+            idle,
+        })
+    }
+
+    /// Gateway 0, founded alone, with the ports of its range.
+    pub fn founder(alloc: Global, zero: PortBounds, one: PortBounds) -> Result<Core, AllocError>
+        requires zero { AreBounds zero }
+        requires one { AreBounds one }
+        ensures book { IfOk result (λ c. book_of c ≡ founded_book zero one) }
+        ensures capacity { IfOk result (λ c. c.table.capacity ≡ key_count zero one) }
+    {
+        let mut core = Core::unsynced(alloc, GatewayId::Zero, zero, one)?;
+        core.found(zero, one);
+        Ok(core)
+    }
+
+    fn found(&mut self, zero: PortBounds, one: PortBounds)
+        requires zero { AreBounds zero }
+        requires one { AreBounds one }
+        requires empty { book_of self.old ≡ empty_book Zero zero one }
+        ensures book { book_of self.new ≡ founded_book zero one }
+        ensures capacity { self.new.table.capacity ≡ self.old.table.capacity }
+    {
+        books_begin();
+        recall_port(zero.highest);
+        recall_port(one.highest);
+        own_range(&mut self.table, zero);
+        self.stage = Stage::Lone;
+    }
+}

@@ -1,0 +1,42 @@
+//! What a record in its place says of a loading.
+ghost use Rattle.std.specs.Prelude.{◌≡◌, Some, if◌then◌else◌};
+ghost use Rattle.binding_step.specs.declared.setups.Stage.TheVariants.{Paired};
+ghost use Rattle.bind_core.specs.Cores.{is_whole, what_loaded};
+
+use binding_step::Stage;
+use nat_types::{Happening, Record};
+
+/// Whether the table is whole, and what is noted.
+#[derive(Clone, Copy, Debug, PartialEq, Eq)]
+pub(crate) struct Loads {
+    pub is_whole: bool,
+    pub what: Option<Happening>,
+}
+
+/// What a record does where it is in its place.
+pub(crate) fn loading_of(entry: &Record) -> Loads
+    ensures whole { result.is_whole ≡ is_whole entry.now }
+    ensures what { result.what ≡ what_loaded entry.now }
+{
+    match entry {
+        Record::Done => Loads {
+            is_whole: true,
+            what: Some(Happening::Synced),
+        },
+        Record::Put(pair) => Loads {
+            is_whole: false,
+            what: Some(Happening::Retaken(*pair)),
+        },
+        _ => Loads {
+            is_whole: false,
+            what: None,
+        },
+    }
+}
+
+/// With a whole table it is synced, and the peer has to agree to new pairs.
+pub(crate) fn stage_after(stage: Stage, is_whole: bool) -> Stage
+    ensures { result ≡ (if is_whole then Paired else stage) }
+{
+    if is_whole { Stage::Paired } else { stage }
+}
