@@ -3,10 +3,9 @@ use Rattle.std.proofs.Common.{◌≡◌, ◌≢◌, ◌/◌, ◌-◌, ◌^◌, �
 use Rattle.std.specs.Bool.{Decides}
 use Rattle.std.proofs.lemmas.Bool.Decides.{Decides-eqb, Decides-not, same_from_decides}
 use Rattle.std.proofs.lemmas.Slice.Eq.{bytes_eq-Decides}
-use Rattle.arp.specs.declared.caches.Interface.{Interface}
 use Rattle.arp.specs.declared.caches.Neighbour.{Neighbour}
 use Rattle.arp.specs.declared.packets.ArpPacket.{ArpPacket}
-use Rattle.arp.specs.Neighbours.{IsLearnable}
+use Rattle.arp.specs.Neighbours.{IsLearnable, Learner}
 use Rattle.packet_rules.specs.declared.networks.Network.{Network}
 use Rattle.packet_rules.specs.Networks.{lies_in}
 use Rattle.packet_rules.specs.Arping.{is_learnable}
@@ -19,10 +18,10 @@ decides-and false b p q = (λ t. cc, λ h. p.1 h.0)
 abbrev sender : ArpPacket → Neighbour
 sender p = record { address = p.sender_ip; mac = p.sender_mac }
 
--- an interface of the network
-pub record IsInterface (i : Interface) (network : Network) : Type 0 where
-  pub address : i.network.address ≡ network.interface.virtual_ip
-  pub length : i.network.length ≡ network.interface.prefix_length
+-- a learner on the network
+pub record IsInterface (i : Learner) (network : Network) : Type 0 where
+  pub address : i.network ≡ network.interface.virtual_ip
+  pub length : i.length ≡ network.interface.prefix_length
   pub primary : i.primary_ip ≡ network.own_ip
   pub virtual : i.virtual_ip ≡ network.interface.virtual_ip
 
@@ -42,7 +41,7 @@ test-decides network p =
     (decides-and _ _ (Decides-not _ (Decides-eqb _ _))
     (decides-and _ _ (Decides-not _ (bytes_eq-Decides _ _)) (Decides-eqb _ _))))
 
-fact-of : (network : Network) (p : ArpPacket) (i : Interface) → IsInterface i network → IsLearnable i (sender p) → Facts network p
+fact-of : (network : Network) (p : ArpPacket) (i : Learner) → IsInterface i network → IsLearnable i (sender p) → Facts network p
 fact-of network p i is h = (
   rw (sym is.address, sym is.length) h.near,
   (
@@ -54,7 +53,7 @@ fact-of network p i is h = (
   ),
 )
 
-learnable-of : (network : Network) (p : ArpPacket) (i : Interface) → IsInterface i network → Facts network p → IsLearnable i (sender p)
+learnable-of : (network : Network) (p : ArpPacket) (i : Learner) → IsInterface i network → Facts network p → IsLearnable i (sender p)
 learnable-of network p i is f = record {
   near = rw (is.address, is.length) f.0;
   not_primary = λ e. f.1.0 (ap (λ x. x.0) (e ∙ is.primary));
@@ -64,7 +63,7 @@ learnable-of network p i is f = record {
 }
 
 -- the test answers as the fact is
-pub learnable-is : (b : Bool) (network : Network) (p : ArpPacket) (i : Interface) → IsInterface i network → (IsTrue b ↔ IsLearnable i (sender p)) → b ≡ is_learnable network p
+pub learnable-is : (b : Bool) (network : Network) (p : ArpPacket) (i : Learner) → IsInterface i network → (IsTrue b ↔ IsLearnable i (sender p)) → b ≡ is_learnable network p
 learnable-is b network p i is h =
     same_from_decides b (is_learnable network p)
     (λ t. fact-of network p i is (h.0 t), λ f. h.1 (learnable-of network p i is f))
