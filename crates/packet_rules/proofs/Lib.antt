@@ -1,0 +1,5 @@
+pub mod Appended
+pub mod Cut
+pub mod Learning
+pub mod Passing
+pub mod Sorts

@@ -1,0 +1,20 @@
+use Rattle.std.proofs.Common.{refl}
+use Rattle.arp.specs.Packet.{request_packet, reply_packet}
+use Rattle.packet_rules.specs.Networks.{broadcast_mac}
+use Rattle.packet_rules.proofs.Sorts.{sent-is_translation, arp-is_none, gratuitous-is_none, advert-is_none}
+use Rattle.packet_rules.proofs.laws.frames_law.Goals as goal
+
+pub returns-clause-sent : goal.returns-clause-sent
+returns-clause-sent c = sent-is_translation
+
+pub returns-clause-answer : goal.returns-clause-answer
+returns-clause-answer c = λ network p mac own sender. arp-is_none p.sender_mac.0 network.own_mac.0 (reply_packet mac p) sender own
+
+pub returns-clause-request : goal.returns-clause-request
+returns-clause-request c = λ network ip own. arp-is_none broadcast_mac network.own_mac.0 (request_packet network.own_mac network.own_ip ip) refl own
+
+pub returns-clause-gratuitous : goal.returns-clause-gratuitous
+returns-clause-gratuitous c = gratuitous-is_none
+
+pub returns-clause-advert : goal.returns-clause-advert
+returns-clause-advert c = advert-is_none

@@ -1,0 +1,19 @@
+-- What a packet's flow is to a table of pairs.
+use Rattle.std.specs.Prelude.{ℕ, List}
+use Rattle.nat_types.specs.declared.pairs.Endpoint.{Endpoint}
+use Rattle.nat_types.specs.declared.pairs.Key.{Key}
+use Rattle.frames.specs.Frame.{frame_of}
+use Rattle.ipv4.specs.declared.flows.Flow.{Flow}
+use Rattle.ipv4.specs.Flow.{flow_of}
+
+-- the flow of a frame's packet
+unfoldable pub flow_in : List ℕ → Flow
+flow_in bytes = flow_of (frame_of bytes).body
+
+-- the endpoint that a packet comes from
+abbrev pub source_of : Flow → Endpoint
+source_of flow = record { protocol = flow.protocol; address = flow.source; port = flow.source_port }
+
+-- the outside port that a packet goes to
+abbrev pub target_of : Flow → Key
+target_of flow = record { protocol = flow.protocol; port = flow.destination_port }

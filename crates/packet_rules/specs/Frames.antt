@@ -1,0 +1,66 @@
+-- The frame by which a packet is sent on.
+use Rattle.std.specs.Prelude.{ℕ, Bool, ◌==◌, ◌&&◌, ◌||◌, List, [], ◌∷◌, ◌++◌, take}
+use Rattle.addresses.specs.declared.ethernet.Mac.{Mac}
+use Rattle.nat_types.specs.Pair.{Pair}
+use Rattle.frames.specs.Frame.{frame_of, header_bytes}
+use Rattle.ipv4.specs.Header.{header_of}
+use Rattle.rewrite.specs.Translated.{outward_of, inward_of, hairpin_of}
+use Rattle.packet_rules.specs.declared.networks.Networks.{Networks}
+use Rattle.packet_rules.specs.declared.networks.Direction as way
+use Rattle.packet_rules.specs.declared.networks.Direction.{Direction}
+use Rattle.packet_rules.specs.declared.translations.Translation.{Translation}
+use Rattle.packet_rules.specs.declared.translations.Translation.TheVariants.{Outward, Inward, Hairpin}
+use Rattle.packet_rules.specs.Networks.{network_of, exit_of, outside_hop}
+
+-- the way of a packet that is translated so
+abbrev pub way_of : Translation → Direction
+way_of (Outward pair) = way.TheVariants.Outward
+way_of (Inward pair) = way.TheVariants.Inward
+way_of (Hairpin own other) = way.TheVariants.Hairpin
+
+-- the pairs that it uses, in order: of a hairpin the sender's own first
+abbrev pub pairs_of : Translation → List Pair
+pairs_of (Outward pair) = pair ∷ []
+pairs_of (Inward pair) = pair ∷ []
+pairs_of (Hairpin own other) = own ∷ other ∷ []
+
+-- an IPv4 packet translated: outward it gets the outside virtual address and the pair's port as its
+-- source, inward the pair's endpoint as its destination; a hairpin gets the outside virtual address
+-- and the sender's own port as its source, and the other pair's endpoint as its destination
+unfoldable pub translated_by : Networks → Translation → List ℕ → List ℕ
+translated_by networks (Outward pair) packet =
+    outward_of networks.outside.interface.virtual_ip pair.key.port packet
+translated_by networks (Inward pair) packet =
+    inward_of pair.endpoint.address pair.endpoint.port packet
+translated_by networks (Hairpin own other) packet =
+    hairpin_of networks.outside.interface.virtual_ip own.key.port
+    other.endpoint.address other.endpoint.port packet
+
+-- the next hop of a packet to this destination
+abbrev pub hop_of : Networks → Translation → ℕ → ℕ
+hop_of networks (Outward pair) destination = outside_hop networks destination
+hop_of networks (Inward pair) destination = pair.endpoint.address.0
+hop_of networks (Hairpin own other) destination = other.endpoint.address.0
+
+-- the own hardware address at the side at which the packet leaves
+abbrev pub exit_mac : Networks → Translation → Mac
+exit_mac networks translation =
+    (network_of networks (exit_of (way_of translation))).own_mac
+
+-- the header of a frame that is sent on: to the next hop, from the own address
+abbrev pub sent_header : Networks → Translation → Mac → List ℕ
+sent_header networks translation next =
+    header_bytes next.0 (exit_mac networks translation).0 2048
+
+-- the frame by which a packet is sent on: translated, without padding
+unfoldable pub sent_frame : Networks → Translation → Mac → List ℕ → List ℕ
+sent_frame networks translation next bytes =
+    let packet = (frame_of bytes).body in
+    sent_header networks translation next
+    ++ take (header_of packet).total_length (translated_by networks translation packet)
+
+-- a frame whose packet was translated: of EtherType 0x0800 and protocol 6 or 17
+unfoldable pub is_translation : List ℕ → Bool
+is_translation bytes =
+    let protocol = (header_of (frame_of bytes).body).protocol in
+    ((frame_of bytes).ethertype == 2048) && ((protocol == 6) || (protocol == 17))

@@ -1,0 +1,7 @@
+pub mod Adverts
+pub mod Arping
+pub mod Flows
+pub mod Frames
+pub mod Networks
+pub mod Reasons
+pub mod Steps

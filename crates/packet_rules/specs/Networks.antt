@@ -1,0 +1,109 @@
+-- The two networks: who is addressed, where an address lies, which way a packet goes, and to whom.
+use Rattle.std.specs.Prelude.{◌≡◌, ℕ, ◌-◌, ◌/◌, ◌^◌, Bool, not, ◌==◌, ◌&&◌, ◌||◌, Result, Ok, Err, List, [], ◌∷◌, length, if◌then◌else◌}
+use Rattle.std.specs.Str.{bytes_eq}
+use Rattle.addresses.specs.Address.{virtual_mac}
+use Rattle.nat_types.specs.declared.gateways.GatewayId.{GatewayId}
+use Rattle.nat_types.specs.declared.gateways.Side.{Side}
+use Rattle.nat_types.specs.declared.gateways.Side.TheVariants.{Inside, Outside}
+use Rattle.settings.specs.declared.interfaces.Interface.{Interface}
+use Rattle.settings.specs.declared.whole.Settings.{Settings}
+use Rattle.settings.specs.Parts.{gateway_of}
+use Rattle.packet_rules.specs.declared.reasons.Reason.{Reason}
+use Rattle.packet_rules.specs.declared.reasons.Reason.TheVariants.{NoBinding}
+use Rattle.packet_rules.specs.declared.networks.Network.{Network}
+use Rattle.packet_rules.specs.declared.networks.Networks.{Networks}
+use Rattle.packet_rules.specs.declared.networks.Direction.{Direction}
+use Rattle.packet_rules.specs.declared.networks.Direction.TheVariants.{Outward, Inward, Hairpin}
+
+-- the side at which a packet leaves
+abbrev pub exit_of : Direction → Side
+exit_of Outward = Outside
+exit_of Inward = Inside
+exit_of Hairpin = Inside
+
+-- the network on a side
+abbrev pub network_of : Networks → Side → Network
+network_of networks Inside = networks.inside
+network_of networks Outside = networks.outside
+
+-- the networks as one gateway stands in them
+abbrev pub networks_of : Settings → GatewayId → Networks
+networks_of settings id = record {
+  inside = record {
+    interface = settings.inside;
+    own_mac = (gateway_of settings id).inside_mac;
+    own_ip = (gateway_of settings id).inside_ip;
+  };
+  outside = record {
+    interface = settings.outside;
+    own_mac = (gateway_of settings id).outside_mac;
+    own_ip = (gateway_of settings id).outside_ip;
+  };
+  router = settings.router;
+}
+
+-- both own hardware addresses have six bytes
+pub record IsWired (networks : Networks) : Type 0 where
+  pub inside_mac : length networks.inside.own_mac.0 ≡ 6
+  pub outside_mac : length networks.outside.own_mac.0 ≡ 6
+
+abbrev pub broadcast_mac : List ℕ
+broadcast_mac = 255 ∷ 255 ∷ 255 ∷ 255 ∷ 255 ∷ 255 ∷ []
+
+-- where VRRP advertisements go (RFC 9568, section 7.2)
+abbrev pub vrrp_mac : List ℕ
+vrrp_mac = 1 ∷ 0 ∷ 94 ∷ 0 ∷ 0 ∷ 18 ∷ []
+
+-- the destination is the virtual router's address
+unfoldable pub is_virtual : Network → List ℕ → Bool
+is_virtual network mac = bytes_eq mac (virtual_mac network.interface.virtual_router)
+
+-- the destination is one that an interface takes: its own address, all, the VRRP routers, and
+-- while it is Active the virtual router
+unfoldable pub is_addressed : Network → Bool → List ℕ → Bool
+is_addressed network active mac =
+    bytes_eq mac network.own_mac.0
+    || bytes_eq mac broadcast_mac
+    || bytes_eq mac vrrp_mac
+    || (active && is_virtual network mac)
+
+-- an address lies in the network
+unfoldable pub lies_in : ℕ → Interface → Bool
+lies_in address interface =
+    let hosts = 2 ^ (32 - interface.prefix_length) in
+    address / hosts == interface.virtual_ip.0 / hosts
+
+-- no host has the address: this network (0/8), loopback (127/8), multicast (224/4), limited
+-- broadcast
+unfoldable pub is_special : ℕ → Bool
+is_special address = let first = address / 2 ^ 24 in
+    (first == 0) || (first == 127) || (address / 2 ^ 28 == 14) || (address == 4294967295)
+
+-- 7. the way of a packet from the inside
+unfoldable pub inside_direction : Networks → ℕ → ℕ → Result Direction Reason
+inside_direction networks source destination =
+    (if not (lies_in source networks.inside.interface)
+    || (source == networks.inside.interface.virtual_ip.0) then Err NoBinding
+    else (if destination == networks.outside.interface.virtual_ip.0 then Ok Hairpin
+    else (if lies_in destination networks.inside.interface
+    || is_special destination then Err NoBinding
+    else Ok Outward)))
+
+-- 8. the way of a packet from the outside
+unfoldable pub outside_direction : Networks → ℕ → ℕ → Result Direction Reason
+outside_direction networks source destination =
+    (if not (destination == networks.outside.interface.virtual_ip.0) then Err NoBinding
+    else (if lies_in source networks.inside.interface
+    || (source == networks.outside.interface.virtual_ip.0) then Err NoBinding
+    else Ok Inward))
+
+-- the way of a packet
+abbrev pub direction_of : Networks → Side → ℕ → ℕ → Result Direction Reason
+direction_of networks Inside source destination = inside_direction networks source destination
+direction_of networks Outside source destination = outside_direction networks source destination
+
+-- the next hop of a packet that leaves: its destination where that lies in the outside network,
+-- else the router
+unfoldable pub outside_hop : Networks → ℕ → ℕ
+outside_hop networks destination =
+    (if lies_in destination networks.outside.interface then destination else networks.router.0)

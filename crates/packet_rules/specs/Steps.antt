@@ -1,0 +1,141 @@
+-- Which of the first steps of the packet path refuses a frame, and what a frame that passes is read
+-- as.
+use Rattle.std.specs.Prelude.{◌≤◌, ◌≡◌, ℕ, Bool, not, ◌==◌, ◌&&◌, ◌||◌, nat_le, Option, Some, None, is_none, Result, Ok, Err, List, length, if◌then◌else◌}
+use Rattle.std.specs.Option.{option_map}
+use Rattle.frames.specs.Frame.{Frame, frame_of}
+use Rattle.ipv4.specs.Header.{IsIpv4, header_of, payload_of, ipv4_refusal}
+use Rattle.ipv4.specs.Carried.{IsTransport, transport_refusal as carried_refusal}
+use Rattle.ipv4.specs.Flow.{flow_of}
+use Rattle.ipv4.specs.declared.faults.Ipv4Fault as fault
+use Rattle.ipv4.specs.declared.faults.Ipv4Fault.{Ipv4Fault}
+use Rattle.arp.specs.Packet.{arp_refusal, packet_of}
+use Rattle.vrrp_packet.specs.Message.{advert_refusal, advert_of}
+use Rattle.packet_rules.specs.declared.reasons.Reason.{Reason}
+use Rattle.packet_rules.specs.declared.reasons.Reason.TheVariants.{ShortFrame, NotMine, BadHeader, BadLength, BadHeaderSum, Fragment, TtlOver, NotUdpTcp, BadTransport, BadArp, BadAdvert, NotUp}
+use Rattle.packet_rules.specs.declared.readings.Reading.{Reading}
+use Rattle.packet_rules.specs.declared.readings.Reading.TheVariants.{Arp, Advert, Packet}
+use Rattle.packet_rules.specs.declared.networks.Network.{Network}
+use Rattle.packet_rules.specs.declared.steps.TheConstants.{LONGEST_FRAME}
+use Rattle.packet_rules.specs.Flows.{flow_in}
+use Rattle.packet_rules.specs.Networks.{is_addressed, is_virtual}
+
+-- the reason for a fault of the packet
+abbrev pub reason_of : Ipv4Fault → Reason
+reason_of fault.TheVariants.TooShort = BadHeader
+reason_of fault.TheVariants.BadVersion = BadHeader
+reason_of fault.TheVariants.BadLength = BadLength
+reason_of fault.TheVariants.BadHeaderSum = BadHeaderSum
+reason_of fault.TheVariants.Fragment = Fragment
+reason_of fault.TheVariants.NotUdpTcp = NotUdpTcp
+reason_of fault.TheVariants.BadTransport = BadTransport
+
+-- 1. a frame has 14 to 1,514 bytes
+unfoldable pub size_refusal : List ℕ → Option Reason
+size_refusal bytes =
+    (if nat_le 14 (length bytes) && nat_le (length bytes) LONGEST_FRAME then None
+    else Some ShortFrame)
+
+-- 1. the gateway is up
+unfoldable pub up_refusal : Bool → Option Reason
+up_refusal up = (if up then None else Some NotUp)
+
+-- 2. the frame is for the interface, and carries IPv4 or ARP
+unfoldable pub destination_refusal : Network → Bool → Frame → Option Reason
+destination_refusal network active frame =
+    (if is_addressed network active frame.dst
+    && ((frame.ethertype == 2048) || (frame.ethertype == 2054)) then None
+    else Some NotMine)
+
+-- 3. an ARP packet, or that the bytes are none
+unfoldable pub arp_reading : List ℕ → Result Reading Reason
+arp_reading body =
+    (if is_none (arp_refusal body) then Ok (Arp (packet_of body)) else Err BadArp)
+
+-- 4. the body begins with an IPv4 packet
+unfoldable pub header_refusal : List ℕ → Option Reason
+header_refusal packet = option_map reason_of (ipv4_refusal packet)
+
+-- 5. the packet goes to VRRP: protocol 112, to 224.0.0.18
+unfoldable pub is_vrrp : List ℕ → Bool
+is_vrrp packet =
+    ((header_of packet).protocol == 112) && ((header_of packet).destination == 0xe0000012)
+
+-- 5. an advertisement is of the interface's virtual router, and of another gateway
+unfoldable pub is_from_peer : Network → List ℕ → Bool
+is_from_peer network packet =
+    ((advert_of (payload_of packet)).router == network.interface.virtual_router)
+    && not ((header_of packet).source == network.own_ip.0)
+
+-- 5. such an advertisement, or that the packet carries none
+unfoldable pub advert_reading : Network → List ℕ → Result Reading Reason
+advert_reading network packet =
+    (if is_none (advert_refusal packet) && is_from_peer network packet
+    then Ok (Advert (advert_of (payload_of packet)) (record { 0 = (header_of packet).source }))
+    else Err BadAdvert)
+
+-- 5. the frame of any other packet goes to the virtual router
+unfoldable pub virtual_refusal : Network → Frame → Option Reason
+virtual_refusal network frame = (if is_virtual network frame.dst then None else Some NotMine)
+
+-- 6. the packet carries a UDP datagram or a TCP segment
+unfoldable pub transport_refusal : List ℕ → Option Reason
+transport_refusal packet = option_map reason_of (carried_refusal packet)
+
+-- 6. its time to live isn't over
+unfoldable pub ttl_refusal : List ℕ → Option Reason
+ttl_refusal packet = (if nat_le 2 (header_of packet).ttl then None else Some TtlOver)
+
+-- a step, where the one before it doesn't refuse
+abbrev pub unless : {X : Type 0} → Option Reason → Result X Reason → Result X Reason
+unless None step = step
+unless (Some reason) step = Err reason
+
+-- the next step, where this one doesn't refuse
+abbrev pub and_then : {X Y : Type 0} → Result X Reason → (X → Result Y Reason) → Result Y Reason
+and_then (Ok x) next = next x
+and_then (Err reason) next = Err reason
+
+-- 5, 6. a packet that isn't VRRP's
+unfoldable pub packet_reading : Network → Frame → Result Reading Reason
+packet_reading network frame =
+    unless (virtual_refusal network frame) (
+    unless (transport_refusal frame.body) (
+    unless (ttl_refusal frame.body) (
+    Ok (Packet (flow_of frame.body)))))
+
+-- 4 to 6. an IPv4 packet
+unfoldable pub ipv4_reading : Network → Frame → Result Reading Reason
+ipv4_reading network frame =
+    unless (header_refusal frame.body) (
+    (if is_vrrp frame.body then advert_reading network frame.body
+    else packet_reading network frame))
+
+-- 3 to 6. what the frame carries
+unfoldable pub body_reading : Network → Frame → Result Reading Reason
+body_reading network frame =
+    (if frame.ethertype == 2054 then arp_reading frame.body else ipv4_reading network frame)
+
+-- what a frame is read as by a gateway that is up or not, at an interface that is Active or not;
+-- or the reason of the first step that refuses it
+abbrev pub reading_of : Network → Bool → Bool → List ℕ → Result Reading Reason
+reading_of network active up bytes =
+    let frame = frame_of bytes in
+    unless (size_refusal bytes) (
+    unless (up_refusal up) (
+    unless (destination_refusal network active frame) (
+    body_reading network frame)))
+
+-- what is known of a frame whose packet passes, and what a translation asks for
+pub record IsForwardable (bytes : List ℕ) : Type 0 where
+  pub whole : 14 ≤ length bytes
+  pub short : length bytes ≤ LONGEST_FRAME
+  pub ipv4 : IsIpv4 (frame_of bytes).body
+  pub transport : IsTransport (frame_of bytes).body
+  pub ttl : 2 ≤ (header_of (frame_of bytes).body).ttl
+
+-- what is known of a frame that is read as this: of an ARP packet its sender's six bytes, of an
+-- advertisement its interval
+abbrev pub Carries : List ℕ → Reading → Type 0
+Carries bytes (Arp packet) = length packet.sender_mac.0 ≡ 6
+Carries bytes (Advert advert from) = (1 ≤ advert.interval) × (advert.interval ≤ 4095)
+Carries bytes (Packet flow) = IsForwardable bytes × (flow ≡ flow_in bytes)

@@ -1,0 +1,52 @@
+//! What follows of the definitions, and the numbers that they take from the code.
+ghost use Rattle.std.specs.Prelude.{◌≡◌, ℕ, Bool, true, false, Ok, List, length};
+ghost use Rattle.addresses.specs.declared.ethernet.Mac.{Mac as MacValue};
+ghost use Rattle.addresses.specs.declared.internet.Ip.{Ip as IpValue};
+ghost use Rattle.arp.specs.declared.packets.ArpPacket.{ArpPacket as ArpValue};
+ghost use Rattle.packet_rules.specs.declared.networks.Network.{Network as NetworkValue};
+ghost use Rattle.packet_rules.specs.declared.networks.Networks.{Networks as NetworksValue};
+ghost use Rattle.packet_rules.specs.declared.readings.Reading.{Reading as ReadingValue};
+ghost use Rattle.packet_rules.specs.declared.translations.Translation.{Translation as TranslationValue};
+ghost use Rattle.packet_rules.specs.declared.steps.TheConstants.{LONGEST_FRAME};
+ghost use Rattle.packet_rules.specs.Adverts.{advert_frame};
+ghost use Rattle.packet_rules.specs.Arping.{answer_frame, request_frame, gratuitous_frame};
+ghost use Rattle.packet_rules.specs.Frames.{sent_frame, is_translation};
+ghost use Rattle.packet_rules.specs.Networks.{IsWired};
+ghost use Rattle.packet_rules.specs.Steps.{reading_of, IsForwardable, Carries};
+
+use arp::arp_grammar;
+use ipv4::{ipv4_grammar, transport_grammar};
+use vrrp_packet::advert_grammar;
+
+/// The longest frame that is taken, in bytes: an Ethernet header and 1,500 bytes.
+pub fn limits_law()
+    ensures longest_frame { LONGEST_FRAME ≡ 1514 }
+{}
+
+/// What is known of a frame by what it is read as.
+pub fn readings_law()
+    ensures { (network : NetworkValue) (active up : Bool) (bytes : List ℕ)
+        (reading : ReadingValue)
+        → reading_of network active up bytes ≡ Ok reading → Carries bytes reading }
+{
+    arp_grammar();
+    ipv4_grammar();
+    transport_grammar();
+    advert_grammar();
+}
+
+/// The frame by which a packet is sent on counts as a translation, and no frame of ARP or VRRP does.
+pub fn frames_law()
+    ensures sent { (networks : NetworksValue) (t : TranslationValue) (next : MacValue)
+        (bytes : List ℕ) → IsWired networks → length next.0 ≡ 6 → IsForwardable bytes
+        → is_translation (sent_frame networks t next bytes) ≡ true }
+    ensures answer { (network : NetworkValue) (p : ArpValue) (mac : MacValue)
+        → length network.own_mac.0 ≡ 6 → length p.sender_mac.0 ≡ 6
+        → is_translation (answer_frame network p mac) ≡ false }
+    ensures request { (network : NetworkValue) (ip : IpValue) → length network.own_mac.0 ≡ 6
+        → is_translation (request_frame network ip) ≡ false }
+    ensures gratuitous { (network : NetworkValue)
+        → is_translation (gratuitous_frame network) ≡ false }
+    ensures advert { (network : NetworkValue) (priority interval : ℕ)
+        → is_translation (advert_frame network priority interval) ≡ false }
+{}

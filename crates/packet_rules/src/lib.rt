@@ -1,0 +1,24 @@
+//! The packet path without state: whom a frame addresses, what refuses it, what it is read as,
+//! which way its packet goes, and the frames that are sent.
+#![tactic(auto)]
+
+mod adverts;
+mod appending;
+mod arping;
+mod flows;
+mod laws;
+mod networks;
+mod readings;
+mod reasons;
+mod steps;
+mod translations;
+
+pub use adverts::{append_advert, append_gratuitous};
+pub use arping::{answer_to, append_answer, append_request, is_learnt};
+pub use flows::{source_endpoint, target_key};
+pub use laws::{frames_law, limits_law, readings_law};
+pub use networks::{Direction, Network, Networks, direction_taken, next_hop_outside};
+pub use readings::Reading;
+pub use reasons::Reason;
+pub use steps::{LONGEST_FRAME, read_frame};
+pub use translations::{Translation, append_sent};

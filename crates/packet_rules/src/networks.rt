@@ -1,0 +1,199 @@
+//! The two networks: whom a frame addresses, which way its packet goes, and to whom next.
+ghost use Rattle.std.specs.Prelude.{◌≡◌, length};
+ghost use Rattle.packet_rules.specs.Networks.{network_of, networks_of, IsWired, is_virtual, is_addressed, lies_in, is_special, inside_direction, outside_direction, direction_of, outside_hop, exit_of};
+
+use crate::Reason;
+use addresses::{Ip, Mac};
+use nat_types::{GatewayId, Side};
+use settings::{Interface, Settings};
+
+/// One of a gateway's two networks.
+#[derive(Clone, Copy, Debug, PartialEq, Eq)]
+pub struct Network {
+    pub interface: Interface,
+    /// The gateway's own Ethernet address there.
+    pub own_mac: Mac,
+    /// The gateway's own (primary) address there.
+    pub own_ip: Ip,
+}
+
+/// A gateway's two networks, and the router on the outside one.
+#[derive(Clone, Copy, Debug, PartialEq, Eq)]
+pub struct Networks {
+    pub inside: Network,
+    pub outside: Network,
+    pub router: Ip,
+}
+
+/// The way of a packet through the gateway.
+#[derive(Clone, Copy, Debug, PartialEq, Eq)]
+pub enum Direction {
+    /// From an inside host to the outside.
+    Outward,
+    /// From the outside to an inside host.
+    Inward,
+    /// From an inside host to one by the outside address (RFC 4787, section 6).
+    Hairpin,
+}
+
+impl Direction {
+    /// The side at which a packet leaves.
+    pub fn exit(self) -> Side
+        ensures { result ≡ exit_of self }
+    {
+        match self {
+            Direction::Outward => Side::Outside,
+            Direction::Inward | Direction::Hairpin => Side::Inside,
+        }
+    }
+}
+
+impl Networks {
+    /// The networks as a gateway of these settings stands in them.
+    pub fn of_gateway(settings: &Settings, id: GatewayId) -> Networks
+        ensures { result ≡ networks_of settings.now id }
+    {
+        let own = settings.gateway(id);
+        Networks {
+            inside: Network {
+                interface: settings.inside,
+                own_mac: own.inside_mac,
+                own_ip: own.inside_ip,
+            },
+            outside: Network {
+                interface: settings.outside,
+                own_mac: own.outside_mac,
+                own_ip: own.outside_ip,
+            },
+            router: settings.router,
+        }
+    }
+
+    pub fn of(&self, side: Side) -> Network
+        ensures { result ≡ network_of self.now side }
+    {
+        match side {
+            Side::Inside => self.inside,
+            Side::Outside => self.outside,
+        }
+    }
+
+    /// Reminds the prover that both own hardware addresses have six bytes; it does nothing when it
+    /// runs.
+    pub fn recall(&self)
+        ensures { IsWired self.now }
+    {
+        let _inside = octets_of(self.inside.own_mac);
+        let _outside = octets_of(self.outside.own_mac);
+    }
+}
+
+/// The six bytes, of which a proof knows that they are six.
+fn octets_of(mac: Mac) -> [u8; 6]
+    ensures same { result ≡ mac.0 }
+    ensures six { length result ≡ 6 }
+{
+    let mut octets = [0; 6];
+    octets.copy_from_slice(&mac.0);
+    octets
+}
+
+/// Whether a frame goes to the virtual router.
+#[tactic(auto, unfolding(crate::specs::Networks::is_virtual))]
+pub(crate) fn is_to_virtual(network: &Network, mac: Mac) -> bool
+    ensures { result ≡ is_virtual network.now mac.0 }
+{
+    mac == Mac::of_virtual_router(network.interface.virtual_router)
+}
+
+/// Whether a frame to this address is one for the gateway.
+#[tactic(auto, unfolding(crate::specs::Networks::is_addressed))]
+pub(crate) fn is_for_gateway(network: &Network, active: bool, mac: Mac) -> bool
+    ensures { result ≡ is_addressed network.now active mac.0 }
+{
+    mac == network.own_mac
+        || mac == Mac::BROADCAST
+        || mac == Mac::VRRP
+        || active && is_to_virtual(network, mac)
+}
+
+#[tactic(auto, unfolding(crate::specs::Networks::lies_in))]
+fn contains(interface: &Interface, address: Ip) -> bool
+    ensures { result ≡ lies_in address.0 interface.now }
+{
+    interface.network().contains(address)
+}
+
+#[tactic(auto, unfolding(crate::specs::Networks::is_special))]
+fn is_no_host(address: Ip) -> bool
+    ensures { result ≡ is_special address.0 }
+{
+    let first = address.0 >> 24;
+    first == 0 || first == 127 || address.0 >> 28 == 14 || address == Ip::BROADCAST
+}
+
+#[tactic(auto, unfolding(crate::specs::Networks::inside_direction))]
+fn direction_from_inside(
+    networks: &Networks,
+    source: Ip,
+    destination: Ip,
+) -> Result<Direction, Reason>
+    ensures { result ≡ inside_direction networks.now source.0 destination.0 }
+{
+    let inside = &networks.inside.interface;
+    if !contains(inside, source) || source == inside.virtual_ip {
+        return Err(Reason::NoBinding);
+    }
+    if destination == networks.outside.interface.virtual_ip {
+        return Ok(Direction::Hairpin);
+    }
+    if contains(inside, destination) || is_no_host(destination) {
+        return Err(Reason::NoBinding);
+    }
+    Ok(Direction::Outward)
+}
+
+#[tactic(auto, unfolding(crate::specs::Networks::outside_direction))]
+fn direction_from_outside(
+    networks: &Networks,
+    source: Ip,
+    destination: Ip,
+) -> Result<Direction, Reason>
+    ensures { result ≡ outside_direction networks.now source.0 destination.0 }
+{
+    let virtual_ip = networks.outside.interface.virtual_ip;
+    if destination != virtual_ip {
+        return Err(Reason::NoBinding);
+    }
+    if contains(&networks.inside.interface, source) || source == virtual_ip {
+        return Err(Reason::NoBinding);
+    }
+    Ok(Direction::Inward)
+}
+
+/// Which way a packet goes that came in on this side.
+pub fn direction_taken(
+    networks: &Networks,
+    side: Side,
+    source: Ip,
+    destination: Ip,
+) -> Result<Direction, Reason>
+    ensures { result ≡ direction_of networks.now side source.0 destination.0 }
+{
+    match side {
+        Side::Inside => direction_from_inside(networks, source, destination),
+        Side::Outside => direction_from_outside(networks, source, destination),
+    }
+}
+
+/// The address to which a packet that leaves goes next.
+#[tactic(auto, unfolding(crate::specs::Networks::outside_hop))]
+pub fn next_hop_outside(networks: &Networks, destination: Ip) -> Ip
+    ensures { result.0 ≡ outside_hop networks.now destination.0 }
+{
+    if contains(&networks.outside.interface, destination) {
+        destination
+    } else {
+        networks.router
+    }
+}

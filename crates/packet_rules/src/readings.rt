@@ -1,0 +1,17 @@
+//! What a frame that passes the first steps is read as.
+use addresses::Ip;
+use arp::ArpPacket;
+use ipv4::Flow;
+use vrrp_packet::Advert;
+
+/// What a frame is read as.
+#[derive(Clone, Copy, Debug, PartialEq, Eq)]
+pub enum Reading {
+    /// An ARP packet (RFC 826).
+    Arp(ArpPacket),
+    /// An advertisement of the interface's virtual router, and the primary address that it comes
+    /// from (RFC 9568).
+    Advert(Advert, Ip),
+    /// A UDP or TCP packet to be translated, by its flow.
+    Packet(Flow),
+}

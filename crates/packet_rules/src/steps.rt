@@ -1,0 +1,201 @@
+//! The first steps of the packet path: which frames are taken, and what they are read as.
+ghost use Rattle.std.specs.Prelude.{◌≡◌, ◌≤◌, IfOk, OnOk, length};
+ghost use Rattle.std.specs.Result.{result_err};
+ghost use Rattle.frames.specs.Frame.{IsFrame, frame_of};
+ghost use Rattle.ipv4.specs.Header.{IsIpv4, header_of};
+ghost use Rattle.ipv4.specs.Carried.{IsTransport};
+ghost use Rattle.packet_rules.specs.Steps.{reason_of, size_refusal, destination_refusal, header_refusal, virtual_refusal, transport_refusal, ttl_refusal, is_vrrp, is_from_peer, arp_reading, advert_reading, packet_reading, ipv4_reading, body_reading, reading_of, Carries};
+ghost use Rattle.packet_rules.specs.declared.steps.TheConstants.{LONGEST_FRAME};
+
+use crate::laws::readings_law;
+use crate::networks::{Network, is_for_gateway, is_to_virtual};
+use crate::{Reading, Reason};
+use frames::{EthView, EtherType};
+use ipv4::{Flow, Ipv4Fault, Ipv4View, Transport};
+use vrrp_packet::Advert;
+
+/// The bytes of the longest frame that is taken.
+pub const LONGEST_FRAME: usize = 1514;
+
+fn reason_for(fault: Ipv4Fault) -> Reason
+    ensures { result ≡ reason_of fault }
+{
+    match fault {
+        Ipv4Fault::TooShort => Reason::BadHeader,
+        Ipv4Fault::BadVersion => Reason::BadHeader,
+        Ipv4Fault::BadLength => Reason::BadLength,
+        Ipv4Fault::BadHeaderSum => Reason::BadHeaderSum,
+        Ipv4Fault::Fragment => Reason::Fragment,
+        Ipv4Fault::NotUdpTcp => Reason::NotUdpTcp,
+        Ipv4Fault::BadTransport => Reason::BadTransport,
+    }
+}
+
+#[tactic(auto, unfolding(crate::specs::Steps::size_refusal))]
+fn view_frame(bytes: &[u8]) -> Result<EthView<'_>, Reason>
+    ensures refusal { result_err result ≡ size_refusal bytes.now }
+    ensures short { OnOk result (length bytes.now ≤ LONGEST_FRAME) }
+    ensures bytes { IfOk result (λ v. v.bytes.now ≡ bytes.now) }
+{
+    if bytes.len() > LONGEST_FRAME {
+        return Err(Reason::ShortFrame);
+    }
+    match EthView::parse(bytes) {
+        Ok(frame) => Ok(frame),
+        Err(_too_short) => Err(Reason::ShortFrame),
+    }
+}
+
+#[tactic(auto, unfolding(crate::specs::Steps::destination_refusal))]
+fn test_destination(network: &Network, active: bool, frame: &EthView<'_>) -> Result<(), Reason>
+    ensures { result_err result
+        ≡ destination_refusal network.now active (frame_of frame.now.bytes.now) }
+{
+    let ethertype = frame.ethertype();
+    let is_known = ethertype == EtherType::IPV4 || ethertype == EtherType::ARP;
+    if is_for_gateway(network, active, frame.dst()) && is_known {
+        Ok(())
+    } else {
+        Err(Reason::NotMine)
+    }
+}
+
+#[tactic(auto, unfolding(crate::specs::Steps::arp_reading))]
+fn read_arp(body: &[u8]) -> Result<Reading, Reason>
+    ensures reading { result ≡ arp_reading body.now }
+{
+    match arp::parse(body) {
+        Ok(packet) => Ok(Reading::Arp(packet)),
+        Err(_fault) => Err(Reason::BadArp),
+    }
+}
+
+#[tactic(auto, unfolding(crate::specs::Steps::header_refusal))]
+fn view_packet(bytes: &[u8]) -> Result<Ipv4View<'_>, Reason>
+    ensures refusal { result_err result ≡ header_refusal bytes.now }
+    ensures bytes { IfOk result (λ v. v.bytes.now ≡ bytes.now) }
+    ensures ipv4 { OnOk result (IsIpv4 bytes.now) }
+{
+    match Ipv4View::parse(bytes) {
+        Ok(packet) => Ok(packet),
+        Err(fault) => Err(reason_for(fault)),
+    }
+}
+
+/// Whether a packet goes to VRRP (RFC 9568, sections 5.1.1.2 and 5.1.1.4).
+#[tactic(auto, unfolding(crate::specs::Steps::is_vrrp))]
+fn is_for_vrrp(packet: &Ipv4View<'_>) -> bool
+    ensures { result ≡ is_vrrp packet.now.bytes.now }
+{
+    packet.protocol() == vrrp_packet::PROTOCOL && packet.destination() == vrrp_packet::GROUP
+}
+
+#[tactic(auto, unfolding(crate::specs::Steps::advert_reading, crate::specs::Steps::is_from_peer))]
+fn read_advert(network: &Network, packet: &Ipv4View<'_>) -> Result<Reading, Reason>
+    ensures { result ≡ advert_reading network.now packet.now.bytes.now }
+{
+    let from = packet.source();
+    match vrrp_packet::parse(packet) {
+        Ok(advert) => {
+            if advert.router == network.interface.virtual_router && from != network.own_ip {
+                Ok(Reading::Advert(advert, from))
+            } else {
+                Err(Reason::BadAdvert)
+            }
+        }
+        Err(_fault) => Err(Reason::BadAdvert),
+    }
+}
+
+#[tactic(auto, unfolding(crate::specs::Steps::virtual_refusal))]
+fn test_virtual(network: &Network, frame: &EthView<'_>) -> Result<(), Reason>
+    ensures { result_err result ≡ virtual_refusal network.now (frame_of frame.now.bytes.now) }
+{
+    if is_to_virtual(network, frame.dst()) {
+        Ok(())
+    } else {
+        Err(Reason::NotMine)
+    }
+}
+
+#[tactic(auto, unfolding(crate::specs::Steps::transport_refusal))]
+fn test_transport(packet: &Ipv4View<'_>) -> Result<(), Reason>
+    ensures refusal { result_err result ≡ transport_refusal packet.now.bytes.now }
+    ensures transport { OnOk result (IsTransport packet.now.bytes.now) }
+{
+    match Transport::parse(packet) {
+        Ok(_transport) => Ok(()),
+        Err(fault) => Err(reason_for(fault)),
+    }
+}
+
+#[tactic(auto, unfolding(crate::specs::Steps::ttl_refusal))]
+fn test_ttl(packet: &Ipv4View<'_>) -> Result<(), Reason>
+    ensures refusal { result_err result ≡ ttl_refusal packet.now.bytes.now }
+    ensures ttl { OnOk result (2 ≤ (header_of packet.now.bytes.now).ttl) }
+{
+    if packet.ttl() < 2 {
+        Err(Reason::TtlOver)
+    } else {
+        Ok(())
+    }
+}
+
+/// A packet that isn't VRRP's.
+#[tactic(auto, unfolding(crate::specs::Steps::packet_reading))]
+fn read_packet(
+    network: &Network,
+    frame: &EthView<'_>,
+    packet: &Ipv4View<'_>,
+) -> Result<Reading, Reason>
+    requires { packet.now.bytes.now ≡ (frame_of frame.now.bytes.now).body }
+    ensures reading { result ≡ packet_reading network.now (frame_of frame.now.bytes.now) }
+{
+    test_virtual(network, frame)?;
+    test_transport(packet)?;
+    test_ttl(packet)?;
+    Ok(Reading::Packet(Flow::of(packet)))
+}
+
+#[tactic(auto, unfolding(crate::specs::Steps::ipv4_reading))]
+fn read_ipv4(network: &Network, frame: &EthView<'_>) -> Result<Reading, Reason>
+    ensures { result ≡ ipv4_reading network.now (frame_of frame.now.bytes.now) }
+{
+    let packet = view_packet(frame.body())?;
+    if is_for_vrrp(&packet) {
+        read_advert(network, &packet)
+    } else {
+        read_packet(network, frame, &packet)
+    }
+}
+
+/// Reads a frame that came in on a network, at an interface that is `active` or not, by a gateway
+/// that is `up` or not; or gives the reason of the first step that refuses it.
+pub fn read_frame(
+    network: &Network,
+    active: bool,
+    up: bool,
+    bytes: &[u8],
+) -> Result<Reading, Reason>
+    ensures reading { result ≡ reading_of network.now active up bytes.now }
+    ensures carries { IfOk result (Carries bytes.now) }
+{
+    readings_law();
+    take_steps(network, active, up, bytes)
+}
+
+#[tactic(auto, unfolding(crate::specs::Steps::up_refusal, crate::specs::Steps::body_reading))]
+fn take_steps(network: &Network, active: bool, up: bool, bytes: &[u8]) -> Result<Reading, Reason>
+    ensures { result ≡ reading_of network.now active up bytes.now }
+{
+    let frame = view_frame(bytes)?;
+    if !up {
+        return Err(Reason::NotUp);
+    }
+    test_destination(network, active, &frame)?;
+    if frame.ethertype() == EtherType::ARP {
+        read_arp(frame.body())
+    } else {
+        read_ipv4(network, &frame)
+    }
+}

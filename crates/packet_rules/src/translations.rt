@@ -1,0 +1,195 @@
+//! The frame by which a packet is sent on.
+ghost use Rattle.std.specs.Prelude.{◌≡◌, ◌+◌, ◌-◌, ◌≤◌, ◌++◌, length, take, drop, vec_len, vec_capacity};
+ghost use Rattle.frames.specs.Frame.{frame_of};
+ghost use Rattle.ipv4.specs.Header.{IsIpv4, header_of};
+ghost use Rattle.ipv4.specs.Carried.{IsTransport};
+ghost use Rattle.packet_rules.specs.Steps.{IsForwardable};
+ghost use Rattle.packet_rules.specs.Frames.{way_of, translated_by, hop_of, sent_header, sent_frame};
+
+use crate::appending::append_reserved;
+use crate::networks::{Direction, Networks, next_hop_outside};
+use addresses::{Ip, Mac, Port};
+use frames::{EthView, EtherType, write_header};
+use ipv4::Ipv4View;
+use nat_types::Pair;
+
+/// By which pairs a packet is translated.
+#[derive(Clone, Copy, Debug, PartialEq, Eq)]
+pub enum Translation {
+    /// It leaves by the sender's pair.
+    Outward(Pair),
+    /// It comes in by the pair of the port that it goes to.
+    Inward(Pair),
+    /// It goes back in, by the sender's own pair and the pair of the port that it goes to.
+    Hairpin(Pair, Pair),
+}
+
+fn outside_port(pair: Pair) -> Port
+    ensures { result ≡ pair.key.port }
+{
+    pair.key.port
+}
+
+fn inside_address(pair: Pair) -> Ip
+    ensures { result ≡ pair.endpoint.address }
+{
+    pair.endpoint.address
+}
+
+fn inside_port(pair: Pair) -> Port
+    ensures { result ≡ pair.endpoint.port }
+{
+    pair.endpoint.port
+}
+
+impl Translation {
+    /// The way of the packet.
+    pub fn direction(&self) -> Direction
+        ensures { result ≡ way_of self.now }
+    {
+        match self {
+            Translation::Outward(_) => Direction::Outward,
+            Translation::Inward(_) => Direction::Inward,
+            Translation::Hairpin(_, _) => Direction::Hairpin,
+        }
+    }
+
+    /// The address to which a packet to this destination goes next: outward as
+    /// [`next_hop_outside`] says, else the endpoint.
+    pub fn next_hop(&self, networks: &Networks, destination: Ip) -> Ip
+        ensures { result.0 ≡ hop_of networks.now self.now destination.0 }
+    {
+        match self {
+            Translation::Outward(_) => next_hop_outside(networks, destination),
+            Translation::Inward(pair) => inside_address(*pair),
+            Translation::Hairpin(_, other) => inside_address(*other),
+        }
+    }
+}
+
+/// The bytes of a frame as far as its packet goes, without padding.
+fn unpadded_length(bytes: &[u8]) -> usize
+    requires whole { 14 ≤ length bytes.now }
+    requires ipv4 { IsIpv4 (frame_of bytes.now).body }
+    ensures { result ≡ 14 + (header_of (frame_of bytes.now).body).total_length }
+{
+    let frame = EthView { bytes };
+    let packet = Ipv4View {
+        bytes: frame.body(),
+    };
+    14 + packet.total_length()
+}
+
+/// Translates a packet in place.
+#[tactic(auto, unfolding(crate::specs::Frames::translated_by))]
+fn translate(packet: &mut [u8], networks: &Networks, translation: &Translation)
+    requires ipv4 { IsIpv4 packet.old }
+    requires transport { IsTransport packet.old }
+    requires ttl { 2 ≤ (header_of packet.old).ttl }
+    ensures { packet.new ≡ translated_by networks.now translation.now packet.old }
+{
+    let outside = networks.outside.interface.virtual_ip;
+    let answer = match translation {
+        Translation::Outward(pair) => rewrite::outward(packet, outside, outside_port(*pair)),
+        Translation::Inward(pair) => {
+            rewrite::inward(packet, inside_address(*pair), inside_port(*pair))
+        }
+        Translation::Hairpin(own, other) => rewrite::hairpin(
+            packet,
+            outside,
+            outside_port(*own),
+            inside_address(*other),
+            inside_port(*other),
+        ),
+    };
+    match answer {
+        Ok(()) => {}
+        Err(_ttl_over) => unreachable!(),
+    }
+}
+
+/// Translates the packet of a frame in place.
+fn translate_body(frame: &mut [u8], networks: &Networks, translation: &Translation)
+    requires whole { 14 ≤ length frame.old }
+    requires ipv4 { IsIpv4 (frame_of frame.old).body }
+    requires transport { IsTransport (frame_of frame.old).body }
+    requires ttl { 2 ≤ (header_of (frame_of frame.old).body).ttl }
+    ensures { frame.new
+        ≡ take 14 frame.old ++ translated_by networks.now translation.now (drop 14 frame.old) }
+{
+    let (_header, packet) = frame.split_at_mut(14);
+    translate(packet, networks, translation);
+}
+
+/// Gives a frame the header of one that is sent on.
+#[tactic(auto, using(crate::proofs::Cut::header_length))]
+fn readdress(frame: &mut [u8], networks: &Networks, translation: &Translation, next_mac: Mac)
+    requires { 14 ≤ length frame.old }
+    ensures bytes { frame.new
+        ≡ sent_header networks.now translation.now next_mac ++ drop 14 frame.old }
+    ensures fourteen { length (sent_header networks.now translation.now next_mac) ≡ 14 }
+{
+    let own_mac = networks.of(translation.direction().exit()).own_mac;
+    write_header(frame, next_mac, own_mac, EtherType::IPV4);
+}
+
+/// Makes of a frame that came the one by which its packet is sent on, with the padding still behind
+/// it.
+#[tactic(auto, using(crate::proofs::Cut::drop_kept))]
+fn translate_frame(frame: &mut [u8], networks: &Networks, translation: &Translation, next_mac: Mac)
+    requires whole { 14 ≤ length frame.old }
+    requires ipv4 { IsIpv4 (frame_of frame.old).body }
+    requires transport { IsTransport (frame_of frame.old).body }
+    requires ttl { 2 ≤ (header_of (frame_of frame.old).body).ttl }
+    ensures bytes { frame.new ≡ sent_header networks.now translation.now next_mac
+        ++ translated_by networks.now translation.now (drop 14 frame.old) }
+    ensures fourteen { length (sent_header networks.now translation.now next_mac) ≡ 14 }
+{
+    translate_body(frame, networks, translation);
+    readdress(frame, networks, translation, next_mac);
+}
+
+/// Translates the frame at the end of a list.
+fn translate_tail(
+    list: &mut Vec<u8>,
+    start: usize,
+    networks: &Networks,
+    translation: &Translation,
+    next_mac: Mac,
+)
+    requires whole { start + 14 ≤ vec_len list.old }
+    requires ipv4 { IsIpv4 (frame_of (drop start list.old.items)).body }
+    requires transport { IsTransport (frame_of (drop start list.old.items)).body }
+    requires ttl { 2 ≤ (header_of (frame_of (drop start list.old.items)).body).ttl }
+    ensures items { list.new.items ≡ take start list.old.items
+        ++ (sent_header networks.now translation.now next_mac
+        ++ translated_by networks.now translation.now (drop 14 (drop start list.old.items))) }
+    ensures fourteen { length (sent_header networks.now translation.now next_mac) ≡ 14 }
+    ensures len { vec_len list.new ≡ vec_len list.old }
+    ensures capacity { vec_capacity list.new ≡ vec_capacity list.old }
+{
+    let (_before, frame) = list.split_at_mut(start);
+    translate_frame(frame, networks, translation, next_mac);
+}
+
+/// Puts the frame by which a packet is sent on behind a list with room for the frame that came.
+#[tactic(auto, unfolding(crate::specs::Frames::sent_frame), using(crate::proofs::Cut::tail_cut))]
+pub fn append_sent(
+    list: &mut Vec<u8>,
+    networks: &Networks,
+    translation: &Translation,
+    next_mac: Mac,
+    bytes: &[u8],
+)
+    requires room { vec_len list.old + length bytes.now ≤ vec_capacity list.old }
+    requires forwardable { IsForwardable bytes.now }
+    ensures items { list.new.items
+        ≡ list.old.items ++ sent_frame networks.now translation.now next_mac bytes.now }
+    ensures len { vec_len list.new ≤ vec_len list.old + length bytes.now }
+    ensures capacity { vec_capacity list.old ≤ vec_capacity list.new }
+{
+    let start = list.len();
+    append_reserved(list, bytes);
+    translate_tail(list, start, networks, translation, next_mac);
+    list.truncate(start + unpadded_length(bytes));
+}
