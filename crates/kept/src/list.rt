@@ -1,0 +1,232 @@
+//! The list of the packets that wait.
+ghost use Rattle.std.specs.Prelude.{◌≡◌, ◌≤◌, ◌+◌, ◌++◌, ◌∷◌, [], ◌==◌, length, IfOk, IsTrue, not};
+ghost use Rattle.std.specs.Prelude.{vec_len, vec_capacity};
+ghost use Rattle.std.specs.List.{filter, list_any, AllPass};
+ghost use Rattle.kept.specs.Waits.{same_wait, ends};
+ghost use Rattle.kept.specs.Packets.{is_young, has_place, count_like, ended_by, left_by, IsKept};
+
+use crate::{Ended, Wait};
+use nat_types::Side;
+use std::alloc::{AllocError, Global};
+use std::marker::Model;
+
+/// How many packets may wait for pairs, and how many for next hops.
+const PLACES: usize = 64;
+
+/// How long a packet waits, in centiseconds.
+const LONGEST_WAIT: u64 = 300;
+
+/// A packet that waits.
+#[derive(Debug, Drop)]
+pub struct Waiting {
+    /// Where it came in.
+    pub side: Side,
+    /// The frame, as it came.
+    pub bytes: Vec<u8>,
+    /// The moment since which it waits, in centiseconds.
+    pub since: u64,
+    pub wait: Wait,
+}
+
+impl Model for Waiting {
+    ghost use Rattle.kept.specs.Packets.{Waiting as Packet};
+
+    ghost Value = { Packet };
+
+    ghost view = { λ w. record {
+        side = w.side;
+        bytes = w.bytes.items;
+        since = w.since;
+        wait = w.wait;
+    } };
+}
+
+impl Waiting {
+    /// A packet that waits from now on. It takes memory for the copy of its bytes.
+    pub fn copy_of(
+        alloc: Global,
+        side: Side,
+        bytes: &[u8],
+        since: u64,
+        wait: Wait,
+    ) -> Result<Waiting, AllocError>
+        ensures { IfOk result (λ w. w
+            ≡ record { side = side; bytes = bytes.now; since = since; wait = wait }) }
+    {
+        let bytes = Vec::from_slice(alloc, bytes)?;
+        Ok(Waiting {
+            side,
+            bytes,
+            since,
+            wait,
+        })
+    }
+
+    /// The same packet, which waits from now on for something else.
+    pub fn again(self, since: u64, wait: Wait) -> Waiting
+        ensures { result ≡ record self { since = since; wait = wait } }
+    {
+        let Waiting {
+            side,
+            bytes,
+            since: _,
+            wait: _,
+        } = self;
+        Waiting {
+            side,
+            bytes,
+            since,
+            wait,
+        }
+    }
+
+    fn is_young(&self, now: u64) -> bool
+        ensures { result ≡ is_young now self.now }
+    {
+        now.saturating_sub(self.since) < LONGEST_WAIT
+    }
+}
+
+/// The packets that wait, in the order of keeping: at most 64 for pairs, one an endpoint, and at
+/// most 64 for next hops, one a side and address.
+#[derive(Debug, Drop)]
+pub struct Kept {
+    packets: Vec<Waiting>,
+}
+
+impl Model for Kept {
+    ghost use Rattle.std.specs.Prelude.{List, ◌≤◌, vec_capacity};
+    ghost use Rattle.kept.specs.Packets.{Waiting as Packet, IsKept};
+
+    ghost Value = { List Packet };
+
+    ghost view = { λ k. k.packets.items };
+
+    ghost invariant = { λ k. IsKept k.packets.items × (128 ≤ vec_capacity k.packets) };
+}
+
+/// How many packets wait for something of that kind.
+fn count_like(packets: &[Waiting], wait: Wait) -> usize
+    ensures { result ≡ count_like wait packets.now }
+{
+    match wait {
+        Wait::Pair(_) => {
+            packets
+                .iter()
+                .filter(|packet| packet.wait.is_for_pair())
+                .count()
+        }
+        Wait::Hop(..) => {
+            packets
+                .iter()
+                .filter(|packet| !packet.wait.is_for_pair())
+                .count()
+        }
+    }
+}
+
+fn is_awaited(packets: &[Waiting], wait: Wait) -> bool
+    ensures { result ≡ list_any (λ packet. same_wait packet.wait wait) packets.now }
+{
+    packets.iter().any(|packet| packet.wait.is_same(wait))
+}
+
+/// Moves the packets whose wait is over behind another list, which has room for them.
+fn move_ended(packets: &mut Vec<Waiting>, ended: Ended, list: &mut Vec<Waiting>)
+    requires room { vec_len list.old + vec_len packets.old ≤ vec_capacity list.old }
+    ensures left { packets.new.items ≡ left_by ended packets.old.items }
+    ensures taken { list.new.items ≡ list.old.items ++ ended_by ended packets.old.items }
+    ensures capacity { vec_capacity packets.new ≡ vec_capacity packets.old }
+    ensures room { vec_capacity list.new ≡ vec_capacity list.old }
+{
+    let mut at = 0;
+    while at < packets.len() {
+        if ended.ends(packets[at].wait) {
+            let packet = packets.remove(at);
+            list.push_reserved(packet);
+        } else {
+            at += 1;
+        }
+    }
+}
+
+fn retain_young(packets: &mut Vec<Waiting>, now: u64)
+    ensures items { packets.new.items ≡ filter (is_young now) packets.old.items }
+    ensures capacity { vec_capacity packets.new ≡ vec_capacity packets.old }
+{
+    packets.retain(|packet| packet.is_young(now));
+}
+
+impl Kept {
+    /// None yet. All its places take their memory here.
+    pub fn new(alloc: Global) -> Result<Kept, AllocError>
+        ensures { IfOk result (λ k. k ≡ []) }
+    {
+        let packets = Vec::with_capacity(alloc, 2 * PLACES)?;
+        Ok(Kept { packets })
+    }
+
+    /// The packets, in the order of keeping.
+    pub fn packets(&self) -> &[Waiting]
+        ensures { result.now ≡ self.now }
+    {
+        self.packets.as_slice()
+    }
+
+    /// How many wait.
+    pub fn len(&self) -> usize
+        ensures count { result ≡ length self.now }
+        ensures most { result ≤ 128 }
+    {
+        self.packets.len()
+    }
+
+    /// Whether none waits.
+    pub fn is_empty(&self) -> bool
+        ensures { result ≡ (length self.now == 0) }
+    {
+        self.packets.is_empty()
+    }
+
+    /// Whether a packet that waits for this can be kept: fewer than 64 of its kind wait, and none
+    /// for the same.
+    pub fn has_place(&self, wait: Wait) -> bool
+        ensures { result ≡ has_place self.now wait }
+    {
+        count_like(&self.packets, wait) < PLACES && !is_awaited(&self.packets, wait)
+    }
+
+    /// Puts a packet behind the others.
+    pub fn keep(&mut self, packet: Waiting)
+        requires { IsTrue (has_place self.old packet.wait) }
+        ensures { self.new ≡ self.old ++ packet ∷ [] }
+    {
+        self.packets.push_reserved(packet);
+    }
+
+    /// Takes the packets off whose wait is over, and puts them behind a list with room for all that
+    /// wait, in the order of keeping.
+    pub fn take_ended(&mut self, ended: Ended, list: &mut Vec<Waiting>)
+        requires room { vec_len list.old + length self.old ≤ vec_capacity list.old }
+        ensures left { self.new ≡ left_by ended self.old }
+        ensures taken { list.new.items ≡ list.old.items ++ ended_by ended self.old }
+        ensures gone { AllPass (λ packet. not (ends ended packet.wait)) self.new }
+        ensures capacity { vec_capacity list.new ≡ vec_capacity list.old }
+    {
+        move_ended(&mut self.packets, ended, list);
+    }
+
+    /// Drops the packets that were kept 300 centiseconds ago or earlier.
+    pub fn drop_old(&mut self, now: u64)
+        ensures young { self.new ≡ filter (is_young now) self.old }
+    {
+        retain_young(&mut self.packets, now);
+    }
+
+    /// Reminds the prover of what the list keeps; it does nothing when it runs.
+    pub fn recall(&self)
+        ensures { IsKept self.now }
+    {
+        let _ = &self.packets;
+    }
+}

@@ -1,0 +1,13 @@
+//! What the steps of a gateway tell: the frames and the datagrams that they send, and their notes.
+#![tactic(auto)]
+
+mod outs;
+mod pages;
+mod piles;
+mod readers;
+mod writing;
+
+pub use outs::Out;
+pub use pages::{Page, Room};
+pub use readers::{Frame, Frames, Strings};
+pub use writing::WriteBytes;
