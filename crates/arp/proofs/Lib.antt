@@ -1,4 +1,8 @@
+mod Indexed
+mod Logs
 mod Reading
+mod Shifts
 mod Spelling
 mod Spelt
+mod Tallies
 mod Wholes

@@ -1,3 +1,4 @@
+pub mod Log
 pub mod Macs
 pub mod Neighbours
 pub mod Packet

@@ -1,5 +1,5 @@
 -- Whom an interface knows: fixed neighbours and learnt ones.
-use Rattle.std.specs.Prelude.{◌≡◌, ◌≢◌, ◌≤◌, ℕ, ◌-◌, ◌%◌, ◌==◌, ◌&&◌, not, nat_lt, List, [], ◌∷◌, ◌++◌, length, drop, replicate, slice_index, Option, Some, None, if◌then◌else◌}
+use Rattle.std.specs.Prelude.{◌≡◌, ◌≢◌, ℕ, ◌-◌, ◌%◌, ◌==◌, ◌&&◌, not, nat_lt, List, [], ◌∷◌, ◌++◌, length, drop, replicate, slice_index, Option, Some, None, if◌then◌else◌}
 use Rattle.std.specs.List.{filter}
 use Rattle.addresses.specs.declared.ethernet.Mac.{Mac}
 use Rattle.addresses.specs.Address.{IsIn}
@@ -55,8 +55,3 @@ pub record IsLearnable (interface : Interface) (sender : Neighbour) : Type 0 whe
   pub not_virtual : sender.address ≢ interface.virtual_ip
   pub not_zero : sender.mac.0 ≢ replicate 6 0
   pub one_station : slice_index sender.mac.0 0 % 2 ≡ 0
-
--- room for all that a cache may learn
-pub record HasRoom (count capacity : ℕ) : Type 0 where
-  pub most : count ≤ ENTRIES
-  pub room : ENTRIES ≤ capacity

@@ -1,18 +1,19 @@
 //! The cache of neighbours.
-ghost use Rattle.std.specs.Prelude.{◌≡◌, ◌≤◌, ◌++◌, ◌∷◌, [], ◌<◌, ◌↔◌, ◌-◌, ◌+◌, length, vec_len, vec_capacity, IfOk, IfSome, IsTrue};
+ghost use Rattle.std.specs.Prelude.{◌≡◌, [], ◌↔◌, length, IfOk, IfSome, IsTrue};
 ghost use Rattle.arp.specs.Macs.{AllSix, KnowsMacs};
-ghost use Rattle.arp.specs.Neighbours.{without, newest, with_entry, fixed_mac, learnt_mac, mac_at, IsLearnable, HasRoom};
+ghost use Rattle.arp.specs.Neighbours.{with_entry, fixed_mac, mac_at, IsLearnable};
 
+use crate::learnt::{Learnt, learn, mac_in};
 use crate::packets::octets_of;
 use addresses::{Ip, Mac, Prefix};
 use std::alloc::{AllocError, Global};
 use std::marker::Model;
 
 /// How many neighbours a cache learns.
-const ENTRIES: usize = 1024;
+pub(crate) const ENTRIES: usize = 1024;
 
 /// For how long an entry is valid, in centiseconds.
-const VALID_FOR: u64 = 120_000;
+pub(crate) const VALID_FOR: u64 = 120_000;
 
 /// A neighbour that doesn't change.
 #[derive(Clone, Copy, Debug, PartialEq, Eq)]
@@ -42,20 +43,20 @@ pub struct Interface {
 #[derive(Drop)]
 pub struct Cache {
     fixed: Vec<Neighbour>,
-    learnt: Vec<Entry>,
+    learnt: Learnt,
 }
 
 impl Model for Cache {
-    ghost use Rattle.std.specs.Prelude.{length, vec_capacity};
+    ghost use Rattle.arp.specs.Log.{kept, IsLearnt};
     ghost use Rattle.arp.specs.Macs.{KnowsMacs};
-    ghost use Rattle.arp.specs.Neighbours.{Neighbours, HasRoom};
+    ghost use Rattle.arp.specs.Neighbours.{Neighbours};
 
     ghost Value = { Neighbours };
 
-    ghost view = { λ c. record { fixed = c.fixed.items; learnt = c.learnt.items } };
+    ghost view = { λ c. record { fixed = c.fixed.items; learnt = kept c.learnt.log.items } };
 
-    ghost invariant = { λ c. HasRoom (length c.learnt.items) (vec_capacity c.learnt)
-        × KnowsMacs (record { fixed = c.fixed.items; learnt = c.learnt.items }) };
+    ghost invariant = { λ c. IsLearnt c.learnt
+        × KnowsMacs (record { fixed = c.fixed.items; learnt = kept c.learnt.log.items }) };
 }
 
 impl Cache {
@@ -65,7 +66,7 @@ impl Cache {
         ensures fixed { IfOk result (λ c. c.fixed ≡ fixed.now) }
         ensures learnt { IfOk result (λ c. c.learnt ≡ []) }
     {
-        let learnt = Vec::with_capacity(alloc, ENTRIES)?;
+        let learnt = Learnt::new(alloc)?;
         let fixed = whole_neighbours(alloc, fixed)?;
         Ok(Cache { fixed, learnt })
     }
@@ -83,7 +84,7 @@ impl Cache {
             mac: Mac(octets_of(mac)),
             at: now,
         };
-        renew(&mut self.learnt, entry);
+        learn(&mut self.learnt, entry);
     }
 
     /// The hardware address of a neighbour that is fixed, or valid at the moment `now`, in
@@ -94,7 +95,7 @@ impl Cache {
     {
         match fixed_mac(&self.fixed, address) {
             Some(mac) => Some(mac),
-            None => learnt_mac(&self.learnt, address, now),
+            None => mac_in(&self.learnt, address, now),
         }
     }
 
@@ -129,62 +130,12 @@ fn whole_neighbour(neighbour: &Neighbour) -> Neighbour
     }
 }
 
-fn renew(entries: &mut Vec<Entry>, entry: Entry)
-    requires { HasRoom (length entries.old.items) (vec_capacity entries.old) }
-    ensures entries { entries.new.items ≡ with_entry entry entries.old.items }
-    ensures room { HasRoom (length entries.new.items) (vec_capacity entries.new) }
-{
-    forget(entries, entry.address);
-    drop_oldest(entries);
-    put(entries, entry);
-}
-
-/// Removes the entries of an address.
-fn forget(entries: &mut Vec<Entry>, address: Ip)
-    ensures items { entries.new.items ≡ without address.0 entries.old.items }
-    ensures fewer { length entries.new.items ≤ length entries.old.items }
-    ensures capacity { vec_capacity entries.old ≤ vec_capacity entries.new }
-{
-    entries.retain(|entry| entry.address.0 != address.0);
-}
-
-/// Removes the oldest entry where all places are taken.
-fn drop_oldest(entries: &mut Vec<Entry>)
-    requires { length entries.old.items ≤ ENTRIES }
-    ensures items { entries.new.items ≡ newest (ENTRIES - 1) entries.old.items }
-    ensures fewer { length entries.new.items < ENTRIES }
-    ensures capacity { vec_capacity entries.old ≤ vec_capacity entries.new }
-{
-    if entries.len() == ENTRIES {
-        entries.remove(0);
-    }
-}
-
-fn put(entries: &mut Vec<Entry>, entry: Entry)
-    requires { vec_len entries.old < vec_capacity entries.old }
-    ensures items { entries.new.items ≡ entries.old.items ++ entry ∷ [] }
-    ensures capacity { vec_capacity entries.old ≤ vec_capacity entries.new }
-{
-    entries.push_reserved(entry);
-}
-
 fn fixed_mac(neighbours: &[Neighbour], address: Ip) -> Option<Mac>
     ensures { result ≡ fixed_mac address.0 neighbours.now }
 {
     for neighbour in neighbours {
         if neighbour.address == address {
             return Some(neighbour.mac);
-        }
-    }
-    None
-}
-
-fn learnt_mac(entries: &[Entry], address: Ip, now: u64) -> Option<Mac>
-    ensures { result ≡ learnt_mac address.0 now entries.now }
-{
-    for entry in entries {
-        if entry.address == address && now.saturating_sub(entry.at) < VALID_FOR {
-            return Some(entry.mac);
         }
     }
     None

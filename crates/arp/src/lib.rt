@@ -3,6 +3,7 @@
 
 mod caches;
 mod laws;
+mod learnt;
 mod packets;
 
 pub use caches::{Cache, Interface, Neighbour, is_learnable};

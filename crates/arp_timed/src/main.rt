@@ -1,4 +1,4 @@
-//! `arp_timed COUNT`: what a look-up and a learn cost in a full cache, over COUNT of each. Without a count it does nothing.
+//! `arp_timed COUNT`: what a renewal, a stranger and a look-up cost in a full cache, over COUNT of each. Without a count it does nothing.
 #![tactic(auto)]
 
 use addresses::{Ip, Mac};
@@ -15,6 +15,11 @@ fn host(number: u32) -> Ip {
     Ip(0xc0a8_0000 + number % FULL)
 }
 
+/// Strangers, scattered over a network: each drops the oldest entry.
+fn stranger(number: u32) -> Ip {
+    Ip(0x0a00_0000 + number.wrapping_mul(0x9e37_79b1) % 0x0100_0000)
+}
+
 fn mac() -> Mac {
     Mac([2, 0, 0, 0, 0, 1])
 }
@@ -28,9 +33,17 @@ fn measure<R: Print + AllocGlobal + Clock>(rt: &R, count: u32) -> io::Result<()>
     let mut cache = Cache::new(rt.alloc(), &[])?;
     let start = Instant::now(rt)?;
     for number in 0..count {
-        cache.learn(host(number), mac(), u64::from(number));
+        cache.learn(stranger(number), mac(), u64::from(number));
     }
     let learn = each(rt, start, count)?;
+    for number in 0..FULL {
+        cache.learn(host(number), mac(), u64::from(number));
+    }
+    let start = Instant::now(rt)?;
+    for number in 0..count {
+        cache.learn(host(number), mac(), u64::from(number));
+    }
+    let renewal = each(rt, start, count)?;
     let start = Instant::now(rt)?;
     let mut known = 0u32;
     for number in 0..count {
@@ -39,7 +52,9 @@ fn measure<R: Print + AllocGlobal + Clock>(rt: &R, count: u32) -> io::Result<()>
         }
     }
     let look_up = each(rt, start, count)?;
-    println!(rt; "{learn} ns a learn, {look_up} ns a look-up, {known} of {count} known")
+    println!(rt;
+        "{renewal} ns a renewal, {learn} ns a stranger, {look_up} ns a look-up, {known} of {count} known"
+    )
 }
 
 fn main(rt: HostRuntime) -> io::Result<()> {

@@ -1,0 +1,136 @@
+-- A log and its index agree, after each step that both take.
+use Rattle.std.proofs.Common.{◌≡◌, ◌≤◌, ◌<◌, ◌+◌, ◌-◌, ℕ, suc, Bool, true, false, cond, eqb, Result, Ok, Err, IfOk, IfErr, Option, Some, None, List, [], ◌∷◌, ◌++◌, length, get_or, set, take, refl, ◌∙◌, sym, ap, subst, arith}
+use Rattle.std.specs.List.{insert, remove}
+use Rattle.std.specs.List.Sorted.{IsSearchInRange, IsBinarySearchResult, IsNonDecreasingBy}
+use Rattle.std.specs.Ordering.{nat_cmp, ordering_index}
+use Rattle.std.proofs.lemmas.Bool.Decides.{nat_tests}
+use Rattle.std.proofs.lemmas.Cmp.{ranked}
+use Rattle.std.proofs.lemmas.List.Sorted.{IsNonDecreasingBy-from_default}
+use Rattle.std.proofs.lemmas.List.{length-map, map-set, set-get_or, length-append, length-set, take-append-le, take-map, drop-map, map-append, get_or-map}
+use Rattle.std.proofs.lemmas.List.Edits.{length-insert, length-remove}
+use Rattle.arp.specs.declared.caches.Entry.{Entry}
+use Rattle.arp.specs.declared.learnt.Spot.{Spot}
+use Rattle.arp.specs.Neighbours.{without, newest}
+use Rattle.arp.specs.Log.{kept, entry_addresses, spot_addresses, tally, IsRising, IsAt, IsGapFor, place_without, IsFirst, IsIndexed}
+use Rattle.arp.proofs.Tallies.{tally-at, tally-insert, tally-remove, gap-remove, rising-insert, rising-remove}
+use Rattle.arp.proofs.Logs.{kept-append, tally-push, length-without, tally-without, kept-first, front-first}
+
+pub spots-length : (i j : List Spot) → spot_addresses i ≡ spot_addresses j → length i ≡ length j
+spots-length i j same = sym (length-map i (λ s. s.address.0)) ∙ ap length same ∙ length-map j (λ s. s.address.0)
+
+pub noted : (index : List Spot) (i : ℕ) (s : Spot) → IsAt (spot_addresses index) s.address.0 i → spot_addresses (set index i s) ≡ spot_addresses index
+noted index i s at = map-set (λ (t : Spot). t.address.0) index i s ∙ subst (λ a. set (spot_addresses index) i a ≡ spot_addresses index) at.is (set-get_or (spot_addresses index) i 0)
+
+spots-insert : (index : List Spot) (i : ℕ) (s : Spot) → spot_addresses (insert index i s) ≡ insert (spot_addresses index) i s.address.0
+spots-insert index i s = rw (map-append, take-map, drop-map) refl
+
+spots-remove : (index : List Spot) (i : ℕ) → spot_addresses (remove index i) ≡ remove (spot_addresses index) i
+spots-remove index i = rw (map-append, take-map, drop-map) refl
+
+pub newest-few : {X : Type 0} (n : ℕ) (xs : List X) → length xs ≤ n → newest n xs ≡ xs
+newest-few n xs few = let none : length xs - n ≡ 0 = omega (arith, few) in rw none refl
+
+-- the log's empty places were thrown out
+pub indexed-renumbered : (log log' : List (Option Entry)) (start : ℕ) (index index' : List Spot) → IsIndexed log start index → kept log' ≡ kept log → spot_addresses index' ≡ spot_addresses index → IsIndexed log' 0 index'
+indexed-renumbered log log' start index index' old entries spots = record {
+  rising = subst IsRising (sym spots) old.rising;
+  same = λ a. rw (entries, spots) (old.same a);
+  count = rw entries (old.count ∙ sym (spots-length index' index spots));
+  most = rw (spots-length index' index spots) old.most;
+  within = omega arith;
+  front = refl;
+}
+
+-- an entry was renewed
+pub indexed-renewed : (log log' : List (Option Entry)) (start : ℕ) (index index' : List Spot) (e : Entry) (i : ℕ) → IsIndexed log start index → IsAt (spot_addresses index) e.address.0 i → kept log' ≡ without e.address.0 (kept log) → length log' ≡ length log → kept (take start log') ≡ [] → spot_addresses index' ≡ spot_addresses index → IsIndexed (log' ++ Some e ∷ []) start index'
+indexed-renewed log log' start index index' e i old at entries len front spots = record {
+  rising = subst IsRising (sym spots) old.rising;
+  same = λ a. rw (kept-append, spots, entries) (tally-push a (without e.address.0 (kept log)) e ∙ (rw tally-without (by a (eqb e.address.0 a) refl)));
+  count = rw (kept-append, entries, spots-length index' index spots) (omega (arith, length-append (without e.address.0 (kept log)) (e ∷ []), length-without e.address.0 (kept log), once, old.count));
+  most = rw (spots-length index' index spots) old.most;
+  within = omega (arith, length-append log' (Some e ∷ []), len, old.within);
+  front = rw (take-append-le start log' (Some e ∷ []) (omega (arith, len, old.within))) front;
+}
+  where
+    once : tally e.address.0 (entry_addresses (kept log)) ≡ 1
+    once = old.same e.address.0 ∙ tally-at (spot_addresses index) old.rising e.address.0 i at
+
+    by : (a : ℕ) (b : Bool) → eqb e.address.0 a ≡ b → cond b 0 (tally a (entry_addresses (kept log))) + cond b 1 0 ≡ tally a (spot_addresses index)
+    by a true is = grind (arith, nat_tests, old.same a, once)
+    by a false is = omega (arith, old.same a)
+
+-- the address of a spot is counted once
+pub indexed-once : (log : List (Option Entry)) (start : ℕ) (index : List Spot) (a i : ℕ) → IsIndexed log start index → IsAt (spot_addresses index) a i → tally a (entry_addresses (kept log)) ≡ 1
+indexed-once log start index a i old at = old.same a ∙ tally-at (spot_addresses index) old.rising a i at
+
+-- one that renews another keeps within the most
+pub renewed-few : (log : List (Option Entry)) (start : ℕ) (index : List Spot) (a i : ℕ) → IsIndexed log start index → IsAt (spot_addresses index) a i → newest 1023 (without a (kept log)) ≡ without a (kept log)
+renewed-few log start index a i old at = newest-few 1023 (without a (kept log)) (omega (arith, length-without a (kept log), indexed-once log start index a i old at, old.count, old.most))
+
+-- an entry of another address was added
+pub indexed-added : (log : List (Option Entry)) (start : ℕ) (index : List Spot) (e : Entry) (s : Spot) (i : ℕ) → IsIndexed log start index → length index < 1024 → s.address.0 ≡ e.address.0 → IsGapFor (spot_addresses index) e.address.0 i → IsIndexed (log ++ Some e ∷ []) start (insert index i s)
+indexed-added log start index e s i old fewer is gap = record {
+  rising = rw (spots-insert, is) (rising-insert (spot_addresses index) e.address.0 i gap old.rising);
+  same = λ a. rw (kept-append, spots-insert, is) (omega (arith, tally-push a (kept log) e, tally-insert a (spot_addresses index) i e.address.0, old.same a));
+  count = rw kept-append (omega (arith, length-append (kept log) (e ∷ []), len, old.count));
+  most = omega (arith, len, fewer);
+  within = omega (arith, length-append log (Some e ∷ []), old.within);
+  front = rw (take-append-le start log (Some e ∷ []) old.within) old.front;
+}
+  where
+    len : length (insert index i s) ≡ length index + 1
+    len = length-insert index i s (omega (arith, gap.within, length-map index (λ (t : Spot). t.address.0)))
+
+-- the first entry was dropped
+pub indexed-dropped : (log : List (Option Entry)) (start : ℕ) (index : List Spot) (e : Entry) (p i : ℕ) → IsIndexed log start index → IsFirst log p e → IsAt (spot_addresses index) e.address.0 i → IsIndexed (set log p None) (p + 1) (remove index i)
+indexed-dropped log start index e p i old first at = record {
+  rising = rw spots-remove (rising-remove (spot_addresses index) i at.within old.rising);
+  same = λ a. rw spots-remove (omega (arith, subst (λ x. tally a (spot_addresses index) ≡ cond (eqb x a) 1 0 + tally a (remove (spot_addresses index) i)) at.is (tally-remove a (spot_addresses index) i at.within), ap (λ es. tally a (entry_addresses es)) entries, old.same a));
+  count = omega (arith, len, ap length entries, old.count);
+  most = omega (arith, len, old.most);
+  within = omega (arith, length-set log p None, first.within);
+  front = subst (λ n. kept (take n (set log p None)) ≡ []) {x = suc p} (omega arith) (front-first log p first.before);
+}
+  where
+    entries : kept log ≡ e ∷ kept (set log p None)
+    entries = kept-first log p e first.within first.is first.before
+
+    len : length (remove index i) + 1 ≡ length index
+    len = length-remove index i (omega (arith, at.within, length-map index (λ (t : Spot). t.address.0)))
+
+-- the first entry was dropped, and one of another address added
+pub indexed-supplanted : (log : List (Option Entry)) (start : ℕ) (index : List Spot) (old : Entry) (p out : ℕ) (e : Entry) (s : Spot) (at : ℕ) → IsIndexed log start index → IsFirst log p old → IsAt (spot_addresses index) old.address.0 out → s.address.0 ≡ e.address.0 → IsGapFor (spot_addresses index) e.address.0 at → IsIndexed (set log p None ++ Some e ∷ []) (p + 1) (insert (remove index out) (place_without out at) s)
+indexed-supplanted log start index old p out e s at holds first there is gap = indexed-added (set log p None) (p + 1) (remove index out) e s (place_without out at) (indexed-dropped log start index old p out holds first there) (omega (arith, length-remove index out within, holds.most)) is (rw spots-remove (gap-remove (spot_addresses index) e.address.0 at out gap there.within))
+  where
+    within : out < length index
+    within = omega (arith, there.within, length-map index (λ (t : Spot). t.address.0))
+
+-- what a search of the index finds
+module _ (index : List Spot) (rising : IsRising (spot_addresses index)) (k : ℕ) where
+  blank : Spot
+  blank = record { address = record { 0 = 0 }; place = 0 }
+
+  read : (i : ℕ) → i < length index → get_or (spot_addresses index) i 0 ≡ (get_or index i blank).address.0
+  read i within = get_or-map (λ (s : Spot). s.address.0) index i blank 0 within
+
+  long : length (spot_addresses index) ≡ length index
+  long = length-map index (λ (s : Spot). s.address.0)
+
+  comparisons_rise : IsNonDecreasingBy (λ s. ordering_index (nat_cmp s.address.0 k)) index
+  comparisons_rise = IsNonDecreasingBy-from_default (λ s. ordering_index (nat_cmp s.address.0 k)) index blank (λ i j le within.
+      let addresses_rise : (get_or index i blank).address.0 ≤ (get_or index j blank).address.0 = grind (arith, long, rising i j, read i, read j, λ (same : i ≡ j). ap (λ q. (get_or index q blank).address.0) same) in
+      grind (arith, nat_tests))
+
+  pub searched : (r : Result ℕ ℕ) → IsSearchInRange r (length index) → IsBinarySearchResult (λ s. nat_cmp s.address.0 k) index r → record { found : IfOk r (IsAt (spot_addresses index) k); absent : IfErr r (IsGapFor (spot_addresses index) k) }
+  searched (Ok at) within equal = record {
+    found = record { within = omega (arith, long, within); is = read at within ∙ ranked _ k _ (sym (equal blank)) };
+    absent = tt;
+  }
+  searched (Err at) within parted = record {
+    found = tt;
+    absent = record {
+      within = omega (arith, long, within);
+      lower = λ j lt. rw (read j (omega (arith, lt, within))) (ranked _ k _ (sym ((parted comparisons_rise).0 j blank (omega arith) lt)));
+      greater = λ j le lt. rw (read j (omega (arith, lt, long))) (ranked _ k _ (sym ((parted comparisons_rise).1 j blank le (omega (arith, lt, long)))));
+    };
+  }

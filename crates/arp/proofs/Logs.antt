@@ -1,0 +1,145 @@
+-- What stands in a log, after a place is emptied and an entry is put behind.
+use Rattle.std.proofs.Common.{◌≡◌, ◌≤◌, ◌<◌, ◌+◌, ℕ, zero, suc, Bool, true, false, not, cond, eqb, Option, Some, None, List, [], ◌∷◌, ◌++◌, length, get_or, set, take, refl, sym, ap, arith}
+use Rattle.std.proofs.lemmas.Bool.Decides.{nat_tests}
+use Rattle.std.proofs.lemmas.List.{map-append, take_more}
+use Rattle.std.specs.List.{filter}
+use Rattle.std.specs.Prelude.{is_some}
+use Rattle.arp.specs.declared.caches.Entry.{Entry}
+use Rattle.arp.specs.Neighbours.{without, learnt_mac}
+use Rattle.arp.specs.Log.{kept, is_of, valid_mac, entry_addresses, tally, IsPlaceOf}
+use Rattle.arp.proofs.Tallies.{tally-append}
+
+pub kept-append : (xs ys : List (Option Entry)) → kept (xs ++ ys) ≡ kept xs ++ kept ys
+kept-append [] ys = refl
+kept-append (None ∷ xs) ys = kept-append xs ys
+kept-append (Some e ∷ xs) ys = ap (λ es. e ∷ es) (kept-append xs ys)
+
+pub tally-push : (x : ℕ) (es : List Entry) (e : Entry) → tally x (entry_addresses (es ++ e ∷ [])) ≡ tally x (entry_addresses es) + cond (eqb e.address.0 x) 1 0
+tally-push x [] e = omega arith
+tally-push x (d ∷ es) e = omega (arith, tally-push x es e)
+
+-- without an address
+pub without-none : (a : ℕ) (es : List Entry) → tally a (entry_addresses es) ≡ 0 → without a es ≡ es
+without-none a [] none = refl
+without-none a (e ∷ es) none = by (eqb e.address.0 a) none (without-none a es)
+  where
+    by : (b : Bool) → cond b 1 0 + tally a (entry_addresses es) ≡ 0 → (tally a (entry_addresses es) ≡ 0 → without a es ≡ es) → cond (not b) (e ∷ without a es) (without a es) ≡ e ∷ es
+    by true none rest = absurd (omega (arith, none))
+    by false none rest = ap (λ es. e ∷ es) (rest (omega (arith, none)))
+
+pub length-without : (a : ℕ) (es : List Entry) → length (without a es) + tally a (entry_addresses es) ≡ length es
+length-without a [] = refl
+length-without a (e ∷ es) = by (eqb e.address.0 a) (length-without a es)
+  where
+    by : (b : Bool) → length (without a es) + tally a (entry_addresses es) ≡ length es → length (cond (not b) (e ∷ without a es) (without a es)) + (cond b 1 0 + tally a (entry_addresses es)) ≡ suc (length es)
+    by true rest = omega (arith, rest)
+    by false rest = omega (arith, rest)
+
+pub tally-without : (x a : ℕ) (es : List Entry) → tally x (entry_addresses (without a es)) ≡ cond (eqb a x) 0 (tally x (entry_addresses es))
+tally-without x a [] = grind arith
+tally-without x a (e ∷ es) = by (eqb e.address.0 a) refl (tally-without x a es)
+  where
+    by : (b : Bool) → eqb e.address.0 a ≡ b → tally x (entry_addresses (without a es)) ≡ cond (eqb a x) 0 (tally x (entry_addresses es)) → tally x (entry_addresses (cond (not b) (e ∷ without a es) (without a es))) ≡ cond (eqb a x) 0 (cond (eqb e.address.0 x) 1 0 + tally x (entry_addresses es))
+    by true is rest = grind (arith, nat_tests)
+    by false is rest = grind (arith, nat_tests)
+
+-- a place of an address is counted
+tally-place : (a : ℕ) (log : List (Option Entry)) (i : ℕ) → IsPlaceOf a log i → 1 ≤ tally a (entry_addresses (kept log))
+tally-place a [] i at = absurd (omega (arith, at.within))
+tally-place a (None ∷ log) zero at = cc
+tally-place a (Some e ∷ log) zero at = let is : eqb e.address.0 a ≡ true = at.is in grind (arith, is)
+tally-place a (None ∷ log) (suc i) at = tally-place a log i (record { within = omega (arith, at.within); is = at.is })
+tally-place a (Some e ∷ log) (suc i) at = omega (arith, tally-place a log i (record { within = omega (arith, at.within); is = at.is }))
+
+-- the place is emptied
+pub kept-clear : (a : ℕ) (log : List (Option Entry)) (i : ℕ) → IsPlaceOf a log i → tally a (entry_addresses (kept log)) ≤ 1 → kept (set log i None) ≡ without a (kept log)
+kept-clear a [] i at once = absurd (omega (arith, at.within))
+kept-clear a (None ∷ log) zero at once = cc
+kept-clear a (Some e ∷ log) zero at once = by (eqb e.address.0 a) at.is once
+  where
+    by : (b : Bool) → b ≡ true → cond b 1 0 + tally a (entry_addresses (kept log)) ≤ 1 → kept log ≡ cond (not b) (e ∷ without a (kept log)) (without a (kept log))
+    by true is once = sym (without-none a (kept log) (omega (arith, once)))
+    by false is once = cc
+kept-clear a (None ∷ log) (suc i) at once = kept-clear a log i (record { within = omega (arith, at.within); is = at.is }) once
+kept-clear a (Some e ∷ log) (suc i) at once = by (eqb e.address.0 a) once (tally-place a log i there) (kept-clear a log i there)
+  where
+    there : IsPlaceOf a log i
+    there = record { within = omega (arith, at.within); is = at.is }
+
+    by : (b : Bool) → cond b 1 0 + tally a (entry_addresses (kept log)) ≤ 1 → 1 ≤ tally a (entry_addresses (kept log)) → (tally a (entry_addresses (kept log)) ≤ 1 → kept (set log i None) ≡ without a (kept log)) → e ∷ kept (set log i None) ≡ cond (not b) (e ∷ without a (kept log)) (without a (kept log))
+    by true once one rest = absurd (omega (arith, once, one))
+    by false once one rest = ap (λ es. e ∷ es) (rest (omega (arith, once)))
+
+pub front-clear : (n : ℕ) (log : List (Option Entry)) (i : ℕ) → kept (take n log) ≡ [] → kept (take n (set log i None)) ≡ []
+front-clear zero log i front = refl
+front-clear (suc n) [] i front = refl
+front-clear (suc n) (None ∷ log) zero front = front
+front-clear (suc n) (Some e ∷ log) i front = cc
+front-clear (suc n) (None ∷ log) (suc i) front = front-clear n log i front
+
+-- the first entry's place is emptied
+pub kept-first : (log : List (Option Entry)) (i : ℕ) (e : Entry) → i < length log → get_or log i None ≡ Some e → kept (take i log) ≡ [] → kept log ≡ e ∷ kept (set log i None)
+kept-first [] i e within is front = absurd (omega (arith, within))
+kept-first (None ∷ log) zero e within is front = cc
+kept-first (Some d ∷ log) zero e within is front = let same : d ≡ e = cc in ap (λ x. x ∷ kept log) same
+kept-first (None ∷ log) (suc i) e within is front = kept-first log i e (omega (arith, within)) is front
+kept-first (Some d ∷ log) (suc i) e within is front = cc
+
+pub front-first : (log : List (Option Entry)) (i : ℕ) → kept (take i log) ≡ [] → kept (take (suc i) (set log i None)) ≡ []
+front-first [] i front = refl
+front-first (x ∷ log) zero front = refl
+front-first (None ∷ log) (suc i) front = front-first log i front
+front-first (Some e ∷ log) (suc i) front = cc
+
+-- what a look-up gives
+pub mac-none : (a now : ℕ) (es : List Entry) → tally a (entry_addresses es) ≡ 0 → learnt_mac a now es ≡ None
+mac-none a now [] none = refl
+mac-none a now (e ∷ es) none = grind (arith, nat_tests, mac-none a now es (omega (arith, none)))
+
+pub mac-place : (a now : ℕ) (log : List (Option Entry)) (i : ℕ) → IsPlaceOf a log i → tally a (entry_addresses (kept log)) ≤ 1 → valid_mac now (get_or log i None) ≡ learnt_mac a now (kept log)
+mac-place a now [] i at once = absurd (omega (arith, at.within))
+mac-place a now (None ∷ log) zero at once = cc
+mac-place a now (Some e ∷ log) zero at once =
+    let is : eqb e.address.0 a ≡ true = at.is in
+    let rest : tally a (entry_addresses (kept log)) ≡ 0 = grind (arith, is, once) in
+    rw (is, mac-none a now (kept log) rest) refl
+mac-place a now (None ∷ log) (suc i) at once = mac-place a now log i (record { within = omega (arith, at.within); is = at.is }) once
+mac-place a now (Some e ∷ log) (suc i) at once = grind (arith, nat_tests, tally-place a log i there, mac-place a now log i there)
+  where
+    there : IsPlaceOf a log i
+    there = record { within = omega (arith, at.within); is = at.is }
+
+-- the empty places are thrown out
+pub kept-filter : (log : List (Option Entry)) → kept (filter is_some log) ≡ kept log
+kept-filter [] = refl
+kept-filter (None ∷ log) = kept-filter log
+kept-filter (Some e ∷ log) = ap (λ es. e ∷ es) (kept-filter log)
+
+pub length-filter : (log : List (Option Entry)) → length (filter is_some log) ≡ length (kept log)
+length-filter [] = refl
+length-filter (None ∷ log) = length-filter log
+length-filter (Some e ∷ log) = ap suc (length-filter log)
+
+pub length-kept : (log : List (Option Entry)) → length (kept log) ≤ length log
+length-kept [] = omega arith
+length-kept (None ∷ log) = omega (arith, length-kept log)
+length-kept (Some e ∷ log) = omega (arith, length-kept log)
+
+-- one place more of a search
+pub tally-more : (a : ℕ) (log : List (Option Entry)) (i : ℕ) → i < length log → tally a (entry_addresses (kept (take i log))) ≡ 0 → is_of a (get_or log i None) ≡ false → tally a (entry_addresses (kept (take (i + 1) log))) ≡ 0
+tally-more a log i within none other = rw (take_more log i None within, kept-append, map-append, tally-append) (one (get_or log i None) other)
+  where
+    one : (p : Option Entry) → is_of a p ≡ false → tally a (entry_addresses (kept (take i log))) + tally a (entry_addresses (kept (p ∷ []))) ≡ 0
+    one None other = omega (arith, none)
+    one (Some e) other = grind (arith, none, other)
+
+pub front-more : (log : List (Option Entry)) (i : ℕ) → i < length log → kept (take i log) ≡ [] → get_or log i None ≡ None → kept (take (i + 1) log) ≡ []
+front-more log i within none empty = rw (take_more log i None within, empty, kept-append, none) refl
+
+pub nothing-left : (p : Option Entry) → ((e : Entry) → p ≡ Some e → ⊥) → p ≡ None
+nothing-left None other = refl
+nothing-left (Some e) other = absurd (other e refl)
+
+-- an entry is counted
+pub tally-first : (e : Entry) (es es' : List Entry) → es ≡ e ∷ es' → 1 ≤ tally e.address.0 (entry_addresses es)
+tally-first e es es' is = rw is (grind (arith, nat_tests))

@@ -1,0 +1,80 @@
+-- The log of what was learnt, and its index by address.
+use Rattle.std.specs.Prelude.{◌≡◌, ◌≤◌, ◌<◌, ◌+◌, ◌-◌, ℕ, Bool, true, false, ◌==◌, nat_lt, List, [], ◌∷◌, length, map, take, slice_index, slice_index_or, vec_capacity, Option, Some, None, if◌then◌else◌}
+use Rattle.addresses.specs.declared.ethernet.Mac.{Mac}
+use Rattle.arp.specs.declared.caches.TheConstants.{ENTRIES, VALID_FOR}
+use Rattle.arp.specs.declared.caches.Entry.{Entry}
+use Rattle.arp.specs.declared.learnt.TheConstants.{PLACES}
+use Rattle.arp.specs.declared.learnt.Learnt.{Learnt}
+use Rattle.arp.specs.declared.learnt.Spot.{Spot}
+
+-- the entries of the places that aren't empty
+abbrev pub kept : List (Option Entry) → List Entry
+kept [] = []
+kept (None ∷ places) = kept places
+kept (Some e ∷ places) = e ∷ kept places
+
+-- a place has an entry of that address
+abbrev pub is_of : ℕ → Option Entry → Bool
+is_of address None = false
+is_of address (Some e) = e.address.0 == address
+
+-- the hardware address that a place gives, if its entry is valid
+abbrev pub valid_mac : ℕ → Option Entry → Option Mac
+valid_mac now None = None
+valid_mac now (Some e) = if nat_lt (now - e.at) VALID_FOR then Some e.mac else None
+
+abbrev pub entry_addresses : List Entry → List ℕ
+entry_addresses entries = map (λ e. e.address.0) entries
+
+abbrev pub spot_addresses : List Spot → List ℕ
+spot_addresses spots = map (λ s. s.address.0) spots
+
+-- how often an address comes
+abbrev pub tally : ℕ → List ℕ → ℕ
+tally address [] = 0
+tally address (a ∷ rest) = (if a == address then 1 else 0) + tally address rest
+
+abbrev pub IsRising : List ℕ → Type 0
+IsRising xs = (i j : ℕ) → i < j → j < length xs → slice_index xs i < slice_index xs j
+
+-- place i has it
+pub record IsAt (xs : List ℕ) (x i : ℕ) : Type 0 where
+  pub within : i < length xs
+  pub is : slice_index xs i ≡ x
+
+-- it would go to place i: lower ones before it, and greater ones from it on
+pub record IsGapFor (xs : List ℕ) (x i : ℕ) : Type 0 where
+  pub within : i ≤ length xs
+  pub lower : (j : ℕ) → j < i → slice_index xs j < x
+  pub greater : (j : ℕ) → i ≤ j → j < length xs → x < slice_index xs j
+
+-- where place `at` is once place `out` is taken away
+abbrev pub place_without : ℕ → ℕ → ℕ
+place_without out at = if nat_lt out at then at - 1 else at
+
+-- place i of the log has an entry of that address
+pub record IsPlaceOf (address : ℕ) (log : List (Option Entry)) (i : ℕ) : Type 0 where
+  pub within : i < length log
+  pub is : is_of address (slice_index_or log i None) ≡ true
+
+-- the first entry is that of place i
+pub record IsFirst (log : List (Option Entry)) (i : ℕ) (e : Entry) : Type 0 where
+  pub within : i < length log
+  pub is : slice_index_or log i None ≡ Some e
+  pub before : kept (take i log) ≡ []
+
+-- the index has each entry's address once, in order; the places before the start are empty
+pub record IsIndexed (log : List (Option Entry)) (start : ℕ) (index : List Spot) : Type 0 where
+  pub rising : IsRising (spot_addresses index)
+  pub same : (a : ℕ) → tally a (entry_addresses (kept log)) ≡ tally a (spot_addresses index)
+  pub count : length (kept log) ≡ length index
+  pub most : length index ≤ ENTRIES
+  pub within : start ≤ length log
+  pub front : kept (take start log) ≡ []
+
+-- that, and room for all that may be learnt
+pub record IsLearnt (l : Learnt) : Type 0 where
+  pub indexed : IsIndexed l.log.items l.start l.index.items
+  pub places : length l.log.items ≤ PLACES
+  pub log_room : PLACES ≤ vec_capacity l.log
+  pub index_room : ENTRIES ≤ vec_capacity l.index

@@ -1,0 +1,317 @@
+//! The neighbours that were learnt: a log of them in order, and an index of the log by address.
+ghost use Rattle.std.specs.Prelude.{◌≡◌, ◌≤◌, ◌++◌, ◌∷◌, [], ◌<◌, ◌-◌, ℕ, Some, drop, take, length, vec_len, vec_capacity, IfOk, IfErr, MatchOption};
+ghost use Rattle.std.specs.List.{insert, remove};
+ghost use Rattle.arp.specs.Neighbours.{without, with_entry, learnt_mac};
+ghost use Rattle.arp.specs.Log.{kept, is_of, valid_mac, entry_addresses, spot_addresses, tally, IsRising, IsAt, IsGapFor, IsPlaceOf, IsFirst, IsLearnt, place_without};
+
+use crate::caches::{ENTRIES, Entry, VALID_FOR};
+use addresses::{Ip, Mac};
+use std::alloc::{AllocError, Global};
+
+/// The places of the log. Once they are used up, the empty ones are thrown out.
+pub(crate) const PLACES: usize = 2048;
+
+/// Where the entry of an address lies in the log. The place is a hint: it is looked at first.
+#[derive(Clone, Copy, Debug, PartialEq, Eq)]
+pub struct Spot {
+    pub address: Ip,
+    pub place: u32,
+}
+
+/// Up to 1,024 entries of different addresses.
+#[derive(Drop)]
+pub struct Learnt {
+    /// The entries in the order in which they were learnt or renewed. A place is empty where its
+    /// entry was renewed later, or dropped.
+    pub log: Vec<Option<Entry>>,
+    /// All places before this one are empty.
+    pub start: usize,
+    /// A spot for each entry, by rising address.
+    pub index: Vec<Spot>,
+}
+
+impl Learnt {
+    pub fn new(alloc: Global) -> Result<Self, AllocError>
+        ensures none { IfOk result (λ l. kept l.log.items ≡ []) }
+        ensures holds { IfOk result (λ l. IsLearnt l) }
+    {
+        let log = Vec::with_capacity(alloc, PLACES)?;
+        let index = Vec::with_capacity(alloc, ENTRIES)?;
+        Ok(Learnt {
+            log,
+            start: 0,
+            index,
+        })
+    }
+}
+
+/// Learns or renews: an entry of the same address gives way to it, and of 1,024 others the oldest.
+pub fn learn(learnt: &mut Learnt, entry: Entry)
+    requires { IsLearnt learnt.old }
+    ensures entries { kept learnt.new.log.items ≡ with_entry entry (kept learnt.old.log.items) }
+    ensures holds { IsLearnt learnt.new }
+{
+    make_room(learnt);
+    match find(&learnt.index, entry.address) {
+        Ok(at) => renew(learnt, at, entry),
+        Err(at) => add(learnt, at, entry),
+    }
+}
+
+/// The hardware address of the entry of that address, if it is valid.
+pub fn mac_in(learnt: &Learnt, address: Ip, now: u64) -> Option<Mac>
+    requires { IsLearnt learnt.now }
+    ensures { result ≡ learnt_mac address.0 now (kept learnt.now.log.items) }
+{
+    match find(&learnt.index, address) {
+        Ok(at) => mac_in_log(&learnt.log, address, learnt.index[at].place, now),
+        Err(_) => None,
+    }
+}
+
+fn mac_in_log(log: &[Option<Entry>], address: Ip, hint: u32, now: u64) -> Option<Mac>
+    requires { tally address.0 (entry_addresses (kept log.now)) ≤ 1 }
+    ensures { result ≡ learnt_mac address.0 now (kept log.now) }
+{
+    match place_of(log, address, hint) {
+        Some(place) => valid_mac(log[place], now),
+        None => None,
+    }
+}
+
+fn valid_mac(place: Option<Entry>, now: u64) -> Option<Mac>
+    ensures { result ≡ valid_mac now place }
+{
+    match place {
+        Some(entry) if now.saturating_sub(entry.at) < VALID_FOR => Some(entry.mac),
+        _ => None,
+    }
+}
+
+/// The spot of an address, or where it would go.
+fn find(index: &[Spot], address: Ip) -> Result<usize, usize>
+    requires { IsRising (spot_addresses index.now) }
+    ensures found { IfOk result (IsAt (spot_addresses index.now) address.0) }
+    ensures absent { IfErr result (IsGapFor (spot_addresses index.now) address.0) }
+{
+    index.binary_search_by_key(&address.0, |spot| spot.address.0)
+}
+
+/// The spot of an address that has one.
+fn spot_of(index: &[Spot], address: Ip) -> usize
+    requires rising { IsRising (spot_addresses index.now) }
+    requires known { 1 ≤ tally address.0 (spot_addresses index.now) }
+    ensures { IsAt (spot_addresses index.now) address.0 result }
+{
+    match find(index, address) {
+        Ok(at) | Err(at) => at,
+    }
+}
+
+fn is_of(place: &Option<Entry>, address: Ip) -> bool
+    ensures { result ≡ is_of address.0 place.now }
+{
+    match place {
+        Some(entry) => entry.address.0 == address.0,
+        None => false,
+    }
+}
+
+/// The place of an address: the hint, or else the first.
+fn place_of(log: &[Option<Entry>], address: Ip, hint: u32) -> Option<usize>
+    ensures { MatchOption result (tally address.0 (entry_addresses (kept log.now)) ≡ 0)
+        (IsPlaceOf address.0 log.now) }
+{
+    let hint = hint as usize;
+    if hint < log.len() && is_of(&log[hint], address) {
+        Some(hint)
+    } else {
+        first_place_of(log, address)
+    }
+}
+
+fn first_place_of(log: &[Option<Entry>], address: Ip) -> Option<usize>
+    ensures { MatchOption result (tally address.0 (entry_addresses (kept log.now)) ≡ 0)
+        (IsPlaceOf address.0 log.now) }
+{
+    for (place, entry) in log.iter().enumerate() {
+        if is_of(entry, address) {
+            return Some(place);
+        }
+    }
+    None
+}
+
+/// Renews the entry of a spot.
+fn renew(learnt: &mut Learnt, at: usize, entry: Entry)
+    requires holds { IsLearnt learnt.old }
+    requires room { length learnt.old.log.items < PLACES }
+    requires at { IsAt (spot_addresses learnt.old.index.items) entry.address.0 at }
+    ensures entries { kept learnt.new.log.items ≡ with_entry entry (kept learnt.old.log.items) }
+    ensures holds { IsLearnt learnt.new }
+{
+    clear(&mut learnt.log, entry.address, learnt.index[at].place);
+    let place = learnt.log.len() as u32;
+    push(&mut learnt.log, entry);
+    learnt.index[at] = Spot {
+        address: entry.address,
+        place,
+    };
+}
+
+/// Adds an entry of another address, whose spot goes to `at`.
+fn add(learnt: &mut Learnt, at: usize, entry: Entry)
+    requires holds { IsLearnt learnt.old }
+    requires room { length learnt.old.log.items < PLACES }
+    requires at { IsGapFor (spot_addresses learnt.old.index.items) entry.address.0 at }
+    ensures entries { kept learnt.new.log.items ≡ with_entry entry (kept learnt.old.log.items) }
+    ensures holds { IsLearnt learnt.new }
+{
+    if learnt.index.len() < ENTRIES {
+        append(learnt, at, entry);
+    } else {
+        supplant(learnt, at, entry);
+    }
+}
+
+/// Adds an entry where there is room.
+fn append(learnt: &mut Learnt, at: usize, entry: Entry)
+    requires holds { IsLearnt learnt.old }
+    requires room { length learnt.old.log.items < PLACES }
+    requires fewer { length learnt.old.index.items < ENTRIES }
+    requires at { IsGapFor (spot_addresses learnt.old.index.items) entry.address.0 at }
+    ensures entries { kept learnt.new.log.items ≡ kept learnt.old.log.items ++ entry ∷ [] }
+    ensures holds { IsLearnt learnt.new }
+{
+    let place = learnt.log.len() as u32;
+    push(&mut learnt.log, entry);
+    let spot = Spot {
+        address: entry.address,
+        place,
+    };
+    let _ = learnt.index.insert(at, spot);
+}
+
+/// Adds an entry for the oldest one.
+fn supplant(learnt: &mut Learnt, at: usize, entry: Entry)
+    requires holds { IsLearnt learnt.old }
+    requires room { length learnt.old.log.items < PLACES }
+    requires some { 0 < length learnt.old.index.items }
+    requires at { IsGapFor (spot_addresses learnt.old.index.items) entry.address.0 at }
+    ensures entries { kept learnt.new.log.items
+        ≡ drop 1 (kept learnt.old.log.items) ++ entry ∷ [] }
+    ensures holds { IsLearnt learnt.new }
+{
+    if let Some((oldest, gone)) = first_entry(&learnt.log, learnt.start) {
+        let out = spot_of(&learnt.index, gone.address);
+        let place = learnt.log.len() as u32;
+        let spot = Spot {
+            address: entry.address,
+            place,
+        };
+        put_for(&mut learnt.index, out, at, spot);
+        learnt.log[oldest] = None;
+        learnt.start = oldest + 1;
+        push(&mut learnt.log, entry);
+    }
+}
+
+/// Puts a spot in, which would go to `at`, and takes that of `out` away: what lies between them
+/// moves by one place.
+fn put_for(index: &mut Vec<Spot>, out: usize, at: usize, spot: Spot)
+    requires out { out < length index.old.items }
+    requires at { at ≤ length index.old.items }
+    ensures items { index.new.items
+        ≡ insert (remove index.old.items out) (place_without out at) spot }
+    ensures capacity { vec_capacity index.new ≡ vec_capacity index.old }
+{
+    if out < at {
+        index.copy_within(out + 1..at, out);
+        index[at - 1] = spot;
+    } else {
+        index.copy_within(at..out, at + 1);
+        index[at] = spot;
+    }
+}
+
+/// Empties the place of an address.
+fn clear(log: &mut Vec<Option<Entry>>, address: Ip, hint: u32)
+    requires { tally address.0 (entry_addresses (kept log.old.items)) ≤ 1 }
+    ensures entries { kept log.new.items ≡ without address.0 (kept log.old.items) }
+    ensures len { length log.new.items ≡ length log.old.items }
+    ensures capacity { vec_capacity log.new ≡ vec_capacity log.old }
+    ensures front { (n : ℕ) → kept (take n log.old.items) ≡ []
+        → kept (take n log.new.items) ≡ [] }
+{
+    if let Some(place) = place_of(log, address, hint) {
+        log[place] = None;
+    }
+}
+
+fn push(log: &mut Vec<Option<Entry>>, entry: Entry)
+    requires { vec_len log.old < vec_capacity log.old }
+    ensures items { log.new.items ≡ log.old.items ++ Some entry ∷ [] }
+    ensures capacity { vec_capacity log.new ≡ vec_capacity log.old }
+{
+    log.push_reserved(Some(entry));
+}
+
+/// The first entry, which lies at `start` or behind it, and its place.
+fn first_entry(log: &[Option<Entry>], start: usize) -> Option<(usize, Entry)>
+    requires within { start ≤ length log.now }
+    requires front { kept (take start log.now) ≡ [] }
+    ensures { MatchOption result (kept log.now ≡ []) (λ r. IsFirst log.now r.0 r.1) }
+{
+    let mut place = start;
+    while place < log.len() {
+        if let Some(entry) = log[place] {
+            return Some((place, entry));
+        }
+        place += 1;
+    }
+    None
+}
+
+/// Throws the empty places out once all are used.
+fn make_room(learnt: &mut Learnt)
+    requires { IsLearnt learnt.old }
+    ensures entries { kept learnt.new.log.items ≡ kept learnt.old.log.items }
+    ensures room { length learnt.new.log.items < PLACES }
+    ensures holds { IsLearnt learnt.new }
+{
+    if learnt.log.len() == PLACES {
+        throw_out(&mut learnt.log);
+        learnt.start = 0;
+        renumber(&learnt.log, &mut learnt.index);
+    }
+}
+
+fn throw_out(log: &mut Vec<Option<Entry>>)
+    ensures entries { kept log.new.items ≡ kept log.old.items }
+    ensures full { length log.new.items ≡ length (kept log.old.items) }
+    ensures capacity { vec_capacity log.new ≡ vec_capacity log.old }
+{
+    log.retain(|place| place.is_some());
+}
+
+/// Notes the places of the log's entries.
+fn renumber(log: &[Option<Entry>], index: &mut [Spot])
+    requires places { length log.now ≤ PLACES }
+    requires rising { IsRising (spot_addresses index.old) }
+    ensures { spot_addresses index.new ≡ spot_addresses index.old }
+{
+    for (place, entry) in log.iter().enumerate() {
+        if let Some(entry) = entry {
+            note(index, entry.address, place as u32);
+        }
+    }
+}
+
+fn note(index: &mut [Spot], address: Ip, place: u32)
+    requires { IsRising (spot_addresses index.old) }
+    ensures { spot_addresses index.new ≡ spot_addresses index.old }
+{
+    if let Ok(at) = find(index, address) {
+        index[at] = Spot { address, place };
+    }
+}
