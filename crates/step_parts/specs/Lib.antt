@@ -1,0 +1,4 @@
+pub mod Shown
+pub mod Verdict
+pub mod Parts
+pub mod Steps
