@@ -17,6 +17,16 @@ pub struct Network {
     pub own_ip: Ip,
 }
 
+impl Network {
+    /// Reminds the prover that the own hardware address has six bytes; it does nothing when it
+    /// runs.
+    pub fn recall(&self)
+        ensures { length self.now.own_mac.0 ≡ 6 }
+    {
+        let _octets = octets_of(self.own_mac);
+    }
+}
+
 /// A gateway's two networks, and the router on the outside one.
 #[derive(Clone, Copy, Debug, PartialEq, Eq)]
 pub struct Networks {
@@ -83,8 +93,8 @@ impl Networks {
     pub fn recall(&self)
         ensures { IsWired self.now }
     {
-        let _inside = octets_of(self.inside.own_mac);
-        let _outside = octets_of(self.outside.own_mac);
+        self.inside.recall();
+        self.outside.recall();
     }
 }
 
