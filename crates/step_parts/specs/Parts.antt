@@ -1,6 +1,6 @@
 -- The parts of a step: what each does to a gateway and to what it has told, and the takings of the packets whose wait it
 -- ended.
-use Rattle.std.specs.Prelude.{ℕ, ◌-◌, Bool, true, false, not, ◌&&◌, nat_le, min, Option, Some, None, Result, Ok, Err, List, [], ◌∷◌, ◌++◌, take, drop, if◌then◌else◌}
+use Rattle.std.specs.Prelude.{ℕ, ◌+◌, ◌-◌, Bool, true, false, not, ◌&&◌, nat_le, min, Option, Some, None, Result, Ok, Err, List, [], ◌∷◌, ◌++◌, take, drop, if◌then◌else◌}
 use Rattle.std.specs.List.{filter}
 use Rattle.addresses.specs.declared.ethernet.Mac.{Mac}
 use Rattle.addresses.specs.declared.internet.Ip.{Ip}
@@ -287,7 +287,7 @@ word_taken s n = let g = s.shown in let book = g.ledger.book in
 -- the peer was heard at most 300 centiseconds ago
 abbrev pub is_heard : Option ℕ → ℕ → Bool
 is_heard None now = false
-is_heard (Some then) now = nat_le (now - then) 300
+is_heard (Some last) now = nat_le (now - last) 300
 
 -- an idle pair is let go: alone it is dropped, else its owner asks, where the peer was heard lately and the link isn't full
 abbrev pub idle_done : Scene → Key → Scene

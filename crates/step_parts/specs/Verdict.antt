@@ -84,9 +84,9 @@ target_pair g flow = pair_at (slot_of g.ledger.book.entries (target_of flow))
 
 -- a packet by its way; of a hairpin the destination's port is looked at first
 abbrev pub plan_on : Shown → Flow → Direction → Result Plan Reason
-plan_on g flow way.TheVariants.Outward = plan_from g flow Outward (look_for g flow)
-plan_on g flow way.TheVariants.Inward = and_then (target_pair g flow) (λ p. plan_by g flow (Inward p))
-plan_on g flow way.TheVariants.Hairpin =
+plan_on g flow way.Outward = plan_from g flow Outward (look_for g flow)
+plan_on g flow way.Inward = and_then (target_pair g flow) (λ p. plan_by g flow (Inward p))
+plan_on g flow way.Hairpin =
     and_then (target_pair g flow) (λ p. plan_from g flow (λ own. Hairpin own p) (look_for g flow))
 
 abbrev pub plan_of : Shown → Side → Flow → Result Plan Reason
