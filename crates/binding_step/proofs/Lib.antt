@@ -3,3 +3,13 @@ pub mod Slots
 pub mod Parts
 pub mod Taking
 pub mod Members
+pub mod Moves
+pub mod Loads
+pub mod Working
+pub mod Wishing
+pub mod Pairs
+pub mod Unbroken
+pub mod Restarting
+pub mod Comes
+pub mod Fitting
+pub mod Keeping

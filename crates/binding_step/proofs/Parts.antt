@@ -140,8 +140,21 @@ module _ (now : ℕ) (b : Book) (e : Link) (n : ℕ) (h records rest : List Reco
         agrees = fed-stands;
         step = act-step (ranges_of b) b.id now (box_at b e h n) (box_at (record b { coming = rest }) (with_fed e records) h n) HandIn [] [] []
             (paired-synced b.stage (is.promised any)) (λ m i. absurd i, tt)
-            (record { up = refl; boot = refl; synced = refl; lone = refl; peer = refl; table = λ k. refl; sent = refl; taken = refl; loading = refl; owned = λ p. refl; wants = refl; named = refl;
-              promised = cond-true (e.promised - length records == 0) None (Some (e.acknowledged + length (e.fed ++ records) + (e.promised - length records) - 1)) all })
+            (record {
+              up = refl;
+              boot = refl;
+              synced = refl;
+              lone = refl;
+              peer = refl;
+              table = λ k. refl;
+              sent = refl;
+              taken = refl;
+              loading = refl;
+              owned = λ p. refl;
+              wants = refl;
+              named = refl;
+              promised = cond-true (e.promised - length records == 0) None (Some (e.acknowledged + length (e.fed ++ records) + (e.promised - length records) - 1)) all;
+            })
             refl (λ m. refl);
       }
 

@@ -46,12 +46,12 @@ fails p r (y ∷ ys) x none h =
     let parts = find-none p y ys none in
     elim (find-some (r y) y (find r ys) x h) [ inl w ↦ ap p (sym w.1) ∙ parts.0 | inr w ↦ fails p r ys x parts.1 w.1 ]
 
-serves-of : (e : Endpoint) (x : Entry) → is_pair x.state ≡ true → x.pair.endpoint ≡ e → serves e x ≡ true
+pub serves-of : (e : Endpoint) (x : Entry) → is_pair x.state ≡ true → x.pair.endpoint ≡ e → serves e x ≡ true
 serves-of e x pair one = and_from (is_pair x.state) (same_endpoint x.pair.endpoint e) pair (endpoint-true x.pair.endpoint e one)
 
 -- an endpoint without a pair is new to the table
-pub is-new : (es : List Entry) (e : Endpoint) → entry_of es e ≡ None → IsUnbound (slots_of es) e
-is-new es e none q h = at (slot_of es q) refl h
+pub is-unbound : (es : List Entry) (e : Endpoint) → entry_of es e ≡ None → IsUnbound (slots_of es) e
+is-unbound es e none q h = at (slot_of es q) refl h
   where
     at : (o : Option Entry) → slot_of es q ≡ o → machine.held (machine_slot o) ≡ Some e → ⊥
     at None found h = cc
@@ -219,7 +219,7 @@ module _ (now : ℕ) (c : Book) (e : Link) (h : List Record) (n : ℕ) (letters 
     proposed-steps : IsBook c → (p : Pair) (o : Option Entry) → entry_of c.entries p.endpoint ≡ o → slot_of c.entries p.key ≡ None → IsReading c e h n letters (machine.Install p.key p.endpoint) → RowSteps (proposed_row c p o)
     proposed-steps is p None found free reading =
         deed-row (Add (entry_in state.Held p)) (Some (rec.Accept p.key)) (Some (happens.Retaken p)) (machine.Install p.key p.endpoint) (machine.Agree p.key p.endpoint) reading
-        (slots-none c.entries p.key free, is-new c.entries p.endpoint found) refl (slots-put (entry_in state.Held p) c.entries free) refl refl
+        (slots-none c.entries p.key free, is-unbound c.entries p.endpoint found) refl (slots-put (entry_in state.Held p) c.entries free) refl refl
     proposed-steps is p (Some x) found free reading = at (gives_way c.id x.state) refl
       where
         at : (b : Bool) → gives_way c.id x.state ≡ b → RowSteps (let r : Row = cond b (ending p.endpoint (row (Yield x.pair.key p) (Some (rec.Accept p.key)) (Some (happens.Retaken p)))) (answering (rec.Refuse p.key)) in r)

@@ -99,21 +99,21 @@ pub fn record_works()
 /// A packet's wish is an act of the machine, or none.
 pub fn wish_works()
     ensures { (now : ℕ) (b : Book) (e : Link) (n : ℕ) (h : List Record) (full : Bool) (x : Endpoint)
-        → IsBook b → Stands b e h → let row = (wish_of b full x).row in
+        → Stands b e h → let row = (wish_of b full x).row in
         Works now [] [] b e n (after b row) (answered e row.answer) n (noted_by b.id now row.what) h }
 {}
 
 /// An idle pair at a tick is let go by an act of the machine, or nothing happens.
 pub fn idle_works()
     ensures { (now : ℕ) (b : Book) (e : Link) (n : ℕ) (h : List Record) (ask : Bool) (k : Key)
-        → IsBook b → Stands b e h → let row = idle_row b ask k in
+        → Stands b e h → let row = idle_row b ask k in
         Works now [] [] b e n (after b row) (answered e row.answer) n (noted_by b.id now row.what) h }
 {}
 
 /// A packet that is translated is an act of the machine.
 pub fn carry_works()
     ensures { (now : ℕ) (b : Book) (e : Link) (n : ℕ) (h : List Record) (k : Key)
-        → IsBook b → Stands b e h → let row = carry_row b k in
+        → Stands b e h → let row = carry_row b k in
         Works now [] [] b e n (after b row) (answered e row.answer) n (noted_by b.id now row.what) h }
 {}
 
