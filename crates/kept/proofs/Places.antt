@@ -1,6 +1,6 @@
 -- What the list of waiting packets keeps.
 use Rattle.std.proofs.Common.{◌≡◌, ℕ, ◌+◌, ◌≤◌, ◌<◌, Bool, true, false, not, cond, nat_lt, ap, List, [], ◌∷◌, ◌++◌, length, get_or, refl, arith}
-use Rattle.std.specs.List.{filter, count_by, list_any, AllPairs}
+use Rattle.std.specs.List.{filter, list_any}
 use Rattle.std.proofs.lemmas.Bool.{and_parts, ltb-true, not-true, both_ways}
 use Rattle.std.proofs.lemmas.List.Filters.{length-filter_both, sum_by-filter_both}
 use Rattle.std.proofs.lemmas.List.Folds.{list_any_at}
@@ -42,12 +42,13 @@ apart kept wait place k d within = go (same_wait (get_or kept k d).wait wait) re
     none =
         let test : Bool = list_any (λ (w : Waiting). same_wait w.wait wait) kept in
         not-true test (and_parts (nat_lt (count_like wait kept) 64) (not test) place).1
+
     go : (b : Bool) → same_wait (get_or kept k d).wait wait ≡ b → same_wait (get_or kept k d).wait wait ≡ false
     go false isnt = isnt
     go true is = absurd (both_ways _ none (list_any_at (λ (w : Waiting). same_wait w.wait wait) kept k d within is))
 
 counts-push : (kept : List Waiting) (w : Waiting) (wait : Wait) → w.wait ≡ wait → has_place kept wait ≡ true → IsKept kept → (pair_count (kept ++ w ∷ []) ≤ 64) × (hop_count (kept ++ w ∷ []) ≤ 64)
-counts-push kept w (Pair endpoint) for place is = 
+counts-push kept w (Pair endpoint) for place is =
     let pair : is_for_pair w.wait ≡ true = ap is_for_pair for in
     let p = sum_by_push (λ (v : Waiting). cond (is_for_pair v.wait) 1 0) kept w in
     let h = sum_by_push (λ (v : Waiting). cond (not (is_for_pair v.wait)) 1 0) kept w in

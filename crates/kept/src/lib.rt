@@ -7,3 +7,6 @@ mod waits;
 
 pub use list::{Kept, Waiting};
 pub use waits::{Ended, Wait};
+
+#[cfg(test)]
+mod tests;

@@ -34,10 +34,10 @@ impl Model for Waiting {
     ghost Value = { Packet };
 
     ghost view = { λ w. record {
-        side = w.side;
-        bytes = w.bytes.items;
-        since = w.since;
-        wait = w.wait;
+      side = w.side;
+      bytes = w.bytes.items;
+      since = w.since;
+      wait = w.wait;
     } };
 }
 

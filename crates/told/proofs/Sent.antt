@@ -1,6 +1,5 @@
 -- One more frame behind the others.
 use Rattle.std.proofs.Common.{◌≡◌, ℕ, List, [], ◌∷◌, ◌++◌, length, refl, ap, ◌∙◌, arith}
-use Rattle.std.proofs.lemmas.List.{nil_from_length}
 use Rattle.nat_types.specs.declared.gateways.Side.{Side}
 use Rattle.told.specs.Told.{Sent, Told, sent, with_frame}
 

@@ -51,6 +51,11 @@ pub record Paged : Type 0 where
   pub told : Told
   pub room : Room
 
+-- the list of notes is somewhere else
+abbrev pub without_notes : Paged → Paged
+without_notes page =
+    record { told = record page.told { notes = [] }; room = record page.room { notes = 0 } }
+
 -- room for so many strings of this length
 pub record HasRoom (count longest places octets : ℕ) : Type 0 where
   pub each : count ≤ places

@@ -9,5 +9,8 @@ mod writing;
 
 pub use outs::Out;
 pub use pages::{Page, Room};
-pub use readers::{Frame, Frames, Strings};
+pub use readers::{ByteStrings, Frame, Frames};
 pub use writing::WriteBytes;
+
+#[cfg(test)]
+mod tests;

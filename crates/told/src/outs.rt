@@ -3,7 +3,7 @@ ghost use Rattle.std.specs.Prelude.{◌≡◌};
 ghost use Rattle.told.specs.Told.{none_told};
 
 use crate::pages::Page;
-use crate::readers::{Frames, Strings};
+use crate::readers::{ByteStrings, Frames};
 use nat_types::Note;
 use std::alloc::Global;
 use std::marker::Model;
@@ -49,7 +49,7 @@ impl Out {
     }
 
     /// The datagrams that were sent to the other gateway, in order.
-    pub fn datagrams(&self) -> Strings<'_>
+    pub fn datagrams(&self) -> ByteStrings<'_>
         ensures { result ≡ self.now.datagrams }
     {
         self.page.datagrams()

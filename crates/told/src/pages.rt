@@ -1,14 +1,14 @@
 //! The page on which a step writes what it tells.
-ghost use Rattle.std.specs.Prelude.{◌≡◌, ◌≤◌, ◌<◌, ◌+◌, ◌++◌, length, vec_len, vec_capacity, OnOk, OnErr, IsOk};
-ghost use Rattle.told.specs.Told.{none_told, no_room, with_frame, with_datagram, with_note, IsWithin};
+ghost use Rattle.std.specs.Prelude.{◌≡◌, ◌≤◌, ◌<◌, ◌+◌, ◌-◌, ◌++◌, length, vec_len, vec_capacity, OnOk, OnErr, IsOk};
+ghost use Rattle.told.specs.Told.{none_told, no_room, with_frame, with_datagram, with_note, without_notes, IsWithin};
 
 use crate::piles::Pile;
-use crate::readers::{Frames, Strings};
+use crate::readers::{ByteStrings, Frames};
 use crate::writing::WriteBytes;
 use nat_types::{Note, Side};
 use std::alloc::{AllocError, Global};
 use std::marker::Model;
-use std::slice;
+use std::{mem, slice};
 
 /// The bytes of the longest frame that is sent.
 const LONGEST_FRAME: usize = 1514;
@@ -43,12 +43,12 @@ impl Model for Page {
     ghost Value = { Paged };
 
     ghost view = { λ p. record {
-        told = record {
-            frames = sent p.sides.items p.frames.strings;
-            datagrams = p.datagrams.strings;
-            notes = p.notes.items;
-        };
-        room = p.room;
+      told = record {
+        frames = sent p.sides.items p.frames.strings;
+        datagrams = p.datagrams.strings;
+        notes = p.notes.items;
+      };
+      room = p.room;
     } };
 
     ghost invariant = { λ p. (length p.sides.items ≡ length p.frames.strings)
@@ -98,8 +98,7 @@ impl Page {
         ensures enough { IsWithin room self.old.room → IsOk result }
     {
         self.sides.reserve(room.frames)?;
-        self.frames
-            .ready(room.frames, LONGEST_FRAME * room.frames)?;
+        self.frames.ready(room.frames, LONGEST_FRAME * room.frames)?;
         self.datagrams
             .ready(room.datagrams, LONGEST_DATAGRAM * room.datagrams)?;
         self.notes.reserve(room.notes)?;
@@ -119,7 +118,7 @@ impl Page {
     }
 
     /// Adds a frame that goes to this side.
-    pub fn send(&mut self, side: Side, frame: &[u8])
+    pub fn send_frame(&mut self, side: Side, frame: &[u8])
         requires room { 0 < self.old.room.frames }
         requires short { length frame.now ≤ 1514 }
         ensures told { self.new.told ≡ with_frame self.old.told side frame.now }
@@ -132,7 +131,7 @@ impl Page {
     }
 
     /// Adds a frame that goes to this side, and is made where it lies.
-    pub fn send_made<W: WriteBytes>(&mut self, side: Side, frame: &W)
+    pub fn make_frame<W: WriteBytes>(&mut self, side: Side, frame: &W)
         requires ready { W.can_write frame.now }
         requires room { 0 < self.old.room.frames }
         requires short { W.room frame.now ≤ 1514 }
@@ -145,8 +144,20 @@ impl Page {
         self.room.frames -= 1;
     }
 
-    /// Adds a datagram, which is made where it lies.
-    pub fn send_datagram<W: WriteBytes>(&mut self, datagram: &W)
+    /// Adds a datagram.
+    pub fn send_datagram(&mut self, datagram: &[u8])
+        requires room { 0 < self.old.room.datagrams }
+        requires short { length datagram.now ≤ 2214 }
+        ensures told { self.new.told ≡ with_datagram self.old.told datagram.now }
+        ensures room { self.old.room
+            ≡ record self.new.room { datagrams = self.new.room.datagrams + 1 } }
+    {
+        self.datagrams.push(datagram);
+        self.room.datagrams -= 1;
+    }
+
+    /// Adds a datagram that is made where it lies.
+    pub fn make_datagram<W: WriteBytes>(&mut self, datagram: &W)
         requires ready { W.can_write datagram.now }
         requires room { 0 < self.old.room.datagrams }
         requires short { W.room datagram.now ≤ 2214 }
@@ -168,6 +179,28 @@ impl Page {
         self.room.notes -= 1;
     }
 
+    /// Hands the list of notes out, to what appends notes to a list with room; `put_notes` takes it
+    /// back.
+    pub fn take_notes(&mut self) -> Vec<Note>
+        ensures notes { result.items ≡ self.old.told.notes }
+        ensures room { vec_len result + self.old.room.notes ≤ vec_capacity result }
+        ensures rest { self.new ≡ without_notes self.old }
+    {
+        self.room.notes = 0;
+        let alloc = *self.notes.allocator();
+        mem::replace(&mut self.notes, Vec::new(alloc))
+    }
+
+    /// Takes a list of notes in place of the one that was there, with the room that it has.
+    pub fn put_notes(&mut self, notes: Vec<Note>)
+        ensures told { self.new.told ≡ record self.old.told { notes = notes.items } }
+        ensures room { self.new.room
+            ≡ record self.old.room { notes = vec_capacity notes - vec_len notes } }
+    {
+        self.room.notes = notes.capacity() - notes.len();
+        self.notes = notes;
+    }
+
     /// The frames, in order.
     pub fn frames(&self) -> Frames<'_>
         ensures { result ≡ self.now.told.frames }
@@ -176,7 +209,7 @@ impl Page {
     }
 
     /// The datagrams, in order.
-    pub fn datagrams(&self) -> Strings<'_>
+    pub fn datagrams(&self) -> ByteStrings<'_>
         ensures { result ≡ self.now.told.datagrams }
     {
         self.datagrams.strings()

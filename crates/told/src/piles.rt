@@ -1,7 +1,7 @@
 //! Strings of bytes that lie one behind the other, so that none takes memory of its own.
 ghost use Rattle.std.specs.Prelude.{◌≡◌, ◌≤◌, ◌<◌, ◌+◌, ◌++◌, ◌∷◌, [], length, OnOk, OnErr, IsOk};
 
-use crate::readers::Strings;
+use crate::readers::ByteStrings;
 use crate::writing::WriteBytes;
 use std::alloc::{AllocError, Global};
 use std::marker::Model;
@@ -19,9 +19,9 @@ impl Model for Pile {
     ghost Value = { Strings };
 
     ghost view = { λ p. record {
-        strings = cut p.sizes.items p.bytes.items;
-        places = vec_capacity p.sizes - vec_len p.sizes;
-        octets = vec_capacity p.bytes - vec_len p.bytes;
+      strings = cut p.sizes.items p.bytes.items;
+      places = vec_capacity p.sizes - vec_len p.sizes;
+      octets = vec_capacity p.bytes - vec_len p.bytes;
     } };
 
     ghost invariant = { λ p. sum p.sizes.items ≡ length p.bytes.items };
@@ -91,9 +91,9 @@ impl Pile {
     }
 
     /// The strings, in order.
-    pub(crate) fn strings(&self) -> Strings<'_>
+    pub(crate) fn strings(&self) -> ByteStrings<'_>
         ensures { result ≡ self.now.strings }
     {
-        Strings::of(&self.sizes, &self.bytes)
+        ByteStrings::of(&self.sizes, &self.bytes)
     }
 }

@@ -11,12 +11,12 @@ use std::marker::Model;
 
 /// Strings of bytes, each lent in turn.
 #[derive(Debug, Drop)]
-pub struct Strings<'a> {
+pub struct ByteStrings<'a> {
     sizes: &'a [usize],
     bytes: &'a [u8],
 }
 
-impl<'a> Model for Strings<'a> {
+impl<'a> Model for ByteStrings<'a> {
     ghost use Rattle.std.specs.Prelude.{◌≡◌, ℕ, List, length, sum};
     ghost use Rattle.told.specs.Piles.{cut};
 
@@ -27,16 +27,16 @@ impl<'a> Model for Strings<'a> {
     ghost invariant = { λ s. sum s.sizes.now ≡ length s.bytes.now };
 }
 
-impl<'a> Strings<'a> {
-    pub(crate) fn of(sizes: &'a [usize], bytes: &'a [u8]) -> Strings<'a>
+impl<'a> ByteStrings<'a> {
+    pub(crate) fn of(sizes: &'a [usize], bytes: &'a [u8]) -> ByteStrings<'a>
         requires { sum sizes.now ≡ length bytes.now }
         ensures { result ≡ cut sizes.now bytes.now }
     {
-        Strings { sizes, bytes }
+        ByteStrings { sizes, bytes }
     }
 }
 
-impl<'a> Iterator for Strings<'a> {
+impl<'a> Iterator for ByteStrings<'a> {
     type Item = &'a [u8];
 
     ghost next_gives = { TakesFirst deref };
@@ -63,7 +63,7 @@ pub struct Frame<'a> {
 #[derive(Debug, Drop)]
 pub struct Frames<'a> {
     sides: &'a [Side],
-    strings: Strings<'a>,
+    strings: ByteStrings<'a>,
 }
 
 impl<'a> Model for Frames<'a> {
@@ -78,7 +78,7 @@ impl<'a> Model for Frames<'a> {
 }
 
 impl<'a> Frames<'a> {
-    pub(crate) fn of(sides: &'a [Side], strings: Strings<'a>) -> Frames<'a>
+    pub(crate) fn of(sides: &'a [Side], strings: ByteStrings<'a>) -> Frames<'a>
         requires { length sides.now ≡ length strings }
         ensures { result ≡ sent sides.now strings.entry }
     {

@@ -1,7 +1,6 @@
-use Rattle.std.proofs.Common.{◌≡◌, ◌++◌, ◌∷◌, [], ap, refl}
-use Rattle.told.specs.Told.{Told, with_frame}
+use Rattle.std.proofs.Common.{ap, refl}
 use Rattle.told.proofs.Sent.{told-push}
-use Rattle.told.proofs.pages.Page.send.Goals as goal
+use Rattle.told.proofs.pages.Page.send_frame.Goals as goal
 
 pub returns-clause-told : goal.returns-clause-told
 returns-clause-told c =

@@ -1,0 +1,48 @@
+//! What no clause says: that places are had, by the numbers.
+use crate::{Ended, Kept, Wait, Waiting};
+use addresses::{Ip, Port, Protocol};
+use nat_types::{Endpoint, Side};
+use std::alloc::Global;
+use std::process::Abort;
+use std::test::Fail;
+
+fn pair_of(port: u16) -> Wait {
+    Wait::Pair(Endpoint {
+        protocol: Protocol::Udp,
+        address: Ip(0xc0a8_010a),
+        port: Port(port),
+    })
+}
+
+fn keep(
+    rt: &impl Abort,
+    alloc: Global,
+    kept: &mut Kept,
+    since: u64,
+    wait: Wait,
+) -> Result<(), Fail> {
+    let packet = Waiting::copy_of(alloc, Side::Inside, b"packet", since, wait)?;
+    assert!(rt; kept.has_place(packet.wait));
+    kept.keep(packet);
+    Ok(())
+}
+
+#[test]
+fn sixty_four_wait_for_pairs(rt: HostRuntime) -> Result<(), Fail> {
+    let alloc = rt.alloc();
+    let mut kept = Kept::new(alloc)?;
+    for port in 1..65u16 {
+        keep(&rt, alloc, &mut kept, 0, pair_of(port))?;
+    }
+    assert!(rt; !kept.has_place(pair_of(65)));
+    keep(&rt, alloc, &mut kept, 1, Wait::Hop(Side::Outside, Ip(9)))?;
+    assert!(rt; !kept.has_place(Wait::Hop(Side::Outside, Ip(9))));
+    assert!(rt; kept.has_place(Wait::Hop(Side::Inside, Ip(9))));
+    let mut ended = Vec::with_capacity(alloc, kept.len())?;
+    kept.take_ended(Ended::One(pair_of(7)), &mut ended);
+    assert_eq!(rt; (kept.len(), ended.len()), (64, 1));
+    assert!(rt; kept.has_place(pair_of(65)));
+    kept.drop_old(300);
+    assert_eq!(rt; kept.len(), 1);
+    Ok(())
+}
