@@ -1,5 +1,5 @@
 -- What each row changes fits, and what is pushed has a spelling.
-use Rattle.std.proofs.Common.{◌≡◌, ℕ, suc, ◌<◌, ◌^◌, Bool, true, false, cond, not, ◌&&◌, IsTrue, is_none, Option, Some, None, List, [], ◌∷◌, refl, sym, ap, subst, ◌∙◌}
+use Rattle.std.proofs.Common.{◌≡◌, Bool, true, false, cond, not, ◌&&◌, IsTrue, is_none, Option, Some, None, refl, ap, ◌∙◌}
 use Rattle.std.specs.Prelude.{IfSome}
 use Rattle.std.proofs.lemmas.Bool.{and_parts, not-true}
 use Rattle.nat_types.specs.Granted.{Granted, IsPort}
@@ -16,7 +16,7 @@ use Rattle.addresses.specs.declared.transport.Port.{Port}
 use Rattle.bindings.specs.declared.entries.Entry.{Entry}
 use Rattle.bindings.specs.Entries.{slot_of, entry_of, entry_in, is_pair}
 use Rattle.bindings.proofs.Found.{none_from_is_none}
-use Rattle.bindings.proofs.Slots.{entry-serves, found-slot, slot-key}
+use Rattle.bindings.proofs.Slots.{entry-serves, found-slot}
 use Rattle.link.specs.Grammar.{IsWellFormedPair, IsWellFormedRecord}
 use Rattle.binding_step.specs.declared.setups.Stage.{Stage}
 use Rattle.binding_step.specs.declared.setups.Stage.TheVariants.{Unsynced, Paired, Lone}
@@ -27,7 +27,7 @@ use Rattle.binding_step.specs.declared.changes.Wish.{Wish}
 use Rattle.binding_step.specs.declared.changes.Want.TheVariants as want
 use Rattle.binding_step.specs.Books.{Book, IsBook, in_ranges, is_lone, is_promised, is_synced, owns}
 use Rattle.binding_step.specs.Fits.{Fits, HasPair, IsNewPair, IsWellFormedEndpoint}
-use Rattle.binding_step.specs.Rows.{accept_row, accepted_row, answering, ask_row, asked_row, carry_row, ending, gives_way, grant_row, idle_row, install_row, is_theirs, known_wish, left_row, may_want, new_pair, new_wish, no_row, none_row, port_for, proposed_row, quiet, refuse_row, refused_row, release_row, released_row, row, row_of, stayed_row, synced_row, taken_answer, use_row, used_row, want_row, wish, wish_by, wish_of, yes_row}
+use Rattle.binding_step.specs.Rows.{accept_row, accepted_row, answering, ask_row, asked_row, carry_row, ending, gives_way, grant_row, idle_row, install_row, is_theirs, known_wish, left_row, may_want, new_pair, new_wish, no_row, none_row, port_for, proposal, proposed_row, quiet, refuse_row, refused_row, release_row, released_row, row, row_of, stayed_row, synced_row, taken_answer, use_row, used_row, wish, wish_by, wish_of, yes_row}
 use Rattle.binding_step.proofs.Moves.{may-give, ranges-port}
 use Rattle.binding_step.proofs.Wishing.{at-key, chosen-says}
 
@@ -185,7 +185,7 @@ module _ (c : Book) where
           let inside = is.owned port.0 says.owned in
           record { key = says.free; endpoint = none; within = inside; formed = record { key = ranges-port c port.0 is inside; protocol = refl; address = formed.address; port = formed.port } }
 
-      at : (lone full : Bool) → IsSound c (let w : Wish = cond lone (wish (want.Port port) (row (Add (entry_in state.Live (new_pair e port))) None (Some (happens.Retaken (new_pair e port))))) (cond full (wish want.NotNow quiet) (wish want.Wait (row (Add (entry_in state.Pending (new_pair e port))) (Some (rec.Install (new_pair e port))) None))) in w).row
+      at : (lone full : Bool) → IsSound c (let w : Wish = cond lone (wish (want.Port port) (row (Add (entry_in state.Live (new_pair e port))) None (Some (happens.Retaken (new_pair e port))))) (cond full (wish want.NotNow quiet) (wish want.Wait (proposal (new_pair e port)))) in w).row
       at true full = record { fits = new; answer = tt }
       at false true = sound-quiet c
       at false false = record { fits = new; answer = new.formed }

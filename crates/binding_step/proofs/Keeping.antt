@@ -1,10 +1,10 @@
 -- What holds of every book is kept.
-use Rattle.std.proofs.Common.{◌≡◌, ℕ, zero, suc, ◌+◌, ◌-◌, ◌<◌, ◌≤◌, ◌==◌, Bool, true, false, cond, not, ◌&&◌, ◌||◌, nat_le, nat_lt, IsTrue, is_none, Option, Some, None, inl, inr, List, [], ◌∷◌, ◌++◌, map, refl, sym, ap, subst, ◌∙◌, arith}
+use Rattle.std.proofs.Common.{◌≡◌, ℕ, zero, suc, ◌+◌, ◌-◌, ◌<◌, ◌≤◌, ◌==◌, Bool, true, false, cond, ◌&&◌, ◌||◌, nat_le, nat_lt, IsTrue, Option, Some, None, inl, inr, List, [], ◌∷◌, ◌++◌, map, refl, sym, ap, subst, ◌∙◌, arith}
 use Rattle.std.specs.List.{filter, AllByRecursion, range_with_len}
-use Rattle.std.proofs.lemmas.Bool.{and_parts, and_from, both_ways, cases_Bool, cases_eq, cond-true, cond-false, eqb-true, false_from_ne_true, le-leb, leb-true, or_cases, or_left}
+use Rattle.std.proofs.lemmas.Bool.{and_parts, and_from, both_ways, cases_Bool, cond-true, cond-false, eqb-true, false_from_ne_true, le-leb, leb-true, or_cases}
 use Rattle.nat_types.specs.Same.{same_key}
 use Rattle.nat_types.proofs.Equal.{key-eq, key-true}
-use Rattle.nat_types.specs.Granted.{Granted, IsPort}
+use Rattle.nat_types.specs.Granted.{IsPort}
 use Rattle.nat_types.specs.declared.gateways.GatewayId.{GatewayId}
 use Rattle.nat_types.specs.declared.gateways.GatewayId.TheVariants.{Zero}
 use Rattle.nat_types.specs.declared.pairs.EntryState.{EntryState}
@@ -21,21 +21,21 @@ use Rattle.bindings.specs.Entries.{slot_of, entry_of, entry_in, is_pair, pairs_i
 use Rattle.bindings.specs.Lists.{put_in, with_state, without, Rises, AreInOrder, IsOneToOne}
 use Rattle.bindings.specs.Ports.{AreBounds, in_bounds, in_either, lowest_of, highest_of}
 use Rattle.bindings.specs.Revivals.{revived_entries, woken_entry}
-use Rattle.bindings.specs.Runs.{all_ports, runs_of}
+use Rattle.bindings.specs.Runs.{runs_of}
 use Rattle.bindings.proofs.Edits.{slot-without, slot-with_state}
 use Rattle.bindings.proofs.Orders.{order-put, order-turn, order-drop}
 use Rattle.bindings.proofs.Slots.{slot-put, keys-put, keys-filter}
 use Rattle.bindings.proofs.Turned.{keys-turn}
-use Rattle.port_range.specs.Ports.{is_listed, is_within, AreRising, RiseAbove}
+use Rattle.port_range.specs.Ports.{is_listed, AreRising}
 use Rattle.link.specs.Grammar.{IsWellFormedPair, IsWellFormedRecord}
 use Rattle.link.specs.Link.{fresh}
 use Rattle.resync.specs.Batch.{is_settled, owners_of, puts_of}
-use Rattle.resync.specs.Loading.{Load, is_new, loaded, loaded_state, names_run, none_yet, with_pair, with_run}
+use Rattle.resync.specs.Loading.{Load, is_new, loaded_state, names_run, none_yet, with_pair, with_run}
 use Rattle.pair_machine.specs.Box.{In, founder}
-use Rattle.pair_machine.specs.Ownership.{AreRising as RunsRise, moving}
+use Rattle.pair_machine.specs.Ownership.{AreRising as RunsRise}
 use Rattle.pair_machine.proofs.Boxes.{same_boxes}
 use Rattle.binding_step.specs.declared.setups.Stage.{Stage}
-use Rattle.binding_step.specs.declared.setups.Stage.TheVariants.{Unsynced, Paired, Lone}
+use Rattle.binding_step.specs.declared.setups.Stage.TheVariants.{Paired, Lone}
 use Rattle.binding_step.specs.declared.changes.Change.{Change}
 use Rattle.binding_step.specs.declared.changes.Change.TheVariants.{Keep, Add, Turn, Renew, Drop, Yield, Want, Give, Gain}
 use Rattle.binding_step.specs.declared.changes.Row.{Row}
@@ -44,17 +44,17 @@ use Rattle.binding_step.specs.declared.changes.Want.TheVariants as want
 use Rattle.binding_step.specs.Books.{Book, IsBook, empty_book, founded_book, in_ranges, is_any, is_lone, is_synced, load_of, owns, ports_of}
 use Rattle.binding_step.specs.Fits.{Fits, GivesWay, IsWellFormedEndpoint}
 use Rattle.binding_step.specs.Machine.{box_at}
-use Rattle.binding_step.specs.Resets.{put_alone, restart_batch, restarted, revived}
+use Rattle.binding_step.specs.Resets.{begun_anew, put_alone, restart_batch, restarted, revived}
 use Rattle.binding_step.specs.Rows.{after, carry_row, changed, idle_row, load_taken, numbers_of, quiet, release_row, row_of, taken_book, unsynced_after, use_row, wish, wish_by, wish_of, with_gained, without_ports}
 use Rattle.binding_step.proofs.Fitting.{carry-sound, idle-sound, row-sound, wish-sound}
 use Rattle.binding_step.proofs.Loads.{is-fresh}
-use Rattle.binding_step.proofs.Members.{above-none, gained-is, gained-within, rise-gained}
+use Rattle.binding_step.proofs.Members.{gained-is, gained-within, rise-gained}
 use Rattle.binding_step.proofs.Moves.{ranges-port}
-use Rattle.binding_step.proofs.Pairs.{listed-at, settled-pairs}
+use Rattle.binding_step.proofs.Pairs.{listed-at, settled-pairs, woken-pair, woken-settled}
 use Rattle.binding_step.proofs.Rising.{listed-all, listed-filter, listed-range, rise-filter, rise-range}
 use Rattle.binding_step.proofs.Slots.{keys-revived, one-revived, one-set, was-there}
 use Rattle.binding_step.proofs.Taking.{fails, serves-of}
-use Rattle.binding_step.proofs.Unbroken.{machine_run, machine_runs, runs-rising}
+use Rattle.binding_step.proofs.Unbroken.{machine_runs, runs-rising}
 
 -- ---- records that have a spelling
 
@@ -428,9 +428,17 @@ empty-keeps id z o az ao hz ho = record {
 pub restart-keeps : (b : Book) → IsBook b → IsBook (restarted b)
 restart-keeps b is = at (is_synced b.stage) refl
   where
-    at : (t : Bool) → is_synced b.stage ≡ t → IsBook (let b2 : Book = cond t (record (revived b) { stage = Paired; coming = restart_batch b }) (empty_book b.id b.zero b.one) in b2)
+    at : (t : Bool) → is_synced b.stage ≡ t → IsBook (let b2 : Book = cond t (begun_anew b) (empty_book b.id b.zero b.one) in b2)
     at true synced = revived-keeps b Paired (restart_batch b) is synced refl (batch-formed b is) (λ w. refl)
     at false unsynced = empty-keeps b.id b.zero b.one is.zero is.one is.highest.0 is.highest.1
+
+-- each entry then is an agreed pair
+pub restart-agrees : (b : Book) → IsBook b → (k : Key) (x : Entry) → slot_of (restarted b).entries k ≡ Some x → (is_settled x.state ≡ true) × (is_pair x.state ≡ true)
+restart-agrees b is k x = at (is_synced b.stage)
+  where
+    at : (t : Bool) → slot_of (let b2 : Book = cond t (begun_anew b) (empty_book b.id b.zero b.one) in b2).entries k ≡ Some x → (is_settled x.state ≡ true) × (is_pair x.state ≡ true)
+    at true h = let w = was-there b.entries k x is.keys h in (ap is_settled w.state ∙ woken-settled w.entry.state w.pair, ap is_pair w.state ∙ woken-pair w.entry.state w.pair)
+    at false h = absurd (cc)
 
 pub alone-keeps : (b : Book) → IsBook b → is_synced b.stage ≡ true → IsBook (put_alone b)
 alone-keeps b is synced = revived-keeps b Lone [] is synced refl tt (λ w. absurd (cc))

@@ -1,5 +1,5 @@
 -- Each record at a gateway that isn't synced is an act of the machine.
-use Rattle.std.proofs.Common.{◌≡◌, ℕ, zero, suc, ◌+◌, ◌-◌, ◌<◌, ◌≤◌, ◌==◌, Bool, true, false, cond, not, ◌&&◌, nat_le, nat_lt, is_none, Option, Some, None, inl, inr, List, [], ◌∷◌, ◌++◌, length, refl, sym, ap, subst, ◌∙◌, arith}
+use Rattle.std.proofs.Common.{◌≡◌, ℕ, zero, suc, ◌+◌, ◌-◌, ◌<◌, ◌≤◌, ◌==◌, Bool, true, false, cond, not, ◌&&◌, nat_le, nat_lt, is_none, Option, Some, None, inl, inr, List, [], ◌∷◌, ◌++◌, length, refl, sym, ap, ◌∙◌, arith}
 use Rattle.std.proofs.lemmas.Bool.{and_from, and_parts, both_ways, cases_Bool, cases_eq, cond-true, le-leb, le-ltb, lt-leb, lt-ltb, ltb-false, ltb-true, not-true, eq-eqb}
 use Rattle.std.proofs.lemmas.List.{map-append, append-nil}
 use Rattle.addresses.specs.declared.transport.Port.{Port}
@@ -21,11 +21,11 @@ use Rattle.bindings.proofs.Found.{none_from_is_none}
 use Rattle.bindings.proofs.Slots.{entry-serves, found-slot}
 use Rattle.port_range.specs.Ports.{is_listed, is_within}
 use Rattle.link.specs.Link.{Link}
-use Rattle.resync.specs.Loading.{Load, all_in, is_new, loaded, loaded_state, names_run, none_yet, with_pair, with_run}
+use Rattle.resync.specs.Loading.{Load, all_in, is_new, loaded_state, names_run, none_yet, with_pair, with_run}
 use Rattle.pair_machine.specs.Acts.{LoadBegin, LoadOwner, LoadPut, LoadDone, LoadSkip, IsMisplaced}
-use Rattle.pair_machine.specs.Box.{Letter, loaded_slot}
+use Rattle.pair_machine.specs.Box.{Letter}
 use Rattle.pair_machine.specs.Mapped.{machine_record, slot_in}
-use Rattle.pair_machine.specs.Ownership.{IsRisingRun, in_run, keyed}
+use Rattle.pair_machine.specs.Ownership.{IsRisingRun, in_run}
 use Rattle.pair_machine.specs.Talk as machine
 use Rattle.pair_machine.specs.Talk.{MachineRecord, IsUnbound}
 use Rattle.binding_step.specs.declared.setups.Stage.{Stage}

@@ -1,7 +1,7 @@
 -- What is listed: falling lists, ports that are granted, and those that become owned.
-use Rattle.std.proofs.Common.{◌≡◌, ℕ, zero, suc, ◌+◌, ◌-◌, ◌<◌, ◌≤◌, ◌==◌, Bool, true, false, cond, not, ◌&&◌, ◌||◌, is_none, Option, Some, None, inl, inr, List, [], ◌∷◌, length, map, take, refl, sym, ap, subst, ◌∙◌, arith, IsTrue}
+use Rattle.std.proofs.Common.{◌≡◌, ℕ, zero, suc, ◌+◌, ◌-◌, ◌<◌, ◌≤◌, ◌==◌, Bool, true, false, cond, not, ◌&&◌, ◌||◌, is_none, Option, Some, None, inl, inr, List, [], ◌∷◌, map, take, refl, sym, ap, ◌∙◌, arith, IsTrue}
 use Rattle.std.specs.List.{filter}
-use Rattle.std.proofs.lemmas.Bool.{and_from, and_parts, both_ways, cases_Bool, eq-eqb, eqb-true, false_from_ne_true, leb-true, ne_eqb, not-true, or_cases, or_left, or_right}
+use Rattle.std.proofs.lemmas.Bool.{and_parts, both_ways, cases_Bool, eq-eqb, eqb-true, false_from_ne_true, leb-true, ne_eqb, not-true, or_cases}
 use Rattle.nat_types.specs.declared.pairs.EntryState.{EntryState}
 use Rattle.nat_types.specs.declared.pairs.EntryState.TheVariants as state
 use Rattle.nat_types.specs.declared.pairs.Endpoint.{Endpoint}
@@ -15,7 +15,7 @@ use Rattle.bindings.specs.Entries.{slot_of}
 use Rattle.bindings.specs.Ports.{AreBounds, in_bounds, in_either, is_free_in, is_vacant, key_of}
 use Rattle.bindings.specs.Runs.{own_in}
 use Rattle.bindings.proofs.Found.{none_from_is_none}
-use Rattle.port_range.specs.Ports.{is_listed, is_within, AreRising}
+use Rattle.port_range.specs.Ports.{is_listed, AreRising}
 use Rattle.pair_machine.specs.Box.{IsVacant}
 use Rattle.pair_machine.specs.Mapped.{slot_in}
 use Rattle.pair_machine.specs.Ownership.{AreDistinct, has}

@@ -1,37 +1,33 @@
 -- Ports that are wanted, granted and gained, as acts of the machine; and any record at a synced gateway.
-use Rattle.std.proofs.Common.{◌≡◌, ℕ, suc, ◌+◌, ◌-◌, ◌/◌, ◌==◌, ◌<◌, ◌≤◌, ◌^◌, min, is_none, Bool, true, false, cond, not, ◌&&◌, ◌||◌, Option, Some, None, inl, inr, List, [], ◌∷◌, ◌++◌, length, map, take, reverse, refl, sym, ap, subst, ◌∙◌, arith, IsTrue}
-use Rattle.std.specs.List.{filter, AllByRecursion}
+use Rattle.std.proofs.Common.{◌≡◌, ℕ, suc, ◌+◌, ◌-◌, ◌==◌, ◌≤◌, ◌^◌, is_none, Bool, true, false, cond, not, ◌&&◌, Some, None, List, [], ◌∷◌, ◌++◌, length, map, take, refl, sym, ap, subst, ◌∙◌, arith}
+use Rattle.std.specs.List.{filter}
 use Rattle.std.proofs.lemmas.Bool.{and_parts, cond-false, eq-eqb, ne_eqb, or_left, or_right}
 use Rattle.std.proofs.lemmas.List.{length-map, length-take, map-append, append-nil}
 use Rattle.addresses.specs.declared.transport.Port.{Port}
 use Rattle.nat_types.specs.Granted.{ArePorts, Granted, IsPort}
-use Rattle.nat_types.specs.declared.notes.Happening.{Happening}
 use Rattle.nat_types.specs.declared.records.Record.{Record}
 use Rattle.nat_types.specs.declared.records.Record.TheVariants as rec
-use Rattle.bindings.specs.Ports.{is_spare, is_vacant, lowest_of, highest_of, in_bounds, AreBounds}
+use Rattle.bindings.specs.Ports.{is_spare, is_vacant, lowest_of, highest_of, AreBounds}
 use Rattle.bindings.specs.declared.entries.PortBounds.{PortBounds}
 use Rattle.port_range.specs.Ports.{is_listed}
-use Rattle.link.specs.Grammar.{IsWellFormedGrant}
 use Rattle.link.specs.Link.{Link}
-use Rattle.pair_machine.specs.Acts.{Ignore, WantPorts, GrantPorts, TakePorts, LosePorts, AreSpare}
-use Rattle.pair_machine.specs.Box.{Letter, In, StandsNext}
+use Rattle.pair_machine.specs.Acts.{Ignore, GrantPorts, TakePorts, LosePorts}
+use Rattle.pair_machine.specs.Box.{Letter}
 use Rattle.pair_machine.specs.Mapped.{machine_record}
 use Rattle.pair_machine.specs.Ownership.{AreDistinct, has}
 use Rattle.pair_machine.specs.RecordTable.{becomes_owned, is_free, key_of}
 use Rattle.addresses.specs.declared.transport.Protocol.TheVariants.{Tcp, Udp}
-use Rattle.pair_machine.specs.Step.{IsStep}
 use Rattle.pair_machine.specs.Talk as machine
 use Rattle.pair_machine.specs.Talk.{MachineRecord}
 use Rattle.pair_machine.proofs.Taking.{got}
 use Rattle.bindings.specs.Entries.{slot_of}
 use Rattle.nat_types.specs.declared.pairs.Key.{Key}
-use Rattle.binding_step.specs.declared.changes.Change.TheVariants.{Give, Gain}
-use Rattle.binding_step.specs.declared.changes.Change.TheVariants as change_of
+use Rattle.binding_step.specs.declared.changes.Change.TheVariants.{Gain}
 use Rattle.binding_step.specs.declared.changes.Row.{Row}
 use Rattle.binding_step.specs.Books.{Book, IsBook, in_ranges, is_any, is_lone, is_promised, is_synced, owns}
 use Rattle.binding_step.specs.Fits.{MayGive}
 use Rattle.binding_step.specs.Machine.{box_at, machine_records, promised_of, ranges_of, slots_of, Stands}
-use Rattle.binding_step.specs.Rows.{after, answered, as_ports, grant_row, granted, is_gained, is_theirs, noted_by, numbers_of, ports_down, pushed_by, quiet, row, row_of, share, spares, synced_row, want_row, with_gained, without_ports}
+use Rattle.binding_step.specs.Rows.{after, answered, as_ports, grant_row, granted, is_gained, is_theirs, numbers_of, ports_down, pushed_by, quiet, row, row_of, share, spares, synced_row, want_row, with_gained, without_ports}
 use Rattle.binding_step.proofs.Members.{above-none, below-highest, distinct-falling, distinct-filter, distinct-take, free-none, gained-box, gained-is, has-filter, has-listed, has-take, numbers-back, vacant-is}
 use Rattle.binding_step.proofs.Parts.{act-step}
 use Rattle.binding_step.proofs.Rising.{listed-filter}

@@ -141,12 +141,19 @@ in-reverse p (x ∷ xs) =
 
 -- ---- the pairs that a batch puts are those of the table
 
-woken-settled : (s : EntryState) → is_pair s ≡ true → is_settled (woken s) ≡ true
+pub woken-settled : (s : EntryState) → is_pair s ≡ true → is_settled (woken s) ≡ true
 woken-settled state.Pending h = refl
 woken-settled state.Doomed h = cc
 woken-settled state.Live h = refl
 woken-settled state.Closing h = refl
 woken-settled state.Held h = refl
+
+pub woken-pair : (s : EntryState) → is_pair s ≡ true → is_pair (woken s) ≡ true
+woken-pair state.Pending h = refl
+woken-pair state.Doomed h = cc
+woken-pair state.Live h = refl
+woken-pair state.Closing h = refl
+woken-pair state.Held h = refl
 
 pub settled-pairs : (es : List Entry) → pairs_in is_settled (revived_entries es) ≡ pairs_in is_pair es
 settled-pairs [] = refl

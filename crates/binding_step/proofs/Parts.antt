@@ -10,7 +10,7 @@ use Rattle.bindings.specs.Ports.{in_bounds, in_either}
 use Rattle.link.specs.declared.datagrams.Datagram.{Datagram}
 use Rattle.link.specs.declared.datagrams.Taken.{Taken}
 use Rattle.link.specs.Letters.{IsLetter}
-use Rattle.link.specs.Link.{Link, Agrees, IsTaken, acknowledged_to, after_take, handed_count, is_restart, met, with_fed, with_pushed}
+use Rattle.link.specs.Link.{Link, Agrees, IsTaken, acknowledged_to, handed_count, is_restart, met, with_fed}
 use Rattle.link.proofs.Ends.{met_same, passes, goes_on, pushed_agrees, fed_agrees}
 use Rattle.pair_machine.specs.Acts.{Act, Send, HandIn, MayAct, box_after, act_notes, letters_by}
 use Rattle.pair_machine.specs.Box.{Box, Letter, In, AreSame, letter}

@@ -1,12 +1,11 @@
 -- A greater boot of the peer, and the operator's word, as acts of the machine.
-use Rattle.std.proofs.Common.{◌≡◌, ℕ, suc, ◌+◌, ◌-◌, ◌<◌, ◌==◌, true, false, Bool, cond, not, ◌&&◌, IsTrue, Option, Some, None, inl, List, [], ◌∷◌, ◌++◌, length, drop, map, reverse, refl, sym, ap, subst, ◌∙◌, arith}
+use Rattle.std.proofs.Common.{◌≡◌, ℕ, suc, ◌+◌, ◌-◌, ◌<◌, ◌==◌, true, false, Bool, cond, IsTrue, Option, Some, None, inl, List, [], ◌∷◌, ◌++◌, length, drop, map, reverse, refl, sym, ap, subst, ◌∙◌, arith}
 use Rattle.std.proofs.lemmas.Bool.{cond-true, cond-false, eq-eqb, ne_eqb}
-use Rattle.std.proofs.lemmas.List.{reverse-append, append-nil, length-append, length-drop, length-map}
+use Rattle.std.proofs.lemmas.List.{reverse-append, append-nil, length-append, length-drop}
 use Rattle.nat_types.specs.Same.{other}
 use Rattle.nat_types.specs.declared.gateways.GatewayId.{GatewayId}
 use Rattle.nat_types.specs.declared.notes.Note.{Note}
 use Rattle.nat_types.specs.declared.notes.Happening.TheVariants as happens
-use Rattle.nat_types.specs.declared.pairs.Endpoint.{Endpoint}
 use Rattle.nat_types.specs.declared.pairs.Key.{Key}
 use Rattle.nat_types.specs.declared.pairs.Pair.{Pair}
 use Rattle.nat_types.specs.declared.records.Record.{Record}
@@ -19,26 +18,24 @@ use Rattle.bindings.specs.Revivals.{comes_back, revived_entries}
 use Rattle.bindings.specs.Runs.{runs_of}
 use Rattle.link.specs.Link.{Link, Agrees, occupied, with_promised}
 use Rattle.link.proofs.Ends.{promised_agrees}
-use Rattle.resync.specs.Batch.{batch_of, is_settled, owners_of, puts_of}
+use Rattle.resync.specs.Batch.{is_settled, owners_of, puts_of}
 use Rattle.pair_machine.specs.Acts.{Hear, HearAnew, PeerOff}
 use Rattle.pair_machine.specs.Batch.{AreApart, AreThose, LieWithin}
 use Rattle.pair_machine.specs.Box.{Letter, AreBack, revived, is_back, retakes, puts, batch, owners}
-use Rattle.pair_machine.specs.Mapped.{machine_record}
 use Rattle.pair_machine.specs.Ownership.{keyed, left_to}
 use Rattle.pair_machine.specs.Step.{IsStep}
 use Rattle.pair_machine.specs.Talk as machine
 use Rattle.pair_machine.specs.Talk.{MachineRecord}
 use Rattle.pair_machine.proofs.Batches.{batch_new, batch_mirrored, runs_leave}
-use Rattle.binding_step.specs.declared.setups.Stage.{Stage}
 use Rattle.binding_step.specs.declared.setups.Stage.TheVariants.{Paired}
-use Rattle.binding_step.specs.Books.{Book, IsBook, empty_book, in_ranges, is_lone, is_synced, owns}
+use Rattle.binding_step.specs.Books.{Book, IsBook, empty_book, in_ranges, is_synced, owns}
 use Rattle.binding_step.specs.Machine.{box_at, machine_records, machine_slot, promised_of, ranges_of, slots_of, Works}
-use Rattle.binding_step.specs.Resets.{back_in, put_alone, restart_batch, restart_link, restart_notes, restarted, retaken, revived as revived_book}
+use Rattle.binding_step.specs.Resets.{back_in, begun_anew, put_alone, restart_batch, restart_link, restart_notes, restarted, retaken}
 use Rattle.binding_step.proofs.Loads.{lone-not}
 use Rattle.binding_step.proofs.Pairs.{those, held-says, back-says, apart, in-reverse, settled-pairs}
 use Rattle.binding_step.proofs.Parts.{act-step}
 use Rattle.binding_step.proofs.Slots.{slots-revived}
-use Rattle.binding_step.proofs.Unbroken.{machine_run, machine_runs, runs-owned, runs-rising}
+use Rattle.binding_step.proofs.Unbroken.{machine_runs, runs-owned, runs-rising}
 
 -- ---- the batch as the machine has it
 
@@ -65,7 +62,7 @@ puts-count : (ps : List Pair) → length (map (λ p. rec.Put p) ps ++ rec.Done �
 puts-count [] = refl
 puts-count (p ∷ ps) = let ih = puts-count ps in omega arith
 
-batch-count : (b : Book) → length (restart_batch b) ≡ suc (length (machine_runs (runs_of b.owned)) + (length (pairs_in is_pair b.entries) + 1))
+pub batch-count : (b : Book) → length (restart_batch b) ≡ suc (length (machine_runs (runs_of b.owned)) + (length (pairs_in is_pair b.entries) + 1))
 batch-count b =
     let ps = pairs_in is_settled (revived_entries b.entries) in
     ap suc (owners-count (runs_of b.owned) (puts_of (revived_entries b.entries) ++ rec.Done ∷ [])
@@ -137,12 +134,9 @@ lie-within c is k e h = at (slot_of c.entries k) refl h
 
 -- ---- the acts
 
-abbrev paired : Book → Book
-paired b = record (revived_book b) { stage = Paired; coming = restart_batch b }
-
 -- a synced gateway hears a greater boot
 hears : (now : ℕ) (c : Book) (e e1 : Link) (h : List Record) (n : ℕ) (l : Letter) → IsBook c → is_synced c.stage ≡ true → Agrees [] [] e1 → e.boot ≡ e1.boot → e.known < e1.known → l.boot ≡ e1.known
-    → IsStep (ranges_of c) c.id now (box_at c e h n) (box_at (paired c) (with_promised e1 (length (restart_batch c))) (restart_batch c) 0) (l ∷ []) [] [] (reverse (retaken c.id now (back_in c.entries))) [] []
+    → IsStep (ranges_of c) c.id now (box_at c e h n) (box_at (begun_anew c) (with_promised e1 (length (restart_batch c))) (restart_batch c) 0) (l ∷ []) [] [] (reverse (retaken c.id now (back_in c.entries))) [] []
 hears now c e e1 h n l is synced bare boot greater from =
     let ps = pairs_in is_pair c.entries in
     let os = machine_runs (runs_of c.owned) in
@@ -150,7 +144,7 @@ hears now c e e1 h n l is synced bare boot greater from =
     let own = keyed (left_to r (other c.id) os) in
     let table = λ (k : Key). revived (slots_of c.entries k) in
     let one : AreApart ps = apart c.entries is.keys is.endpoints in
-    act-step r c.id now (box_at c e h n) (box_at (paired c) (with_promised e1 (length (restart_batch c))) (restart_batch c) 0) (Hear l (reverse (back_in c.entries)) os ps true) (l ∷ []) [] (retaken c.id now (back_in c.entries)) (
+    act-step r c.id now (box_at c e h n) (box_at (begun_anew c) (with_promised e1 (length (restart_batch c))) (restart_batch c) 0) (Hear l (reverse (back_in c.entries)) os ps true) (l ∷ []) [] (retaken c.id now (back_in c.entries)) (
       synced,
       subst (λ b. e.known < b) (sym from) greater,
       are-back c is,
@@ -180,7 +174,7 @@ pub restart-works : (now : ℕ) (b : Book) (e e1 : Link) (n : ℕ) (h : List Rec
 restart-works now b e e1 n h l is bare boot greater from = at (is_synced b.stage) refl
   where
     at : (t : Bool) → is_synced b.stage ≡ t
-        → Works now (l ∷ []) [] b e n (let b2 : Book = cond t (paired b) (empty_book b.id b.zero b.one) in b2)
+        → Works now (l ∷ []) [] b e n (let b2 : Book = cond t (begun_anew b) (empty_book b.id b.zero b.one) in b2)
         (let e2 : Link = cond t (with_promised e1 (length (restart_batch b))) e1 in e2) 0 (let ns : List Note = cond t (retaken b.id now (back_in b.entries)) [] in ns) h
     at true synced =
         let none = is-bare e1 bare in

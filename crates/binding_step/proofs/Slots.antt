@@ -1,5 +1,5 @@
 -- What a table has at each port after a change, and what it keeps.
-use Rattle.std.proofs.Common.{◌≡◌, suc, ◌≤◌, Bool, true, false, cond, not, Option, Some, None, inl, inr, List, [], ◌∷◌, map, length, refl, sym, ap, ◌∙◌}
+use Rattle.std.proofs.Common.{◌≡◌, Bool, true, false, cond, Option, Some, None, inl, inr, List, [], ◌∷◌, map, refl, sym, ap, ◌∙◌}
 use Rattle.std.specs.List.{filter}
 use Rattle.std.proofs.lemmas.Bool.{cond-true, cond-false, cases_Bool}
 use Rattle.nat_types.specs.declared.pairs.EntryState.{EntryState}
@@ -80,19 +80,20 @@ pub record WasThere (es : List Entry) (q : Key) (y : Entry) : Type 0 where
   pub found : slot_of es q ≡ Some entry
   pub pair : is_pair entry.state ≡ true
   pub same : y.pair ≡ entry.pair
+  pub state : y.state ≡ woken entry.state
 
 pub was-there : (es : List Entry) (q : Key) (y : Entry) → HasDistinctKeys es → slot_of (revived_entries es) q ≡ Some y → WasThere es q y
 was-there [] q y d h = absurd (cc)
 was-there (x ∷ xs) q y d h = at (is_pair x.state) (same_key x.pair.key q) refl refl (λ m. was-there xs q y d.1 m) h
   where
     past : same_key x.pair.key q ≡ false → WasThere xs q y → WasThere (x ∷ xs) q y
-    past there w = record { entry = w.entry; found = cond-false (same_key x.pair.key q) (Some x) (slot_of xs q) there ∙ w.found; pair = w.pair; same = w.same }
+    past there w = record { entry = w.entry; found = cond-false (same_key x.pair.key q) (Some x) (slot_of xs q) there ∙ w.found; pair = w.pair; same = w.same; state = w.state }
 
     at : (b c : Bool) → is_pair x.state ≡ b → same_key x.pair.key q ≡ c → (slot_of (revived_entries xs) q ≡ Some y → WasThere xs q y) → slot_of (map woken_entry (cond b (x ∷ filter (λ e. is_pair e.state) xs) (filter (λ e. is_pair e.state) xs))) q ≡ Some y → WasThere (x ∷ xs) q y
     at true true pair here more h =
         let is : Some (woken_entry x) ≡ Some y = sym (cond-true (same_key x.pair.key q) (Some (woken_entry x)) (slot_of (revived_entries xs) q) here) ∙ h in
         let one : woken_entry x ≡ y = cc in
-        record { entry = x; found = cond-true (same_key x.pair.key q) (Some x) (slot_of xs q) here; pair = pair; same = ap (λ (e : Entry). e.pair) (sym one) }
+        record { entry = x; found = cond-true (same_key x.pair.key q) (Some x) (slot_of xs q) here; pair = pair; same = ap (λ (e : Entry). e.pair) (sym one); state = ap (λ (e : Entry). e.state) (sym one) }
     at true false pair here more h = past here (more (sym (cond-false (same_key x.pair.key q) (Some (woken_entry x)) (slot_of (revived_entries xs) q) here) ∙ h))
     at false true pair here more h =
         let free : slot_of xs q ≡ None = ap (slot_of xs) (sym (key-eq x.pair.key q here)) ∙ d.0 in

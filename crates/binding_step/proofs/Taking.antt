@@ -18,7 +18,7 @@ use Rattle.nat_types.specs.declared.records.Record.{Record}
 use Rattle.nat_types.specs.declared.records.Record.TheVariants as rec
 use Rattle.bindings.specs.declared.entries.Entry.{Entry}
 use Rattle.bindings.specs.Entries.{slot_of, entry_of, entry_in, is_pair, serves, has_key, set_at}
-use Rattle.bindings.specs.Lists.{put_in, with_state, without}
+use Rattle.bindings.specs.Lists.{with_state}
 use Rattle.bindings.proofs.Found.{find-none, find-some, none_from_is_none}
 use Rattle.bindings.proofs.Slots.{slot-key, entry-serves, found-slot}
 use Rattle.bindings.proofs.Edits.{slot-with_state}
@@ -35,7 +35,7 @@ use Rattle.binding_step.specs.declared.changes.Change.TheVariants.{Keep, Add, Tu
 use Rattle.binding_step.specs.declared.changes.Row.{Row}
 use Rattle.binding_step.specs.Books.{Book, IsBook, is_synced, is_lone, owns}
 use Rattle.binding_step.specs.Machine.{machine_slot, slots_of, machine_records, box_at, promised_of, ranges_of}
-use Rattle.binding_step.specs.Rows.{row, quiet, answering, ending, is_theirs, gives_way, proposed_row, install_row, accepted_row, accept_row, refused_row, refuse_row, asked_row, ask_row, left_row, yes_row, stayed_row, no_row, synced_row, changed, after, pushed_by, answered, noted_by}
+use Rattle.binding_step.specs.Rows.{row, quiet, answering, ending, is_theirs, gives_way, proposed_row, install_row, accepted_row, accept_row, refused_row, refuse_row, asked_row, ask_row, left_row, yes_row, stayed_row, no_row, changed, after, pushed_by, answered, noted_by}
 use Rattle.binding_step.proofs.Parts.{act-step}
 use Rattle.binding_step.proofs.Slots.{slots-at, slots-none, slots-put, slots-turn, slots-drop, state-held}
 

@@ -4,7 +4,6 @@ use Rattle.std.proofs.lemmas.Bool.{and_parts, not-true}
 use Rattle.std.proofs.lemmas.List.{map-append, append-nil}
 use Rattle.addresses.specs.declared.transport.Parity.{Parity}
 use Rattle.addresses.specs.declared.transport.Port.{Port}
-use Rattle.addresses.specs.declared.transport.Protocol.{Protocol}
 use Rattle.addresses.specs.Transport.{parity_of}
 use Rattle.nat_types.specs.declared.notes.Happening.TheVariants as happens
 use Rattle.nat_types.specs.declared.pairs.EntryState.{EntryState}
@@ -15,9 +14,8 @@ use Rattle.nat_types.specs.declared.pairs.Pair.{Pair}
 use Rattle.nat_types.specs.declared.records.Record.{Record}
 use Rattle.nat_types.specs.declared.records.Record.TheVariants as rec
 use Rattle.bindings.specs.declared.entries.Entry.{Entry}
-use Rattle.bindings.specs.declared.entries.PortBounds.{PortBounds}
 use Rattle.bindings.specs.Entries.{slot_of, entry_of, entry_in}
-use Rattle.bindings.specs.Ports.{chosen_port, is_free_in, is_open_in, key_of, lowest_of, highest_of}
+use Rattle.bindings.specs.Ports.{is_free_in, is_open_in, key_of, lowest_of, highest_of}
 use Rattle.bindings.proofs.Found.{none_from_is_none}
 use Rattle.bindings.proofs.Slots.{slot-key}
 use Rattle.port_range.specs.Ports.{chosen_open, first_where, fits, is_listed, is_open, lowest_open, or_else}
@@ -34,11 +32,11 @@ use Rattle.binding_step.specs.declared.changes.Wish.{Wish}
 use Rattle.binding_step.specs.declared.changes.Want.TheVariants as want
 use Rattle.binding_step.specs.Books.{Book, is_synced, is_lone, owns}
 use Rattle.binding_step.specs.Machine.{box_at, machine_records, ranges_of, slots_of, Stands, Works}
-use Rattle.binding_step.specs.Rows.{after, answered, carry_row, idle_row, known_wish, may_want, new_pair, new_wish, none_row, noted_by, port_for, pushed_by, quiet, release_row, released_row, row, use_row, used_row, wish, wish_by, wish_of}
+use Rattle.binding_step.specs.Rows.{after, answered, asking, carry_row, idle_row, known_wish, may_want, new_pair, new_wish, none_row, noted_by, port_for, proposal, pushed_by, quiet, release_row, released_row, row, use_row, used_row, wish, wish_by, wish_of}
 use Rattle.binding_step.proofs.Parts.{act-step}
 use Rattle.binding_step.proofs.Slots.{slots-at, slots-drop, slots-none, slots-put, slots-turn}
 use Rattle.binding_step.proofs.Taking.{is-unbound}
-use Rattle.binding_step.proofs.Working.{Keeps, changed-keeps, stands-answer}
+use Rattle.binding_step.proofs.Working.{changed-keeps, stands-answer}
 
 -- ---- a port that is chosen may be given out
 
@@ -100,9 +98,9 @@ module _ (now : ℕ) (c : Book) (e : Link) (h : List Record) (n : ℕ) (letters 
       refl
       (λ m. refl)
 
-  propose-row : is_synced c.stage ≡ true → is_lone c.stage ≡ false → (p : Pair) → MayBegin p → WishSteps (row (Add (entry_in state.Pending p)) (Some (rec.Install p)) None)
+  propose-row : is_synced c.stage ≡ true → is_lone c.stage ≡ false → (p : Pair) → MayBegin p → WishSteps (proposal p)
   propose-row synced lone p may =
-      let r : Row = row (Add (entry_in state.Pending p)) (Some (rec.Install p)) None in
+      let r : Row = proposal p in
       act-step (ranges_of c) c.id now (box_at c e h n) (box_at (after c r) (with_pushed e (rec.Install p)) (h ++ rec.Install p ∷ []) n) (Do (machine.Propose p.key p.endpoint)) letters words []
       (synced, lone, (may.owned, slots-none c.entries p.key may.free, may.new), refl)
       (λ m i. absurd i, tt)
@@ -143,7 +141,7 @@ module _ (now : ℕ) (c : Book) (e : Link) (h : List Record) (n : ℕ) (letters 
       begins : MayBegin (new_pair x port)
       begins = let says = chosen-says c x port found in record { owned = says.owned; free = says.free; new = is-unbound c.entries x none }
 
-      at : (lone : Bool) → is_lone c.stage ≡ lone → (full : Bool) → WishSteps (let w : Wish = cond lone (wish (want.Port port) (row (Add (entry_in state.Live (new_pair x port))) None (Some (happens.Retaken (new_pair x port))))) (cond full (wish want.NotNow quiet) (wish want.Wait (row (Add (entry_in state.Pending (new_pair x port))) (Some (rec.Install (new_pair x port))) None))) in w).row
+      at : (lone : Bool) → is_lone c.stage ≡ lone → (full : Bool) → WishSteps (let w : Wish = cond lone (wish (want.Port port) (row (Add (entry_in state.Live (new_pair x port))) None (Some (happens.Retaken (new_pair x port))))) (cond full (wish want.NotNow quiet) (wish want.Wait (proposal (new_pair x port)))) in w).row
       at true lone full = lone-row synced lone (new_pair x port) begins
       at false lone true = rest-row
       at false lone false = propose-row synced lone (new_pair x port) begins
@@ -169,9 +167,9 @@ module _ (now : ℕ) (c : Book) (e : Link) (h : List Record) (n : ℕ) (letters 
       (record { up = refl; boot = refl; synced = refl; lone = refl; peer = refl; table = slots-drop x.pair.key c.entries; sent = sent-none; taken = refl; loading = refl; owned = λ p. refl; wants = refl; named = refl; promised = refl })
       refl (λ m. refl)
 
-  asks : (x : Entry) → is_synced c.stage ≡ true → is_lone c.stage ≡ false → slot_of c.entries x.pair.key ≡ Some x → slots_of c.entries x.pair.key ≡ machine.Live x.pair.endpoint → WishSteps (row (Turn x.pair.key state.Closing) (Some (rec.Ask x.pair.key)) (Some (happens.Released x.pair)))
+  asks : (x : Entry) → is_synced c.stage ≡ true → is_lone c.stage ≡ false → slot_of c.entries x.pair.key ≡ Some x → slots_of c.entries x.pair.key ≡ machine.Live x.pair.endpoint → WishSteps (asking x.pair)
   asks x synced lone found live =
-      let r : Row = row (Turn x.pair.key state.Closing) (Some (rec.Ask x.pair.key)) (Some (happens.Released x.pair)) in
+      let r : Row = asking x.pair in
       act-step (ranges_of c) c.id now (box_at c e h n) (box_at (after c r) (with_pushed e (rec.Ask x.pair.key)) (h ++ rec.Ask x.pair.key ∷ []) n) (Do (machine.Close x.pair.key x.pair.endpoint)) letters words (noted_by c.id now r.what)
       (synced, lone, live, refl) (λ m i. absurd i, tt)
       (record { up = refl; boot = refl; synced = refl; lone = refl; peer = refl; table = slots-turn x.pair.key state.Closing c.entries x found; sent = map-append machine_record h (rec.Ask x.pair.key ∷ []); taken = refl; loading = refl; owned = λ p. refl; wants = refl; named = refl; promised = refl })
@@ -200,7 +198,7 @@ module _ (now : ℕ) (c : Book) (e : Link) (h : List Record) (n : ℕ) (letters 
   released-steps ask x state.Doomed synced is found = rest-row
   released-steps ask x state.Live synced is found = at (is_lone c.stage) refl ask
     where
-      at : (b : Bool) → is_lone c.stage ≡ b → (ask : Bool) → WishSteps (let r : Row = cond b (row (Drop x.pair.key) None (Some (happens.Released x.pair))) (cond ask (row (Turn x.pair.key state.Closing) (Some (rec.Ask x.pair.key)) (Some (happens.Released x.pair))) quiet) in r)
+      at : (b : Bool) → is_lone c.stage ≡ b → (ask : Bool) → WishSteps (let r : Row = cond b (row (Drop x.pair.key) None (Some (happens.Released x.pair))) (cond ask (asking x.pair) quiet) in r)
       at true lone ask = drops x synced lone (ap machine.translated (slot x state.Live is found))
       at false lone true = asks x synced lone found (slot x state.Live is found)
       at false lone false = rest-row

@@ -1,6 +1,5 @@
 -- A record that is taken is a part of a step.
 use Rattle.std.proofs.Common.{◌≡◌, ℕ, suc, Bool, true, false, cond, inl, Option, Some, None, List, [], ◌∷◌, ◌++◌, refl, sym, ap, subst}
-use Rattle.nat_types.specs.Granted.{Granted}
 use Rattle.nat_types.specs.declared.notes.Happening.{Happening}
 use Rattle.nat_types.specs.declared.records.Record.{Record}
 use Rattle.link.specs.Link.{Link, Agrees}
@@ -9,10 +8,9 @@ use Rattle.pair_machine.specs.Box.{Letter}
 use Rattle.pair_machine.specs.Mapped.{machine_record}
 use Rattle.binding_step.specs.declared.changes.Change.{Change}
 use Rattle.binding_step.specs.declared.changes.Change.TheVariants.{Keep, Add, Turn, Renew, Drop, Yield, Want, Give, Gain}
-use Rattle.binding_step.specs.declared.changes.Row.{Row}
 use Rattle.binding_step.specs.Books.{Book, IsBook, is_lone, is_synced, load_of}
 use Rattle.binding_step.specs.Machine.{IsSameHouse, IsTurn, Stands, Works}
-use Rattle.binding_step.specs.Rows.{after, answered, changed, load_taken, noted_by, numbers_of, pushed_by, row_of, taken_answer, taken_book, taken_what, unsynced_after, unsynced_what, with_gained}
+use Rattle.binding_step.specs.Rows.{after, answered, changed, load_taken, noted_by, numbers_of, pushed_by, row_of, taken_answer, taken_book, taken_what, unsynced_after, unsynced_what}
 use Rattle.binding_step.proofs.Loads.{load-steps}
 use Rattle.binding_step.proofs.Members.{gained-is}
 use Rattle.binding_step.proofs.Moves.{row-steps}

@@ -5,10 +5,11 @@ use Rattle.nat_types.specs.declared.pairs.Endpoint.{Endpoint}
 use Rattle.nat_types.specs.declared.pairs.Key.{Key}
 use Rattle.nat_types.specs.declared.pairs.Pair.{Pair}
 use Rattle.bindings.specs.declared.entries.Entry.{Entry}
-use Rattle.bindings.specs.Entries.{slot_of, entry_of, is_pair}
+use Rattle.bindings.specs.Entries.{slot_of, entry_of, is_pair, pairs_in}
 use Rattle.bindings.specs.Ports.{is_spare}
 use Rattle.port_range.specs.Ports.{is_listed}
 use Rattle.link.specs.Grammar.{IsWellFormedPair, IsWellFormedGrant}
+use Rattle.resync.specs.Batch.{is_settled}
 use Rattle.pair_machine.specs.Ownership.{AreDistinct}
 use Rattle.binding_step.specs.declared.setups.Stage.TheVariants.{Paired}
 use Rattle.binding_step.specs.declared.changes.Change.{Change}
@@ -50,6 +51,21 @@ pub record MayGive (b : Book) (g : Granted) : Type 0 where
   pub distinct : AreDistinct (numbers_of g)
   pub spare : (port : ℕ) → is_listed port (numbers_of g) ≡ true → is_spare b.entries b.owned port ≡ true
   pub formed : IsWellFormedGrant g
+
+-- who the gateway is, how far it is, and what of a batch is still to come is left
+pub record IsBeside (b b2 : Book) : Type 0 where
+  pub id : b2.id ≡ b.id
+  pub zero : b2.zero ≡ b.zero
+  pub one : b2.one ≡ b.one
+  pub stage : b2.stage ≡ b.stage
+  pub begun : b2.begun ≡ b.begun
+  pub named : b2.named ≡ b.named
+  pub coming : b2.coming ≡ b.coming
+
+-- a batch of the one is a batch of the other
+pub record IsSameBatch (b b2 : Book) : Type 0 where
+  pub pairs : pairs_in is_settled b2.entries ≡ pairs_in is_settled b.entries
+  pub owned : b2.owned ≡ b.owned
 
 -- the change can be made, and what holds of every synced book holds of the changed one
 abbrev pub Fits : Book → Change → Type 0

@@ -29,11 +29,15 @@ revived b = record b { entries = revived_entries b.entries; wants = false; comin
 abbrev pub restart_batch : Book → List Record
 restart_batch b = batch_of b.owned (revived_entries b.entries)
 
+-- a synced gateway then isn't alone, and its batch is promised
+abbrev pub begun_anew : Book → Book
+begun_anew b = record (revived b) { stage = Paired; coming = restart_batch b }
+
 -- once a greater boot of the peer is heard
 abbrev pub restarted : Book → Book
 restarted b =
     if is_synced b.stage
-    then record (revived b) { stage = Paired; coming = restart_batch b }
+    then begun_anew b
     else empty_book b.id b.zero b.one
 
 abbrev pub restart_notes : Book → ℕ → List Note

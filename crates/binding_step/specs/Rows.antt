@@ -219,6 +219,10 @@ may_want b full = not (is_lone b.stage) && (not b.wants && not full)
 abbrev pub none_row : Book → Bool → Row
 none_row b full = (if may_want b full then row change_of.Want (Some record_of.Want) None else quiet)
 
+-- the pair is proposed to the peer
+abbrev pub proposal : Pair → Row
+proposal p = row (Add (entry_in Pending p)) (Some (Install p)) None
+
 abbrev pub new_wish : Book → Bool → Endpoint → Option Port → Wish
 new_wish b full e None = wish want.TheVariants.NoPort (none_row b full)
 new_wish b full e (Some port) =
@@ -226,7 +230,7 @@ new_wish b full e (Some port) =
     then wish (want.TheVariants.Port port) (row (Add (entry_in Live (new_pair e port))) None (Some (Retaken (new_pair e port))))
     else (if full
     then wish want.TheVariants.NotNow quiet
-    else wish want.TheVariants.Wait (row (Add (entry_in Pending (new_pair e port))) (Some (Install (new_pair e port))) None))
+    else wish want.TheVariants.Wait (proposal (new_pair e port)))
 
 -- the port that an endpoint without a pair is given
 abbrev pub port_for : Book → Endpoint → Option Port
@@ -245,6 +249,10 @@ wish_of b full e =
 
 -- ---- an idle pair, at a tick
 
+-- the peer is asked whether the pair may be deleted
+abbrev pub asking : Pair → Row
+asking p = row (Turn p.key Closing) (Some (Ask p.key)) (Some (Released p))
+
 -- alone it is dropped; else its owner asks, where asking is in place
 abbrev pub released_row : Bool → Bool → Pair → EntryState → Row
 released_row lone ask p Pending = quiet
@@ -252,7 +260,7 @@ released_row lone ask p Doomed = quiet
 released_row lone ask p Live =
     if lone
     then row (Drop p.key) None (Some (Released p))
-    else (if ask then row (Turn p.key Closing) (Some (Ask p.key)) (Some (Released p)) else quiet)
+    else (if ask then asking p else quiet)
 released_row lone ask p Closing = quiet
 released_row lone ask p Held = (if lone then row (Drop p.key) None (Some (Released p)) else quiet)
 

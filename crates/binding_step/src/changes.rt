@@ -27,8 +27,8 @@ pub enum Change {
     Gain(Granted),
 }
 
-/// What comes of it: the change, the record that is pushed, what is noted, and the endpoint whose packets needn't wait for
-/// an answer any more.
+/// What comes of it: the change, the record that is pushed, what is noted, and the endpoint whose
+/// packets needn't wait for an answer any more.
 #[derive(Clone, Copy, Debug, PartialEq, Eq)]
 pub struct Row {
     pub change: Change,

@@ -1,8 +1,8 @@
-//! What holds of each row of the record table, and of what resets a book. Each law is the contract of a function that does
-//! nothing.
+//! What holds of each row of the record table, and of what resets a book. Each law is the contract of
+//! a function that does nothing.
 
 ghost use Rattle.std.specs.Prelude.{◌≡◌, ℕ, ◌+◌, ◌<◌, ◌≤◌, ◌∷◌, ◌++◌, ◌&&◌, [], suc, List, Bool, true, false};
-ghost use Rattle.std.specs.Prelude.{IfSome, Some, length, reverse, slice_get};
+ghost use Rattle.std.specs.Prelude.{IfSome, None, Some, length, reverse, slice_get};
 ghost use Rattle.std.specs.List.{AllByRecursion};
 ghost use Rattle.nat_types.specs.Granted.{IsPort};
 ghost use Rattle.nat_types.specs.declared.gateways.GatewayId.{GatewayId};
@@ -11,18 +11,23 @@ ghost use Rattle.nat_types.specs.declared.notes.Note.{Note};
 ghost use Rattle.nat_types.specs.declared.pairs.Endpoint.{Endpoint};
 ghost use Rattle.nat_types.specs.declared.pairs.Key.{Key};
 ghost use Rattle.nat_types.specs.declared.records.Record.{Record};
+ghost use Rattle.bindings.specs.declared.entries.Entry.{Entry};
 ghost use Rattle.bindings.specs.declared.entries.PortBounds.{PortBounds};
+ghost use Rattle.bindings.specs.Entries.{is_pair, slot_of};
 ghost use Rattle.bindings.specs.Ports.{AreBounds};
 ghost use Rattle.link.specs.declared.datagrams.Datagram.{Datagram};
 ghost use Rattle.link.specs.declared.datagrams.Taken.{Taken};
 ghost use Rattle.link.specs.Grammar.{IsWellFormedRecord};
 ghost use Rattle.link.specs.Letters.{IsLetter};
-ghost use Rattle.link.specs.Link.{Link, Agrees, IsTaken, fresh, handed_count, met, with_fed};
+ghost use Rattle.link.specs.Link.{Link, Agrees, IsTaken, fresh, handed_count, met};
+ghost use Rattle.link.specs.Link.{needs_answer, with_fed};
+ghost use Rattle.resync.specs.Batch.{is_settled};
 ghost use Rattle.pair_machine.specs.Box.{In, Letter, booted, founder};
 ghost use Rattle.pair_machine.specs.Step.{IsStep, WasSent};
 ghost use Rattle.binding_step.specs.declared.changes.Change.{Change};
-ghost use Rattle.binding_step.specs.Books.{Book, IsBook, empty_book, founded_book, is_lone, is_synced};
-ghost use Rattle.binding_step.specs.Fits.{Fits, IsWellFormedEndpoint};
+ghost use Rattle.binding_step.specs.Books.{Book, IsBook, empty_book, founded_book};
+ghost use Rattle.binding_step.specs.Books.{is_lone, is_promised, is_synced};
+ghost use Rattle.binding_step.specs.Fits.{Fits, IsBeside, IsSameBatch, IsWellFormedEndpoint};
 ghost use Rattle.binding_step.specs.Machine.{box_at, letter_of, promised_of, ranges_of};
 ghost use Rattle.binding_step.specs.Machine.{IsTurn, Stands, Works};
 ghost use Rattle.binding_step.specs.Resets.{back_in, put_alone, restart_batch, restart_link};
@@ -56,6 +61,29 @@ pub fn answers_fit()
         → b.coming ≡ records ++ rest → AllByRecursion IsWellFormedRecord records }
 {}
 
+/// What a change, a record and a row leave as it is.
+pub fn rows_leave()
+    ensures change { (b : Book) (c : Change) → IsBeside b (changed c b) }
+    // Only a record that needs an answer is answered.
+    ensures answer { (b : Book) (rests : Bool) (r : Record) → needs_answer r ≡ false
+        → taken_answer b rests r ≡ None }
+    ensures together { (b : Book) (rests : Bool) (r : Record) → is_lone b.stage ≡ false
+        → is_lone (taken_book b rests r).stage ≡ false }
+    ensures coming { (b : Book) (rests : Bool) (r : Record)
+        → (taken_book b rests r).coming ≡ b.coming }
+    // While a batch is promised, a record changes nothing, and nothing else changes the batch.
+    ensures promised { (b : Book) (rests : Bool) (r : Record) → is_synced b.stage ≡ true
+        → is_promised b ≡ true → taken_book b rests r ≡ b }
+    ensures wished { (b : Book) (full : Bool) (e : Endpoint) → is_lone b.stage ≡ false
+        → IsSameBatch b (after b (wish_of b full e).row) }
+    ensures idle { (b : Book) (ask : Bool) (k : Key) → IsBook b → is_lone b.stage ≡ false
+        → IsSameBatch b (after b (idle_row b ask k)) }
+    ensures carried { (b : Book) (k : Key) → IsSameBatch b (after b (carry_row b k)) }
+    // So much room a batch needs on the link.
+    ensures room { (b : Book)
+        → length (restart_batch b) ≤ length b.owned + length b.entries + 2 }
+{}
+
 /// What holds of every book is kept by each change that fits, at a synced gateway, and so by each row.
 pub fn books_keep()
     ensures change { (b : Book) (c : Change) → IsBook b → is_synced b.stage ≡ true → Fits b c
@@ -68,6 +96,10 @@ pub fn books_keep()
         → IsBook (after b (idle_row b ask k)) }
     ensures carried { (b : Book) (k : Key) → IsBook b → IsBook (after b (carry_row b k)) }
     ensures restarted { (b : Book) → IsBook b → IsBook (restarted b) }
+    // Each entry is an agreed pair then.
+    ensures agreed { (b : Book) → IsBook b → (key : Key) (x : Entry)
+        → slot_of (restarted b).entries key ≡ Some x
+        → (is_settled x.state ≡ true) × (is_pair x.state ≡ true) }
     ensures alone { (b : Book) → IsBook b → is_synced b.stage ≡ true → IsBook (put_alone b) }
     ensures fed { (b : Book) (records rest : List Record) → IsBook b
         → b.coming ≡ records ++ rest → IsBook (record b { coming = rest }) }
@@ -99,22 +131,22 @@ pub fn record_works()
 /// A packet's wish is an act of the machine, or none.
 pub fn wish_works()
     ensures { (now : ℕ) (b : Book) (e : Link) (n : ℕ) (h : List Record) (full : Bool) (x : Endpoint)
-        → Stands b e h → let row = (wish_of b full x).row in
-        Works now [] [] b e n (after b row) (answered e row.answer) n (noted_by b.id now row.what) h }
+        → Stands b e h → let w = (wish_of b full x).row in
+        Works now [] [] b e n (after b w) (answered e w.answer) n (noted_by b.id now w.what) h }
 {}
 
 /// An idle pair at a tick is let go by an act of the machine, or nothing happens.
 pub fn idle_works()
     ensures { (now : ℕ) (b : Book) (e : Link) (n : ℕ) (h : List Record) (ask : Bool) (k : Key)
-        → Stands b e h → let row = idle_row b ask k in
-        Works now [] [] b e n (after b row) (answered e row.answer) n (noted_by b.id now row.what) h }
+        → Stands b e h → let w = idle_row b ask k in
+        Works now [] [] b e n (after b w) (answered e w.answer) n (noted_by b.id now w.what) h }
 {}
 
 /// A packet that is translated is an act of the machine.
 pub fn carry_works()
     ensures { (now : ℕ) (b : Book) (e : Link) (n : ℕ) (h : List Record) (k : Key)
-        → Stands b e h → let row = carry_row b k in
-        Works now [] [] b e n (after b row) (answered e row.answer) n (noted_by b.id now row.what) h }
+        → Stands b e h → let w = carry_row b k in
+        Works now [] [] b e n (after b w) (answered e w.answer) n (noted_by b.id now w.what) h }
 {}
 
 /// A greater boot of the peer is heard: e is the end before the datagram, e1 the one after it.
@@ -139,8 +171,8 @@ pub fn feed_works()
         → Works now [] [] b e n (record b { coming = rest }) (with_fed e records) n [] h }
 {}
 
-/// Of a datagram that isn't of a greater boot the machine sees nothing until its records are taken. In general: two ends
-/// that speak of the same boots and have as much promised make the same box.
+/// Of a datagram that isn't of a greater boot the machine sees nothing until its records are taken.
+/// In general: two ends that speak of the same boots and have as much promised make the same box.
 pub fn heard_works()
     ensures heard { (now : ℕ) (b : Book) (e e1 : Link) (n : ℕ) (h : List Record) (bytes : List ℕ)
         (t : Taken) (d : Datagram) → Stands b e h → IsTaken bytes e now t e1 d
@@ -174,7 +206,8 @@ pub fn works_more()
         → Works now letters2 words2 b e n b2 e2 n2 ns h }
 {}
 
-/// With the datagram behind it, of which all was handed in, a part is a step of the machine. e3 is the end once it is sent.
+/// With the datagram behind it, of which all was handed in, a part is a step of the machine. e3 is
+/// the end once it is sent.
 pub fn works_sent()
     ensures sent { (now : ℕ) (letters : List Letter) (words : List ℕ) (b b2 : Book)
         (e e2 e3 : Link) (n n2 before count : ℕ) (ns : List Note) (h : List Record) (d : Datagram)

@@ -31,3 +31,4 @@ pub mod Runs
 pub mod MoreRuns
 pub mod Taking
 pub mod Forged
+pub mod Counted

@@ -1,5 +1,5 @@
 -- The pair with its mail: every datagram that was ever sent may come, any number of times and in any order.
-use Rattle.std.specs.Prelude.{IsTrue, List, Some, [], false, length, true, ℕ, ◌&&◌, ◌++◌, ◌||◌, ◌∷◌, ◌≡◌}
+use Rattle.std.specs.Prelude.{IsTrue, List, Some, [], false, length, true, ℕ, ◌&&◌, ◌++◌, ◌||◌, ◌∷◌, ◌≡◌, ◌+◌, ◌≤◌}
 use Rattle.nat_types.specs.declared.gateways.GatewayId.{GatewayId}
 use Rattle.nat_types.specs.declared.gateways.GatewayId.TheVariants.{Zero, One}
 use Rattle.nat_types.specs.declared.notes.Note.{Note}
@@ -105,6 +105,11 @@ pub record HasOwners (r : Ranges) (s : Scene) : Type 0 where
   -- and no other port is owned
   pub within : (i : GatewayId) → (box_in s i).synced ≡ true → (p : ℕ) →
       IsTrue ((box_in s i).owned p) → IsTrue (r.in_ranges p)
+
+-- so many records, and no more, stand in the letters of the session that the gateway is in
+abbrev pub EndsBy : Box → List Letter → ℕ → Type 0
+EndsBy b mail n =
+    (l : Letter) → In l mail → l.boot ≡ b.peer → l.to ≡ b.boot → l.first + length l.records ≤ n
 
 module _ (r : Ranges) where
   -- An act is allowed where the gateway may do it, what it reads was sent, and the outside is so.

@@ -16,7 +16,7 @@ ghost use Rattle.pair_machine.specs.Rows.{live_first, held_first, LeadsTo, Leave
 ghost use Rattle.pair_machine.specs.RecordTable.{AreFacts, DoesTake, Facts, act_by_table, becomes_owned};
 ghost use Rattle.pair_machine.specs.Step.{IsOff, IsStep, ReadsOnly, WasSent};
 ghost use Rattle.pair_machine.specs.Talk.{Free, Held, Live, MachineRecord, Slot};
-ghost use Rattle.pair_machine.specs.World.{AreAllowed, Can, MachineEvent, HasOwners, TableHolds, IsKept, IsWorld, Scene, TableTranslates, box_in, after_event, mail_in, after_events, seen_by, founding, tables_of, with_step};
+ghost use Rattle.pair_machine.specs.World.{AreAllowed, Can, EndsBy, MachineEvent, HasOwners, TableHolds, IsKept, IsWorld, Scene, TableTranslates, box_in, after_event, mail_in, after_events, seen_by, founding, tables_of, with_step};
 
 /// The headline. Whatever is lost, repeated or reordered, and whenever a gateway crashes and boots: no outside port of
 /// an open pair serves another endpoint, no endpoint gets another port, every open pair is held by each synced gateway,
@@ -70,7 +70,8 @@ pub fn takes_in_order()
 {}
 
 /// What only a forger can do: while its batch is promised, a synced gateway that isn't lone never meets a letter of the
-/// other's with a record that stands next, and in the session with it the other took no more than may be sent.
+/// other's with a record that stands next, and in the session with it the other took no more than may be sent;
+/// and ever it took no more than letters of its session have.
 pub fn nothing_forged()
     ensures waits { (r : Ranges) (s : Scene) (i : GatewayId) (m : ℕ) (l : Letter) (offset : ℕ)
         (q : MachineRecord) → IsWorld r s → let v = seen_by i s in v.mine.synced ≡ true →
@@ -80,6 +81,8 @@ pub fn nothing_forged()
         let v = seen_by i s in v.mine.synced ≡ true → v.mine.lone ≡ false →
         v.mine.promised ≡ Some m → v.theirs.up ≡ true → v.mine.peer ≡ v.theirs.boot →
         v.theirs.taken ≤ m }
+    ensures sent { (r : Ranges) (s : Scene) (i : GatewayId) (n : ℕ) → IsWorld r s →
+        let v = seen_by i s in EndsBy v.theirs v.my_mail n → v.theirs.taken ≤ n }
 {}
 
 /// A step of gateway i, as its own contract tells of it, leads from a scene that can come about to one that can, where

@@ -1,4 +1,4 @@
-use Rattle.binding_step.proofs.Keeping.{change-keeps, taken-keeps, wish-keeps, idle-keeps, carry-keeps, restart-keeps, alone-keeps, fed-keeps}
+use Rattle.binding_step.proofs.Keeping.{change-keeps, taken-keeps, wish-keeps, idle-keeps, carry-keeps, restart-keeps, alone-keeps, fed-keeps, restart-agrees}
 use Rattle.binding_step.proofs.laws.books_keep.Goals as goal
 
 pub returns-clause-change : goal.returns-clause-change
@@ -24,3 +24,6 @@ returns-clause-alone c = alone-keeps
 
 pub returns-clause-fed : goal.returns-clause-fed
 returns-clause-fed c = fed-keeps
+
+pub returns-clause-agreed : goal.returns-clause-agreed
+returns-clause-agreed c = restart-agrees
