@@ -1,5 +1,5 @@
 #!/usr/bin/env bash
-# What a look-up and a learn cost in a full ARP cache of 1,024 entries.   usage: bench/arp.sh [COUNT]
+# What a renewal, a stranger and a look-up cost in a full ARP cache of 1,024 entries.   usage: bench/arp.sh [COUNT]
 # It builds and runs crates/arp_timed. A benchmark and no test: nothing compares its numbers.
 set -euo pipefail
 cd "$(dirname "$0")/../crates/arp_timed"

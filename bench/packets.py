@@ -3,7 +3,7 @@
 
 usage: bench/packets.py [PACKETS [ENDPOINTS]]     (100000 and 1000 by default)
 
-Run it from the top of the repository, after `cd crates/natpair && rt run -- sim S ../../examples/first.script`
+Run it from the top of the repository, after `cd crates/natpair && rt run -- sim ../../examples/S.toml ../../examples/first.script`
 has built crates/natpair/out/natpair. It is a benchmark and no test: nothing compares its numbers.
 """
 import os
@@ -14,6 +14,7 @@ import tempfile
 import time
 
 PROGRAM = os.path.join(os.path.dirname(__file__), "..", "crates", "natpair", "out", "natpair")
+SETTINGS = os.path.join(os.path.dirname(__file__), "..", "examples", "S.toml")
 
 
 def checksum(data):
@@ -50,7 +51,7 @@ def main():
             for n in range(packets):
                 out.write(f"frame 0 inside {frames[n % endpoints]}\n")
         start = time.perf_counter()
-        run = subprocess.run([os.path.abspath(PROGRAM), "sim", "S", script], stdout=subprocess.PIPE)
+        run = subprocess.run([os.path.abspath(PROGRAM), "sim", SETTINGS, script], stdout=subprocess.PIPE)
         spent = time.perf_counter() - start
     sent = run.stdout.count(b" sent\n")
     print(f"{packets + 1} events, {endpoints} endpoints, {sent} sent, status {run.returncode}")

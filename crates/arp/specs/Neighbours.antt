@@ -2,6 +2,7 @@
 use Rattle.std.specs.Prelude.{◌≡◌, ◌≢◌, ℕ, ◌-◌, ◌%◌, ◌==◌, ◌&&◌, not, nat_lt, List, [], ◌∷◌, ◌++◌, length, drop, replicate, slice_index, Option, Some, None, if◌then◌else◌}
 use Rattle.std.specs.List.{filter}
 use Rattle.addresses.specs.declared.ethernet.Mac.{Mac}
+use Rattle.addresses.specs.declared.internet.Ip.{Ip}
 use Rattle.addresses.specs.Address.{IsIn}
 use Rattle.arp.specs.declared.caches.TheConstants.{ENTRIES, VALID_FOR}
 use Rattle.arp.specs.declared.caches.Interface.{Interface}
@@ -47,11 +48,26 @@ abbrev pub mac_at : ℕ → ℕ → Neighbours → Option Mac
 mac_at address now known =
     or_else (fixed_mac address known.fixed) (learnt_mac address now known.learnt)
 
+-- an interface, as far as it decides whom it learns
+pub record Learner : Type 0 where
+  pub network : Ip
+  pub length : ℕ
+  pub primary_ip : Ip
+  pub virtual_ip : Ip
+
+abbrev pub learner_of : Interface → Learner
+learner_of i = record {
+  network = i.network.address;
+  length = i.network.length;
+  primary_ip = i.primary_ip;
+  virtual_ip = i.virtual_ip;
+}
+
 -- a sender that is learnt: of the interface's network, another than its own and the virtual
 -- address, with one station's hardware address
-pub record IsLearnable (interface : Interface) (sender : Neighbour) : Type 0 where
-  pub near : IsIn sender.address.0 interface.network.address.0 interface.network.length
-  pub not_primary : sender.address ≢ interface.primary_ip
-  pub not_virtual : sender.address ≢ interface.virtual_ip
+pub record IsLearnable (learner : Learner) (sender : Neighbour) : Type 0 where
+  pub near : IsIn sender.address.0 learner.network.0 learner.length
+  pub not_primary : sender.address ≢ learner.primary_ip
+  pub not_virtual : sender.address ≢ learner.virtual_ip
   pub not_zero : sender.mac.0 ≢ replicate 6 0
   pub one_station : slice_index sender.mac.0 0 % 2 ≡ 0

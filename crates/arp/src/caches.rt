@@ -1,7 +1,7 @@
 //! The cache of neighbours.
 ghost use Rattle.std.specs.Prelude.{◌≡◌, [], ◌↔◌, length, IfOk, IfSome, IsTrue};
 ghost use Rattle.arp.specs.Macs.{AllSix, KnowsMacs};
-ghost use Rattle.arp.specs.Neighbours.{with_entry, fixed_mac, mac_at, IsLearnable};
+ghost use Rattle.arp.specs.Neighbours.{with_entry, fixed_mac, mac_at, learner_of, IsLearnable};
 
 use crate::learnt::{Learnt, learn, mac_in};
 use crate::packets::octets_of;
@@ -144,7 +144,7 @@ fn fixed_mac(neighbours: &[Neighbour], address: Ip) -> Option<Mac>
 /// Whether an interface learns a sender (RFC 826): one of its network, but neither itself nor the
 /// virtual router, with the hardware address of one station.
 pub fn is_learnable(interface: &Interface, sender: &Neighbour) -> bool
-    ensures { IsTrue result ↔ IsLearnable interface.now sender.now }
+    ensures { IsTrue result ↔ IsLearnable (learner_of interface.now) sender.now }
 {
     interface.network.contains(sender.address)
         && sender.address != interface.primary_ip

@@ -114,6 +114,11 @@ rise-own_in low p (x ∷ xs) above r h = at (nat_lt p x) refl (λ past. rise-own
         let le : x ≤ p = ltb-false p x is in
         (r.0, ih (elim (cases_eq x p) [ inl same ↦ absurd (apart same) | inr other ↦ omega (arith, other) ]))
 
+-- where no port is listed, there is none
+pub none-listed : (xs : List ℕ) → ((q : ℕ) → is_listed q xs ≡ false) → xs ≡ []
+none-listed [] h = refl
+none-listed (x ∷ xs) h = absurd (both_ways (is_listed x (x ∷ xs)) (h x) (or_left (x == x) (is_listed x xs) (eq-eqb x x refl)))
+
 -- ---- the same ports in order are the same list
 
 pub same-rising : (low : ℕ) (xs ys : List ℕ) → RiseAbove low xs → RiseAbove low ys → ((q : ℕ) → is_listed q xs ≡ is_listed q ys) → xs ≡ ys

@@ -1,5 +1,5 @@
 -- What callers see of a table.
-use Rattle.std.specs.Prelude.{◌≡◌, ℕ, ◌≤◌, Bool, true, Some, List, length}
+use Rattle.std.specs.Prelude.{◌≡◌, ℕ, ◌≤◌, Bool, true, Some, List, [], length}
 use Rattle.std.specs.List.{insert}
 use Rattle.nat_types.specs.declared.pairs.EntryState.{EntryState}
 use Rattle.nat_types.specs.declared.pairs.Key.{Key}
@@ -56,6 +56,10 @@ pub record IsTable (t : Table) : Type 0 where
 -- each entry's port lies in one of the ranges
 abbrev pub AreInRanges : Table → Type 0
 AreInRanges t = (key : Key) (entry : Entry) → slot_of t.entries key ≡ Some entry → in_either t.zero t.one key.port.0 ≡ true
+
+-- a table for these ranges without entries and owned ports, that is ready for no add
+abbrev pub empty_table : PortBounds → PortBounds → Table
+empty_table zero one = record { entries = []; lives = []; owned = []; zero = zero; one = one; capacity = key_count zero one; ready = 0 }
 
 -- the table with one more entry and its life
 abbrev pub with_entry : Table → Entry → Life → Table

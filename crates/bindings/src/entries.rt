@@ -1,8 +1,7 @@
 //! Entries of a table, and lists of them by protocol (tcp first) and port.
-ghost use Rattle.std.specs.Prelude.{◌≡◌, ◌+◌, ◌<◌, ◌≤◌, nat_lt, length, vec_len, vec_capacity, position, IfOk, IsSome, if◌then◌else◌};
-ghost use Rattle.std.specs.List.{insert};
-ghost use Rattle.bindings.specs.Entries.{is_pair, translates, has_key, serves, slot_of, entry_of, entry_in, refusal_of, pairs_in, place_of};
-ghost use Rattle.bindings.specs.Lists.{place_in, put_in, without, with_state, key_place, stands_behind, after_key};
+ghost use Rattle.std.specs.Prelude.{◌≡◌, ◌+◌, ◌<◌, ◌≤◌, nat_lt, length, position, IfOk};
+ghost use Rattle.bindings.specs.Entries.{is_pair, translates, has_key, serves, slot_of, entry_of, refusal_of, pairs_in, place_of};
+ghost use Rattle.bindings.specs.Lists.{place_in, key_place, stands_behind, after_key};
 ghost use Rattle.bindings.specs.Ports.{in_bounds, is_vacant};
 ghost use Rattle.bindings.specs.Revivals.{woken};
 

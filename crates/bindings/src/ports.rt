@@ -60,6 +60,7 @@ fn unowned(alloc: Global, lowest: Port, highest: Port) -> Result<Range, AllocErr
     ensures free { IfOk result (λ r. (port : ℕ) → is_free r port
         ≡ is_within lowest.0 highest.0 port) }
     ensures owned { IfOk result (λ r. (port : ℕ) → is_owned r port ≡ false) }
+    ensures list { IfOk result (λ r. r.owned ≡ []) }
 {
     match Range::unowned(alloc, lowest, highest) {
         Ok(range) => Ok(range),
@@ -90,6 +91,7 @@ impl Ports {
         ensures free { IfOk result (λ p. (q : OutsidePort) → is_free_at p q
             ≡ is_within lowest.0 highest.0 q.port.0) }
         ensures owned { IfOk result (λ p. (port : ℕ) → is_owned p.tcp port ≡ false) }
+        ensures list { IfOk result (λ p. p.tcp.owned ≡ []) }
     {
         let tcp = unowned(alloc, lowest, highest)?;
         let udp = unowned(alloc, lowest, highest)?;

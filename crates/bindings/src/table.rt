@@ -6,7 +6,8 @@ ghost use Rattle.bindings.specs.declared.entries.Entry.{Entry as Row};
 ghost use Rattle.lives.specs.declared.packets.Packet.{Packet as Carried};
 ghost use Rattle.bindings.specs.Entries.{is_pair, translates, slot_of, entry_of, set_at, refusal_of, entry_in, pairs_in};
 ghost use Rattle.bindings.specs.Lists.{put_in, after_key};
-ghost use Rattle.bindings.specs.Revivals.{revived_entries, revived_slot};
+ghost use Rattle.bindings.specs.Revivals.{revived_entries, revived_slot, lives_of_pairs};
+ghost use Rattle.bindings.specs.Table.{empty_table};
 ghost use Rattle.bindings.specs.Runs.{own_in, without_port, all_ports, first_run, port_at};
 ghost use Rattle.addresses.specs.declared.transport.Protocol.TheVariants.{Tcp, Udp};
 ghost use Rattle.bindings.specs.Lives.{KeepsOthers, is_among, rests_at, is_unused_at};
@@ -84,6 +85,7 @@ impl Table {
         ensures zero { IfOk result (λ t. t.zero ≡ zero) }
         ensures one { IfOk result (λ t. t.one ≡ one) }
         ensures capacity { IfOk result (λ t. t.capacity ≡ key_count zero one) }
+        ensures empty { IfOk result (λ t. t ≡ empty_table zero one) }
     {
         let capacity = 2 * (port_count(zero) + port_count(one));
         let entries = Vec::with_capacity(alloc, capacity)?;
@@ -222,6 +224,7 @@ impl Table {
         ensures pasts { (q : OutsidePort) → (entry : Row) → (past : Past)
             → slot_of self.old.entries q ≡ Some entry → is_pair entry.state ≡ true
             → IsPast self.old q past → IsPast self.new q past }
+        ensures lives { self.new.lives ≡ lives_of_pairs self.old.entries self.old.lives }
         ensures same { self.new ≡ record self.old {
           entries = self.new.entries;
           lives = self.new.lives;

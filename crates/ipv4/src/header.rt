@@ -109,7 +109,7 @@ impl<'a> Ipv4View<'a> {
     pub fn type_of_service(&self) -> u8
         ensures { result ≡ (header_of self.now.bytes.now).type_of_service }
     {
-        self.bytes[field::TYPE_OF_SERVICE]
+        type_of_service(self.bytes)
     }
 
     /// The bytes of header and payload.
@@ -124,14 +124,14 @@ impl<'a> Ipv4View<'a> {
     pub fn identification(&self) -> u16
         ensures { result ≡ (header_of self.now.bytes.now).identification }
     {
-        BigEndian::read_u16(&self.bytes[field::IDENTIFICATION])
+        identification(self.bytes)
     }
 
     /// The flags in the high 3 bits, the fragment's offset in the low 13.
     pub fn flags_word(&self) -> u16
         ensures { result ≡ (header_of self.now.bytes.now).flags_word }
     {
-        BigEndian::read_u16(&self.bytes[field::FRAGMENT])
+        flags_word(self.bytes)
     }
 
     pub fn ttl(&self) -> u8
@@ -207,6 +207,27 @@ fn total_length(bytes: &[u8]) -> usize
     usize::from(BigEndian::read_u16(&bytes[field::TOTAL_LENGTH]))
 }
 
+fn type_of_service(bytes: &[u8]) -> u8
+    requires { 20 ≤ length bytes.now }
+    ensures { result ≡ (header_of bytes.now).type_of_service }
+{
+    bytes[field::TYPE_OF_SERVICE]
+}
+
+fn identification(bytes: &[u8]) -> u16
+    requires { 20 ≤ length bytes.now }
+    ensures { result ≡ (header_of bytes.now).identification }
+{
+    BigEndian::read_u16(&bytes[field::IDENTIFICATION])
+}
+
+fn flags_word(bytes: &[u8]) -> u16
+    requires { 20 ≤ length bytes.now }
+    ensures { result ≡ (header_of bytes.now).flags_word }
+{
+    BigEndian::read_u16(&bytes[field::FRAGMENT])
+}
+
 fn ttl(bytes: &[u8]) -> u8
     requires { 20 ≤ length bytes.now }
     ensures { result ≡ (header_of bytes.now).ttl }
@@ -246,7 +267,7 @@ fn fragment(bytes: &[u8]) -> bool
     requires { 20 ≤ length bytes.now }
     ensures { result ≡ is_fragment (header_of bytes.now) }
 {
-    let word = BigEndian::read_u16(&bytes[field::FRAGMENT]);
+    let word = flags_word(bytes);
     word / MORE_FRAGMENTS % 2 != 0 || word % MORE_FRAGMENTS != 0
 }
 
@@ -298,11 +319,30 @@ impl<'a> Ipv4ViewMut<'a> {
         header_length(self.bytes)
     }
 
+    pub fn type_of_service(&self) -> u8
+        ensures { result ≡ (header_of self.now.bytes.now).type_of_service }
+    {
+        type_of_service(self.bytes)
+    }
+
     /// The bytes of header and payload, as the header says.
     pub fn total_length(&self) -> usize
         ensures { result ≡ (header_of self.now.bytes.now).total_length }
     {
         total_length(self.bytes)
+    }
+
+    pub fn identification(&self) -> u16
+        ensures { result ≡ (header_of self.now.bytes.now).identification }
+    {
+        identification(self.bytes)
+    }
+
+    /// The flags in the high 3 bits, the fragment's offset in the low 13.
+    pub fn flags_word(&self) -> u16
+        ensures { result ≡ (header_of self.now.bytes.now).flags_word }
+    {
+        flags_word(self.bytes)
     }
 
     pub fn ttl(&self) -> u8

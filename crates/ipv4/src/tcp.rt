@@ -101,13 +101,13 @@ impl<'a> TcpView<'a> {
     pub fn sequence(&self) -> u32
         ensures { result ≡ (segment_of self.now.bytes.now).sequence }
     {
-        BigEndian::read_u32(&self.bytes[field::SEQUENCE])
+        sequence(self.bytes)
     }
 
     pub fn acknowledgement(&self) -> u32
         ensures { result ≡ (segment_of self.now.bytes.now).acknowledgement }
     {
-        BigEndian::read_u32(&self.bytes[field::ACKNOWLEDGEMENT])
+        acknowledgement(self.bytes)
     }
 
     /// The bytes of the header, 20 to 60.
@@ -128,7 +128,7 @@ impl<'a> TcpView<'a> {
     pub fn window(&self) -> u16
         ensures { result ≡ (segment_of self.now.bytes.now).window }
     {
-        BigEndian::read_u16(&self.bytes[field::WINDOW])
+        window(self.bytes)
     }
 
     pub fn checksum(&self) -> u16
@@ -140,7 +140,7 @@ impl<'a> TcpView<'a> {
     pub fn urgent(&self) -> u16
         ensures { result ≡ (segment_of self.now.bytes.now).urgent }
     {
-        BigEndian::read_u16(&self.bytes[field::URGENT])
+        urgent(self.bytes)
     }
 
     pub fn options(&self) -> &'a [u8]
@@ -171,6 +171,20 @@ fn destination_port(bytes: &[u8]) -> Port
     Port(BigEndian::read_u16(&bytes[field::DESTINATION_PORT]))
 }
 
+fn sequence(bytes: &[u8]) -> u32
+    requires { 20 ≤ length bytes.now }
+    ensures { result ≡ (segment_of bytes.now).sequence }
+{
+    BigEndian::read_u32(&bytes[field::SEQUENCE])
+}
+
+fn acknowledgement(bytes: &[u8]) -> u32
+    requires { 20 ≤ length bytes.now }
+    ensures { result ≡ (segment_of bytes.now).acknowledgement }
+{
+    BigEndian::read_u32(&bytes[field::ACKNOWLEDGEMENT])
+}
+
 fn header_length(bytes: &[u8]) -> usize
     requires { 20 ≤ length bytes.now }
     ensures { result ≡ (segment_of bytes.now).header_length }
@@ -199,11 +213,25 @@ fn flags(bytes: &[u8]) -> TcpFlags
     }
 }
 
+fn window(bytes: &[u8]) -> u16
+    requires { 20 ≤ length bytes.now }
+    ensures { result ≡ (segment_of bytes.now).window }
+{
+    BigEndian::read_u16(&bytes[field::WINDOW])
+}
+
 fn checksum(bytes: &[u8]) -> u16
     requires { 20 ≤ length bytes.now }
     ensures { result ≡ (segment_of bytes.now).checksum }
 {
     BigEndian::read_u16(&bytes[field::CHECKSUM])
+}
+
+fn urgent(bytes: &[u8]) -> u16
+    requires { 20 ≤ length bytes.now }
+    ensures { result ≡ (segment_of bytes.now).urgent }
+{
+    BigEndian::read_u16(&bytes[field::URGENT])
 }
 
 fn no_segment(bytes: &[u8]) -> bool
@@ -280,6 +308,18 @@ impl<'a> TcpViewMut<'a> {
         destination_port(self.bytes)
     }
 
+    pub fn sequence(&self) -> u32
+        ensures { result ≡ (segment_of self.now.bytes.now).sequence }
+    {
+        sequence(self.bytes)
+    }
+
+    pub fn acknowledgement(&self) -> u32
+        ensures { result ≡ (segment_of self.now.bytes.now).acknowledgement }
+    {
+        acknowledgement(self.bytes)
+    }
+
     /// The bytes of the header, as its data offset says.
     pub fn header_length(&self) -> usize
         ensures { result ≡ (segment_of self.now.bytes.now).header_length }
@@ -293,10 +333,22 @@ impl<'a> TcpViewMut<'a> {
         flags(self.bytes)
     }
 
+    pub fn window(&self) -> u16
+        ensures { result ≡ (segment_of self.now.bytes.now).window }
+    {
+        window(self.bytes)
+    }
+
     pub fn checksum(&self) -> u16
         ensures { result ≡ (segment_of self.now.bytes.now).checksum }
     {
         checksum(self.bytes)
+    }
+
+    pub fn urgent(&self) -> u16
+        ensures { result ≡ (segment_of self.now.bytes.now).urgent }
+    {
+        urgent(self.bytes)
     }
 
     pub fn set_source_port(&mut self, port: Port)

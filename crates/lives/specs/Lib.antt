@@ -4,3 +4,4 @@ pub mod Places
 pub mod Kept
 pub mod Lives
 pub mod Rests
+pub mod Dues

@@ -1,9 +1,10 @@
 //! Laws of the rule, for those who see uses and releases alone.
-ghost use Rattle.std.specs.Prelude.{◌≡◌, ℕ, ◌≤◌, true, Bool, List, ◌∷◌, ◌++◌, map};
+ghost use Rattle.std.specs.Prelude.{◌≡◌, ℕ, ◌≤◌, nat_le, true, Bool, List, ◌∷◌, ◌++◌, map};
 ghost use Rattle.addresses.specs.declared.transport.Protocol.{Protocol};
 ghost use Rattle.lives.specs.declared.packets.Packet.{Packet as Carried};
 ghost use Rattle.lives.specs.declared.TheConstants.{MAX_SESSIONS, UDP_REST, TRANSITORY_REST, ESTABLISHED_REST};
-ghost use Rattle.lives.specs.Lives.{Past, came, with_packet, renewed, is_idle, is_unused};
+ghost use Rattle.lives.specs.Dues.{due_moment};
+ghost use Rattle.lives.specs.Lives.{Past, Life as Seen, came, with_packet, renewed, looks_idle, is_idle, is_unused};
 ghost use Rattle.lives.specs.Rests.{least_rest, CameBy, AllRested, AllBefore, HaveRested, AccountsFor};
 
 /// An idle pair has rested since each use. The uses of a gateway's life are those of this list of packets, and those
@@ -56,4 +57,10 @@ pub fn uses_rest_law()
         → HaveRested (least_rest protocol) now uses }
     ensures rested { (rest since now : ℕ) → (uses : List ℕ) → since ≤ now
         → HaveRested rest since uses → HaveRested rest now uses }
+{}
+
+/// A pair that carries nothing more is idle just from one moment on, which its life tells.
+pub fn due_law()
+    ensures { (protocol : Protocol) → (life : Seen) → (now : ℕ) → looks_idle protocol life now
+        ≡ nat_le (due_moment protocol life) now }
 {}

@@ -8,7 +8,7 @@ mod packets;
 mod places;
 mod sessions;
 
-pub use laws::{idle_rests_law, uses_rest_law};
+pub use laws::{due_law, idle_rests_law, uses_rest_law};
 pub use life::Life;
 pub use packets::{Packet, Remote, Way};
 pub use sessions::{Class, Marks, Session};

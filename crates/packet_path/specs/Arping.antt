@@ -1,41 +1,48 @@
 -- What an interface does with an ARP packet: whom it learns, and what it answers.
-use Rattle.std.specs.Prelude.{ℕ, ◌%◌, Bool, not, ◌==◌, ◌&&◌, Option, Some, None, List, [], ◌∷◌, slice_index, if◌then◌else◌}
-use Rattle.std.specs.Str.{bytes_eq}
+use Rattle.std.specs.Prelude.{ℕ, Bool, ◌==◌, ◌&&◌, Option, Some, None, List, [], ◌∷◌, if◌then◌else◌}
 use Rattle.addresses.specs.Address.{virtual_mac}
 use Rattle.addresses.specs.declared.ethernet.Mac.{Mac}
 use Rattle.addresses.specs.declared.internet.Ip.{Ip}
 use Rattle.arp.specs.declared.packets.ArpPacket.{ArpPacket}
 use Rattle.arp.specs.declared.packets.Operation.{Operation}
 use Rattle.arp.specs.declared.packets.Operation.TheVariants.{Request, Reply}
+use Rattle.arp.specs.Neighbours.{Learner}
 use Rattle.arp.specs.Packet.{frame_bytes}
+use Rattle.arp.specs.declared.caches.Neighbour.{Neighbour}
 use Rattle.packet_path.specs.declared.networks.Network.{Network}
-use Rattle.packet_path.specs.Networks.{lies_in, broadcast_mac}
+use Rattle.packet_path.specs.Networks.{broadcast_mac}
 
 abbrev pub no_mac : List ℕ
 no_mac = 0 ∷ 0 ∷ 0 ∷ 0 ∷ 0 ∷ 0 ∷ []
 
--- a sender that is learnt: of the interface's network, another than its own and the virtual
--- address, with one station's hardware address
-unfoldable pub is_learnable : Network → ArpPacket → Bool
-is_learnable network p =
-    lies_in p.sender_ip.0 network.interface && (not (p.sender_ip.0 == network.own_ip.0)
-    && (not (p.sender_ip.0 == network.interface.virtual_ip.0)
-    && (not (bytes_eq p.sender_mac.0 no_mac) && (slice_index p.sender_mac.0 0 % 2 == 0))))
+-- the gateway's interface, as far as it decides whom it learns
+abbrev pub learner_of : Network → Learner
+learner_of network = record {
+  network = network.interface.virtual_ip;
+  length = network.interface.prefix_length;
+  primary_ip = network.own_ip;
+  virtual_ip = network.interface.virtual_ip;
+}
 
--- the hardware address of an address that is the gateway's
-unfoldable pub mac_here : Network → ℕ → Option Mac
-mac_here network ip =
+-- who sent an ARP packet
+abbrev pub sender_of : ArpPacket → Neighbour
+sender_of p = record { address = p.sender_ip; mac = p.sender_mac }
+
+-- the hardware address of an address that is the gateway's: the virtual one only where the
+-- interface is Active
+unfoldable pub mac_here : Network → Bool → ℕ → Option Mac
+mac_here network active ip =
     (if ip == network.own_ip.0 then Some network.own_mac
-    else (if ip == network.interface.virtual_ip.0
+    else (if active && (ip == network.interface.virtual_ip.0)
     then Some (record { 0 = virtual_mac network.interface.virtual_router }) else None))
 
-abbrev pub answer_by : Network → Ip → Operation → Option Mac
-answer_by network ip Request = mac_here network ip.0
-answer_by network ip Reply = None
+abbrev pub answer_by : Network → Bool → Ip → Operation → Option Mac
+answer_by network active ip Request = mac_here network active ip.0
+answer_by network active ip Reply = None
 
 -- the hardware address by which a packet is answered: a request for the own or the virtual address
-abbrev pub answer_to : Network → ArpPacket → Option Mac
-answer_to network p = answer_by network p.target_ip p.operation
+abbrev pub answer_to : Network → Bool → ArpPacket → Option Mac
+answer_to network active p = answer_by network active p.target_ip p.operation
 
 -- the packet that answers a request
 abbrev pub answer_packet : ArpPacket → Mac → ArpPacket

@@ -1,44 +1,54 @@
 //! What an interface does with ARP packets (RFC 826): whom it learns, and what it answers.
-ghost use Rattle.std.specs.Prelude.{◌≡◌};
-ghost use Rattle.packet_path.specs.Arping.{is_learnable, mac_here, answer_to, answer_frame, request_frame};
+ghost use Rattle.std.specs.Prelude.{◌≡◌, ◌↔◌, IsTrue};
+ghost use Rattle.arp.specs.Neighbours.{IsLearnable, learner_of as known_by};
+ghost use Rattle.packet_path.specs.Arping.{learner_of, sender_of, mac_here, answer_to, answer_frame, request_frame};
 
-use crate::networks::{Network, contains};
+use crate::networks::Network;
 use addresses::{Ip, Mac};
-use arp::{ArpPacket, Operation};
+use arp::{ArpPacket, Interface, Neighbour, Operation, is_learnable};
 
-const NO_MAC: Mac = Mac([0; 6]);
+fn interface_of(network: &Network) -> Interface
+    ensures { known_by result ≡ learner_of network.now }
+{
+    Interface {
+        network: network.interface.network(),
+        primary_ip: network.own_ip,
+        virtual_ip: network.interface.virtual_ip,
+    }
+}
 
 /// Whether the sender of a packet is learnt.
-#[tactic(auto, unfolding(crate::specs::Arping::is_learnable))]
 pub fn is_learnt(network: &Network, packet: &ArpPacket) -> bool
-    ensures { result ≡ is_learnable network.now packet.now }
+    ensures { IsTrue result
+        ↔ IsLearnable (learner_of network.now) (sender_of packet.now) }
 {
-    contains(&network.interface, packet.sender_ip)
-        && packet.sender_ip != network.own_ip
-        && packet.sender_ip != network.interface.virtual_ip
-        && packet.sender_mac != NO_MAC
-        && packet.sender_mac.0[0] % 2 == 0
+    let sender = Neighbour {
+        address: packet.sender_ip,
+        mac: packet.sender_mac,
+    };
+    is_learnable(&interface_of(network), &sender)
 }
 
 #[tactic(auto, unfolding(crate::specs::Arping::mac_here))]
-fn mac_here(network: &Network, address: Ip) -> Option<Mac>
-    ensures { result ≡ mac_here network.now address.0 }
+fn mac_here(network: &Network, active: bool, address: Ip) -> Option<Mac>
+    ensures { result ≡ mac_here network.now active address.0 }
 {
     if address == network.own_ip {
         Some(network.own_mac)
-    } else if address == network.interface.virtual_ip {
+    } else if active && address == network.interface.virtual_ip {
         Some(Mac::of_virtual_router(network.interface.virtual_router))
     } else {
         None
     }
 }
 
-/// The hardware address by which a packet is answered, where it asks for an address of the gateway.
-pub fn answer_to(network: &Network, packet: &ArpPacket) -> Option<Mac>
-    ensures { result ≡ answer_to network.now packet.now }
+/// The hardware address by which a packet is answered, where it asks for an address of the gateway:
+/// for the virtual one only where the interface is Active.
+pub fn answer_to(network: &Network, active: bool, packet: &ArpPacket) -> Option<Mac>
+    ensures { result ≡ answer_to network.now active packet.now }
 {
     match packet.operation {
-        Operation::Request => mac_here(network, packet.target_ip),
+        Operation::Request => mac_here(network, active, packet.target_ip),
         Operation::Reply => None,
     }
 }

@@ -1,5 +1,5 @@
 //! What follows of the definitions, and the numbers that they take from the code.
-ghost use Rattle.std.specs.Prelude.{◌≡◌, ℕ, Bool, true, false, Ok, List, length};
+ghost use Rattle.std.specs.Prelude.{◌≡◌, ◌≢◌, ◌<◌, ◌^◌, ℕ, Bool, true, false, Ok, List, length};
 ghost use Rattle.addresses.specs.declared.ethernet.Mac.{Mac as MacValue};
 ghost use Rattle.addresses.specs.declared.internet.Ip.{Ip as IpValue};
 ghost use Rattle.arp.specs.declared.packets.ArpPacket.{ArpPacket as ArpValue};
@@ -8,7 +8,9 @@ ghost use Rattle.packet_rules.specs.declared.networks.Networks.{Networks as Netw
 ghost use Rattle.packet_rules.specs.declared.readings.Reading.{Reading as ReadingValue};
 ghost use Rattle.packet_rules.specs.declared.translations.Translation.{Translation as TranslationValue};
 ghost use Rattle.packet_rules.specs.declared.steps.TheConstants.{LONGEST_FRAME};
-ghost use Rattle.packet_rules.specs.Adverts.{advert_frame};
+ghost use Rattle.vrrp_packet.specs.Message.{IsWritable};
+ghost use Rattle.packet_rules.specs.declared.readings.Reading.TheVariants.{Advert};
+ghost use Rattle.packet_rules.specs.Adverts.{own_advert, advert_frame};
 ghost use Rattle.packet_rules.specs.Arping.{answer_frame, request_frame, gratuitous_frame};
 ghost use Rattle.packet_rules.specs.Frames.{sent_frame, is_translation};
 ghost use Rattle.packet_rules.specs.Networks.{IsWired};
@@ -16,7 +18,7 @@ ghost use Rattle.packet_rules.specs.Steps.{reading_of, IsForwardable, Carries};
 
 use arp::arp_grammar;
 use ipv4::{ipv4_grammar, transport_grammar};
-use vrrp_packet::advert_grammar;
+use vrrp_packet::{advert_grammar, written_is_read};
 
 /// The longest frame that is taken, in bytes: an Ethernet header and 1,500 bytes.
 pub fn limits_law()
@@ -35,7 +37,8 @@ pub fn readings_law()
     advert_grammar();
 }
 
-/// The frame by which a packet is sent on counts as a translation, and no frame of ARP or VRRP does.
+/// The frame by which a packet is sent on counts as a translation, and no frame of ARP or VRRP
+/// does.
 pub fn frames_law()
     ensures sent { (networks : NetworksValue) (t : TranslationValue) (next : MacValue)
         (bytes : List ℕ) → IsWired networks → length next.0 ≡ 6 → IsForwardable bytes
@@ -50,3 +53,17 @@ pub fn frames_law()
     ensures advert { (network : NetworkValue) (priority interval : ℕ)
         → is_translation (advert_frame network priority interval) ≡ false }
 {}
+
+/// What a router advertises, the other gateway reads at its interface.
+pub fn advert_law()
+    ensures { (network peer : NetworkValue) (active : Bool) (priority interval : ℕ)
+        → IsWritable (own_advert network priority interval) → network.own_ip.0 < 2 ^ 32
+        → peer.interface.virtual_router ≡ network.interface.virtual_router
+        → peer.own_ip.0 ≢ network.own_ip.0
+        → reading_of peer active true (advert_frame network priority interval)
+        ≡ Ok (Advert (own_advert network priority interval) network.own_ip) }
+{
+    ipv4_grammar();
+    advert_grammar();
+    written_is_read();
+}

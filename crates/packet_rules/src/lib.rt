@@ -16,7 +16,7 @@ mod translations;
 pub use adverts::{append_advert, append_gratuitous};
 pub use arping::{answer_to, append_answer, append_request, is_learnt};
 pub use flows::{source_endpoint, target_key};
-pub use laws::{frames_law, limits_law, readings_law};
+pub use laws::{advert_law, frames_law, limits_law, readings_law};
 pub use networks::{Direction, Network, Networks, direction_taken, next_hop_outside};
 pub use readings::Reading;
 pub use reasons::Reason;

@@ -1,2 +1,4 @@
 pub mod Batch
+pub mod Cursor
 pub mod Loading
+pub mod Whole

@@ -1,6 +1,6 @@
 -- Loading: what each record makes of the table of a gateway that isn't synced.
-use Rattle.std.specs.Prelude.{ℕ, ◌+◌, ◌-◌, zero, suc, Bool, true, false, ◌&&◌, not, nat_lt, is_none, Option, Some, None, List, [], ◌∷◌, if◌then◌else◌}
-use Rattle.std.specs.List.{filter}
+use Rattle.std.specs.Prelude.{◌≡◌, ℕ, ◌+◌, ◌-◌, zero, suc, Bool, true, false, ◌&&◌, not, nat_lt, is_none, Option, Some, None, List, [], ◌∷◌, if◌then◌else◌}
+use Rattle.std.specs.List.{filter, insert}
 use Rattle.nat_types.specs.declared.pairs.EntryState.{EntryState}
 use Rattle.nat_types.specs.declared.pairs.EntryState.TheVariants.{Live, Held}
 use Rattle.nat_types.specs.declared.pairs.Pair.{Pair}
@@ -9,9 +9,14 @@ use Rattle.nat_types.specs.declared.records.Record.TheVariants.{Install, Accept,
 use Rattle.bindings.specs.declared.entries.Entry.{Entry}
 use Rattle.bindings.specs.declared.entries.PortBounds.{PortBounds}
 use Rattle.bindings.specs.Entries.{slot_of, entry_of, entry_in}
-use Rattle.bindings.specs.Lists.{put_in}
+use Rattle.bindings.specs.Lists.{place_in, put_in}
+use Rattle.bindings.specs.Lives.{KeepsOthers}
 use Rattle.bindings.specs.Ports.{in_either}
 use Rattle.bindings.specs.Runs.{all_ports}
+use Rattle.bindings.specs.Table.{Table, IsPast}
+use Rattle.lives.specs.Lives.{Life, came, life_begun}
+use Rattle.resync.specs.declared.loading.Loaded.{Loaded}
+use Rattle.resync.specs.declared.loading.Loaded.TheVariants.{Prepared, Paired, Whole}
 use Rattle.port_range.specs.Ports.{is_listed, is_within}
 
 -- A table as it is loaded, between the two ranges: whether Begin was taken (and Done not yet), the last port that an
@@ -23,6 +28,20 @@ pub record Load : Type 0 where
   pub named : ℕ
   pub entries : List Entry
   pub owned : List ℕ
+
+-- How far a loading is: between which ranges, whether Begin was taken (and Done not yet), and the last port named.
+pub record Progress : Type 0 where
+  pub zero : PortBounds
+  pub one : PortBounds
+  pub begun : Bool
+  pub named : ℕ
+
+abbrev pub fresh : PortBounds → PortBounds → Progress
+fresh z o = record { zero = z; one = o; begun = false; named = 0 }
+
+-- with the table that it loads
+abbrev pub load_of : Progress → Table → Load
+load_of p t = record { zero = t.zero; one = t.one; begun = p.begun; named = p.named; entries = t.entries; owned = t.owned }
 
 -- the ports but those from one to another
 abbrev pub unnamed : ℕ → ℕ → List ℕ → List ℕ
@@ -80,3 +99,68 @@ loaded l Done = where_ l.begun (record l { begun = false })
 loaded l Want = None
 loaded l (Grant g) = None
 loaded l (Owner first last) = where_ (l.begun && (none_yet l.entries && names_run l first.0 last.0)) (with_run l first.0 last.0)
+
+-- ---- what else is said of a record in its place
+
+abbrev pub is_put : Record → Bool
+is_put (Install p) = false
+is_put (Accept k) = false
+is_put (Refuse k) = false
+is_put (Ask k) = false
+is_put (Yes k) = false
+is_put (No k) = false
+is_put Begin = false
+is_put (Put p) = true
+is_put Done = false
+is_put Want = false
+is_put (Grant g) = false
+is_put (Owner first last) = false
+
+-- what it did: put its pair, ended the loading, or prepared the table
+abbrev pub what_of : Record → Loaded
+what_of (Install p) = Prepared
+what_of (Accept k) = Prepared
+what_of (Refuse k) = Prepared
+what_of (Ask k) = Prepared
+what_of (Yes k) = Prepared
+what_of (No k) = Prepared
+what_of Begin = Prepared
+what_of (Put p) = Paired
+what_of Done = Whole
+what_of Want = Prepared
+what_of (Grant g) = Prepared
+what_of (Owner first last) = Prepared
+
+-- a pair takes one of the places that were made ready
+abbrev pub ready_after : Record → ℕ → ℕ
+ready_after r ready = (if is_put r then ready - 1 else ready)
+
+-- a pair's life begins now, not by Install; Begin leaves none
+abbrev pub lives_taken : ℕ → Record → List Entry → List Life → List Life
+lives_taken now (Install p) es ls = ls
+lives_taken now (Accept k) es ls = ls
+lives_taken now (Refuse k) es ls = ls
+lives_taken now (Ask k) es ls = ls
+lives_taken now (Yes k) es ls = ls
+lives_taken now (No k) es ls = ls
+lives_taken now Begin es ls = []
+lives_taken now (Put p) es ls = insert ls (place_in p es) (life_begun false now)
+lives_taken now Done es ls = ls
+lives_taken now Want es ls = ls
+lives_taken now (Grant g) es ls = ls
+lives_taken now (Owner first last) es ls = ls
+
+-- the same of any past: a pair's life begins now, not by Install, and other lives go on; Begin leaves none
+abbrev pub LivesGoOn : ℕ → Record → Table → Table → Type 0
+LivesGoOn now (Install p) old new = new.lives ≡ old.lives
+LivesGoOn now (Accept k) old new = new.lives ≡ old.lives
+LivesGoOn now (Refuse k) old new = new.lives ≡ old.lives
+LivesGoOn now (Ask k) old new = new.lives ≡ old.lives
+LivesGoOn now (Yes k) old new = new.lives ≡ old.lives
+LivesGoOn now (No k) old new = new.lives ≡ old.lives
+LivesGoOn now Begin old new = new.lives ≡ []
+LivesGoOn now (Put p) old new = IsPast new p.key (came false now) × KeepsOthers p.key old.entries old.lives new.entries new.lives
+LivesGoOn now Done old new = new.lives ≡ old.lives
+LivesGoOn now Want old new = new.lives ≡ old.lives
+LivesGoOn now (Grant g) old new = new.lives ≡ old.lives
+LivesGoOn now (Owner first last) old new = new.lives ≡ old.lives

@@ -1,7 +1,8 @@
 //! UDP datagrams and TCP segments: other ports, and a checksum that follows.
 ghost use Rattle.std.specs.Prelude.{◌≡◌, ◌≤◌, length, drop};
 ghost use Rattle.byteorder.specs.Endian.{big_number};
-ghost use Rattle.rewrite.specs.Sums.{shortest};
+ghost use Rattle.sums.specs.Sum.{IsUpdate};
+ghost use Rattle.rewrite.specs.Sums.{shortest, flow_sum};
 ghost use Rattle.rewrite.specs.Translated.{udp_field, udp_with, tcp_with, segment_with};
 
 use crate::flows::update_flow;
@@ -19,6 +20,13 @@ fn udp_field(old: u16, sum: u16) -> u16
     }
 }
 
+/// The checksum of a TCP header, where the field was `field`: 0 is a sum as any other.
+fn tcp_field(field: u16, old: Flow, new: Flow) -> u16
+    ensures { IsUpdate field (flow_sum old) (flow_sum new) result }
+{
+    update_flow(field, old, new)
+}
+
 /// Writes the ports, and lets the checksum follow.
 fn rewrite_udp(segment: &mut [u8], old: Flow, new: Flow)
     requires long { 8 ≤ length segment.old }
@@ -34,7 +42,7 @@ fn rewrite_udp(segment: &mut [u8], old: Flow, new: Flow)
     view.set_checksum(udp_field(checksum, sum));
 }
 
-/// Writes the ports, and lets the checksum follow: 0 is a sum as any other.
+/// Writes the ports, and lets the checksum follow.
 fn rewrite_tcp(segment: &mut [u8], old: Flow, new: Flow)
     requires long { 20 ≤ length segment.old }
     requires source_port { old.source_port.0 ≡ big_number 2 segment.old }
@@ -42,10 +50,10 @@ fn rewrite_tcp(segment: &mut [u8], old: Flow, new: Flow)
     ensures { segment.new ≡ tcp_with old new segment.old }
 {
     let mut view = TcpViewMut::new(segment);
-    let sum = update_flow(view.checksum(), old, new);
+    let checksum = tcp_field(view.checksum(), old, new);
     view.set_source_port(new.source_port);
     view.set_destination_port(new.destination_port);
-    view.set_checksum(sum);
+    view.set_checksum(checksum);
 }
 
 /// The same for the protocol of the flow.

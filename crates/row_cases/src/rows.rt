@@ -11,11 +11,11 @@ use std::alloc::Global;
 use std::io::Write;
 use std::rt::Files;
 
-/// Prints what the run of a line prints.
+/// Prints what the run of a line prints, with the settings of S.toml where it names no others.
 ///
 /// - `script NAME` runs the file NAME.script, and audits its trace; `fault NAME` runs one that isn't read
 /// - `line TEXT` runs a script of that one line, `times COUNT TEXT` one of so many
-/// - `settings WORD` runs an empty script with this word for the settings
+/// - `settings TEXT` runs an empty script with this text for the settings
 /// - `room COUNT TEXT` runs a script of one line, whose output has room for so many bytes
 /// - `file NAME` reads a script's file
 /// - `narrow NAME`, `other NAME`, `unsynced NAME` run a script with one port, at gateway 1 of the world, and on a
@@ -23,13 +23,18 @@ use std::rt::Files;
 pub fn print<R: Files + AllocGlobal, O: Write>(rt: &R, row: &str, output: &mut O) -> Result<()> {
     let (alloc, (verb, rest)) = (rt.alloc(), row.split_once(' ').context("no verb")?);
     match verb {
-        "line" => simulated(alloc, "S", rest, output),
+        "line" => simulated(alloc, sample(rt)?.as_str(), rest, output),
         "settings" => simulated(alloc, rest, "", output),
-        "times" => repeated(alloc, rest, output),
-        "room" => crowded(alloc, rest, output),
+        "times" => repeated(rt, rest, output),
+        "room" => crowded(rt, rest, output),
         "file" => opened(rt, rest, output),
         _ => scripted(rt, verb, rest, output),
     }
+}
+
+/// The settings' text.
+fn sample<R: Files + AllocGlobal>(rt: &R) -> Result<String> {
+    Ok(text_of(rt, "S.toml")?)
 }
 
 /// The lines whose last word is the name of a script's file.
@@ -44,10 +49,10 @@ fn scripted<R: Files + AllocGlobal, O: Write>(
     let script = text.as_str();
     match verb {
         "script" => {
-            simulated(alloc, "S", script, output)?;
+            simulated(alloc, sample(rt)?.as_str(), script, output)?;
             audited(alloc, script, output)
         }
-        "fault" => simulated(alloc, "S", script, output),
+        "fault" => simulated(alloc, sample(rt)?.as_str(), script, output),
         "narrow" => alone::narrow(alloc, script, output),
         "other" => other(alloc, script, output),
         "unsynced" => alone::unsynced(alloc, script, output),
@@ -93,22 +98,23 @@ fn other<O: Write>(alloc: Global, script: &str, output: &mut O) -> Result<()> {
 }
 
 /// A script of the same line many times.
-fn repeated<O: Write>(alloc: Global, rest: &str, output: &mut O) -> Result<()> {
+fn repeated<R: Files + AllocGlobal, O: Write>(rt: &R, rest: &str, output: &mut O) -> Result<()> {
     let (count, line) = rest.split_once(' ').context("no count")?;
-    let mut script = String::new(alloc);
+    let mut script = String::new(rt.alloc());
     for _ in 0..count.parse::<u32>()? {
         script.push_str(line)?;
         script.push_str("\n")?;
     }
-    simulated(alloc, "S", script.as_str(), output)
+    simulated(rt.alloc(), sample(rt)?.as_str(), script.as_str(), output)
 }
 
 /// A script whose output is refused once so many bytes are written.
-fn crowded<O: Write>(alloc: Global, rest: &str, output: &mut O) -> Result<()> {
+fn crowded<R: Files + AllocGlobal, O: Write>(rt: &R, rest: &str, output: &mut O) -> Result<()> {
     let (room, script) = rest.split_once(' ').context("no room")?;
+    let (alloc, settings) = (rt.alloc(), sample(rt)?);
     let mut errors = Vec::new(alloc);
     let mut narrow = Narrow::new(room.parse::<usize>()?);
-    let status = simulate(alloc, "S", script, &mut narrow, &mut errors);
+    let status = simulate(alloc, settings.as_str(), script, &mut narrow, &mut errors);
     output.write_all(errors.as_slice())?;
     writeln!(output, "status {status}")?;
     Ok(())

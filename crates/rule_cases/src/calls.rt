@@ -1,7 +1,7 @@
 //! Which call a case names.
-use crate::frames;
 use crate::given::Given;
 use crate::interfaces::Interfaces;
+use crate::packets;
 use anyhow::{Result, bail};
 use settings::Settings;
 
@@ -28,13 +28,13 @@ pub fn answer(
             Ok(format!(in given.alloc; "ready")?)
         }
         call @ ("start" | "tick" | "stop") => interfaces.moved(given, call),
-        "read" => frames::read(interfaces, given),
-        "padded" => frames::read_padded(interfaces, given),
-        "advert" => frames::hear_advert(interfaces, given),
-        "arp" => frames::hear_arp(interfaces, given),
-        "mac" => frames::find_mac(interfaces, given),
-        "request" => frames::request(interfaces, given),
-        "send" => frames::send(interfaces, given),
+        "read" => packets::read(interfaces, given),
+        "padded" => packets::read_padded(interfaces, given),
+        "advert" => packets::hear_advert(interfaces, given),
+        "arp" => packets::hear_arp(interfaces, given),
+        "mac" => packets::find_mac(interfaces, given),
+        "request" => packets::request(interfaces, given),
+        "send" => packets::send(interfaces, given),
         call => bail!("no call {call}"),
     }
 }

@@ -4,9 +4,9 @@
 #![tactic(auto)]
 
 mod calls;
-mod frames;
 mod given;
 mod interfaces;
+mod packets;
 
 use anyhow::Result;
 use given::Given;

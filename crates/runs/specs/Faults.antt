@@ -1,19 +1,23 @@
 -- The faults of a run, and what leads to each.
 use Rattle.std.specs.Prelude.{◌≡◌, ℕ, List, Some}
 use Rattle.runs.specs.declared.faults.Fault.{Fault}
-use Rattle.runs.specs.declared.faults.Fault.TheVariants.{Usage, BadLine, NoFile, NotWritten, NotText, NoMemory}
+use Rattle.runs.specs.declared.faults.Fault.TheVariants.{Words, Setting, BadLine, NoFile, Exists, NotWritten, NotText, NoMemory}
 use Rattle.runs.specs.declared.printing.PrintFault.{PrintFault}
 use Rattle.runs.specs.declared.printing.PrintFault.TheVariants as prints
 use Rattle.runs.specs.declared.scripts.ScriptFault.{ScriptFault}
 use Rattle.runs.specs.declared.scripts.ScriptFault.TheVariants as scripts
 use Rattle.runs.specs.declared.scripts.TheConstants.{EVENTS}
+use Rattle.settings_file.specs.declared.faults.SettingFault.{SettingFault}
+use Rattle.settings_file.specs.declared.faults.SettingFault.TheVariants as sets
 use Rattle.runs.specs.Script.{first_bad_from}
 
--- 2 for a wrong command line, 1 for all else
+-- 2 for words that can't be read, 1 for all else
 abbrev pub status_of : Fault → ℕ
-status_of Usage = 2
+status_of Words = 2
+status_of (Setting fault) = 1
 status_of (BadLine n) = 1
 status_of NoFile = 1
+status_of Exists = 1
 status_of NotWritten = 1
 status_of NotText = 1
 status_of NoMemory = 1
@@ -27,6 +31,11 @@ of_print prints.NoMemory = NoMemory
 abbrev pub of_script : ScriptFault → Fault
 of_script (scripts.BadLine n) = BadLine n
 of_script scripts.NoMemory = NoMemory
+
+-- the fault of settings that aren't read
+abbrev pub of_setting : SettingFault → Fault
+of_setting sets.NoMemory = NoMemory
+of_setting fault = Setting fault
 
 -- of these lines the one that is told of is the first bad one
 abbrev pub IsTold : List (List ℕ) → ScriptFault → Type 0

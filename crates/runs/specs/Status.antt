@@ -1,14 +1,17 @@
 -- The exit status of a run.
-use Rattle.std.specs.Prelude.{◌≡◌, ℕ, Bool, if◌then◌else◌, List, map, is_err}
+use Rattle.std.specs.Prelude.{◌≡◌, Some, ℕ, Bool, if◌then◌else◌, List, map, is_err}
 use Rattle.std.specs.List.{list_any}
 use Rattle.std.specs.Str.Lines.{lines}
 use Rattle.settings.specs.declared.whole.Settings.{Settings}
-use Rattle.settings.specs.Sample.{IsSample}
+use Rattle.toml.specs.Parse.{parse_document}
+use Rattle.settings_file.specs.Settings.{IsReadFrom, Tells}
 use Rattle.frame_sim.specs.declared.events.Step.{Step}
 use Rattle.frame_sim.specs.declared.events.WorldEvent.{WorldEvent}
 use Rattle.frame_sim.specs.World.{World, founded}
 use Rattle.frame_sim.specs.Runs.{AreSteps}
-use Rattle.runs.specs.Script.{said, events_of}
+use Rattle.runs.specs.declared.faults.Fault.{Fault}
+use Rattle.runs.specs.declared.faults.Fault.TheVariants.{Setting, BadLine, NotWritten, NoMemory}
+use Rattle.runs.specs.Script.{said, events_of, first_bad_line}
 
 -- an event was refused
 abbrev pub has_refusal : List Step → Bool
@@ -25,10 +28,20 @@ pub record IsRun (settings : Settings) (events : List WorldEvent) (status : ℕ)
   pub answers : AreSteps (founded settings) events steps world
   pub refusals : status ≡ run_status steps
 
--- the status of a run of a script's events on a new world of the built-in settings
-pub record RunsScript (script : List ℕ) (status : ℕ) : Type 0 where
+-- the status of a run of a script's events on a new world of the settings that a text holds
+pub record RunsScript (text script : List ℕ) (status : ℕ) : Type 0 where
   pub settings : Settings
-  pub sample : IsSample settings
+  pub held : IsReadFrom (parse_document text) settings
   pub events : List WorldEvent
   pub read : map said events ≡ events_of (lines script)
   pub run : IsRun settings events status
+
+-- why a script isn't run to its end: the settings' fault, else the script's first bad line, else want of memory or
+-- output that is refused
+abbrev pub TellsRun : List ℕ → List ℕ → Fault → Type 0
+TellsRun text script (Setting fault) = Tells (parse_document text) fault
+TellsRun text script (BadLine n) =
+    ((settings : Settings) × IsReadFrom (parse_document text) settings) × (first_bad_line script ≡ Some n)
+TellsRun text script NotWritten = Unit {0}
+TellsRun text script NoMemory = Unit {0}
+TellsRun text script _ = ⊥

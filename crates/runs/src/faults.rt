@@ -4,23 +4,30 @@ ghost use Rattle.std.specs.Prelude.{◌≡◌};
 use crate::printing::PrintFault;
 use crate::scripts::ScriptFault;
 use gateway::NoMemory;
+use settings_file::SettingFault;
 use std::alloc::AllocError;
 use std::io::{self, ErrorKind, Write};
 use thiserror::Error;
 
 /// Why the program ends without its work done.
-#[derive(Clone, Copy, Debug, PartialEq, Eq, Error)]
+#[derive(Debug, Drop, Error)]
 pub enum Fault {
-    /// The command line is none of the program's.
-    #[error("usage: natpair sim S SCRIPT")]
-    Usage,
+    /// The words of the command line aren't UTF-8.
+    #[error("words that are not text")]
+    Words,
+    /// The settings' text holds none.
+    #[error("settings {0}")]
+    Setting(SettingFault),
     /// The script's line with this number, from 1, is none of a script's.
     #[error("script 1 BadLine {0}")]
     BadLine(usize),
     /// A file couldn't be opened or read.
     #[error("file 1 NoFile")]
     NoFile,
-    /// Output couldn't be written.
+    /// A file that was to be made is there already.
+    #[error("file 2 Exists")]
+    Exists,
+    /// A file or output couldn't be written.
     #[error("file 3 NotWritten")]
     NotWritten,
     /// A file isn't UTF-8.
@@ -37,19 +44,19 @@ impl Fault {
     ghost use Rattle.runs.specs.declared.faults.Fault.TheVariants as faults;
 
     /// The exit status that the fault leads to.
-    pub fn status(self) -> u8
-        ensures { result ≡ status_of self }
+    pub fn status(&self) -> u8
+        ensures { result ≡ status_of self.now }
     {
         match self {
-            Fault::Usage => 2,
+            Fault::Words => 2,
             _ => 1,
         }
     }
 
     /// Tells of the fault on a line behind `natpair: `, and gives its exit status. Where even that can't be
     /// written, the status alone tells.
-    pub fn tell<E: Write>(self, errors: &mut E) -> u8
-        ensures { result ≡ status_of self }
+    pub fn tell<E: Write>(&self, errors: &mut E) -> u8
+        ensures { result ≡ status_of self.now }
     {
         let _ = writeln!(errors, "natpair: {self}");
         self.status()
@@ -58,11 +65,11 @@ impl Fault {
     /// The fault of words that couldn't be read.
     pub fn of_starting(error: io::Error) -> Fault
         ensures memory { error_kind error ≡ ErrorKind.OutOfMemory → result ≡ faults.NoMemory }
-        ensures words { error_kind error ≢ ErrorKind.OutOfMemory → result ≡ faults.Usage }
+        ensures words { error_kind error ≢ ErrorKind.OutOfMemory → result ≡ faults.Words }
     {
         match error.kind() {
             ErrorKind::OutOfMemory => Fault::NoMemory,
-            _ => Fault::Usage,
+            _ => Fault::Words,
         }
     }
 
@@ -136,6 +143,20 @@ impl From<ScriptFault> for Fault {
         match fault {
             ScriptFault::BadLine(number) => Fault::BadLine(number),
             ScriptFault::NoMemory => Fault::NoMemory,
+        }
+    }
+}
+
+impl From<SettingFault> for Fault {
+    ghost use Rattle.std.specs.Prelude.{◌≡◌};
+    ghost use Rattle.runs.specs.Faults.{of_setting};
+
+    ghost from_gives = { λ fault gives. gives ≡ of_setting fault };
+
+    fn from(fault: SettingFault) -> Fault {
+        match fault {
+            SettingFault::NoMemory => Fault::NoMemory,
+            fault => Fault::Setting(fault),
         }
     }
 }

@@ -1,4 +1,4 @@
-//! Runs a script of frames and ticks against a founded gateway, and prints what it does.
+//! Runs a script of frames and ticks on a new world of settings from a text, and prints what it does.
 #![tactic(auto)]
 
 mod faults;

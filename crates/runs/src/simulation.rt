@@ -1,8 +1,8 @@
 //! A script's run: its events on a new world, their steps and the tables at its end printed.
-ghost use Rattle.std.specs.Prelude.{◌≡◌, ◌≢◌, ◌↔◌, ◌⊎◌, ◌≤◌, codes, IfOk, IfErr, OnOk, IsSome};
+ghost use Rattle.std.specs.Prelude.{◌≡◌, ◌⊎◌, None, IfOk, IfErr, OnOk, IsSome};
 ghost use Rattle.runs.specs.Faults.{status_of};
 ghost use Rattle.runs.specs.Script.{first_bad_line};
-ghost use Rattle.runs.specs.Status.{has_refusal, run_status, IsRun, RunsScript};
+ghost use Rattle.runs.specs.Status.{has_refusal, run_status, IsRun, RunsScript, TellsRun};
 ghost use Rattle.runs.specs.declared.faults.Fault.TheVariants as faults;
 
 use crate::{Fault, printing, scripts};
@@ -11,9 +11,9 @@ use settings::Settings;
 use std::alloc::Global;
 use std::io::Write;
 
-/// Runs a script on a new world of these settings, for now the word `S`, and prints its steps and tables.
+/// Runs a script on a new world of the settings that a text in TOML holds, and prints its steps and tables.
 ///
-/// The answer is the exit status: 0, 3 where an event was refused, or that of a fault, which is told on `errors`.
+/// The answer is the exit status: 0, 3 where an event was refused, or 1 for a fault, which is told on `errors`.
 pub fn simulate<O: Write, E: Write>(
     alloc: Global,
     settings: &str,
@@ -21,11 +21,9 @@ pub fn simulate<O: Write, E: Write>(
     output: &mut O,
     errors: &mut E,
 ) -> u8
-    ensures usage { (result ≡ 2) ↔ (settings.now ≢ codes "S") }
-    ensures bad { settings.now ≡ codes "S" → IsSome (first_bad_line script.now) → result ≡ 1 }
-    ensures good { (result ≡ 0) ⊎ (result ≡ 3) → first_bad_line script.now ≡ None }
-    ensures run { (result ≡ 0) ⊎ (result ≡ 3) → RunsScript script.now result }
-    ensures most { result ≤ 3 }
+    ensures status { (result ≡ 0) ⊎ ((result ≡ 1) ⊎ (result ≡ 3)) }
+    ensures bad { IsSome (first_bad_line script.now) → result ≡ 1 }
+    ensures run { (result ≡ 0) ⊎ (result ≡ 3) → RunsScript settings.now script.now result }
 {
     match simulated(alloc, settings, script, output) {
         Ok(status) => status,
@@ -39,16 +37,13 @@ fn simulated<O: Write>(
     script: &str,
     output: &mut O,
 ) -> Result<u8, Fault>
-    ensures usage { settings.now ≢ codes "S" → result ≡ Err faults.Usage }
-    ensures known { settings.now ≡ codes "S" → IfErr result (λ fault. status_of fault ≡ 1) }
+    ensures told { IfErr result (TellsRun settings.now script.now) }
+    ensures known { IfErr result (λ fault. status_of fault ≡ 1) }
     ensures good { OnOk result (first_bad_line script.now ≡ None) }
-    ensures run { IfOk result (RunsScript script.now) }
+    ensures run { IfOk result (RunsScript settings.now script.now) }
     ensures status { IfOk result (λ status. (status ≡ 0) ⊎ (status ≡ 3)) }
 {
-    if settings != "S" {
-        return Err(Fault::Usage);
-    }
-    let settings = Settings::sample(alloc)?;
+    let settings = settings_file::read(alloc, settings)?;
     let events = scripts::read(alloc, script)?;
     play(alloc, &settings, events.as_slice(), output)
 }

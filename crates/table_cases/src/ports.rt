@@ -27,6 +27,7 @@ impl PortCase {
             "put_back" => self.put_back(given.port()?)?,
             "own" => self.own(given.port()?)?,
             "disown" => self.disown(given.port()?)?,
+            "reset" => self.range.reset(),
             call => return self.asked(call, given),
         }
         Ok(String::new(alloc))

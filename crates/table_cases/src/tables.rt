@@ -1,12 +1,12 @@
 //! Lines on one table.
 ghost use Rattle.std.specs.Prelude.{◌≡◌};
-ghost use Rattle.bindings.specs.Ports.{AreBounds, in_bounds};
+ghost use Rattle.bindings.specs.Ports.{AreBounds};
 
 use crate::given::Given;
-use addresses::{Port, Protocol};
+use addresses::Port;
 use anyhow::{Result, bail};
-use bindings::{PortBounds, Table};
-use nat_types::{EntryState, Key, Pair};
+use bindings::{Entry, PortBounds, Table};
+use nat_types::{EntryState, Pair};
 use std::alloc::Global;
 
 /// The table that the lines so far have come to, and the ranges that it was made for.
@@ -19,12 +19,6 @@ pub struct TableCase {
     ghost second: { table.one ≡ one },
 }
 
-fn is_in(bounds: PortBounds, port: Port) -> bool
-    ensures { result ≡ in_bounds bounds port.0 }
-{
-    bounds.lowest.0 <= port.0 && port.0 <= bounds.highest.0
-}
-
 /// How many pairs there are, and which.
 fn listed(alloc: Global, pairs: &[Pair]) -> Result<String> {
     let mut out = String::new(alloc);
@@ -33,6 +27,24 @@ fn listed(alloc: Global, pairs: &[Pair]) -> Result<String> {
         write!(out, ", {pair}")?;
     }
     Ok(out)
+}
+
+/// How many ports there are, and which.
+fn listed_ports(alloc: Global, ports: &[Port]) -> Result<String> {
+    let mut out = String::new(alloc);
+    write!(out, "{}", ports.len())?;
+    for port in ports.iter() {
+        write!(out, ", {port}")?;
+    }
+    Ok(out)
+}
+
+/// An entry, if there is one.
+fn shown(alloc: Global, entry: Option<Entry>) -> Result<String> {
+    match entry {
+        Some(entry) => Ok(format!(in alloc; "{} {:?}", entry.pair, entry.state)?),
+        None => Ok(format!(in alloc; "none")?),
+    }
 }
 
 impl TableCase {
@@ -72,6 +84,9 @@ impl TableCase {
             "renew" => self.table.renew(given.key()?, given.moment()?),
             "set_state" => self.set_state(given)?,
             "remove" => self.table.remove(given.key()?),
+            "revive" => self.table.revive(),
+            "clear" => self.table.clear(),
+            "own_all" => self.table.own_all(),
             "add" => return self.add(given),
             call => return self.asked(call, given),
         }
@@ -82,8 +97,13 @@ impl TableCase {
         let alloc = given.alloc;
         match call {
             "free_like" => self.chosen(given),
-            "pair_of_port" => self.entry_of_key(given),
-            "port_of" => self.entry_of_endpoint(given),
+            "pair_of_port" => shown(alloc, self.table.pair_of_port(given.key()?)),
+            "port_of" => shown(alloc, self.table.port_of(given.endpoint()?)),
+            "first_entry" => shown(alloc, self.table.entry_after(None)),
+            "entry_after" => shown(alloc, self.table.entry_after(Some(given.key()?))),
+            "owned" => listed_ports(alloc, self.table.owned()?.as_slice()),
+            "first_run" => self.run(given),
+            "len" => Ok(format!(in alloc; "{}", self.table.len())?),
             "idle_keys" => self.idle_keys(given),
             "pairs" => listed(alloc, self.table.pairs()?.as_slice()),
             "translating" => listed(alloc, self.table.translating()?.as_slice()),
@@ -96,6 +116,8 @@ impl TableCase {
             "owns" => self.table.owns(given.port()?),
             "idle" => self.table.idle(given.key()?, given.moment()?),
             "unused" => self.table.unused(given.key()?),
+            "is_vacant" => self.table.is_vacant(given.port()?),
+            "is_spare" => self.table.is_spare(given.port()?),
             _ => bail!("no call {call}"),
         };
         Ok(format!(in given.alloc; "{told}")?)
@@ -109,7 +131,7 @@ impl TableCase {
     }
 
     fn own(&mut self, port: Port) -> Result<()> {
-        if !is_in(self.zero, port) && !is_in(self.one, port) {
+        if !self.zero.holds(port) && !self.one.holds(port) {
             bail!("it lies in no range");
         }
         if self.table.owns(port) {
@@ -123,15 +145,7 @@ impl TableCase {
         if !self.table.owns(port) {
             bail!("it isn't owned");
         }
-        let tcp = Key {
-            protocol: Protocol::Tcp,
-            port,
-        };
-        let udp = Key {
-            protocol: Protocol::Udp,
-            port,
-        };
-        if self.table.pair_of_port(tcp).is_some() || self.table.pair_of_port(udp).is_some() {
+        if !self.table.is_vacant(port) {
             bail!("it has an entry");
         }
         self.table.disown(port);
@@ -177,16 +191,10 @@ impl TableCase {
         }
     }
 
-    fn entry_of_key(&self, given: &mut Given<'_>) -> Result<String> {
-        match self.table.pair_of_port(given.key()?) {
-            Some(entry) => Ok(format!(in given.alloc; "{} {:?}", entry.pair, entry.state)?),
-            None => Ok(format!(in given.alloc; "none")?),
-        }
-    }
-
-    fn entry_of_endpoint(&self, given: &mut Given<'_>) -> Result<String> {
-        match self.table.port_of(given.endpoint()?) {
-            Some(entry) => Ok(format!(in given.alloc; "{} {:?}", entry.pair, entry.state)?),
+    /// The first run of owned ports from one on.
+    fn run(&self, given: &mut Given<'_>) -> Result<String> {
+        match self.table.first_run(given.port()?) {
+            Some(run) => Ok(format!(in given.alloc; "{} to {}", run.lowest, run.highest)?),
             None => Ok(format!(in given.alloc; "none")?),
         }
     }

@@ -35,7 +35,8 @@ with_note told note = record told { notes = told.notes ++ note ∷ [] }
 abbrev pub sent : List Side → List (List ℕ) → List Sent
 sent [] strings = []
 sent (side ∷ sides) [] = []
-sent (side ∷ sides) (bytes ∷ strings) = record { side = side; bytes = bytes } ∷ sent sides strings
+sent (side ∷ sides) (bytes ∷ strings) =
+    record { side = side; bytes = bytes } ∷ sent sides strings
 
 abbrev pub no_room : Room
 no_room = record { frames = 0; datagrams = 0; notes = 0 }

@@ -1,6 +1,8 @@
 //! The page on which a step writes what it tells.
-ghost use Rattle.std.specs.Prelude.{◌≡◌, ◌≤◌, ◌<◌, ◌+◌, ◌-◌, ◌++◌, length, vec_len, vec_capacity, OnOk, OnErr, IsOk};
-ghost use Rattle.told.specs.Told.{none_told, no_room, with_frame, with_datagram, with_note, without_notes, IsWithin};
+ghost use Rattle.std.specs.Prelude.{◌≡◌, ◌≤◌, ◌<◌, ◌+◌, ◌-◌, ◌++◌, length, vec_len, vec_capacity};
+ghost use Rattle.std.specs.Prelude.{OnOk, OnErr, IsOk};
+ghost use Rattle.told.specs.Told.{none_told, no_room, with_frame, with_datagram, with_note};
+ghost use Rattle.told.specs.Told.{without_notes, IsWithin};
 
 use crate::piles::Pile;
 use crate::readers::{ByteStrings, Frames};

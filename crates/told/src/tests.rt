@@ -43,11 +43,12 @@ const NOTE: Note = Note {
 #[test]
 fn what_is_told_is_read_in_order(rt: HostRuntime) -> Result<(), Fail> {
     let mut out = Out::new(rt.alloc());
-    out.page.ready(Room {
+    let room = Room {
         frames: 2,
         datagrams: 1,
         notes: 1,
-    })?;
+    };
+    out.page.ready(room)?;
     out.page.send_frame(Side::Inside, b"one");
     let made = Twice(b"ab");
     out.page.make_frame(Side::Outside, &made);
@@ -70,6 +71,10 @@ fn what_is_told_is_read_in_order(rt: HostRuntime) -> Result<(), Fail> {
     assert_eq!(rt; out.notes(), [NOTE].as_slice());
     out.clear();
     assert!(rt; out.frames().next().is_none());
+    // It takes no memory again.
+    out.page.ready(room)?;
+    out.page.send_frame(Side::Inside, b"three");
+    assert_eq!(rt; out.frames().count(), 1);
     Ok(())
 }
 

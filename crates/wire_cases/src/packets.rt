@@ -88,15 +88,19 @@ fn tcp(alloc: Global, segment: &TcpView<'_>) -> Result<String> {
     )?)
 }
 
+/// What the header says that isn't written, and the packet afterwards.
 pub fn write_ipv4(given: &mut Given) -> Result<String> {
     let mut bytes = given.bytes()?;
     Ipv4View::parse(bytes.as_slice())?;
     let mut header = Ipv4ViewMut::new(bytes.as_mut_slice());
+    let (service, number) = (header.type_of_service(), header.identification());
+    let flags = header.flags_word();
     header.set_ttl(u8::from_be_bytes(given.octets::<1>()?));
     header.set_checksum(given.short()?);
     header.set_source(given.ip()?);
     header.set_destination(given.ip()?);
-    Ok(hex::encode(given.alloc, bytes.as_slice())?)
+    let bytes = hex::encode(given.alloc, bytes.as_slice())?;
+    Ok(format!(in given.alloc; "service {service} number {number} flags {flags:04x}: {bytes}")?)
 }
 
 pub fn write_udp(given: &mut Given) -> Result<String> {
@@ -109,14 +113,20 @@ pub fn write_udp(given: &mut Given) -> Result<String> {
     Ok(hex::encode(given.alloc, bytes.as_slice())?)
 }
 
+/// What the header says that isn't written, and the segment afterwards.
 pub fn write_tcp(given: &mut Given) -> Result<String> {
     let mut bytes = given.bytes()?;
     TcpView::parse(bytes.as_slice())?;
     let mut header = TcpViewMut::new(bytes.as_mut_slice());
+    let (sequence, acknowledgement) = (header.sequence(), header.acknowledgement());
+    let (window, urgent) = (header.window(), header.urgent());
     header.set_source_port(given.port()?);
     header.set_destination_port(given.port()?);
     header.set_checksum(given.short()?);
-    Ok(hex::encode(given.alloc, bytes.as_slice())?)
+    let bytes = hex::encode(given.alloc, bytes.as_slice())?;
+    Ok(format!(in given.alloc;
+        "sequence {sequence} acknowledgement {acknowledgement} window {window} urgent {urgent}: {bytes}"
+    )?)
 }
 
 fn is_carried(bytes: &[u8]) -> bool

@@ -1,0 +1,50 @@
+//! Runs lines of words as `natpair` would, and prints what each prints, its faults and its status.
+#![tactic(auto)]
+
+mod files;
+
+use acts::act;
+use anyhow::Result;
+use std::alloc::Global;
+use std::fs;
+use std::io::{self, BufWriter, Write};
+
+fn words_of(alloc: Global, line: &str) -> Result<Vec<String>> {
+    let mut words = Vec::new(alloc);
+    for word in line.split(' ') {
+        words.push(String::from_str(alloc, word)?)?;
+    }
+    Ok(words)
+}
+
+/// Output, faults and status of a line of words.
+fn acted<O: Write>(rt: &HostRuntime, line: &str, output: &mut O) -> Result<()> {
+    let words = words_of(rt.alloc(), line)?;
+    let mut errors = Vec::new(rt.alloc());
+    let status = act(rt, words.as_slice(), output, &mut errors);
+    output.write_all(errors.as_slice())?;
+    writeln!(output, "status {status}")?;
+    Ok(())
+}
+
+/// A line of the cases is empty, a `#` comment, the words of a command line, or one of these:
+///
+/// - `+ NAME;OLD;NEW` writes the file NAME: S.toml with its first line OLD replaced by NEW
+/// - `= NAME` prints the bytes of the file NAME
+fn main(rt: HostRuntime) -> Result<()> {
+    let cases = fs::read_to_string(&rt, "acts.cases")?;
+    let mut output = BufWriter::new(rt.alloc(), io::writer(&rt))?;
+    for case in cases.lines() {
+        if case.is_empty() || case.starts_with("#") {
+            continue;
+        }
+        writeln!(output, "== {case}")?;
+        match case.split_once(' ') {
+            Some(("+", rest)) => files::write(&rt, rest)?,
+            Some(("=", name)) => files::show(&rt, name, &mut output)?,
+            _ => acted(&rt, case, &mut output)?,
+        }
+    }
+    output.flush()?;
+    Ok(())
+}

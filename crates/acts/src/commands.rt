@@ -1,0 +1,98 @@
+//! The commands.
+ghost use Rattle.std.specs.Prelude.{◌≡◌, ◌⊎◌, ◌≤◌, map, string_bytes, IfErr};
+ghost use Rattle.runs.specs.Faults.{status_of};
+ghost use Rattle.acts.specs.Words.{AreRefused};
+
+use boot_file::{FileFault, Uncached};
+use command_line::{Task, command};
+use runs::{Fault, simulate, text_of};
+use std::fs::Files;
+use std::io::Write;
+
+/// All that the program does with its words, its name first. The answer is the exit status.
+///
+/// | Status | |
+/// |---|---|
+/// | 0 | done |
+/// | 1 | a fault, told on `errors` as `natpair: AREA NUMBER NAME` |
+/// | 2 | the words are refused: why stands on `errors` |
+/// | 3 | an event of the script was refused |
+pub fn act<R: Files + AllocGlobal, O: Write, E: Write>(
+    rt: &R,
+    words: &[String],
+    output: &mut O,
+    errors: &mut E,
+) -> u8
+where
+    R::File: Uncached,
+    ensures usage { result ≡ 2 → AreRefused (map string_bytes words.now) }
+    ensures most { result ≤ 3 }
+{
+    match command(rt.alloc(), words) {
+        Ok(Task::Init(file)) => init(rt, file.as_str(), errors),
+        Ok(Task::Sim(settings, script)) => {
+            sim(rt, settings.as_str(), script.as_str(), output, errors)
+        }
+        Err(fault) => fault.tell(errors),
+    }
+}
+
+/// Makes a boot file.
+fn init<R: Files, E: Write>(rt: &R, file: &str, errors: &mut E) -> u8
+where
+    R::File: Uncached,
+    ensures status { (result ≡ 0) ⊎ (result ≡ 1) }
+{
+    match boot_file::create(rt, file) {
+        Ok(()) => 0,
+        Err(fault) => told(fault).tell(errors),
+    }
+}
+
+/// The fault of a boot file that wasn't made.
+fn told(fault: FileFault) -> Fault
+    ensures status { status_of result ≡ 1 }
+{
+    match fault {
+        FileFault::NoFile => Fault::NoFile,
+        FileFault::Exists => Fault::Exists,
+        FileFault::NotWritten => Fault::NotWritten,
+    }
+}
+
+/// Runs the script of one file with the settings of another.
+fn sim<R: Files + AllocGlobal, O: Write, E: Write>(
+    rt: &R,
+    settings: &str,
+    script: &str,
+    output: &mut O,
+    errors: &mut E,
+) -> u8
+    ensures status { (result ≡ 0) ⊎ ((result ≡ 1) ⊎ (result ≡ 3)) }
+{
+    match texts(rt, settings, script) {
+        Ok((settings, script)) => {
+            simulate(
+                rt.alloc(),
+                settings.as_str(),
+                script.as_str(),
+                output,
+                errors,
+            )
+        }
+        Err(fault) => fault.tell(errors),
+    }
+}
+
+/// The texts of two files. The first file's fault comes first.
+fn texts<R: Files + AllocGlobal>(
+    rt: &R,
+    settings: &str,
+    script: &str,
+) -> Result<(String, String), Fault>
+    ensures status { IfErr result (λ fault. status_of fault ≡ 1) }
+{
+    let settings = text_of(rt, settings)?;
+    let script = text_of(rt, script)?;
+    Ok((settings, script))
+}

@@ -1,0 +1,76 @@
+-- Words that clap takes enter one of the five commands.
+use Rattle.std.proofs.Common.{◌≡◌, ◌&&◌, Bool, true, false, not, List, [], ◌∷◌, Option, Some, None, is_some, refl, inl, inr, subst, codes}
+use Rattle.std.specs.Prelude.{find}
+use Rattle.std.specs.List.{list_any}
+use Rattle.clap.specs.Facts.{explicit_source}
+use Rattle.clap.specs.Takes.{is_given}
+use Rattle.clap.specs.Kinds.{Kinds, check_kinds, or_else}
+use Rattle.clap.specs.Walk.{Held, Row, Text, answers_to, finished, nothing_held, settled_rows, walk, walk_from}
+use Rattle.clap.specs.Simple.{App, Shape, argument_words, built, entered, label_of, names_of}
+use Rattle.clap.specs.Faults.{built_fault, check_fault, defaults_fault, entered_fault, settle_fault, walk_fault}
+use Rattle.command_line.specs.Line.{Takes, entered_by, line_app}
+use Rattle.command_line.specs.Requests.{Enters, IsNamed}
+
+-- neither of two has a kind
+neither : (a b : Kinds) → or_else a b ≡ [] → (a ≡ []) × (b ≡ [])
+neither [] b e = (refl, e)
+neither (k ∷ ks) b e = cc
+
+-- a command that has to be named is named
+named_there : (help has wanted required : Bool) → required ≡ true → check_kinds (not has && help) (not has && required) wanted ≡ [] → has ≡ true
+named_there help true wanted required is e = refl
+named_there true false wanted required is e = cc
+named_there false false wanted true is e = cc
+named_there false false wanted false is e = cc
+
+named_at : (s : Shape) (rows : List Row) (has : Bool) → s.subcommand_required ≡ true → check_fault s rows has ≡ [] → has ≡ true
+named_at s rows has is e =
+    named_there (s.arg_required_else_help && not (list_any (λ r. explicit_source r.source) rows)) has
+    (not (s.subcommand_negates_reqs && has) && list_any (λ a. a.required && not (is_given a.id rows)) s.rules) s.subcommand_required is e
+
+abbrev AllNamed : List Shape → Type 0
+AllNamed [] = Unit {0}
+AllNamed (s ∷ rest) = IsNamed s.name × AllNamed rest
+
+found_named : (p : Shape → Bool) (xs : List Shape) (s : Shape) → AllNamed xs → find p xs ≡ Some s → IsNamed s.name
+found_named p [] s all e = cc
+found_named p (x ∷ xs) s all e = go (p x) refl (λ rest. found_named p xs s all.1 rest)
+  where
+    go : (b : Bool) → p x ≡ b → (find p xs ≡ Some s → IsNamed s.name) → IsNamed s.name
+    go true t later =
+        let same : Some x ≡ Some s = rw t at e in
+        let is : x ≡ s = cc in
+        subst (λ (y : Shape). IsNamed y.name) is all.0
+    go false t later = later (rw t at e)
+
+entered_named : (a : App) (stop : Option (Text × List Text)) → AllNamed a.subs → is_some (entered a stop) ≡ true → Enters (entered a stop)
+entered_named a None all has = cc
+entered_named a (Some p) all has = go (find (λ s. answers_to p.0 (label_of s)) a.subs) refl
+  where
+    go : (o : Option Shape) → find (λ s. answers_to p.0 (label_of s)) a.subs ≡ o → Enters (entered a (Some p))
+    go None e =
+        let bad : false ≡ true = rw e at has in
+        cc
+    go (Some s) e = rw e (found_named (λ x. answers_to p.0 (label_of x)) a.subs s all e)
+
+enters_of : (a : App) (h : Held) (words : List Text) → a.top.subcommand_required ≡ true → AllNamed a.subs → built_fault a h words ≡ []
+    → Enters (entered a (walk a.top.rules (names_of a) h words).stopped)
+enters_of a h words required all none =
+    let end = walk a.top.rules (names_of a) h words in
+    let walked = neither (walk_fault a.top (names_of a) (walk_from h) words) _ none in
+    let below = neither (entered_fault a end.stopped) _ walked.1 in
+    let settled = neither (settle_fault a.top.rules a.top.args_override_self end.held) _ below.1 in
+    let defaults = neither (defaults_fault (settled_rows a.top.rules end.held.pending end.held.rows) a.top.rules) _ settled.1 in
+    entered_named a end.stopped all (named_at a.top (finished a.top.rules end.held) (is_some (entered a end.stopped)) required defaults.1)
+
+required : (built line_app).top.subcommand_required ≡ true
+required = refl
+
+all_named : AllNamed (built line_app).subs
+all_named =
+    let gate : IsNamed (codes "gate") = inr (inr (inr (inl refl))) in
+    let peer_off : IsNamed (codes "peer-off") = inr (inr (inr (inr refl))) in
+    (inl refl, (inr (inl refl), (inr (inr (inl refl)), (gate, (peer_off, tt)))))
+
+pub enters : (words : List Text) → Takes words → Enters (entered_by words)
+enters words taken = enters_of (built line_app) nothing_held (argument_words line_app words) required all_named taken

@@ -1,0 +1,4 @@
+pub mod Line
+pub mod Requests
+pub mod Tasks
+pub mod Faults

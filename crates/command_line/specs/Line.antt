@@ -1,0 +1,80 @@
+-- The command line of natpair: what clap takes.
+use Rattle.std.specs.Prelude.{◌≡◌, ℕ, pos, true, List, [], codes, Option, Some}
+use Rattle.clap.specs.Words.{App, Row, Rule, Text, fault_of, new_app, new_rule, subcommand_of, with_rule, with_subcommand}
+use Rattle.clap.specs.declared.builder.action.ArgAction.TheVariants.{Set, SetTrue}
+use Rattle.clap.specs.declared.builder.value_parser.ValueParser.TheVariants.{Signed, Unsigned}
+
+-- a word that has to stand at its place
+abbrev pub file_rule : List ℕ → Rule
+file_rule name = record (new_rule name) { required = true; action = Some Set }
+
+-- `--id`, 0 or 1
+abbrev pub id_rule : Rule
+id_rule = record (new_rule (codes "id")) {
+  long = Some (codes "id");
+  required = true;
+  action = Some Set;
+  parser = Some (Signed (pos 0) (pos 1));
+}
+
+-- `--rounds`, from 0 to 4294967295
+abbrev pub rounds_rule : Rule
+rounds_rule = record (new_rule (codes "rounds")) {
+  long = Some (codes "rounds");
+  required = true;
+  action = Some Set;
+  parser = Some (Signed (pos 0) (pos 4294967295));
+}
+
+-- `--found`
+abbrev pub found_rule : Rule
+found_rule = record (new_rule (codes "found")) { long = Some (codes "found"); action = Some SetTrue }
+
+-- `--boot`, from 0 to 18446744073709551615
+abbrev pub boot_rule : Rule
+boot_rule = record (new_rule (codes "boot")) {
+  long = Some (codes "boot");
+  required = true;
+  action = Some Set;
+  parser = Some (Unsigned 0 18446744073709551615);
+}
+
+-- `init FILE`
+abbrev pub init_app : App
+init_app = with_rule (new_app (codes "init")) (file_rule (codes "FILE"))
+
+-- `sim SETTINGS SCRIPT`
+abbrev pub sim_app : App
+sim_app = with_rule (with_rule (new_app (codes "sim")) (file_rule (codes "SETTINGS"))) (file_rule (codes "SCRIPT"))
+
+-- `loop SETTINGS SCRIPT`
+abbrev pub loop_app : App
+loop_app = with_rule (with_rule (new_app (codes "loop")) (file_rule (codes "SETTINGS"))) (file_rule (codes "SCRIPT"))
+
+-- `gate SETTINGS --id I --rounds N [--found]`
+abbrev pub gate_app : App
+gate_app = with_rule (with_rule (with_rule (with_rule (new_app (codes "gate")) (file_rule (codes "SETTINGS"))) id_rule) rounds_rule) found_rule
+
+-- `peer-off SETTINGS --id I --boot N`
+abbrev pub peer_off_app : App
+peer_off_app = with_rule (with_rule (with_rule (new_app (codes "peer-off")) (file_rule (codes "SETTINGS"))) id_rule) boot_rule
+
+-- the program, of which one command has to be named, and which has no command `help`
+abbrev pub top_app : App
+top_app = record (new_app (codes "natpair")) {
+  top = record (new_app (codes "natpair")).top { disable_help_subcommand = true; subcommand_required = true };
+}
+
+-- all commands
+abbrev pub line_app : App
+line_app =
+    with_subcommand (with_subcommand (with_subcommand (with_subcommand (with_subcommand top_app
+    init_app.top) sim_app.top) loop_app.top) gate_app.top) peer_off_app.top
+
+-- `clap` takes the words for this command line: it finds no fault in them
+abbrev pub Takes : List Text → Type 0
+Takes words = fault_of line_app words ≡ []
+
+-- the command that the words enter, and the values that they give it
+abbrev pub entered_by : List Text → Option (Text × List Row)
+entered_by words = subcommand_of line_app words

@@ -1,0 +1,127 @@
+//! The commands.
+ghost use Rattle.std.specs.Prelude.{◌≡◌, codes, false, IfOk};
+ghost use Rattle.clap.specs.Words.{app_of, with_rule, with_subcommand};
+ghost use Rattle.clap.specs.declared.builder.command.Command.TheViews.{out-Command as fields_of};
+ghost use Rattle.command_line.specs.Line.{file_rule, id_rule, init_app, sim_app, loop_app, gate_app, peer_off_app, top_app, line_app};
+
+use crate::options;
+use clap::Command;
+use std::alloc::{AllocError, Global};
+
+fn init<'a>(alloc: Global) -> Result<Command<'a>, AllocError>
+    ensures app { IfOk result (λ c. app_of c ≡ init_app) }
+    ensures local { IfOk result (λ c. (fields_of c).has_globals ≡ false) }
+{
+    let file = options::file(alloc, "FILE", "The boot file to create, as in boot0");
+    Command::new(alloc, "init")
+        .about("Creates a boot file; one that exists is left as it is and refused")
+        .after_help("Example: natpair init boot0")
+        .arg(file)
+}
+
+/// The words SETTINGS and SCRIPT.
+fn with_script<'a>(alloc: Global, command: Command<'a>) -> Result<Command<'a>, AllocError>
+    requires local { (fields_of command).has_globals ≡ false }
+    ensures app { IfOk result (λ c. app_of c ≡ with_rule (with_rule (app_of command.entry)
+        (file_rule (codes "SETTINGS"))) (file_rule (codes "SCRIPT"))) }
+    ensures local { IfOk result (λ c. (fields_of c).has_globals ≡ false) }
+{
+    let settings = options::file(alloc, "SETTINGS", "The settings in TOML, as in S.toml");
+    let script = options::file(alloc, "SCRIPT", "The events, a line each, as in day.script");
+    command.arg(settings)?.arg(script)
+}
+
+fn sim<'a>(alloc: Global) -> Result<Command<'a>, AllocError>
+    ensures app { IfOk result (λ c. app_of c ≡ sim_app) }
+    ensures local { IfOk result (λ c. (fields_of c).has_globals ≡ false) }
+{
+    let command = Command::new(alloc, "sim")
+        .about("Runs both gateways on the events of a script and prints each step")
+        .after_help("Example: natpair sim S.toml day.script");
+    with_script(alloc, command)
+}
+
+fn repeat<'a>(alloc: Global) -> Result<Command<'a>, AllocError>
+    ensures app { IfOk result (λ c. app_of c ≡ loop_app) }
+    ensures local { IfOk result (λ c. (fields_of c).has_globals ≡ false) }
+{
+    let command = Command::new(alloc, "loop")
+        .about(
+            "Runs a script as sim does, with each frame and datagram sent through a loopback socket (not there yet)",
+        )
+        .after_help("Example: natpair loop S.toml day.script");
+    with_script(alloc, command)
+}
+
+/// The word SETTINGS and the option `--id`.
+fn with_gateway<'a>(alloc: Global, command: Command<'a>) -> Result<Command<'a>, AllocError>
+    requires local { (fields_of command).has_globals ≡ false }
+    ensures app { IfOk result (λ c. app_of c
+        ≡ with_rule (with_rule (app_of command.entry) (file_rule (codes "SETTINGS"))) id_rule) }
+    ensures local { IfOk result (λ c. (fields_of c).has_globals ≡ false) }
+{
+    let settings = options::file(alloc, "SETTINGS", "The settings in TOML, as in S.toml");
+    let id = options::id(alloc);
+    command.arg(settings)?.arg(id)
+}
+
+fn gate<'a>(alloc: Global) -> Result<Command<'a>, AllocError>
+    ensures app { IfOk result (λ c. app_of c ≡ gate_app) }
+    ensures local { IfOk result (λ c. (fields_of c).has_globals ≡ false) }
+{
+    let command = Command::new(alloc, "gate")
+        .about("Runs one gateway on loopback sockets (not there yet)")
+        .after_help("Example: natpair gate S.toml --id 0 --rounds 1000 --found");
+    let rounds = options::rounds(alloc);
+    let found = options::found(alloc);
+    with_gateway(alloc, command)?.arg(rounds)?.arg(found)
+}
+
+fn peer_off<'a>(alloc: Global) -> Result<Command<'a>, AllocError>
+    ensures app { IfOk result (λ c. app_of c ≡ peer_off_app) }
+    ensures local { IfOk result (λ c. (fields_of c).has_globals ≡ false) }
+{
+    let command = Command::new(alloc, "peer-off")
+        .about("Tells a running gateway that a boot of its peer has ended for good (not there yet)")
+        .after_help("Example: natpair peer-off S.toml --id 0 --boot 7");
+    let boot = options::boot(alloc);
+    with_gateway(alloc, command)?.arg(boot)
+}
+
+fn top<'a>(alloc: Global) -> Command<'a>
+    ensures app { app_of result ≡ top_app }
+    ensures local { (fields_of result).has_globals ≡ false }
+{
+    Command::new(alloc, "natpair")
+        .about("A pair of IPv4 NAT gateways that share an inside and an outside address by VRRP")
+        .after_help(
+            "Example: natpair sim S.toml day.script\n`natpair COMMAND --help` tells a command's options.",
+        )
+        .disable_help_subcommand(true)
+        .subcommand_required(true)
+}
+
+/// A command with one more beneath it, which has no global option.
+fn with_command<'a>(command: Command<'a>, beneath: Command<'a>) -> Result<Command<'a>, AllocError>
+    requires { (fields_of beneath).has_globals ≡ false }
+    ensures { IfOk result (λ c. app_of c
+        ≡ with_subcommand (app_of command.entry) (app_of beneath.entry).top) }
+{
+    command.subcommand(beneath)
+}
+
+/// All commands.
+pub(crate) fn line<'a>(alloc: Global) -> Result<Command<'a>, AllocError>
+    ensures { IfOk result (λ c. app_of c ≡ line_app) }
+{
+    let init = init(alloc)?;
+    let sim = sim(alloc)?;
+    let repeat = repeat(alloc)?;
+    let gate = gate(alloc)?;
+    let peer_off = peer_off(alloc)?;
+    let line = with_command(top(alloc), init)?;
+    let line = with_command(line, sim)?;
+    let line = with_command(line, repeat)?;
+    let line = with_command(line, gate)?;
+    with_command(line, peer_off)
+}

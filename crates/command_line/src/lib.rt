@@ -1,0 +1,13 @@
+//! The command line of `natpair`: its commands, their options, and the task that words ask for.
+#![tactic(auto)]
+
+mod commands;
+mod faults;
+mod options;
+mod requests;
+mod tasks;
+mod values;
+
+pub use faults::LineFault;
+pub use requests::{Request, requested};
+pub use tasks::{Task, command};

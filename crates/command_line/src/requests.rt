@@ -1,0 +1,142 @@
+//! The request that words make.
+ghost use Rattle.std.specs.Prelude.{◌≡◌, codes, string_bytes, map, option_map, IfOk, IfErr};
+ghost use Rattle.clap.specs.Words.{found_of, rows_of, subcommand_rows_of};
+ghost use Rattle.command_line.specs.Line.{Takes, entered_by};
+ghost use Rattle.command_line.specs.Requests.{IsRequest, Requests, FoundsAtZero, IsNamed, Enters, RefusesGate, RefusesValues, RefusesEntered, RefusesWords, Refuses};
+
+use crate::faults::LineFault;
+use crate::{commands, values};
+use clap::ArgMatches;
+use clap::error::ErrorKind;
+use nat_types::GatewayId;
+use std::alloc::{AllocError, Global};
+
+/// What a command line requests. Files are paths.
+#[derive(Debug, Drop)]
+pub enum Request {
+    /// Create a boot file.
+    Init(String),
+    /// Run a script (the second file) with settings (the first) and print it.
+    Sim(String, String),
+    /// The same, with frames and datagrams sent through loopback sockets.
+    Loop(String, String),
+    /// Run one gateway with settings, for so many rounds, and found the pair if so told.
+    Gate(String, GatewayId, u32, bool),
+    /// Tell a running gateway that this boot of its peer has ended for good.
+    PeerOff(String, GatewayId, u64),
+}
+
+fn init(alloc: Global, matches: &ArgMatches<'_>) -> Result<Request, AllocError>
+    ensures { IfOk result (IsRequest (codes "init") (rows_of (found_of matches.now))) }
+{
+    let file = values::word(alloc, matches, "FILE")?;
+    Ok(Request::Init(file))
+}
+
+fn sim(alloc: Global, matches: &ArgMatches<'_>) -> Result<Request, AllocError>
+    ensures { IfOk result (IsRequest (codes "sim") (rows_of (found_of matches.now))) }
+{
+    let settings = values::word(alloc, matches, "SETTINGS")?;
+    let script = values::word(alloc, matches, "SCRIPT")?;
+    Ok(Request::Sim(settings, script))
+}
+
+fn repeat(alloc: Global, matches: &ArgMatches<'_>) -> Result<Request, AllocError>
+    ensures { IfOk result (IsRequest (codes "loop") (rows_of (found_of matches.now))) }
+{
+    let settings = values::word(alloc, matches, "SETTINGS")?;
+    let script = values::word(alloc, matches, "SCRIPT")?;
+    Ok(Request::Loop(settings, script))
+}
+
+/// The gateway to run: only gateway 0 founds the pair.
+fn gate(alloc: Global, matches: &ArgMatches<'_>) -> Result<Request, LineFault>
+    ensures ok { IfOk result (IsRequest (codes "gate") (rows_of (found_of matches.now))) }
+    ensures zero { IfOk result FoundsAtZero }
+    ensures err { IfErr result (RefusesGate (rows_of (found_of matches.now))) }
+{
+    let id = values::id(matches);
+    let found = values::flag(matches, "found");
+    if found && id == GatewayId::One {
+        return Err(LineFault::FoundNeedsIdZero);
+    }
+    let settings = values::word(alloc, matches, "SETTINGS")?;
+    let rounds = values::short(matches, "rounds");
+    Ok(Request::Gate(settings, id, rounds, found))
+}
+
+fn peer_off(alloc: Global, matches: &ArgMatches<'_>) -> Result<Request, AllocError>
+    ensures { IfOk result (IsRequest (codes "peer-off") (rows_of (found_of matches.now))) }
+{
+    let settings = values::word(alloc, matches, "SETTINGS")?;
+    let id = values::id(matches);
+    let boot = values::long(matches, "boot");
+    Ok(Request::PeerOff(settings, id, boot))
+}
+
+/// The command that a line entered, and its values.
+fn entered<'m, 'a>(matches: &'m ArgMatches<'a>) -> Option<(&'a str, &'m ArgMatches<'a>)>
+    ensures { option_map (λ p. (p.0.now, rows_of (found_of p.1.now))) result
+        ≡ subcommand_rows_of matches.now }
+{
+    matches.subcommand()
+}
+
+fn named(alloc: Global, name: &str, matches: &ArgMatches<'_>) -> Result<Request, LineFault>
+    requires { IsNamed name.now }
+    ensures ok { IfOk result (IsRequest name.now (rows_of (found_of matches.now))) }
+    ensures zero { IfOk result FoundsAtZero }
+    ensures err { IfErr result (RefusesValues name.now (rows_of (found_of matches.now))) }
+{
+    match name {
+        "init" => Ok(init(alloc, matches)?),
+        "sim" => Ok(sim(alloc, matches)?),
+        "loop" => Ok(repeat(alloc, matches)?),
+        "gate" => gate(alloc, matches),
+        "peer-off" => Ok(peer_off(alloc, matches)?),
+        _ => unreachable!(),
+    }
+}
+
+fn of_matches(alloc: Global, matches: &ArgMatches<'_>) -> Result<Request, LineFault>
+    requires { Enters (subcommand_rows_of matches.now) }
+    ensures ok { IfOk result (Requests (subcommand_rows_of matches.now)) }
+    ensures zero { IfOk result FoundsAtZero }
+    ensures err { IfErr result (RefusesEntered (subcommand_rows_of matches.now)) }
+{
+    match entered(matches) {
+        Some((name, values)) => named(alloc, name, values),
+        None => unreachable!(),
+    }
+}
+
+/// The matches of all commands.
+fn parse<'a>(alloc: Global, words: &'a [String]) -> Result<ArgMatches<'a>, LineFault>
+    ensures taken { IfOk result (λ _. Takes (map string_bytes words.now)) }
+    ensures values { IfOk result (λ m. subcommand_rows_of m
+        ≡ entered_by (map string_bytes words.now)) }
+    ensures one { IfOk result (λ m. Enters (subcommand_rows_of m)) }
+    ensures err { IfErr result (RefusesWords (map string_bytes words.now)) }
+{
+    let line = commands::line(alloc)?;
+    match line.try_get_matches_from(words) {
+        Ok(matches) => Ok(matches),
+        Err(error) if error.kind() == ErrorKind::OutOfMemory => Err(LineFault::NoMemory),
+        Err(error) => Err(LineFault::Refused(error)),
+    }
+}
+
+/// The request that the words of a command line make, the program's name first.
+///
+/// # Errors
+/// What `clap` refuses, a request for help too, is `Refused` with its text; `--found` beside `--id 1` is
+/// `FoundNeedsIdZero`.
+pub fn requested(alloc: Global, words: &[String]) -> Result<Request, LineFault>
+    ensures taken { IfOk result (λ _. Takes (map string_bytes words.now)) }
+    ensures request { IfOk result (Requests (entered_by (map string_bytes words.now))) }
+    ensures found { IfOk result FoundsAtZero }
+    ensures refused { IfErr result (Refuses (map string_bytes words.now)) }
+{
+    let matches = parse(alloc, words)?;
+    of_matches(alloc, &matches)
+}

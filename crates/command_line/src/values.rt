@@ -1,0 +1,63 @@
+//! The values that clap gives the options of a command.
+ghost use Rattle.std.specs.Prelude.{◌≡◌, string_bytes, IfOk};
+ghost use Rattle.clap.specs.Words.{found_of, rows_of};
+ghost use Rattle.command_line.specs.Requests.{word_of, flag_of, IsNumber, IsId};
+
+use clap::ArgMatches;
+use nat_types::GatewayId;
+use std::alloc::{AllocError, Global};
+
+/// The word at a name.
+pub(crate) fn word(
+    alloc: Global,
+    matches: &ArgMatches<'_>,
+    name: &str,
+) -> Result<String, AllocError>
+    ensures { IfOk result (λ s. string_bytes s
+        ≡ word_of name.now (rows_of (found_of matches.now))) }
+{
+    let text = matches.get_str(name).unwrap_or("");
+    String::from_str(alloc, text)
+}
+
+/// Whether a flag is set.
+pub(crate) fn flag(matches: &ArgMatches<'_>, name: &str) -> bool
+    ensures { result ≡ flag_of name.now (rows_of (found_of matches.now)) }
+{
+    match matches.get_str(name) {
+        Some(text) => text == "true",
+        None => false,
+    }
+}
+
+/// A number of 8 bits.
+fn byte(matches: &ArgMatches<'_>, name: &str) -> u8
+    ensures { IsNumber 8 name.now (rows_of (found_of matches.now)) result }
+{
+    matches.get_one::<u8>(name).unwrap_or(0)
+}
+
+/// A number of 32 bits.
+pub(crate) fn short(matches: &ArgMatches<'_>, name: &str) -> u32
+    ensures { IsNumber 32 name.now (rows_of (found_of matches.now)) result }
+{
+    matches.get_one::<u32>(name).unwrap_or(0)
+}
+
+/// A number of 64 bits.
+pub(crate) fn long(matches: &ArgMatches<'_>, name: &str) -> u64
+    ensures { IsNumber 64 name.now (rows_of (found_of matches.now)) result }
+{
+    matches.get_one::<u64>(name).unwrap_or(0)
+}
+
+/// The gateway that `--id` names.
+pub(crate) fn id(matches: &ArgMatches<'_>) -> GatewayId
+    ensures { IsId (rows_of (found_of matches.now)) result }
+{
+    if byte(matches, "id") == 1 {
+        GatewayId::One
+    } else {
+        GatewayId::Zero
+    }
+}

@@ -1,0 +1,18 @@
+-- The moment from which a pair is idle, if it carries nothing more.
+use Rattle.std.specs.Prelude.{ℕ, ◌+◌, ◌||◌, max, List, [], ◌∷◌, if◌then◌else◌}
+use Rattle.addresses.specs.declared.transport.Protocol.{Protocol}
+use Rattle.addresses.specs.declared.transport.Protocol.TheVariants.{Tcp, Udp}
+use Rattle.lives.specs.declared.sessions.Session.{Session}
+use Rattle.lives.specs.declared.TheConstants.{UDP_REST, ESTABLISHED_REST}
+use Rattle.lives.specs.Sessions.{rest_of}
+use Rattle.lives.specs.Lives.{Life, is_empty}
+
+-- the moment at which the last of these sessions passes its limit
+abbrev pub last_end : List Session → ℕ
+last_end [] = 0
+last_end (x ∷ xs) = max (x.last + rest_of x.class) (last_end xs)
+
+abbrev pub due_moment : Protocol → Life → ℕ
+due_moment Udp life = life.last + UDP_REST
+due_moment Tcp life =
+    (if life.is_crowded || is_empty life.sessions then life.last + ESTABLISHED_REST else last_end life.sessions)

@@ -1,0 +1,12 @@
+use Rattle.bindings.specs.Lists.{put_in, with_state}
+use Rattle.resync.proofs.Steady.{steady, pairs-put, pairs-turn}
+use Rattle.resync.proofs.laws.steady_batch_law.Goals as goal
+
+pub returns-clause-settled : goal.returns-clause-settled
+returns-clause-settled c = steady
+
+pub returns-clause-proposed : goal.returns-clause-proposed
+returns-clause-proposed c = λ place owned es e h. steady place owned (put_in e es) es (pairs-put e es h)
+
+pub returns-clause-turned : goal.returns-clause-turned
+returns-clause-turned c = λ place owned es key s keys to from. steady place owned (with_state key s es) es (pairs-turn key s es keys to from)

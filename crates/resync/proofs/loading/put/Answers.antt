@@ -1,0 +1,14 @@
+use Rattle.std.proofs.Common.{ap}
+use Rattle.bindings.specs.Entries.{entry_in}
+use Rattle.bindings.specs.Table.{Table}
+use Rattle.resync.proofs.Giving.{never-refused, within-put}
+use Rattle.resync.proofs.loading.put.Goals as goal
+
+pub unreachable-requires : goal.unreachable-requires
+unreachable-requires c =
+    never-refused c.args.table.now c.args.pair c.state_on-state.result c.in-Err.field-0 c.recall.ensures c.requires.within c.requires.inside c.requires.key c.requires.endpoint c.in-Err.ensures.refused
+
+pub returns-clause-within : goal.returns-clause-within
+returns-clause-within c =
+    let same = c.in-Ok.ensures.same in
+    within-put c.args.table.now c.add.new.self (entry_in c.state_on-state.result c.args.pair) c.requires.within c.requires.inside c.in-Ok.ensures.slots (ap (λ (t : Table). t.zero) same) (ap (λ (t : Table). t.one) same)

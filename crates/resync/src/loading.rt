@@ -1,0 +1,325 @@
+//! The loading of a table from the peer's batch.
+ghost use Rattle.std.specs.Prelude.{◌≡◌, ◌+◌, ◌-◌, ◌<◌, ◌≤◌, ◌&&◌, ℕ, Bool, true, false, List, []};
+ghost use Rattle.std.specs.Prelude.{OnOk, OnErr, IfOk, Some, None, if◌then◌else◌};
+ghost use Rattle.addresses.specs.declared.transport.Port.{Port as PortNumber};
+ghost use Rattle.nat_types.specs.declared.pairs.EntryState.TheVariants.{Live, Held};
+ghost use Rattle.nat_types.specs.declared.records.Record.TheVariants as record_of;
+ghost use Rattle.lives.specs.Lives.{came};
+ghost use Rattle.bindings.specs.Entries.{slot_of, entry_of, entry_in};
+ghost use Rattle.bindings.specs.Lists.{put_in};
+ghost use Rattle.bindings.specs.Lives.{KeepsOthers};
+ghost use Rattle.bindings.specs.Ports.{in_either};
+ghost use Rattle.bindings.specs.Runs.{all_ports, without_port};
+ghost use Rattle.bindings.specs.Table.{IsPast, AreInRanges};
+ghost use Rattle.resync.specs.Loading.{loaded, loaded_state, all_in, unnamed, is_new, names_run};
+ghost use Rattle.resync.specs.Loading.{none_yet, begun, load_of, what_of, is_put, ready_after};
+ghost use Rattle.resync.specs.Loading.{lives_taken, LivesGoOn};
+
+use addresses::Port;
+use bindings::{PortBounds, Table};
+use nat_types::{Endpoint, EntryState, Key, Pair, Record};
+use std::marker::Model;
+use thiserror::Error;
+
+/// What a record in its place did to the table.
+#[derive(Clone, Copy, Debug, PartialEq, Eq)]
+pub enum Loaded {
+    /// The loading began, or ports were named: no pair came.
+    Prepared,
+    /// The record's pair was put.
+    Paired,
+    /// The table is whole.
+    Whole,
+}
+
+/// The record isn't in its place, and changed nothing.
+#[derive(Clone, Copy, Debug, PartialEq, Eq, Error)]
+#[error("the record is out of place")]
+pub struct OutOfPlace;
+
+/// How far the loading of a table is whose ports lie in these two ranges.
+#[derive(Clone, Copy, Debug)]
+pub struct Loading {
+    zero: PortBounds,
+    one: PortBounds,
+    /// Whether Begin came, and Done not yet.
+    begun: bool,
+    /// The last port that an Owner named, or 0.
+    named: Port,
+}
+
+impl Model for Loading {
+    ghost use Rattle.resync.specs.Loading.{Progress};
+
+    ghost Value = { Progress };
+
+    ghost view = { λ l. record { zero = l.zero; one = l.one; begun = l.begun; named = l.named.0 } };
+
+    ghost inverse = { λ v. record {
+      zero = v.zero;
+      one = v.one;
+      begun = v.begun;
+      named = record { 0 = v.named };
+    } };
+}
+
+fn lies_in_ranges(zero: PortBounds, one: PortBounds, port: u16) -> bool
+    ensures { result ≡ in_either zero one port }
+{
+    zero.holds(Port(port)) || one.holds(Port(port))
+}
+
+/// Whether all ports of a run lie in the ranges.
+fn lie_in_ranges(zero: PortBounds, one: PortBounds, first: Port, last: Port) -> bool
+    requires { first.0 ≤ last.0 }
+    ensures { result ≡ all_in zero one first.0 (last.0 + 1 - first.0) }
+{
+    for port in first.0..last.0 {
+        if !lies_in_ranges(zero, one, port) {
+            return false;
+        }
+    }
+    lies_in_ranges(zero, one, last.0)
+}
+
+/// The gateway isn't to own the port, if it was.
+fn give_up(table: &mut Table, port: u16)
+    requires { table.old.entries ≡ [] }
+    ensures { table.new ≡ record table.old { owned = without_port port table.old.owned } }
+{
+    if table.owns(Port(port)) {
+        table.disown(Port(port));
+    }
+}
+
+/// The gateway isn't to own the ports of a run.
+fn give_up_run(table: &mut Table, first: Port, last: Port)
+    requires order { first.0 ≤ last.0 }
+    requires entries { table.old.entries ≡ [] }
+    ensures { table.new ≡ record table.old { owned = unnamed first.0 last.0 table.old.owned } }
+{
+    for port in first.0..last.0 {
+        give_up(table, port);
+    }
+    give_up(table, last.0);
+}
+
+fn key_of(pair: Pair) -> Key
+    ensures { result ≡ pair.key }
+{
+    pair.key
+}
+
+fn endpoint_of(pair: Pair) -> Endpoint
+    ensures { result ≡ pair.endpoint }
+{
+    pair.endpoint
+}
+
+/// The state of a loaded pair: Live on a port that the gateway is to own, else Held.
+fn state_on(table: &Table, port: Port) -> EntryState
+    ensures { result ≡ loaded_state table.now.owned port.0 }
+{
+    if table.owns(port) {
+        EntryState::Live
+    } else {
+        EntryState::Held
+    }
+}
+
+/// Puts a pair that is new, on a port of the ranges.
+fn put(table: &mut Table, pair: Pair, now: u64)
+    requires ready { 0 < table.old.ready }
+    requires within { AreInRanges table.old }
+    requires inside { in_either table.old.zero table.old.one pair.key.port.0 ≡ true }
+    requires key { slot_of table.old.entries pair.key ≡ None }
+    requires endpoint { entry_of table.old.entries pair.endpoint ≡ None }
+    ensures entries { table.new.entries
+        ≡ put_in (entry_in (loaded_state table.old.owned pair.key.port.0) pair) table.old.entries }
+    ensures lives { table.new.lives
+        ≡ lives_taken now (record_of.Put pair) table.old.entries table.old.lives }
+    ensures begins { IsPast table.new pair.key (came false now) }
+    ensures others { KeepsOthers pair.key table.old.entries table.old.lives table.new.entries
+        table.new.lives }
+    ensures same { table.new ≡ record table.old {
+      entries = table.new.entries;
+      lives = table.new.lives;
+      ready = table.old.ready - 1;
+    } }
+    ensures within { AreInRanges table.new }
+{
+    table.recall();
+    let key = key_of(pair);
+    let state = state_on(table, key.port);
+    match table.add(pair, state, false, now) {
+        Ok(()) => {}
+        Err(_) => unreachable!(),
+    }
+}
+
+impl Loading {
+    ghost use Rattle.resync.specs.Loading.{fresh};
+
+    /// Nothing is loaded yet, of a table for these two ranges.
+    pub fn new(zero: PortBounds, one: PortBounds) -> Loading
+        ensures { result ≡ fresh zero one }
+    {
+        Loading {
+            zero,
+            one,
+            begun: false,
+            named: Port(0),
+        }
+    }
+
+    fn names(&self, table: &Table, first: Port, last: Port) -> bool
+        requires zero { self.now.zero ≡ table.now.zero }
+        requires one { self.now.one ≡ table.now.one }
+        ensures { result ≡ (self.now.begun && (none_yet table.now.entries
+            && names_run (load_of self.now table.now) first.0 last.0)) }
+    {
+        self.begun
+            && table.len() == 0
+            && self.named.0 < first.0
+            && first.0 <= last.0
+            && lie_in_ranges(self.zero, self.one, first, last)
+    }
+
+    fn is_new(&self, table: &Table, pair: Pair) -> bool
+        requires zero { self.now.zero ≡ table.now.zero }
+        requires one { self.now.one ≡ table.now.one }
+        ensures { result ≡ (self.now.begun && is_new (load_of self.now table.now) pair) }
+    {
+        let key = key_of(pair);
+        self.begun
+            && lies_in_ranges(self.zero, self.one, key.port.0)
+            && table.pair_of_port(key).is_none()
+            && table.port_of(endpoint_of(pair)).is_none()
+    }
+
+    fn begin(&mut self, table: &mut Table)
+        ensures progress { self.new ≡ record self.old { begun = true; named = 0 } }
+        ensures table { table.new ≡ record table.old {
+          entries = [];
+          lives = [];
+          owned = all_ports table.old.zero table.old.one;
+        } }
+    {
+        table.clear();
+        table.own_all();
+        self.begun = true;
+        self.named = Port(0);
+    }
+
+    fn take_run(&mut self, table: &mut Table, first: Port, last: Port) -> Result<Loaded, OutOfPlace>
+        requires zero { self.old.zero ≡ table.old.zero }
+        requires one { self.old.one ≡ table.old.one }
+        ensures ok { OnOk result (loaded (load_of self.old table.old) (record_of.Owner first last)
+            ≡ Some (load_of self.new table.new)) }
+        ensures what { IfOk result (λ w. w ≡ what_of (record_of.Owner first last)) }
+        ensures refused { OnErr result (loaded (load_of self.old table.old)
+            (record_of.Owner first last) ≡ None) }
+        ensures kept { OnErr result (self.new ≡ self.old) }
+        ensures err { OnErr result (table.new ≡ table.old) }
+        ensures progress { self.new ≡ record self.old { named = self.new.named } }
+        ensures same { table.new ≡ record table.old { owned = table.new.owned } }
+    {
+        if !self.names(table, first, last) {
+            return Err(OutOfPlace);
+        }
+        give_up_run(table, first, last);
+        self.named = last;
+        Ok(Loaded::Prepared)
+    }
+
+    fn take_pair(&mut self, table: &mut Table, pair: Pair, now: u64) -> Result<Loaded, OutOfPlace>
+        requires zero { self.old.zero ≡ table.old.zero }
+        requires one { self.old.one ≡ table.old.one }
+        requires within { AreInRanges table.old }
+        requires ready { 0 < table.old.ready }
+        ensures ok { OnOk result (loaded (load_of self.old table.old) (record_of.Put pair)
+            ≡ Some (load_of self.new table.new)) }
+        ensures what { IfOk result (λ w. w ≡ what_of (record_of.Put pair)) }
+        ensures refused { OnErr result (loaded (load_of self.old table.old) (record_of.Put pair)
+            ≡ None) }
+        ensures kept { self.new ≡ self.old }
+        ensures err { OnErr result (table.new ≡ table.old) }
+        ensures lives { OnOk result (table.new.lives
+            ≡ lives_taken now (record_of.Put pair) table.old.entries table.old.lives) }
+        ensures pasts { OnOk result (LivesGoOn now (record_of.Put pair) table.old table.new) }
+        ensures same { OnOk result (table.new ≡ record table.old {
+          entries = table.new.entries;
+          lives = table.new.lives;
+          ready = table.old.ready - 1;
+        }) }
+        ensures within { AreInRanges table.new }
+    {
+        if !self.is_new(table, pair) {
+            return Err(OutOfPlace);
+        }
+        put(table, pair, now);
+        Ok(Loaded::Paired)
+    }
+
+    fn take_end(&mut self) -> Result<Loaded, OutOfPlace>
+        ensures ok { OnOk result (self.old.begun ≡ true) }
+        ensures ended { OnOk result (self.new ≡ record self.old { begun = false }) }
+        ensures what { IfOk result (λ w. w ≡ what_of record_of.Done) }
+        ensures refused { OnErr result (self.old.begun ≡ false) }
+        ensures kept { OnErr result (self.new ≡ self.old) }
+    {
+        if !self.begun {
+            return Err(OutOfPlace);
+        }
+        self.begun = false;
+        Ok(Loaded::Whole)
+    }
+
+    /// Takes a record of the peer's batch. Begin empties the table, which is to own all ports of both ranges; an Owner
+    /// takes its run out, and a Put adds its pair, whose life begins now; Done ends the loading. Before a Put the table
+    /// has to be ready for one more pair.
+    pub fn take(&mut self, table: &mut Table, item: Record, now: u64) -> Result<Loaded, OutOfPlace>
+        requires zero { self.old.zero ≡ table.old.zero }
+        requires one { self.old.one ≡ table.old.one }
+        requires within { AreInRanges table.old }
+        requires ready { is_put item ≡ true → 0 < table.old.ready }
+        ensures ok { OnOk result (loaded (load_of self.old table.old) item
+            ≡ Some (load_of self.new table.new)) }
+        ensures what { IfOk result (λ w. w ≡ what_of item) }
+        ensures refused { OnErr result (loaded (load_of self.old table.old) item ≡ None) }
+        ensures kept { OnErr result (self.new ≡ self.old) }
+        ensures err { OnErr result (table.new ≡ table.old) }
+        ensures lives { OnOk result (table.new.lives
+            ≡ lives_taken now item table.old.entries table.old.lives) }
+        ensures pasts { OnOk result (LivesGoOn now item table.old table.new) }
+        ensures progress { self.new ≡ record self.old {
+          begun = self.new.begun;
+          named = self.new.named;
+        } }
+        ensures same { OnOk result (table.new ≡ record table.old {
+          entries = table.new.entries;
+          lives = table.new.lives;
+          owned = table.new.owned;
+          ready = ready_after item table.old.ready;
+        }) }
+        ensures within { AreInRanges table.new }
+    {
+        match item {
+            Record::Begin => {
+                self.begin(table);
+                Ok(Loaded::Prepared)
+            }
+            Record::Owner { first, last } => self.take_run(table, first, last),
+            Record::Put(pair) => self.take_pair(table, pair, now),
+            Record::Done => self.take_end(),
+            Record::Install(_)
+            | Record::Accept(_)
+            | Record::Refuse(_)
+            | Record::Ask(_)
+            | Record::Yes(_)
+            | Record::No(_)
+            | Record::Want
+            | Record::Grant(_) => Err(OutOfPlace),
+        }
+    }
+}

@@ -1,0 +1,10 @@
+//! The datagrams of a box: those of the link, and those that stand for the frames of its two sides.
+#![tactic(auto)]
+
+mod places;
+mod sockets;
+mod wire;
+
+pub use places::{Place, Ports, ports_of};
+pub use sockets::{SocketFault, Sockets};
+pub use wire::{Failing, LONGEST, Wire, WireFault};

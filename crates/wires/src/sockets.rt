@@ -1,0 +1,181 @@
+//! The three sockets of a box on the loopback address, all waited for at once.
+ghost use Rattle.std.specs.Prelude.{◌≤◌, IfOk, IfSome};
+
+use crate::wire::{LONGEST, Wire, WireFault};
+use crate::{Place, Ports};
+use mio::net::UdpSocket;
+use mio::{Events, Interest, Poll, Token};
+use nat_types::Side;
+use std::alloc::{AllocError, Global};
+use std::io::{self, ErrorKind};
+use std::net::{Ipv4Addr, Net, SocketAddr, SocketAddrV4};
+use std::time::Duration;
+use thiserror::Error;
+
+/// Why sockets can't be had.
+#[derive(Clone, Copy, Debug, PartialEq, Eq, Error)]
+pub enum SocketFault {
+    /// A port can't be bound, or not waited for.
+    #[error("socket 1 NoSocket")]
+    NoSocket,
+    #[error("memory 1 NoMemory")]
+    NoMemory,
+}
+
+impl From<AllocError> for SocketFault {
+    fn from(_: AllocError) -> SocketFault {
+        SocketFault::NoMemory
+    }
+}
+
+impl From<io::Error> for SocketFault {
+    fn from(_: io::Error) -> SocketFault {
+        SocketFault::NoSocket
+    }
+}
+
+/// A socket that never waits, and where it sends.
+#[derive(Drop)]
+struct Socket {
+    inner: UdpSocket,
+    target: SocketAddr,
+    /// There may be something to receive. It is set when a wait reports the socket.
+    ready: bool,
+}
+
+impl Socket {
+    fn bind<R: Net>(net: &R, ports: (u16, u16)) -> io::Result<Socket> {
+        let inner = UdpSocket::bind(net, loopback(ports.0))?;
+        Ok(Socket {
+            inner,
+            target: loopback(ports.1),
+            ready: true,
+        })
+    }
+
+    /// The next datagram that is there, if one is.
+    fn take(&mut self, room: &mut [u8; LONGEST]) -> Result<Option<usize>, WireFault>
+        ensures { IfOk result (λ found. IfSome found (λ count. count ≤ 4096)) }
+    {
+        if !self.ready {
+            return Ok(None);
+        }
+        match self.inner.recv_from(room) {
+            Ok((count, _)) => Ok(Some(count)),
+            Err(error) if error.kind() == ErrorKind::WouldBlock => {
+                self.ready = false;
+                Ok(None)
+            }
+            Err(_) => Err(WireFault),
+        }
+    }
+}
+
+fn loopback(port: u16) -> SocketAddr {
+    SocketAddr::V4(SocketAddrV4::new(Ipv4Addr::LOCALHOST, port))
+}
+
+/// The sockets of a box: for the link and for each side.
+#[derive(Drop)]
+pub struct Sockets {
+    poll: Poll,
+    events: Events,
+    link: Socket,
+    inside: Socket,
+    outside: Socket,
+    /// The socket that is asked first, so that none is passed over for long.
+    first: Place,
+}
+
+impl Sockets {
+    /// Binds the own ports.
+    ///
+    /// # Errors
+    ///
+    /// `NoSocket` where a port can't be had, `NoMemory`.
+    pub fn bind<R: Net>(net: &R, alloc: Global, ports: Ports) -> Result<Sockets, SocketFault> {
+        let mut sockets = Sockets {
+            poll: Poll::new(net)?,
+            events: Events::with_capacity(alloc, 3)?,
+            link: Socket::bind(net, ports.link)?,
+            inside: Socket::bind(net, ports.inside)?,
+            outside: Socket::bind(net, ports.outside)?,
+            first: Place::Link,
+        };
+        sockets.register()?;
+        Ok(sockets)
+    }
+
+    fn register(&mut self) -> io::Result<()> {
+        let registry = self.poll.registry();
+        registry.register(&mut self.link.inner, Token(0), Interest::READABLE)?;
+        registry.register(&mut self.inside.inner, Token(1), Interest::READABLE)?;
+        registry.register(&mut self.outside.inner, Token(2), Interest::READABLE)
+    }
+
+    fn socket(&mut self, place: Place) -> &mut Socket {
+        match place {
+            Place::Link => &mut self.link,
+            Place::Side(Side::Inside) => &mut self.inside,
+            Place::Side(Side::Outside) => &mut self.outside,
+        }
+    }
+
+    /// The next datagram that is there, of any socket.
+    fn next(&mut self, room: &mut [u8; LONGEST]) -> Result<Option<(Place, usize)>, WireFault>
+        ensures { IfOk result (λ found. IfSome found (λ datagram. datagram.1 ≤ 4096)) }
+    {
+        for _ in 0..3 {
+            let place = self.first;
+            self.first = after(place);
+            if let Some(count) = self.socket(place).take(room)? {
+                return Ok(Some((place, count)));
+            }
+        }
+        Ok(None)
+    }
+
+    /// Waits until a socket has something, or `limit` has passed.
+    fn wait(&mut self, limit: Duration) -> io::Result<()> {
+        self.poll.poll(&mut self.events, Some(limit))?;
+        for event in &self.events {
+            match event.token() {
+                Token(0) => self.link.ready = true,
+                Token(1) => self.inside.ready = true,
+                _ => self.outside.ready = true,
+            }
+        }
+        Ok(())
+    }
+}
+
+/// The place that is asked next.
+fn after(place: Place) -> Place {
+    match place {
+        Place::Link => Place::Side(Side::Inside),
+        Place::Side(Side::Inside) => Place::Side(Side::Outside),
+        Place::Side(Side::Outside) => Place::Link,
+    }
+}
+
+impl Wire for Sockets {
+    fn send(&mut self, to: Place, bytes: &[u8]) -> Result<(), WireFault> {
+        let socket = self.socket(to);
+        match socket.inner.send_to(bytes, socket.target) {
+            Ok(_) => Ok(()),
+            Err(_) => Err(WireFault),
+        }
+    }
+
+    fn receive(
+        &mut self,
+        limit: Duration,
+        room: &mut [u8; LONGEST],
+    ) -> Result<Option<(Place, usize)>, WireFault> {
+        if let Some(found) = self.next(room)? {
+            return Ok(Some(found));
+        }
+        self.wait(limit).map_err(|_| WireFault)?;
+        self.next(room)
+    }
+}
