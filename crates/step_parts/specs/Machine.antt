@@ -1,5 +1,6 @@
 -- A step as the pair machine sees it.
-use Rattle.std.specs.Prelude.{◌≡◌, ◌<◌, ◌≤◌, ℕ, true, ◌-◌, List, [], ◌∷◌, ◌++◌, map, reverse, Option, Some, None, Result, Ok, Err, ◌⊎◌}
+use Rattle.std.specs.Prelude.{◌≡◌, ◌<◌, ℕ, true, List, [], ◌∷◌, ◌++◌, get_or, map, reverse, Result, Ok, Err, ◌⊎◌}
+use Rattle.std.specs.List.{AllByRecursion}
 use Rattle.nat_types.specs.declared.notes.Note.{Note}
 use Rattle.nat_types.specs.declared.records.Record.{Record}
 use Rattle.link.specs.declared.datagrams.Datagram.{Datagram as Letters}
@@ -25,6 +26,22 @@ HasPushed g h = Stands g.ledger.book g.link h
 -- a gateway is lone only while no boot of the peer is known, or the known one was closed
 abbrev pub IsAlone : Shown → Type 0
 IsAlone g = is_lone g.ledger.book.stage ≡ true → (g.link.known ≡ 0) ⊎ (g.link.closed ≡ true)
+
+-- each is a byte
+abbrev pub AreBytes : List ℕ → Type 0
+AreBytes bytes = (place : ℕ) → get_or bytes place 0 < 256
+
+-- each packet that it keeps is bytes
+abbrev pub KeepsBytes : Shown → Type 0
+KeepsBytes g = AllByRecursion (λ w. AreBytes w.bytes) g.kept
+
+-- and so is the frame or the datagram of an event
+abbrev pub HasBytes : Event → Type 0
+HasBytes (Frame side bytes) = AreBytes bytes.now
+HasBytes (Datagram bytes) = AreBytes bytes.now
+HasBytes (Tick now) = Unit {0}
+HasBytes Stop = Unit {0}
+HasBytes (PeerOff n) = Unit {0}
 
 -- the letters that an event hands in: the datagram's, where the bytes are one
 abbrev pub letter_in : Result Letters LinkFault → List Letter
