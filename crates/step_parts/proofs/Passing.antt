@@ -56,6 +56,9 @@ pub record Goes-on (letters : List Letter) (words : List ℕ) (s : Scene) (n : �
   pub passes : Passes letters words s n s2 n2 h
   pub stays : Stays s.shown s2.shown
 
+abbrev pub Going : List Letter → List ℕ → Scene → Scene → Type 0
+Going letters words s s2 = (n : ℕ) (h : List Record) → Stands s.shown.ledger.book s.shown.link h → IsSound s.shown → Goes-on letters words s n s2 n h
+
 module _ (letters : List Letter) (words : List ℕ) where
   -- one behind the other
   pub passes-then : (s s2 s3 : Scene) (n n2 n3 : ℕ) (h : List Record) → (a : Passes letters words s n s2 n2 h) → Passes letters words s2 n2 s3 n3 a.works.history → Passes letters words s n s3 n3 h
@@ -103,6 +106,16 @@ module _ (letters : List Letter) (words : List ℕ) where
           lone = λ t. ap (λ (x : Book). is_lone x.stage) (sym book) ∙ t;
         };
       }
+
+  -- a part during which no record is taken, whatever was pushed before
+  pub going-then : (s s2 s3 : Scene) → Going letters words s s2 → Going letters words s2 s3 → Going letters words s s3
+  going-then s s2 s3 a c = λ n h stands is.
+      let x = a n h stands is in
+      goes-then s s2 s3 n n n h x (c n x.passes.works.history x.passes.works.agrees x.passes.sound)
+
+  pub going-unseen : (s s2 : Scene) → s2.shown.ledger.book ≡ s.shown.ledger.book → s2.shown.link ≡ s.shown.link → s2.told.notes ≡ s.told.notes → s2.told.datagrams ≡ s.told.datagrams → s2.shown.moment ≡ s.shown.moment
+      → (KeepsBytes s.shown → KeepsBytes s2.shown) → Going letters words s s2
+  going-unseen s s2 book link notes datagrams moment kept = λ n h stands is. unseen s s2 n h stands is.book book link notes datagrams moment (kept is.kept)
 
   pub nothing : (s : Scene) (n : ℕ) (h : List Record) → Stands s.shown.ledger.book s.shown.link h → IsSound s.shown → Goes-on letters words s n s n h
   nothing s n h stands is = unseen s s n h stands is.book refl refl refl refl refl is.kept
