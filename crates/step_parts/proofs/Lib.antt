@@ -1,3 +1,6 @@
+pub mod Ending
+pub mod Hearing
 pub mod Packets
 pub mod Passing
 pub mod Records
+pub mod Sides

@@ -145,7 +145,7 @@ carry-still b k = at (is_synced b.stage) (slot_of b.entries k)
 
 -- ---- packets that are kept
 
-kept-filter : (p : Waiting → Bool) (ws : List Waiting) → AllByRecursion (λ (w : Waiting). AreBytes w.bytes) ws → AllByRecursion (λ (w : Waiting). AreBytes w.bytes) (filter p ws)
+pub kept-filter : (p : Waiting → Bool) (ws : List Waiting) → AllByRecursion (λ (w : Waiting). AreBytes w.bytes) ws → AllByRecursion (λ (w : Waiting). AreBytes w.bytes) (filter p ws)
 kept-filter p [] all = tt
 kept-filter p (w ∷ ws) all = at (p w) (kept-filter p ws all.1)
   where

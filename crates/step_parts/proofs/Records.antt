@@ -120,7 +120,7 @@ module _ (l : Letter) (words : List ℕ) where
       let third = ended-goes (l ∷ []) words reads s3 (taken_ended b rests r) (suc n) both.passes.works.history both.passes.works.agrees both.passes.sound in
       goes-then (l ∷ []) words s s3 (record_done s r) n (suc n) (suc n) h both third
 
-  not-alone : (x y : Bool) → (x ≡ true → y ≡ true) → y ≡ false → x ≡ false
+  pub not-alone : (x y : Bool) → (x ≡ true → y ≡ true) → y ≡ false → x ≡ false
   not-alone true y f is = sym (f refl) ∙ is
   not-alone false y f is = refl
 
