@@ -1,5 +1,5 @@
 -- The datagram at a step's end, as the machine sees it.
-use Rattle.std.proofs.Common.{◌≡◌, ℕ, ◌+◌, ◌-◌, ◌==◌, min, Bool, true, false, cond, List, [], ◌∷◌, ◌++◌, length, drop, map, reverse, take, Option, Some, refl, sym, ap, subst, ◌∙◌, arith}
+use Rattle.std.proofs.Common.{◌≡◌, ◌⊎◌, inl, inr, ℕ, ◌+◌, ◌-◌, ◌==◌, min, Bool, true, false, cond, List, [], ◌∷◌, ◌++◌, length, drop, map, reverse, take, Option, Some, refl, sym, ap, subst, ◌∙◌, arith}
 use Rattle.std.proofs.lemmas.List.{append-nil, length-append, length-take, take-append-drop}
 use Rattle.nat_types.specs.declared.notes.Note.{Note}
 use Rattle.nat_types.specs.declared.records.Record.{Record}
@@ -19,7 +19,7 @@ use Rattle.step_parts.specs.Machine.{Goes, IsAlone, box_of}
 use Rattle.step_parts.specs.Parts.{answer_sent, datagram_in, handed_in, link_answered, link_ticked, tick_sent}
 use Rattle.step_parts.specs.Shown.{Scene, Shown, id_of, scene}
 use Rattle.step_parts.proofs.Hearing.{Arrives}
-use Rattle.step_parts.proofs.Passing.{Passes, given, passes-then}
+use Rattle.step_parts.proofs.Passing.{IsSound, Passes, given, passes-then}
 
 -- what is wanted is handed in, and nothing more is
 wanted-none : (e : Link) (coming : List Record) → length coming ≡ e.promised → wanted (with_fed e (take (wanted e) coming)) ≡ 0
@@ -114,3 +114,25 @@ module _ (letters : List Letter) (words : List ℕ) (s : Scene) (h : List Record
           → Goes letters words s (let t : Scene = cond due (scene (record g { link = sent_on_tick g.link g.moment }) (with_datagram done.told (datagram_in g))) (scene g done.told) in t) h
       at g x none true = sent-goes g done.told (Some g.moment) none x
       at g x none false = unsent-goes g done.told g.link.ticked g.link.due x
+
+  -- what holds between steps holds afterwards
+  ended-keeps : (g : Shown) (told : Told) (e : Link) → IsSound g → IsAlone g → e.known ≡ g.link.known → e.closed ≡ g.link.closed → IsSound (record g { link = e }) × IsAlone (record g { link = e })
+  ended-keeps g told e is alone known closed = (record { book = is.book; kept = is.kept }, λ t. at (alone t))
+    where
+      at : (g.link.known ≡ 0) ⊎ (g.link.closed ≡ true) → (e.known ≡ 0) ⊎ (e.closed ≡ true)
+      at (inl none) = inl (known ∙ none)
+      at (inr over) = inr (closed ∙ over)
+
+  pub answered-keeps : (done : Scene) → Arrives letters words s done h → IsSound (link_answered done).shown × IsAlone (link_answered done).shown
+  answered-keeps done a =
+      let g = handed_in done.shown in
+      ended-keeps g done.told (sent_on_answer g.link) (fed-passes done a).sound a.alone refl refl
+
+  pub ticked-keeps : (done : Scene) → Arrives letters words s done h → IsSound (link_ticked done).shown × IsAlone (link_ticked done).shown
+  ticked-keeps done a =
+      let g = handed_in done.shown in
+      at g (fed-passes done a).sound a.alone (is_due_on_tick g.link g.moment)
+    where
+      at : (g : Shown) → IsSound g → IsAlone g → (due : Bool) → (let t : Scene = cond due (scene (record g { link = sent_on_tick g.link g.moment }) (with_datagram done.told (datagram_in g))) (scene g done.told) in IsSound t.shown × IsAlone t.shown)
+      at g is alone true = ended-keeps g done.told (sent_on_tick g.link g.moment) is alone refl refl
+      at g is alone false = (is, alone)

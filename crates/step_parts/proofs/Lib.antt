@@ -4,3 +4,4 @@ pub mod Packets
 pub mod Passing
 pub mod Records
 pub mod Sides
+pub mod Stepping

@@ -2,7 +2,9 @@
 #![tactic(auto)]
 
 mod events;
+mod laws;
 mod plans;
 
 pub use events::{Event, Outcome};
+pub use laws::{steps_go, steps_keep};
 pub use plans::Plan;
