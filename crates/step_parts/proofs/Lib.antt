@@ -5,3 +5,4 @@ pub mod Passing
 pub mod Records
 pub mod Sides
 pub mod Stepping
+pub mod Telling
