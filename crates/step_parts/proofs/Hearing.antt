@@ -176,9 +176,9 @@ module _ (reads : Reads) (s : Scene) (h : List Record) (bytes : List ℕ) (d : D
   from : (mid : Scene) (n : ℕ) → (first : Passes (l ∷ []) [] s e.taken mid n h) → n ≡ (met e d).taken → SameSession e1 mid.shown.link → is_lone mid.shown.ledger.book.stage ≡ false → Arrives (l ∷ []) [] s (records_done mid rs) h
   from mid n first at same lone =
       let there : AllCome l mid.shown.link.boot mid.shown.link.known n rs =
-          subst (λ (x : ℕ). AllCome l x mid.shown.link.known n rs) (sym same.boot)
-          (subst (λ (x : ℕ). AllCome l e1.boot x n rs) (sym same.known)
-          (subst (λ (x : ℕ). AllCome l e1.boot e1.known x rs) (sym at) come)) in
+      subst (λ (x : ℕ). AllCome l x mid.shown.link.known n rs) (sym same.boot)
+      (subst (λ (x : ℕ). AllCome l e1.boot x n rs) (sym same.known)
+      (subst (λ (x : ℕ). AllCome l e1.boot e1.known x rs) (sym at) come)) in
       let second = records-take l [] reads mid n rs there first.works.history first.works.agrees first.sound lone in
       let done = records_done mid rs in
       let total : counted n rs ≡ done.shown.link.taken = counted-is n rs ∙ ap (λ (x : ℕ). x + length rs) at ∙ sym (second.stays.taken ∙ same.taken) in

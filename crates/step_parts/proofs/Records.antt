@@ -131,8 +131,8 @@ module _ (l : Letter) (words : List ℕ) where
       let mid = record_done s r in
       let first = record-takes reads s n r all.0 h stands is lone in
       let come : AllCome l mid.shown.link.boot mid.shown.link.known (suc n) rs =
-          subst (λ (x : ℕ). AllCome l x mid.shown.link.known (suc n) rs) (sym first.stays.boot)
-          (subst (λ (x : ℕ). AllCome l s.shown.link.boot x (suc n) rs) (sym first.stays.known) all.1) in
+      subst (λ (x : ℕ). AllCome l x mid.shown.link.known (suc n) rs) (sym first.stays.boot)
+      (subst (λ (x : ℕ). AllCome l s.shown.link.boot x (suc n) rs) (sym first.stays.known) all.1) in
       let lone2 = not-alone (is_lone mid.shown.ledger.book.stage) (is_lone s.shown.ledger.book.stage) first.stays.lone lone in
       let rest = records-take reads mid (suc n) rs come first.passes.works.history first.passes.works.agrees first.passes.sound lone2 in
       goes-then (l ∷ []) words s mid (records_done mid rs) n (suc n) (counted (suc n) rs) h first rest
