@@ -5,4 +5,5 @@ pub mod Passing
 pub mod Records
 pub mod Sides
 pub mod Stepping
+pub mod Takings
 pub mod Telling
