@@ -1,0 +1,283 @@
+-- What a step does with one packet, and with those whose wait is over, as the machine sees it.
+use Rattle.std.proofs.Common.{◌≡◌, ◌<◌, ◌≤◌, ◌^◌, ◌-◌, ℕ, Bool, true, false, cond, not, List, [], ◌∷◌, ◌++◌, get_or, length, drop, take, Option, Some, None, Result, Ok, Err, inl, inr, refl, sym, ap, subst, ◌∙◌, arith}
+use Rattle.std.specs.List.{AllByRecursion, filter}
+use Rattle.byteorder.specs.Numbers.{big_from-lt}
+use Rattle.addresses.specs.declared.ethernet.Mac.{Mac}
+use Rattle.addresses.specs.declared.internet.Ip.{Ip}
+use Rattle.addresses.specs.declared.transport.Port.{Port}
+use Rattle.addresses.specs.declared.transport.TcpFlags.{TcpFlags}
+use Rattle.nat_types.specs.declared.gateways.Side.{Side}
+use Rattle.nat_types.specs.declared.pairs.Endpoint.{Endpoint}
+use Rattle.nat_types.specs.declared.pairs.EntryState.{EntryState}
+use Rattle.nat_types.specs.declared.pairs.EntryState.TheVariants as state
+use Rattle.nat_types.specs.declared.pairs.Key.{Key}
+use Rattle.nat_types.specs.declared.pairs.Pair.{Pair}
+use Rattle.nat_types.specs.declared.records.Record.{Record}
+use Rattle.bindings.specs.declared.entries.Entry.{Entry}
+use Rattle.bindings.specs.Entries.{slot_of}
+use Rattle.frames.specs.Frame.{frame_of}
+use Rattle.ipv4.specs.declared.flows.Flow.{Flow}
+use Rattle.ipv4.specs.Carried.{IsTransport}
+use Rattle.ipv4.specs.Header.{header_of, payload_of, word_at}
+use Rattle.lives.specs.declared.packets.Packet.{Packet as Carried}
+use Rattle.lives.specs.declared.packets.Way.TheVariants as goes
+use Rattle.link.specs.Link.{Link}
+use Rattle.link.proofs.Fields.{IsBytes-drop, IsBytes-take}
+use Rattle.pair_machine.specs.Box.{Letter}
+use Rattle.binding_step.specs.declared.changes.Row.{Row}
+use Rattle.binding_step.specs.declared.changes.Want.{Want as Wanted}
+use Rattle.binding_step.specs.declared.changes.Want.TheVariants as want
+use Rattle.binding_step.specs.Books.{Book, is_synced}
+use Rattle.binding_step.specs.Fits.{IsWellFormedEndpoint}
+use Rattle.binding_step.specs.Machine.{Stands, Works}
+use Rattle.binding_step.specs.Rows.{after, answered, carry_row, is_full, noted_by, quiet, use_row, used_row, wish_of}
+use Rattle.binding_step.proofs.Keeping.{wish-keeps}
+use Rattle.binding_step.proofs.Wishing.{carry-works, wish-works}
+use Rattle.kept.specs.declared.waits.Ended.{Ended}
+use Rattle.kept.specs.declared.waits.Wait.{Wait}
+use Rattle.kept.specs.Packets.{Waiting, ended_by, left_by}
+use Rattle.kept.specs.Waits.{ends}
+use Rattle.packet_rules.specs.declared.networks.Direction.{Direction}
+use Rattle.packet_rules.specs.declared.networks.Direction.TheVariants as way
+use Rattle.packet_rules.specs.declared.networks.Network.{Network}
+use Rattle.packet_rules.specs.declared.readings.Reading.{Reading}
+use Rattle.packet_rules.specs.declared.readings.Reading.TheVariants.{Arp, Advert, Packet}
+use Rattle.packet_rules.specs.declared.reasons.Reason.{Reason}
+use Rattle.packet_rules.specs.declared.reasons.Reason.TheVariants.{ShortFrame, NotMine, BadHeader, BadLength, BadHeaderSum, Fragment, TtlOver, NotUdpTcp, BadTransport, BadArp, BadAdvert, NotUp, NoBinding, NoPort, CannotWait, BadDatagram, OldWord}
+use Rattle.packet_rules.specs.declared.translations.Translation.{Translation}
+use Rattle.packet_rules.specs.declared.translations.Translation.TheVariants.{Outward, Inward, Hairpin}
+use Rattle.packet_rules.specs.Flows.{flow_in, source_of}
+use Rattle.packet_rules.specs.Networks.{direction_of}
+use Rattle.packet_rules.specs.Steps.{Carries, IsForwardable, reading_of, and_then}
+use Rattle.sides.specs.Stations.{is_active}
+use Rattle.step_parts.specs.declared.plans.Plan.{Plan}
+use Rattle.step_parts.specs.declared.plans.Plan.TheVariants.{Send, Ask, Wait as WaitFor}
+use Rattle.step_parts.specs.Machine.{AreBytes, KeepsBytes}
+use Rattle.step_parts.specs.Parts.{all_taken, by_plan, by_refusal, by_verdict, carried, carried_all, carried_by, flags_in, flow_taken, framed, keeping, released, remote, retaken_by, taken_again, wanted_by, wanted_for}
+use Rattle.step_parts.specs.Shown.{Scene, Shown, is_up, scene, station_on}
+use Rattle.step_parts.specs.Verdict.{exit_by, look_for, plan_by, plan_from, plan_of, plan_on, plan_to, reading_on, target_pair}
+use Rattle.step_parts.proofs.Passing.{Going, Goes-on, IsSound, Passes, given, going-then, going-unseen, nothing, row-goes, stays-here}
+
+-- ---- the endpoint of a packet's source
+
+pub source-formed : (bytes : List ℕ) → AreBytes bytes → IsForwardable bytes → IsWellFormedEndpoint (source_of (flow_in bytes))
+unfolding flow_in
+source-formed bytes are is =
+    let body = (frame_of bytes).body in
+    let of_body : AreBytes body = IsBytes-drop 14 bytes are in
+    let header = header_of body in
+    let of_payload : AreBytes (payload_of body) = IsBytes-take (header.total_length - header.header_length) (drop header.header_length body) (IsBytes-drop header.header_length body of_body) in
+    let low = big_from-lt 0 4 (drop 12 body) (IsBytes-drop 12 body of_body) in
+    let port = big_from-lt 0 2 (drop 0 (payload_of body)) (IsBytes-drop 0 (payload_of body) of_payload) in
+    record { address = omega (arith, low); port = (above body is.transport, omega (arith, port)) }
+  where
+    above : (body : List ℕ) → IsTransport body → 0 < word_at 0 (payload_of body)
+    above body (inl udp) = udp.datagram.from
+    above body (inr tcp) = tcp.segment.from
+
+-- a plan waits for an endpoint that a pair can have
+abbrev PlanFits : Result Plan Reason → Type 0
+PlanFits (Ok (Send by next)) = Unit {0}
+PlanFits (Ok (Ask by hop)) = Unit {0}
+PlanFits (Ok (WaitFor e)) = IsWellFormedEndpoint e
+PlanFits (Err reason) = Unit {0}
+
+to-fits : (g : Shown) (by : Translation) (hop : Ip) (next : Option Mac) → PlanFits (plan_to g by hop next)
+to-fits g by hop (Some next) = tt
+to-fits g by hop None = at _
+  where
+    at : (b : Bool) → PlanFits (let r : Result Plan Reason = cond b (Ok (Ask by hop)) (Err CannotWait) in r)
+    at true = tt
+    at false = tt
+
+by-fits : (g : Shown) (flow : Flow) (by : Translation) → PlanFits (plan_by g flow by)
+by-fits g flow by = to-fits g by _ _
+
+from-fits : (g : Shown) (flow : Flow) (by : Pair → Translation) (w : Wanted) → IsWellFormedEndpoint (source_of flow) → PlanFits (plan_from g flow by w)
+from-fits g flow by (want.Port port) formed = by-fits g flow _
+from-fits g flow by want.Wait formed = at _
+  where
+    at : (b : Bool) → PlanFits (let r : Result Plan Reason = cond b (Ok (WaitFor (source_of flow))) (Err CannotWait) in r)
+    at true = formed
+    at false = tt
+from-fits g flow by want.NoPort formed = tt
+from-fits g flow by want.NotNow formed = tt
+
+on-fits : (g : Shown) (flow : Flow) (w : Direction) → IsWellFormedEndpoint (source_of flow) → PlanFits (plan_on g flow w)
+on-fits g flow way.Outward formed = from-fits g flow Outward (look_for g flow) formed
+on-fits g flow way.Inward formed = at (target_pair g flow)
+  where
+    at : (r : Result Pair Reason) → PlanFits (and_then r (λ p. plan_by g flow (Inward p)))
+    at (Ok p) = by-fits g flow (Inward p)
+    at (Err reason) = tt
+on-fits g flow way.Hairpin formed = at (target_pair g flow)
+  where
+    at : (r : Result Pair Reason) → PlanFits (and_then r (λ p. plan_from g flow (λ own. Hairpin own p) (look_for g flow)))
+    at (Ok p) = from-fits g flow (λ own. Hairpin own p) (look_for g flow) formed
+    at (Err reason) = tt
+
+plan-fits : (g : Shown) (side : Side) (flow : Flow) → IsWellFormedEndpoint (source_of flow) → PlanFits (plan_of g side flow)
+plan-fits g side flow formed = at (direction_of g.networks side flow.source.0 flow.destination.0)
+  where
+    at : (r : Result Direction Reason) → PlanFits (and_then r (plan_on g flow))
+    at (Ok w) = on-fits g flow w formed
+    at (Err reason) = tt
+
+-- ---- a packet that a pair carries
+
+abbrev IsStill : Book → Row → Type 0
+IsStill b row = (after b row ≡ b) × ((e : Link) → answered e row.answer ≡ e)
+
+used-still : (b : Book) (p : Pair) (s : EntryState) → IsStill b (used_row p s)
+used-still b p state.Pending = (refl, λ e. refl)
+used-still b p state.Doomed = (refl, λ e. refl)
+used-still b p state.Live = (refl, λ e. refl)
+used-still b p state.Closing = (refl, λ e. refl)
+used-still b p state.Held = (refl, λ e. refl)
+
+carry-still : (b : Book) (k : Key) → IsStill b (carry_row b k)
+carry-still b k = at (is_synced b.stage) (slot_of b.entries k)
+  where
+    at : (t : Bool) (o : Option Entry) → IsStill b (let r : Row = cond t (use_row o) quiet in r)
+    at true None = (refl, λ e. refl)
+    at true (Some x) = used-still b x.pair x.state
+    at false o = (refl, λ e. refl)
+
+-- ---- packets that are kept
+
+pub kept-filter : (p : Waiting → Bool) (ws : List Waiting) → AllByRecursion (λ (w : Waiting). AreBytes w.bytes) ws → AllByRecursion (λ (w : Waiting). AreBytes w.bytes) (filter p ws)
+kept-filter p [] all = tt
+kept-filter p (w ∷ ws) all = at (p w) (kept-filter p ws all.1)
+  where
+    at : (b : Bool) → AllByRecursion (λ (x : Waiting). AreBytes x.bytes) (filter p ws) → AllByRecursion (λ (x : Waiting). AreBytes x.bytes) (let xs : List Waiting = cond b (w ∷ filter p ws) (filter p ws) in xs)
+    at true rest = (all.0, rest)
+    at false rest = rest
+
+kept-more : (ws : List Waiting) (x : Waiting) → AllByRecursion (λ (w : Waiting). AreBytes w.bytes) ws → AreBytes x.bytes → AllByRecursion (λ (w : Waiting). AreBytes w.bytes) (ws ++ x ∷ [])
+kept-more [] x all one = (one, tt)
+kept-more (w ∷ ws) x all one = (all.0, kept-more ws x all.1 one)
+
+-- what is known of a frame by what it is read as
+abbrev pub Reads : Type 0
+Reads = (network : Network) (active up : Bool) (bytes : List ℕ) (reading : Reading) → reading_of network active up bytes ≡ Ok reading → Carries bytes reading
+
+module _ (letters : List Letter) (words : List ℕ) where
+  pub wanted-goes : (s : Scene) (e : Endpoint) → IsWellFormedEndpoint e → Going letters words s (wanted_by s e)
+  wanted-goes s e formed = λ n h stands is.
+      let b = s.shown.ledger.book in
+      let full = is_full s.shown.link in
+      row-goes letters words s (wish_of b full e).row n h is (wish-keeps b full e is.book formed) (wish-works s.shown.moment b s.shown.link n h full e stands)
+
+  pub carried-goes : (s : Scene) (k : Key) (p : Carried) → Going letters words s (carried_by s k p)
+  carried-goes s k p = λ n h stands is.
+      let b = s.shown.ledger.book in
+      let e = s.shown.link in
+      let row = carry_row b k in
+      let still = carry-still b k in
+      let ns = noted_by b.id s.shown.moment row.what in
+      let works = given letters words s.shown.moment b (after b row) e (answered e row.answer) n n ns h (carry-works s.shown.moment b e n h k stands) in
+      record {
+        passes = record {
+          notes = ns;
+          notes_are = refl;
+          datagrams = refl;
+          moment = refl;
+          works = subst (λ (x : Book). Works s.shown.moment letters words b e n x e n ns h) still.0
+              (subst (λ (x : Link). Works s.shown.moment letters words b e n (after b row) x n ns h) (still.1 e) works);
+          sound = record { book = is.book; kept = is.kept };
+        };
+        stays = record { boot = refl; known = refl; closed = refl; taken = refl; lone = λ t. t };
+      }
+
+  pub here : (s : Scene) → Going letters words s s
+  here s = λ n h stands is. nothing letters words s n h stands is
+
+  pub carried-all-goes : (s : Scene) (flow : Flow) (flags : TcpFlags) (by : Translation) → Going letters words s (carried_all s flow flags by)
+  carried-all-goes s flow flags (Outward p) = carried-goes s p.key _
+  carried-all-goes s flow flags (Inward p) = carried-goes s p.key _
+  carried-all-goes s flow flags (Hairpin own other) =
+      let address = s.shown.networks.outside.interface.virtual_ip in
+      let first = carried (remote address flow.destination_port) goes.Outward flags s.shown.moment in
+      going-then letters words s (carried_by s own.key first) _ (carried-goes s own.key first) (carried-goes (carried_by s own.key first) other.key _)
+
+  pub wanted-for-goes : (s : Scene) (flow : Flow) (by : Translation) → IsWellFormedEndpoint (source_of flow) → Going letters words s (wanted_for s flow by)
+  wanted-for-goes s flow (Outward p) formed = wanted-goes s (source_of flow) formed
+  wanted-for-goes s flow (Inward p) formed = here s
+  wanted-for-goes s flow (Hairpin own other) formed = wanted-goes s (source_of flow) formed
+
+  pub framed-goes : (s : Scene) (side : Side) (bytes : List ℕ) → Going letters words s (framed s side bytes)
+  framed-goes s side bytes = going-unseen letters words s (framed s side bytes) refl refl refl refl refl (λ k. k)
+
+  pub keeping-goes : (s : Scene) (side : Side) (bytes : List ℕ) (w : Wait) → AreBytes bytes → Going letters words s (keeping s side bytes w)
+  keeping-goes s side bytes w are = going-unseen letters words s (keeping s side bytes w) refl refl refl refl refl (λ k. kept-more s.shown.kept _ k are)
+
+  plan-goes : (s : Scene) (side : Side) (bytes : List ℕ) (flow : Flow) (plan : Plan) → AreBytes bytes → IsWellFormedEndpoint (source_of flow) → PlanFits (Ok plan) → Going letters words s (by_plan s side bytes flow plan)
+  plan-goes s side bytes flow (Send by next) are formed fits =
+      let one = wanted_for s flow by in
+      going-then letters words s (framed one _ _) _
+      (going-then letters words s one (framed one _ _) (wanted-for-goes s flow by formed) (framed-goes one _ _))
+      (carried-all-goes (framed one _ _) flow (flags_in bytes) by)
+  plan-goes s side bytes flow (Ask by hop) are formed fits =
+      let one = wanted_for s flow by in
+      let two = keeping one side bytes _ in
+      going-then letters words s two _
+      (going-then letters words s one two (wanted-for-goes s flow by formed) (keeping-goes one side bytes _ are))
+      (framed-goes two _ _)
+  plan-goes s side bytes flow (WaitFor e) are formed fits =
+      let one = wanted_by s e in
+      going-then letters words s one _ (wanted-goes s e fits) (keeping-goes one side bytes _ are)
+
+  refusal-goes : (s : Scene) (flow : Flow) (reason : Reason) → IsWellFormedEndpoint (source_of flow) → Going letters words s (by_refusal s flow reason)
+  refusal-goes s flow NoPort formed = wanted-goes s (source_of flow) formed
+  refusal-goes s flow ShortFrame formed = here s
+  refusal-goes s flow NotMine formed = here s
+  refusal-goes s flow BadHeader formed = here s
+  refusal-goes s flow BadLength formed = here s
+  refusal-goes s flow BadHeaderSum formed = here s
+  refusal-goes s flow Fragment formed = here s
+  refusal-goes s flow TtlOver formed = here s
+  refusal-goes s flow NotUdpTcp formed = here s
+  refusal-goes s flow BadTransport formed = here s
+  refusal-goes s flow BadArp formed = here s
+  refusal-goes s flow BadAdvert formed = here s
+  refusal-goes s flow NotUp formed = here s
+  refusal-goes s flow NoBinding formed = here s
+  refusal-goes s flow CannotWait formed = here s
+  refusal-goes s flow BadDatagram formed = here s
+  refusal-goes s flow OldWord formed = here s
+
+  verdict-goes : (s : Scene) (side : Side) (bytes : List ℕ) (flow : Flow) (plan : Result Plan Reason) → AreBytes bytes → IsWellFormedEndpoint (source_of flow) → PlanFits plan → Going letters words s (by_verdict s side bytes flow plan)
+  verdict-goes s side bytes flow (Ok plan) are formed fits = plan-goes s side bytes flow plan are formed fits
+  verdict-goes s side bytes flow (Err reason) are formed fits = refusal-goes s flow reason formed
+
+  pub flow-goes : (s : Scene) (side : Side) (bytes : List ℕ) (flow : Flow) → AreBytes bytes → IsWellFormedEndpoint (source_of flow) → Going letters words s (flow_taken s side bytes flow)
+  flow-goes s side bytes flow are formed = verdict-goes s side bytes flow (plan_of s.shown side flow) are formed (plan-fits s.shown side flow formed)
+
+  -- ---- those whose wait is over
+
+  pub read-formed : Reads → (g : Shown) (side : Side) (bytes : List ℕ) (flow : Flow) → AreBytes bytes → reading_on g side bytes ≡ Ok (Packet flow) → IsWellFormedEndpoint (source_of flow)
+  read-formed reads g side bytes flow are read =
+      let at = station_on g side in
+      let known = reads at.network (is_active at) (is_up g) bytes (Packet flow) read in
+      subst (λ (f : Flow). IsWellFormedEndpoint (source_of f)) (sym known.1) (source-formed bytes are known.0)
+
+  retaken-goes : Reads → (s : Scene) (side : Side) (bytes : List ℕ) (r : Result Reading Reason) → reading_on s.shown side bytes ≡ r → AreBytes bytes → Going letters words s (retaken_by s side bytes r)
+  retaken-goes reads s side bytes (Ok (Packet flow)) read are = flow-goes s side bytes flow are (read-formed reads s.shown side bytes flow are read)
+  retaken-goes reads s side bytes (Ok (Arp p)) read are = here s
+  retaken-goes reads s side bytes (Ok (Advert a from)) read are = here s
+  retaken-goes reads s side bytes (Err reason) read are = here s
+
+  all-goes : Reads → (s : Scene) (ws : List Waiting) → AllByRecursion (λ (w : Waiting). AreBytes w.bytes) ws → Going letters words s (all_taken s ws)
+  all-goes reads s [] all = here s
+  all-goes reads s (w ∷ ws) all =
+      going-then letters words s (taken_again s w) _
+      (retaken-goes reads s w.side w.bytes (reading_on s.shown w.side w.bytes) refl all.0)
+      (all-goes reads (taken_again s w) ws all.1)
+
+  pub released-goes : Reads → (s : Scene) (ended : Ended) → Going letters words s (released s ended)
+  released-goes reads s ended = λ n h stands is.
+      let start = scene (record s.shown { kept = left_by ended s.shown.kept }) s.told in
+      going-then letters words s start _
+      (going-unseen letters words s start refl refl refl refl refl (λ k. kept-filter _ s.shown.kept k))
+      (all-goes reads start (ended_by ended s.shown.kept) (kept-filter _ s.shown.kept is.kept))
+      n h stands is

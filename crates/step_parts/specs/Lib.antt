@@ -1,0 +1,6 @@
+pub mod Shown
+pub mod Verdict
+pub mod Parts
+pub mod Steps
+pub mod Truly
+pub mod Machine

@@ -1,0 +1,338 @@
+-- The parts of a step: what each does to a gateway and to what it has told, and the takings of the packets whose wait it
+-- ended.
+use Rattle.std.specs.Prelude.{ℕ, ◌+◌, ◌-◌, Bool, true, false, not, ◌&&◌, nat_le, min, Option, Some, None, Result, Ok, Err, List, [], ◌∷◌, ◌++◌, take, drop, if◌then◌else◌}
+use Rattle.std.specs.List.{filter}
+use Rattle.addresses.specs.declared.ethernet.Mac.{Mac}
+use Rattle.addresses.specs.declared.internet.Ip.{Ip}
+use Rattle.addresses.specs.declared.transport.Port.{Port}
+use Rattle.addresses.specs.declared.transport.TcpFlags.{TcpFlags}
+use Rattle.nat_types.specs.declared.gateways.Side.{Side}
+use Rattle.nat_types.specs.declared.pairs.Endpoint.{Endpoint}
+use Rattle.nat_types.specs.declared.pairs.Key.{Key}
+use Rattle.nat_types.specs.declared.records.Record.{Record}
+use Rattle.arp.specs.declared.packets.ArpPacket.{ArpPacket}
+use Rattle.frames.specs.Frame.{frame_of}
+use Rattle.ipv4.specs.declared.flows.Flow.{Flow}
+use Rattle.ipv4.specs.Header.{payload_of}
+use Rattle.ipv4.specs.Segment.{segment_of}
+use Rattle.lives.specs.declared.packets.Packet.{Packet as Carried}
+use Rattle.lives.specs.declared.packets.Remote.{Remote}
+use Rattle.lives.specs.declared.packets.Way.{Way}
+use Rattle.lives.specs.declared.packets.Way.TheVariants as goes
+use Rattle.bindings.specs.Lives.{idle_keys_in}
+use Rattle.link.specs.declared.datagrams.Datagram.{Datagram}
+use Rattle.link.specs.declared.faults.LinkFault.{LinkFault}
+use Rattle.link.specs.Grammar.{spelling}
+use Rattle.link.specs.Link.{Link, after_take, closed_at, datagram_of, is_due_on_tick, is_restart, records_taken, refusal, sent_on_answer, sent_on_tick, wanted, with_fed}
+use Rattle.link.specs.Reading.{reading}
+use Rattle.binding_step.specs.declared.changes.Row.{Row}
+use Rattle.binding_step.specs.Books.{is_synced}
+use Rattle.binding_step.specs.Ledgers.{alone_ledger, carried_ledger, ledger_after, rests_for, restarted_ledger, taken_ledger}
+use Rattle.binding_step.specs.Resets.{back_in, restart_link, restart_notes, retaken}
+use Rattle.binding_step.specs.Rows.{answered, carry_row, idle_row, is_full, noted_by, taken_answer, taken_ended, taken_what, wish_of}
+use Rattle.kept.specs.declared.waits.Ended.{Ended}
+use Rattle.kept.specs.declared.waits.Ended.TheVariants.{One, AllPairs}
+use Rattle.kept.specs.declared.waits.Wait.{Wait}
+use Rattle.kept.specs.declared.waits.Wait.TheVariants as wait
+use Rattle.kept.specs.Packets.{Waiting, ended_by, is_young, left_by}
+use Rattle.packet_rules.specs.declared.readings.Reading.{Reading}
+use Rattle.packet_rules.specs.declared.readings.Reading.TheVariants.{Arp, Advert, Packet}
+use Rattle.packet_rules.specs.declared.networks.Networks.{Networks}
+use Rattle.packet_rules.specs.declared.reasons.Reason.{Reason}
+use Rattle.packet_rules.specs.declared.reasons.Reason.TheVariants.{ShortFrame, NotMine, BadHeader, BadLength, BadHeaderSum, Fragment, TtlOver, NotUdpTcp, BadTransport, BadArp, BadAdvert, NotUp, NoBinding, NoPort, CannotWait, BadDatagram, OldWord}
+use Rattle.packet_rules.specs.declared.translations.Translation.{Translation}
+use Rattle.packet_rules.specs.declared.translations.Translation.TheVariants.{Outward, Inward, Hairpin}
+use Rattle.packet_rules.specs.Arping.{answer_frame, answer_to, is_learnable, request_frame}
+use Rattle.packet_rules.specs.Flows.{source_of}
+use Rattle.packet_rules.specs.Frames.{sent_frame}
+use Rattle.sides.specs.Stations.{Station, after_arp, frames_of, is_active}
+use Rattle.vrrp_states.specs.declared.Action.{Action}
+use Rattle.vrrp_states.specs.declared.State.{State}
+use Rattle.vrrp_states.specs.declared.State.TheVariants.{Initialize, Backup, Active}
+use Rattle.vrrp_states.specs.Table.{Router, active_down_interval}
+use Rattle.told.specs.Told.{Told, with_datagram, with_frame}
+use Rattle.step_parts.specs.declared.plans.Plan.{Plan}
+use Rattle.step_parts.specs.declared.plans.Plan.TheVariants.{Send, Ask, Wait as WaitFor}
+use Rattle.step_parts.specs.Shown.{Scene, Shown, id_of, is_up, scene, station_on, with_notes, with_station}
+use Rattle.step_parts.specs.Verdict.{exit_by, plan_of, reading_on}
+
+-- ---- rows of the binding protocol
+
+-- a row is done: the book and its lives change, a record may be pushed, and a note is made
+abbrev pub by_row : Scene → Row → Scene
+by_row s row = let g = s.shown in
+    scene (record g { ledger = ledger_after g.moment row.change g.ledger; link = answered g.link row.answer })
+    (with_notes s.told (noted_by (id_of g) g.moment row.what))
+
+-- the endpoint of a packet's source wants a port
+abbrev pub wanted_by : Scene → Endpoint → Scene
+wanted_by s e = by_row s (wish_of s.shown.ledger.book (is_full s.shown.link) e).row
+
+-- the pair of a key carries a packet
+abbrev pub carried_by : Scene → Key → Carried → Scene
+carried_by s k p = let g = s.shown in
+    scene (record g { ledger = carried_ledger k p g.ledger })
+    (with_notes s.told (noted_by (id_of g) g.moment (carry_row g.ledger.book k).what))
+
+-- ---- one packet
+
+-- the flags of a TCP segment; those of a UDP datagram aren't read
+abbrev pub flags_in : List ℕ → TcpFlags
+flags_in bytes = (segment_of (payload_of (frame_of bytes).body)).flags
+
+abbrev pub remote : Ip → Port → Remote
+remote address port = record { address = address; port = port }
+
+abbrev pub carried : Remote → Way → TcpFlags → ℕ → Carried
+carried r way flags now = record { remote = r; way = way; flags = flags; at = now }
+
+-- The packet as the sessions of its pairs see it. Of a hairpin the sender's pair sees the outside virtual address and the
+-- port that it goes to, the other pair that address and the sender's outside port.
+abbrev pub carried_all : Scene → Flow → TcpFlags → Translation → Scene
+carried_all s flow flags (Outward p) =
+    carried_by s p.key (carried (remote flow.destination flow.destination_port) goes.Outward flags s.shown.moment)
+carried_all s flow flags (Inward p) =
+    carried_by s p.key (carried (remote flow.source flow.source_port) goes.Inward flags s.shown.moment)
+carried_all s flow flags (Hairpin own other) =
+    let here = s.shown.networks.outside.interface.virtual_ip in
+    carried_by
+    (carried_by s own.key (carried (remote here flow.destination_port) goes.Outward flags s.shown.moment))
+    other.key (carried (remote here own.key.port) goes.Inward flags s.shown.moment)
+
+-- a packet of the inside has its endpoint's pair made, or proposed, or a port wanted for it
+abbrev pub wanted_for : Scene → Flow → Translation → Scene
+wanted_for s flow (Outward p) = wanted_by s (source_of flow)
+wanted_for s flow (Inward p) = s
+wanted_for s flow (Hairpin own other) = wanted_by s (source_of flow)
+
+abbrev pub framed : Scene → Side → List ℕ → Scene
+framed s side bytes = scene s.shown (with_frame s.told side bytes)
+
+-- a packet is kept as it came
+abbrev pub keeping : Scene → Side → List ℕ → Wait → Scene
+keeping s side bytes what =
+    scene (record s.shown { kept = s.shown.kept ++ (record { side = side; bytes = bytes; since = s.shown.moment; wait = what }) ∷ [] }) s.told
+
+-- a plan is done
+abbrev pub by_plan : Scene → Side → List ℕ → Flow → Plan → Scene
+by_plan s side bytes flow (Send by next) =
+    carried_all
+    (framed (wanted_for s flow by) (exit_by by) (sent_frame s.shown.networks by next bytes))
+    flow (flags_in bytes) by
+by_plan s side bytes flow (Ask by hop) =
+    framed
+    (keeping (wanted_for s flow by) side bytes (wait.Hop (exit_by by) hop))
+    (exit_by by) (request_frame (station_on s.shown (exit_by by)).network hop)
+by_plan s side bytes flow (WaitFor endpoint) =
+    keeping (wanted_by s endpoint) side bytes (wait.Pair endpoint)
+
+-- a packet is dropped, and where no port was free ports may be asked for
+abbrev pub by_refusal : Scene → Flow → Reason → Scene
+by_refusal s flow NoPort = wanted_by s (source_of flow)
+by_refusal s flow ShortFrame = s
+by_refusal s flow NotMine = s
+by_refusal s flow BadHeader = s
+by_refusal s flow BadLength = s
+by_refusal s flow BadHeaderSum = s
+by_refusal s flow Fragment = s
+by_refusal s flow TtlOver = s
+by_refusal s flow NotUdpTcp = s
+by_refusal s flow BadTransport = s
+by_refusal s flow BadArp = s
+by_refusal s flow BadAdvert = s
+by_refusal s flow NotUp = s
+by_refusal s flow NoBinding = s
+by_refusal s flow CannotWait = s
+by_refusal s flow BadDatagram = s
+by_refusal s flow OldWord = s
+
+abbrev pub by_verdict : Scene → Side → List ℕ → Flow → Result Plan Reason → Scene
+by_verdict s side bytes flow (Ok plan) = by_plan s side bytes flow plan
+by_verdict s side bytes flow (Err reason) = by_refusal s flow reason
+
+abbrev pub flow_taken : Scene → Side → List ℕ → Flow → Scene
+flow_taken s side bytes flow = by_verdict s side bytes flow (plan_of s.shown side flow)
+
+-- a kept packet is read again from the first step on
+abbrev pub retaken_by : Scene → Side → List ℕ → Result Reading Reason → Scene
+retaken_by s side bytes (Ok (Packet flow)) = flow_taken s side bytes flow
+retaken_by s side bytes (Ok (Arp p)) = s
+retaken_by s side bytes (Ok (Advert a from)) = s
+retaken_by s side bytes (Err reason) = s
+
+abbrev pub taken_again : Scene → Waiting → Scene
+taken_again s w = retaken_by s w.side w.bytes (reading_on s.shown w.side w.bytes)
+
+-- one after another, in the order of keeping
+abbrev pub all_taken : Scene → List Waiting → Scene
+all_taken s [] = s
+all_taken s (w ∷ ws) = all_taken (taken_again s w) ws
+
+-- the packets whose wait is over go off the list, and are taken again
+abbrev pub released : Scene → Ended → Scene
+released s ended =
+    all_taken (scene (record s.shown { kept = left_by ended s.shown.kept }) s.told) (ended_by ended s.shown.kept)
+
+-- ---- ARP and VRRP
+
+abbrev pub answered_by : Scene → Side → ArpPacket → Option Mac → Scene
+answered_by s side p (Some mac) = framed s side (answer_frame (station_on s.shown side).network p mac)
+answered_by s side p None = s
+
+-- the sender may be learnt, a request is answered, and whoever waited for that host waits no more
+abbrev pub arp_taken : Scene → Side → ArpPacket → Scene
+arp_taken s side p =
+    let station = station_on s.shown side in
+    let heard = scene (with_station s.shown side (after_arp station p s.shown.moment)) s.told in
+    let told = answered_by heard side p (answer_to station.network (is_active station) p) in
+    if is_learnable station.network p then released told (One (wait.Hop side p.sender_ip)) else told
+
+abbrev pub all_framed : Scene → Side → List (List ℕ) → Scene
+all_framed s side [] = s
+all_framed s side (frame ∷ frames) = all_framed (framed s side frame) side frames
+
+-- a router moved: its interface is this one, and its action's frames are sent
+abbrev pub acted : Scene → Side → Station → Action → Scene
+acted s side station action = all_framed (scene (with_station s.shown side station) s.told) side (frames_of station action)
+
+-- the router of an interface begins (RFC 9568, section 6.4.1)
+abbrev pub started_in : State → Router → ℕ → Router
+started_in Initialize r now = record r {
+  state = Backup;
+  active_interval = r.interval;
+  active_down_timer = Some (now + active_down_interval r.priority r.interval);
+}
+started_in Backup r now = r
+started_in Active r now = r
+
+abbrev pub started : Station → ℕ → Station
+started s now = record s { router = started_in s.router.state s.router now }
+
+-- ---- the link
+
+-- a greater boot of the peer was heard: the reset, its batch, and the packets that waited for pairs
+abbrev pub reset : Scene → Scene
+reset s = let g = s.shown in let book = g.ledger.book in
+    released
+    (scene (record g { ledger = restarted_ledger g.ledger; link = restart_link book g.link })
+    (with_notes s.told (restart_notes book g.moment)))
+    AllPairs
+
+-- the gateway became synced by this record
+abbrev pub has_synced : Shown → Shown → Bool
+has_synced g g2 = not (is_synced g.ledger.book.stage) && is_synced g2.ledger.book.stage
+
+-- a gateway that has become synced starts its routers, where it wasn't stopped
+abbrev pub with_routers : Shown → Shown → Shown
+with_routers g g2 =
+    if has_synced g g2 && not g2.stopped
+    then record g2 { inside = started g2.inside g2.moment; outside = started g2.outside g2.moment }
+    else g2
+
+-- a record is taken
+abbrev pub record_shown : Shown → Record → Shown
+record_shown g r = let book = g.ledger.book in
+    with_routers g (record g {
+      ledger = taken_ledger g.moment g.ledger r;
+      link = answered g.link (taken_answer book (rests_for g.moment g.ledger r) r);
+    })
+
+abbrev pub record_told : Shown → Record → Told → Told
+record_told g r told = let book = g.ledger.book in
+    with_notes told (noted_by (id_of g) g.moment (taken_what book (rests_for g.moment g.ledger r) r))
+
+abbrev pub wait_ended : Option Endpoint → Scene → Scene
+wait_ended None s = s
+wait_ended (Some e) s = released s (One (wait.Pair e))
+
+abbrev pub record_done : Scene → Record → Scene
+record_done s r = let g = s.shown in
+    wait_ended (taken_ended g.ledger.book (rests_for g.moment g.ledger r) r)
+    (scene (record_shown g r) (record_told g r s.told))
+
+abbrev pub records_done : Scene → List Record → Scene
+records_done s [] = s
+records_done s (r ∷ rs) = records_done (record_done s r) rs
+
+abbrev pub with_link : Scene → Link → Scene
+with_link s e = scene (record s.shown { link = e }) s.told
+
+-- a datagram is heard: a greater boot's reset, then each record
+abbrev pub heard_by : Scene → Datagram → Scene
+heard_by s d = let e = s.shown.link in
+    let after = with_link s (after_take e d s.shown.moment) in
+    records_done (if is_restart e d then reset after else after) (records_taken e d)
+
+abbrev pub heard_unless : Scene → Datagram → Option LinkFault → Scene
+heard_unless s d None = heard_by s d
+heard_unless s d (Some fault) = s
+
+abbrev pub datagram_read : Scene → Result Datagram LinkFault → Scene
+datagram_read s (Ok d) = heard_unless s d (refusal s.shown.link d)
+datagram_read s (Err fault) = s
+
+abbrev pub datagram_taken : Scene → List ℕ → Scene
+datagram_taken s bytes = datagram_read s (reading bytes)
+
+-- the operator's word is taken: the session ends, pairs are revived, and the gateway is alone
+abbrev pub word_taken : Scene → ℕ → Scene
+word_taken s n = let g = s.shown in let book = g.ledger.book in
+    released
+    (scene (record g { ledger = alone_ledger g.ledger; link = closed_at g.link n })
+    (with_notes s.told (retaken (id_of g) g.moment (back_in book.entries))))
+    AllPairs
+
+-- ---- a tick's own parts
+
+-- the peer was heard at most 300 centiseconds ago
+abbrev pub is_heard : Option ℕ → ℕ → Bool
+is_heard None now = false
+is_heard (Some last) now = nat_le (now - last) 300
+
+-- an idle pair is let go: alone it is dropped, else its owner asks, where the peer was heard lately and the link isn't full
+abbrev pub idle_done : Scene → Key → Scene
+idle_done s k = let g = s.shown in
+    by_row s (idle_row g.ledger.book (is_heard g.link.heard g.moment && not (is_full g.link)) k)
+
+abbrev pub all_idle_done : Scene → List Key → Scene
+all_idle_done s [] = s
+all_idle_done s (k ∷ ks) = all_idle_done (idle_done s k) ks
+
+-- the idle pairs of a moment, by protocol (tcp first) and port
+abbrev pub idle_taken : Scene → Scene
+idle_taken s = let l = s.shown.ledger in all_idle_done s (idle_keys_in s.shown.moment l.book.entries l.lives)
+
+-- kept packets of 300 centiseconds and more are dropped
+abbrev pub old_dropped : Scene → Scene
+old_dropped s = scene (record s.shown { kept = filter (is_young s.shown.moment) s.shown.kept }) s.told
+
+-- ---- the datagram at a step's end
+
+-- what the link wants of a promised batch is handed in
+abbrev pub handed_in : Shown → Shown
+handed_in g = let book = g.ledger.book in let n = wanted g.link in
+    record g {
+      ledger = record g.ledger { book = record book { coming = drop n book.coming } };
+      link = with_fed g.link (take n book.coming);
+    }
+
+abbrev pub datagram_in : Shown → List ℕ
+datagram_in g = spelling (datagram_of (is_synced g.ledger.book.stage) g.link)
+
+-- the datagram that is due at the end of a step
+abbrev pub answer_sent : Shown → Told → Scene
+answer_sent g told =
+    scene (record g { link = sent_on_answer g.link }) (if g.link.due then with_datagram told (datagram_in g) else told)
+
+abbrev pub link_answered : Scene → Scene
+link_answered s = answer_sent (handed_in s.shown) s.told
+
+-- and at the end of a tick
+abbrev pub tick_sent : Shown → Told → Scene
+tick_sent g told =
+    if is_due_on_tick g.link g.moment
+    then scene (record g { link = sent_on_tick g.link g.moment }) (with_datagram told (datagram_in g))
+    else scene g told
+
+abbrev pub link_ticked : Scene → Scene
+link_ticked s = tick_sent (handed_in s.shown) s.told

@@ -1,0 +1,10 @@
+//! What a step of a gateway does, part by part: the words of its contract.
+#![tactic(auto)]
+
+mod events;
+mod laws;
+mod plans;
+
+pub use events::{Event, Outcome};
+pub use laws::{steps_go, steps_keep};
+pub use plans::Plan;
