@@ -13,17 +13,12 @@ use Rattle.pair_machine.specs.Box.{Letter}
 use Rattle.binding_step.specs.Machine.{Works}
 use Rattle.nat_types.specs.declared.gateways.GatewayId.{GatewayId}
 use Rattle.bindings.specs.declared.entries.Entry.{Entry}
-use Rattle.bindings.specs.Revivals.{revived_entries, woken_entry}
-use Rattle.bindings.specs.Revivals.{woken as woken_state}
-use Rattle.bindings.proofs.Found.{find-some}
-use Rattle.bindings.specs.Entries.{is_pair, has_key, slot_of}
+use Rattle.bindings.specs.Revivals.{revived_entries}
+use Rattle.bindings.specs.Entries.{slot_of}
 use Rattle.nat_types.specs.declared.pairs.EntryState.{EntryState}
 use Rattle.nat_types.specs.declared.pairs.EntryState.TheVariants as state
 use Rattle.nat_types.specs.declared.pairs.Key.{Key}
 use Rattle.nat_types.specs.declared.pairs.Pair.{Pair}
-use Rattle.resync.specs.Batch.{HasNoPending, is_settled}
-use Rattle.std.specs.List.{filter}
-use Rattle.std.proofs.Common.{map, inl, inr}
 use Rattle.port_range.specs.Ports.{is_listed}
 use Rattle.std.proofs.Common.{◌==◌}
 use Rattle.std.proofs.lemmas.Bool.{or_left, eq-eqb}
@@ -213,24 +208,6 @@ pub revived-book : (c : Core) (t2 : Table) (stage : Stage) (cursor : Cursor) →
 revived-book c t2 stage cursor same entries =
     ap (λ (t : Table). book_of (record c { table = t; stage = stage; wants = false; coming = coming cursor t })) same
     ∙ ap (λ (es : List Entry). let b : Book = record (revived (book_of c)) { entries = es; stage = stage; coming = to_come cursor c.table.owned es } in b) entries
-
-pub settled-revived : (es : List Entry) → HasNoPending (revived_entries es)
-settled-revived es k x h = woken (filter (λ (e : Entry). is_pair e.state) es) h
-  where
-    settles : (s : EntryState) → is_settled (woken_state s) ≡ true
-    settles state.Pending = refl
-    settles state.Doomed = refl
-    settles state.Live = refl
-    settles state.Closing = refl
-    settles state.Held = refl
-
-    woken : (xs : List Entry) → slot_of (map woken_entry xs) k ≡ Some x → is_settled x.state ≡ true
-    woken [] h = cc
-    woken (y ∷ ys) h =
-        elim (find-some (has_key k (woken_entry y)) (woken_entry y) (slot_of (map woken_entry ys) k) x h) [
-          | inl w ↦ sym (ap (λ (z : Entry). is_settled z.state) w.1) ∙ settles y.state
-          | inr w ↦ woken ys w.1
-        ]
 
 pub restarted-synced : (b : Book) → is_synced b.stage ≡ true → restarted b ≡ record (revived b) { stage = Paired; coming = restart_batch b }
 restarted-synced b h = ap (λ (t : Bool). let x : Book = cond t (record (revived b) { stage = Paired; coming = restart_batch b }) (empty_book b.id b.zero b.one) in x) h

@@ -1,10 +1,9 @@
 -- What of a promised batch is still to come, while rows are carried out.
-use Rattle.std.proofs.Common.{◌≡◌, ℕ, Bool, true, false, cond, List, [], ◌∷◌, ◌++◌, Some, refl, sym, ap, ◌∙◌}
+use Rattle.std.proofs.Common.{◌≡◌, ℕ, true, false, List, [], ◌∷◌, ◌++◌, Some, refl}
 use Rattle.nat_types.specs.declared.records.Record.{Record}
 use Rattle.nat_types.specs.declared.records.Record.TheVariants.{Done}
 use Rattle.bindings.specs.Entries.{HasDistinctKeys}
 use Rattle.bindings.specs.Lists.{put_in, with_state}
-use Rattle.bindings.specs.Runs.{runs_of}
 use Rattle.bindings.specs.Table.{Table}
 use Rattle.resync.specs.Batch.{is_settled, owners_of, puts_of}
 use Rattle.resync.specs.Cursor.{to_come, coming, runs_from, puts_behind}

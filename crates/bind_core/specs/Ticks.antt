@@ -1,5 +1,5 @@
 -- The idle pairs of a tick.
-use Rattle.std.specs.Prelude.{◌≡◌, ℕ, ◌+◌, Bool, true, false, ◌&&◌, not, nat_le, Option, Some, None, List, [], ◌∷◌, ◌++◌}
+use Rattle.std.specs.Prelude.{◌≡◌, ℕ, ◌+◌, Bool, false, ◌&&◌, not, nat_le, Option, Some, None, List, [], ◌∷◌, ◌++◌}
 use Rattle.nat_types.specs.declared.notes.Note.{Note}
 use Rattle.nat_types.specs.declared.pairs.Key.{Key}
 use Rattle.bindings.specs.Table.{idle_keys_of}

@@ -13,10 +13,10 @@ use Rattle.bindings.specs.Table.{Table}
 use Rattle.link.specs.Grammar.{IsWellFormedPair}
 use Rattle.nat_types.specs.Granted.{IsPort}
 
--- the pair was agreed: a proposal that waits for its answer is no part of a batch
+-- the pair was agreed: a proposal that waits for its answer, or was given up, is no part of a batch
 abbrev pub is_settled : EntryState → Bool
 is_settled Pending = false
-is_settled Doomed = true
+is_settled Doomed = false
 is_settled Live = true
 is_settled Closing = true
 is_settled Held = true

@@ -33,8 +33,8 @@ fn is_settled_state(state: EntryState) -> bool
     ensures { result ≡ is_settled state }
 {
     match state {
-        EntryState::Pending => false,
-        EntryState::Doomed | EntryState::Live | EntryState::Closing | EntryState::Held => true,
+        EntryState::Pending | EntryState::Doomed => false,
+        EntryState::Live | EntryState::Closing | EntryState::Held => true,
     }
 }
 

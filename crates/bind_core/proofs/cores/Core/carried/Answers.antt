@@ -1,5 +1,4 @@
-use Rattle.std.proofs.Common.{[], sym, ap, ◌∙◌}
-use Rattle.bindings.specs.Table.{Table}
+use Rattle.std.proofs.Common.{[], sym, ◌∙◌}
 use Rattle.binding_step.specs.Rows.{after, answered, carry_row}
 use Rattle.bind_core.specs.Cores.{book_of}
 use Rattle.bind_core.specs.View.{core_of}

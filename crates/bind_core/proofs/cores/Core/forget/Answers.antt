@@ -1,5 +1,4 @@
 use Rattle.std.proofs.Common.{subst, sym, ap, ◌∙◌, arith}
-use Rattle.port_range.specs.Ports.{is_listed}
 use Rattle.bindings.specs.Table.{Table}
 use Rattle.resync.specs.Loading.{Progress}
 use Rattle.binding_step.specs.Books.{IsBook, empty_book}

@@ -1,12 +1,13 @@
-use Rattle.std.proofs.Common.{[], ◌∷◌, length, subst, sym, ap, ◌∙◌}
+use Rattle.std.proofs.Common.{◌≡◌, [], ◌∷◌, length, subst, sym, ap, ◌∙◌}
 use Rattle.link.specs.Link.{with_promised}
+use Rattle.bindings.specs.Revivals.{revived_entries}
 use Rattle.resync.specs.Batch.{HasNoPending, batch_of}
 use Rattle.resync.specs.declared.cursor.Cursor.{Cursor}
 use Rattle.binding_step.specs.declared.setups.Stage.TheVariants.{Paired}
 use Rattle.binding_step.specs.Books.{Book, IsBook}
 use Rattle.binding_step.specs.Resets.{restarted, restart_link}
 use Rattle.bind_core.specs.Cores.{book_of, revived_with}
-use Rattle.bind_core.proofs.Performing.{works-as, settled-revived, restarted-synced, restarted-bare, link-synced, link-bare}
+use Rattle.bind_core.proofs.Performing.{works-as, restarted-synced, restarted-bare, link-synced, link-bare}
 use Rattle.bind_core.proofs.cores.Core.peer_restarted.Goals as goal
 
 pub revive-requires-clause-kept : goal.revive-requires-clause-kept
@@ -15,7 +16,10 @@ revive-requires-clause-kept c =
     (subst IsBook (restarted-synced (book_of c.args.self.now) (sym c.is_synced.ensures ∙ c.if-is_synced.true)) (c.books_keep.ensures.restarted (book_of c.args.self.now) c.recall.ensures))
 
 pub promise-requires-clause-settled : goal.promise-requires-clause-settled
-promise-requires-clause-settled c = subst HasNoPending (sym (ap (λ (b : Book). b.entries) c.revive.ensures.book)) (settled-revived c.args.self.now.table.entries)
+promise-requires-clause-settled c =
+    let b = book_of c.args.self.now in
+    let same : (restarted b).entries ≡ revived_entries b.entries = ap (λ (k : Book). k.entries) (restarted-synced b (sym c.is_synced.ensures ∙ c.if-is_synced.true)) in
+    subst HasNoPending (same ∙ sym (ap (λ (k : Book). k.entries) c.revive.ensures.book)) (λ k x h. (c.books_keep.ensures.agreed b c.recall.ensures k x h).0)
 
 pub returns-then-is_synced-clause-works : goal.returns-then-is_synced-clause-works
 returns-then-is_synced-clause-works c = λ e h n l agrees boot greater from.

@@ -1,4 +1,4 @@
-use Rattle.std.proofs.Common.{◌≡◌, true, false, sym, ap, ◌∙◌}
+use Rattle.std.proofs.Common.{◌≡◌, false}
 use Rattle.bind_core.specs.Changes.{adds}
 use Rattle.bind_core.specs.Cores.{book_of}
 use Rattle.bind_core.proofs.Deciding.{idle-steady, idle-adds, idle-places}

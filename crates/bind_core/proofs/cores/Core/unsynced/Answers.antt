@@ -1,4 +1,4 @@
-use Rattle.std.proofs.Common.{refl, sym, subst, ◌∙◌, arith}
+use Rattle.std.proofs.Common.{sym, subst, ◌∙◌, arith}
 use Rattle.binding_step.specs.Books.{IsBook}
 use Rattle.resync.specs.Loading.{Progress}
 use Rattle.std.proofs.Common.{ap}
