@@ -211,6 +211,7 @@ impl Kept {
         ensures left { self.new ≡ left_by ended self.old }
         ensures taken { list.new.items ≡ list.old.items ++ ended_by ended self.old }
         ensures gone { AllPass (λ packet. not (ends ended packet.wait)) self.new }
+        ensures count { vec_len list.new + length self.new ≡ vec_len list.old + length self.old }
         ensures capacity { vec_capacity list.new ≡ vec_capacity list.old }
     {
         move_ended(&mut self.packets, ended, list);

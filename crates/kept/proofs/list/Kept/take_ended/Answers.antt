@@ -1,7 +1,8 @@
-use Rattle.std.proofs.Common.{not, arith}
+use Rattle.std.proofs.Common.{◌≡◌, ◌+◌, length, not, refl, ap, sym, ◌∙◌, arith, length-append}
 use Rattle.kept.specs.Waits.{ends}
-use Rattle.kept.specs.Packets.{Waiting}
+use Rattle.kept.specs.Packets.{Waiting, ended_by, left_by}
 use Rattle.std.proofs.lemmas.List.Elements.{filter_passes}
+use Rattle.std.proofs.lemmas.List.Filters.{length-filter_both}
 use Rattle.kept.proofs.Places.{kept-filter}
 use Rattle.kept.proofs.list.Kept.take_ended.Goals as goal
 
@@ -11,3 +12,13 @@ invariant_of-self c =
 
 pub returns-clause-gone : goal.returns-clause-gone
 returns-clause-gone c = rw c.move_ended.ensures.left (filter_passes (λ (w : Waiting). not (ends c.args.ended w.wait)) c.self.inside.packets.items)
+
+pub returns-clause-count : goal.returns-clause-count
+returns-clause-count c =
+    let all = c.self.inside.packets.items in
+    let off : length c.move_ended.new.list.items ≡ length c.args.list.now.items + length (ended_by c.args.ended all) =
+    ap length c.move_ended.ensures.taken ∙ length-append c.args.list.now.items (ended_by c.args.ended all) in
+    let stay : length c.move_ended.new.packets.items ≡ length (left_by c.args.ended all) = ap length c.move_ended.ensures.left in
+    let whole = length-filter_both (λ (w : Waiting). ends c.args.ended w.wait) (λ (w : Waiting). not (ends c.args.ended w.wait)) (λ w. refl) all in
+    let seen : length c.args.self.now ≡ length all = ap length (sym c.self.view_is) in
+    omega (arith, off, stay, whole, seen, c.move_ended.new.list.ok, c.args.list.now.ok)
