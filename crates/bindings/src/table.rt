@@ -410,6 +410,7 @@ impl Table {
     }
 
     /// Appends the keys of the idle Live and Held entries, each once, by protocol (tcp first) and port.
+    /// Room for as many keys as there are entries is enough.
     pub fn idle_keys(&mut self, now: u64, out: &mut Vec<Key>) -> Result<(), AllocError>
         ensures keys { OnOk result (out.new.items ≡ out.old.items ++ idle_keys_of self.old now) }
         ensures listed { (key : OutsidePort) → (entry : Row) → (past : Past)
@@ -418,6 +419,7 @@ impl Table {
             ≡ (translates entry.state && is_idle key.protocol past now) }
         ensures same { self.new ≡ self.old }
         ensures err { OnErr result (out.new.items ≡ out.old.items) }
+        ensures few { length (idle_keys_of self.old now) ≤ length self.old.entries }
         ensures room { vec_len out.old + length (idle_keys_of self.old now) ≤ vec_capacity out.old
             → IsOk result }
         ensures capacity { vec_capacity out.old ≤ vec_capacity out.new }
