@@ -1,5 +1,5 @@
 //! The table of a gateway.
-ghost use Rattle.std.specs.Prelude.{◌≡◌, ◌+◌, ◌-◌, ◌<◌, ◌≤◌, ℕ, [], None, Some, true, false, ◌==◌, ◌++◌, ◌&&◌, length, map, vec_len, vec_capacity, IsOk, if◌then◌else◌, IfOk, IfErr, OnOk, OnErr};
+ghost use Rattle.std.specs.Prelude.{◌≡◌, ◌+◌, ◌-◌, ◌<◌, ◌≤◌, ℕ, [], None, Some, true, false, ◌==◌, ◌++◌, ◌&&◌, length, map, vec_len, vec_capacity, IsOk, if◌then◌else◌, IfOk, IfErr, IfSome, IfNone, OnOk, OnErr};
 ghost use Rattle.nat_types.specs.declared.pairs.Key.{Key as OutsidePort};
 ghost use Rattle.lives.specs.Lives.{Past, came, with_packet, renewed, is_idle, is_unused};
 ghost use Rattle.bindings.specs.declared.entries.Entry.{Entry as Row};
@@ -16,6 +16,7 @@ ghost use Rattle.bindings.specs.Table.{IsTable, IsPast, owns, idle_keys_of, with
 ghost use Rattle.bindings.specs.Lives.{lives_with};
 ghost use Rattle.bindings.specs.Lists.{place_in};
 ghost use Rattle.std.specs.List.{insert};
+ghost use Rattle.port_range.specs.Ports.{IsChosen};
 ghost use Rattle.lives.specs.Lives.{life_begun, life_carried, life_renewed};
 
 use crate::entries::{
@@ -258,9 +259,14 @@ impl Table {
     }
 
     /// The lowest owned free port with that parity, else the lowest owned free one (RFC 4787, section 4.2.2).
+    /// None just where no owned port is free for the protocol.
     pub fn free_like(&self, protocol: Protocol, parity: Parity) -> Option<Port>
-        ensures { result ≡ chosen_port self.now.entries self.now.owned self.now.zero self.now.one
-            protocol parity }
+        ensures chosen { result ≡ chosen_port self.now.entries self.now.owned self.now.zero
+            self.now.one protocol parity }
+        ensures like { IfSome result (IsChosen (is_open_in self.now.entries self.now.owned protocol)
+            parity) }
+        ensures none { IfNone result ((port : ℕ)
+            → is_open_in self.now.entries self.now.owned protocol port ≡ false) }
     {
         self.ports.free_like(protocol, parity)
     }
