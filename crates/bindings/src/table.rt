@@ -332,14 +332,18 @@ impl Table {
     pub fn is_vacant(&self, port: Port) -> bool
         ensures { result ≡ is_vacant self.now.entries port.0 }
     {
-        is_vacant_port(&self.entries, port)
+        if self.ports.holds(port) {
+            self.ports.is_free(port)
+        } else {
+            is_vacant_port(&self.entries, port)
+        }
     }
 
     /// Whether a port is owned and no entry has it, so that it may be given away.
     pub fn is_spare(&self, port: Port) -> bool
         ensures { result ≡ is_spare self.now.entries self.now.owned port.0 }
     {
-        self.ports.owns(port) && is_vacant_port(&self.entries, port)
+        self.owns(port) && self.is_vacant(port)
     }
 
     /// The pair of a key carried a packet, to or from a remote host. The flags of a UDP packet aren't read. A key without
