@@ -139,7 +139,9 @@ impl Table {
         find_endpoint(&self.entries, endpoint)
     }
 
-    /// Makes the table ready for an `add` of each of these endpoints, until the next call.
+    /// Makes the table ready for as many adds as there are endpoints, until the next call. Each later `add` that succeeds
+    /// uses one of them up, whatever its endpoint. So a caller hands in one endpoint for each add that may come: a record
+    /// gives at most one, its own or that of the one packet whose wait it ends.
     pub fn ready(&mut self, endpoints: &[Endpoint]) -> Result<(), AllocError>
         ensures ok { OnOk result (self.new ≡ record self.old { ready = length endpoints.now }) }
         ensures err { OnErr result (self.new ≡ self.old) }
@@ -271,7 +273,7 @@ impl Table {
         self.ports.free_like(protocol, parity)
     }
 
-    /// Whether the gateway owns a port.
+    /// Whether the gateway owns a port. While a table is loaded: whether the gateway is to own it.
     pub fn owns(&self, port: Port) -> bool
         ensures { result ≡ owns self.now port.0 }
     {
@@ -310,7 +312,7 @@ impl Table {
         self.ports.disown(port);
     }
 
-    /// The owned ports, rising.
+    /// The owned ports, rising. While a table is loaded these are the ports that the gateway is to own.
     pub fn owned(&self) -> Result<Vec<Port>, AllocError>
         ensures { IfOk result (λ v. v.items ≡ map port_at self.now.owned) }
     {
