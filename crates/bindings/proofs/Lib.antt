@@ -9,6 +9,7 @@ pub mod Pasts
 pub mod Owning
 pub mod Revived
 pub mod Holding
+pub mod Chosen
 pub mod Rising
 pub mod Unbroken
 pub mod Resting

@@ -43,6 +43,16 @@ idle-step now es ls i e b h same ee is =
     let rest = idle_keys_in now (drop (i + 1) es) (drop (i + 1) ls) in
     idle-more now es ls i e l h same ee le ∙ ap (λ b. cond b (e.pair.key ∷ rest) rest) (sym (is l le))
 
+-- no more keys are idle than there are entries
+pub few-idle : (now : ℕ) (es : List Entry) (ls : List Life) → length (idle_keys_in now es ls) ≤ length es
+few-idle now [] ls = omega arith
+few-idle now (e ∷ es) [] = omega arith
+few-idle now (e ∷ es) (l ∷ ls) = at (is_idle_row now e l) (few-idle now es ls)
+  where
+    at : (b : Bool) → length (idle_keys_in now es ls) ≤ length es → length (cond b (e.pair.key ∷ idle_keys_in now es ls) (idle_keys_in now es ls)) ≤ suc (length es)
+    at true h = omega arith
+    at false h = omega arith
+
 -- ---- one entry
 
 -- the life that stands at a key's place

@@ -3,7 +3,7 @@ use Rattle.std.proofs.Common.{◌≡◌, ℕ, ◌≤◌, Bool, true, ◌&&◌, S
 use Rattle.std.proofs.lemmas.Bool.{and_parts}
 use Rattle.nat_types.specs.declared.pairs.Key.{Key}
 use Rattle.lives.specs.declared.packets.Packet.{Packet}
-use Rattle.lives.specs.Lives.{Past, came, with_packet, renewed, is_idle, is_unused}
+use Rattle.lives.specs.Lives.{Past, came, with_packet, renewed, is_idle}
 use Rattle.lives.specs.Rests.{HaveRested, least_rest}
 use Rattle.lives.proofs.Pasts.{looks-is}
 use Rattle.lives.proofs.Resting.{accounts-came, accounts-renewed, accounts-later, accounts-more, accounts-idle, accounts-unused}

@@ -1,5 +1,5 @@
 //! The table of a gateway.
-ghost use Rattle.std.specs.Prelude.{◌≡◌, ◌+◌, ◌-◌, ◌<◌, ◌≤◌, ℕ, [], None, Some, true, false, ◌==◌, ◌++◌, ◌&&◌, length, map, vec_len, vec_capacity, IsOk, if◌then◌else◌, IfOk, IfErr, OnOk, OnErr};
+ghost use Rattle.std.specs.Prelude.{◌≡◌, ◌+◌, ◌-◌, ◌<◌, ◌≤◌, ℕ, [], None, Some, true, false, ◌==◌, ◌++◌, ◌&&◌, length, map, vec_len, vec_capacity, IsOk, if◌then◌else◌, IfOk, IfErr, IfSome, IfNone, OnOk, OnErr};
 ghost use Rattle.nat_types.specs.declared.pairs.Key.{Key as OutsidePort};
 ghost use Rattle.lives.specs.Lives.{Past, came, with_packet, renewed, is_idle, is_unused};
 ghost use Rattle.bindings.specs.declared.entries.Entry.{Entry as Row};
@@ -16,6 +16,7 @@ ghost use Rattle.bindings.specs.Table.{IsTable, IsPast, owns, idle_keys_of, with
 ghost use Rattle.bindings.specs.Lives.{lives_with};
 ghost use Rattle.bindings.specs.Lists.{place_in};
 ghost use Rattle.std.specs.List.{insert};
+ghost use Rattle.port_range.specs.Ports.{IsChosen};
 ghost use Rattle.lives.specs.Lives.{life_begun, life_carried, life_renewed};
 
 use crate::entries::{
@@ -138,7 +139,9 @@ impl Table {
         find_endpoint(&self.entries, endpoint)
     }
 
-    /// Makes the table ready for an `add` of each of these endpoints, until the next call.
+    /// Makes the table ready for as many adds as there are endpoints, until the next call. Each later `add` that succeeds
+    /// uses one of them up, whatever its endpoint. So a caller hands in one endpoint for each add that may come: a record
+    /// gives at most one, its own or that of the one packet whose wait it ends.
     pub fn ready(&mut self, endpoints: &[Endpoint]) -> Result<(), AllocError>
         ensures ok { OnOk result (self.new ≡ record self.old { ready = length endpoints.now }) }
         ensures err { OnErr result (self.new ≡ self.old) }
@@ -258,14 +261,19 @@ impl Table {
     }
 
     /// The lowest owned free port with that parity, else the lowest owned free one (RFC 4787, section 4.2.2).
+    /// None just where no owned port is free for the protocol.
     pub fn free_like(&self, protocol: Protocol, parity: Parity) -> Option<Port>
-        ensures { result ≡ chosen_port self.now.entries self.now.owned self.now.zero self.now.one
-            protocol parity }
+        ensures chosen { result ≡ chosen_port self.now.entries self.now.owned self.now.zero
+            self.now.one protocol parity }
+        ensures like { IfSome result (IsChosen (is_open_in self.now.entries self.now.owned protocol)
+            parity) }
+        ensures none { IfNone result ((port : ℕ)
+            → is_open_in self.now.entries self.now.owned protocol port ≡ false) }
     {
         self.ports.free_like(protocol, parity)
     }
 
-    /// Whether the gateway owns a port.
+    /// Whether the gateway owns a port. While a table is loaded: whether the gateway is to own it.
     pub fn owns(&self, port: Port) -> bool
         ensures { result ≡ owns self.now port.0 }
     {
@@ -304,7 +312,7 @@ impl Table {
         self.ports.disown(port);
     }
 
-    /// The owned ports, rising.
+    /// The owned ports, rising. While a table is loaded these are the ports that the gateway is to own.
     pub fn owned(&self) -> Result<Vec<Port>, AllocError>
         ensures { IfOk result (λ v. v.items ≡ map port_at self.now.owned) }
     {
@@ -326,14 +334,18 @@ impl Table {
     pub fn is_vacant(&self, port: Port) -> bool
         ensures { result ≡ is_vacant self.now.entries port.0 }
     {
-        is_vacant_port(&self.entries, port)
+        if self.ports.holds(port) {
+            self.ports.is_free(port)
+        } else {
+            is_vacant_port(&self.entries, port)
+        }
     }
 
     /// Whether a port is owned and no entry has it, so that it may be given away.
     pub fn is_spare(&self, port: Port) -> bool
         ensures { result ≡ is_spare self.now.entries self.now.owned port.0 }
     {
-        self.ports.owns(port) && is_vacant_port(&self.entries, port)
+        self.owns(port) && self.is_vacant(port)
     }
 
     /// The pair of a key carried a packet, to or from a remote host. The flags of a UDP packet aren't read. A key without
@@ -410,6 +422,7 @@ impl Table {
     }
 
     /// Appends the keys of the idle Live and Held entries, each once, by protocol (tcp first) and port.
+    /// Room for as many keys as there are entries is enough.
     pub fn idle_keys(&mut self, now: u64, out: &mut Vec<Key>) -> Result<(), AllocError>
         ensures keys { OnOk result (out.new.items ≡ out.old.items ++ idle_keys_of self.old now) }
         ensures listed { (key : OutsidePort) → (entry : Row) → (past : Past)
@@ -418,6 +431,7 @@ impl Table {
             ≡ (translates entry.state && is_idle key.protocol past now) }
         ensures same { self.new ≡ self.old }
         ensures err { OnErr result (out.new.items ≡ out.old.items) }
+        ensures few { length (idle_keys_of self.old now) ≤ length self.old.entries }
         ensures room { vec_len out.old + length (idle_keys_of self.old now) ≤ vec_capacity out.old
             → IsOk result }
         ensures capacity { vec_capacity out.old ≤ vec_capacity out.new }

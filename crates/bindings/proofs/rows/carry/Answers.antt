@@ -1,4 +1,4 @@
-use Rattle.std.proofs.Common.{sym, ap, ◌∙◌, set}
+use Rattle.std.proofs.Common.{ap, ◌∙◌, set}
 use Rattle.lives.specs.Lives.{life_carried}
 use Rattle.lives.proofs.Items.{set-changed}
 use Rattle.bindings.proofs.rows.carry.Goals as goal

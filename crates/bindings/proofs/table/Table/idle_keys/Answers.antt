@@ -1,5 +1,5 @@
 use Rattle.bindings.proofs.Slots.{slot-key}
-use Rattle.bindings.proofs.Resting.{listed-is}
+use Rattle.bindings.proofs.Resting.{few-idle, listed-is}
 use Rattle.bindings.proofs.table.Table.idle_keys.Goals as goal
 
 pub returns-in_err-reserve-clause-listed : goal.returns-in_err-reserve-clause-listed
@@ -13,3 +13,13 @@ returns-clause-listed c =
     let i = c.self.inside in
     rw (← c.self.view_is)
     (λ key entry past held has. listed-is c.args.now i.entries.items i.lives.items key entry past c.self.invariant.keys held (slot-key i.entries.items key entry held) has)
+
+pub returns-in_err-reserve-clause-few : goal.returns-in_err-reserve-clause-few
+returns-in_err-reserve-clause-few c =
+    let i = c.self.inside in
+    rw (← c.self.view_is) (few-idle c.args.now i.entries.items i.lives.items)
+
+pub returns-clause-few : goal.returns-clause-few
+returns-clause-few c =
+    let i = c.self.inside in
+    rw (← c.self.view_is) (few-idle c.args.now i.entries.items i.lives.items)
