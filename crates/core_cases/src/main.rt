@@ -20,7 +20,7 @@ fn restart(side: &mut Side, given: &mut Given<'_>, out: &mut String) -> Result<(
     if given.left().is_empty() {
         return side.restart(boot, None, out);
     }
-    side.restart(boot, Some(given.item()?), out)
+    side.restart(boot, Some(&given.item()?), out)
 }
 
 fn inbound(side: &Side, given: &mut Given<'_>, out: &mut String) -> Result<()> {
@@ -35,7 +35,7 @@ fn call(side: &mut Side, word: &str, given: &mut Given<'_>, out: &mut String) ->
     match word {
         "at" => side.set_clock(given.number()?)?,
         "want" => side.want(given.endpoint()?, out)?,
-        "take" => side.take(given.item()?, out)?,
+        "take" => side.take(&given.item()?, out)?,
         "tick" => {
             side.set_clock(given.number()?)?;
             side.tick(out)?;

@@ -83,8 +83,8 @@ fn begin_session(core: &mut Core, link: &mut Link, now: u64, notes: &mut Vec<Not
 }
 
 /// A record that comes while a batch is promised.
-fn take_promised(core: &mut Core, link: &mut Link, item: Record, now: u64, notes: &mut Vec<Note>)
-    requires formed { IsWellFormedRecord item }
+fn take_promised(core: &mut Core, link: &mut Link, item: &Record, now: u64, notes: &mut Vec<Note>)
+    requires formed { IsWellFormedRecord item.now }
     requires ready { 0 < core.old.table.ready }
     requires places { 0 < free_places link.old }
     requires reserved { vec_len notes.old < vec_capacity notes.old }
@@ -92,7 +92,7 @@ fn take_promised(core: &mut Core, link: &mut Link, item: Record, now: u64, notes
     ensures { length core.new.coming ≡ link.new.promised }
 {
     rows_leave();
-    core.take(item, link, now, notes);
+    core.take(*item, link, now, notes);
 }
 
 impl Side {
@@ -170,7 +170,7 @@ impl Side {
         self.tell(&notes, out)
     }
 
-    pub fn take(&mut self, item: Record, out: &mut String) -> Result<()> {
+    pub fn take(&mut self, item: &Record, out: &mut String) -> Result<()> {
         if !is_spelled(item) {
             bail!("it has no spelling");
         }
@@ -178,7 +178,9 @@ impl Side {
             bail!("no place is free");
         }
         let mut notes = self.prepare()?;
-        let ended = self.core.take(item, &mut self.link, self.clock, &mut notes);
+        let ended = self
+            .core
+            .take(*item, &mut self.link, self.clock, &mut notes);
         if let Some(endpoint) = ended {
             say_endpoint(out, "frees ", endpoint)?;
         }
@@ -212,14 +214,15 @@ impl Side {
 
     /// The known boot of the peer is heard again.
     pub fn hear_again(&mut self) -> Result<()> {
-        if self.hear(self.link.known_peer())? {
+        let boot = self.link.known_peer();
+        if self.hear(boot)? {
             bail!("it begins a session");
         }
         Ok(())
     }
 
     /// A greater boot is heard, maybe with a record that comes while the batch is promised. Then the batch is handed in.
-    pub fn restart(&mut self, boot: u64, item: Option<Record>, out: &mut String) -> Result<()> {
+    pub fn restart(&mut self, boot: u64, item: Option<&Record>, out: &mut String) -> Result<()> {
         if boot <= self.link.known_peer() {
             bail!("it isn't greater");
         }

@@ -33,10 +33,10 @@ fn is_spelled_grant(granted: Granted) -> bool
 }
 
 /// Whether a record has a spelling on the link.
-pub fn is_spelled(item: Record) -> bool
-    ensures { result ≡ true → IsWellFormedRecord item }
+pub fn is_spelled(item: &Record) -> bool
+    ensures { result ≡ true → IsWellFormedRecord item.now }
 {
-    match item {
+    match *item {
         Record::Install(pair) | Record::Put(pair) => is_spelled_pair(pair),
         Record::Accept(key)
         | Record::Refuse(key)
