@@ -174,10 +174,10 @@ impl Side {
         if !is_spelled(item) {
             bail!("it has no spelling");
         }
+        let mut notes = self.prepare()?;
         if self.link.room() == 0 {
             bail!("no place is free");
         }
-        let mut notes = self.prepare()?;
         let ended = self
             .core
             .take(*item, &mut self.link, self.clock, &mut notes);
