@@ -15,7 +15,7 @@ use anyhow::{Result, bail};
 use arrayvec::ArrayVec;
 use bind_core::Core;
 use binding_step::rows_leave;
-use bindings::PortBounds;
+use bindings::{PortBounds, Table};
 use link::{Datagram, Link, write};
 use nat_types::{Endpoint, GatewayId, Key, Note, Record};
 use std::alloc::Global;
@@ -69,6 +69,13 @@ fn begin_core(
         ("unsynced", _) => Ok(Core::unsynced(alloc, id, zero, one)?),
         _ => bail!("no beginning {word}"),
     }
+}
+
+/// How many ports a table's gateway owns.
+fn count_owned(table: &Table) -> Result<usize>
+    ensures { IfOk result (λ n. n ≡ length table.now.owned) }
+{
+    Ok(table.owned()?.len())
 }
 
 /// As the link has begun a session anew.
@@ -249,13 +256,12 @@ impl Side {
         ensures { IfOk result (λ n. length (restart_batch (book_of self.now.core)) ≤ n) }
     {
         rows_leave();
-        let table = self.core.table();
-        table.recall();
-        let ports = table.owned()?.len();
-        match ports.checked_add(table.len()) {
-            Some(count) if count < 1_000_000 => Ok(count + 2),
-            _ => bail!("there are too many"),
+        let ports = count_owned(self.core.table())?;
+        let pairs = self.core.table().len();
+        if ports >= 1_000_000 || pairs >= 1_000_000 {
+            bail!("there are too many");
         }
+        Ok(ports + pairs + 2)
     }
 
     /// Where a packet to an outside port goes.
