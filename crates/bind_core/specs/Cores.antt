@@ -22,6 +22,7 @@ use Rattle.binding_step.specs.Resets.{revived}
 use Rattle.binding_step.specs.declared.changes.Row.{Row}
 use Rattle.binding_step.specs.declared.setups.Stage.{Stage}
 use Rattle.binding_step.specs.Books.{Book, is_synced}
+use Rattle.binding_step.specs.Ledgers.{Ledger}
 use Rattle.binding_step.specs.Rows.{carry_row}
 use Rattle.bind_core.specs.Changes.{table_after, wants_after}
 
@@ -51,6 +52,10 @@ book_of c = record {
   wants = c.wants;
   coming = c.coming;
 }
+
+-- and what its pairs carried
+abbrev pub ledger_of : Core → Ledger
+ledger_of c = record { book = book_of c; lives = c.table.lives }
 
 -- once a row is carried out
 abbrev pub core_after : ℕ → Core → Row → Core

@@ -15,7 +15,7 @@ use Rattle.link.proofs.Wholes.{reading_takes}
 use Rattle.pair_machine.specs.Box.{Letter}
 use Rattle.pair_machine.specs.Step.{WasSent}
 use Rattle.binding_step.specs.Books.{Book, IsBook, is_lone, is_synced}
-use Rattle.binding_step.specs.Ledgers.{alone_ledger, restarted_ledger}
+use Rattle.binding_step.specs.Ledgers.{alone_ledger, may_ask, restarted_ledger}
 use Rattle.binding_step.specs.Machine.{IsTurn, Stands, Works, letter_of}
 use Rattle.binding_step.specs.Resets.{back_in, put_alone, restart_link, restart_notes, restarted, retaken, begun_anew}
 use Rattle.binding_step.specs.Books.{empty_book}
@@ -29,7 +29,7 @@ use Rattle.kept.specs.declared.waits.Ended.TheVariants.{AllPairs}
 use Rattle.packet_rules.specs.declared.reasons.Reason.{Reason}
 use Rattle.packet_rules.specs.declared.reasons.Reason.TheVariants.{NotUp, OldWord}
 use Rattle.step_parts.specs.Machine.{AreBytes, IsAlone, letter_in}
-use Rattle.step_parts.specs.Parts.{all_idle_done, datagram_read, heard_by, heard_unless, idle_done, is_heard, records_done, released, reset, with_link, word_taken}
+use Rattle.step_parts.specs.Parts.{all_idle_done, datagram_read, heard_by, heard_unless, idle_done, records_done, released, reset, with_link, word_taken}
 use Rattle.step_parts.specs.Shown.{Scene, Shown, id_of, scene, with_notes}
 use Rattle.step_parts.specs.Steps.{word_by, word_refusal}
 use Rattle.step_parts.proofs.Passing.{Going, Goes-on, IsSound, Passes, Stays, going-then, passes-then, row-goes}
@@ -63,7 +63,7 @@ module _ (letters : List Letter) (words : List ℕ) where
   idle-goes : (s : Scene) (k : Key) → Going letters words s (idle_done s k)
   idle-goes s k = λ n h stands is.
       let g = s.shown in let b = g.ledger.book in
-      let ask = is_heard g.link.heard g.moment && not (is_full g.link) in
+      let ask = may_ask g.moment g.link in
       row-goes letters words s (idle_row b ask k) n h is (idle-keeps b ask k is.book) (idle-works g.moment b g.link n h ask k stands)
 
   pub all-idle-goes : (s : Scene) (ks : List Key) → Going letters words s (all_idle_done s ks)

@@ -4,3 +4,4 @@ pub mod Parts
 pub mod Steps
 pub mod Truly
 pub mod Machine
+pub mod Founding

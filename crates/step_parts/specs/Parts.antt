@@ -27,7 +27,7 @@ use Rattle.link.specs.Link.{Link, after_take, closed_at, datagram_of, is_due_on_
 use Rattle.link.specs.Reading.{reading}
 use Rattle.binding_step.specs.declared.changes.Row.{Row}
 use Rattle.binding_step.specs.Books.{is_synced}
-use Rattle.binding_step.specs.Ledgers.{alone_ledger, carried_ledger, ledger_after, rests_for, restarted_ledger, taken_ledger}
+use Rattle.binding_step.specs.Ledgers.{alone_ledger, carried_ledger, ledger_after, may_ask, rests_for, restarted_ledger, taken_ledger}
 use Rattle.binding_step.specs.Resets.{back_in, restart_link, restart_notes, retaken}
 use Rattle.binding_step.specs.Rows.{answered, carry_row, idle_row, is_full, noted_by, taken_answer, taken_ended, taken_what, wish_of}
 use Rattle.kept.specs.declared.waits.Ended.{Ended}
@@ -284,15 +284,10 @@ word_taken s n = let g = s.shown in let book = g.ledger.book in
 
 -- ---- a tick's own parts
 
--- the peer was heard at most 300 centiseconds ago
-abbrev pub is_heard : Option ℕ → ℕ → Bool
-is_heard None now = false
-is_heard (Some last) now = nat_le (now - last) 300
-
 -- an idle pair is let go: alone it is dropped, else its owner asks, where the peer was heard lately and the link isn't full
 abbrev pub idle_done : Scene → Key → Scene
 idle_done s k = let g = s.shown in
-    by_row s (idle_row g.ledger.book (is_heard g.link.heard g.moment && not (is_full g.link)) k)
+    by_row s (idle_row g.ledger.book (may_ask g.moment g.link) k)
 
 abbrev pub all_idle_done : Scene → List Key → Scene
 all_idle_done s [] = s
