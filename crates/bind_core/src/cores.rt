@@ -28,7 +28,9 @@ ghost use Rattle.nat_types.specs.declared.gateways.GatewayId.TheVariants.{Zero};
 ghost use Rattle.binding_step.specs.Resets.{back_in, retaken};
 ghost use Rattle.bindings.specs.declared.entries.Entry.{Entry as Known};
 ghost use Rattle.bindings.specs.Entries.{is_pair, slot_of};
-ghost use Rattle.bind_core.specs.Cores.{book_of, core_after, inbound_of, lives_carried, owned_of, rests_in, revived_with};
+ghost use Rattle.binding_step.specs.Ledgers.{carried_ledger};
+ghost use Rattle.binding_step.specs.Resets.{restart_batch};
+ghost use Rattle.bind_core.specs.Cores.{ledger_of, book_of, core_after, inbound_of, lives_carried, owned_of, rests_in, revived_with};
 
 use crate::deeds::{
     Bounds, carry_by, change_table, count_keys, is_link_full, is_wanting, lies_in_either, note,
@@ -85,7 +87,12 @@ impl Model for Core {
 impl Core {
     /// Reminds the prover of what each core keeps; it does nothing when it runs.
     pub fn recall(&self)
-        ensures { IsBook (book_of self.now) }
+        ensures book { IsBook (book_of self.now) }
+        ensures capacity { self.now.table.capacity
+            ≡ key_count self.now.table.zero self.now.table.one }
+        // What it would promise a peer that began anew.
+        ensures batch { length (restart_batch (book_of self.now))
+            ≤ 2 * self.now.table.capacity + 2 }
     {
         let _ = &self.id;
     }
@@ -342,13 +349,13 @@ impl Core {
             lives = self.new.table.lives;
           };
         } }
-        ensures lives { let packet : Carried = record {
+        ensures ledger { let packet : Carried = record {
           remote = remote;
           way = way;
           flags = flags;
           at = now;
         }
-            in self.new.table.lives ≡ lives_carried self.old key packet }
+            in ledger_of self.new ≡ carried_ledger key packet (ledger_of self.old) }
         ensures longer { let packet : Carried = record {
           remote = remote;
           way = way;
@@ -546,8 +553,8 @@ impl Core {
     ) -> Result<Core, AllocError>
         requires zero { AreBounds zero }
         requires one { AreBounds one }
-        ensures book { IfOk result (λ c. book_of c ≡ empty_book id zero one) }
-        ensures capacity { IfOk result (λ c. c.table.capacity ≡ key_count zero one) }
+        ensures ledger { IfOk result (λ c. ledger_of c
+            ≡ record { book = empty_book id zero one; lives = [] }) }
     {
         books_begin();
         recall_port(zero.highest);
@@ -570,8 +577,8 @@ impl Core {
     pub fn founder(alloc: Global, zero: PortBounds, one: PortBounds) -> Result<Core, AllocError>
         requires zero { AreBounds zero }
         requires one { AreBounds one }
-        ensures book { IfOk result (λ c. book_of c ≡ founded_book zero one) }
-        ensures capacity { IfOk result (λ c. c.table.capacity ≡ key_count zero one) }
+        ensures ledger { IfOk result (λ c. ledger_of c
+            ≡ record { book = founded_book zero one; lives = [] }) }
     {
         let mut core = Core::unsynced(alloc, GatewayId::Zero, zero, one)?;
         core.found(zero, one);
