@@ -6,7 +6,7 @@ use Rattle.nat_types.specs.declared.pairs.EntryState.TheVariants.{Pending, Doome
 use Rattle.nat_types.specs.declared.notes.Note.{Note}
 use Rattle.nat_types.specs.declared.pairs.Key.{Key}
 use Rattle.nat_types.specs.declared.records.Record.{Record}
-use Rattle.nat_types.specs.declared.records.Record.TheVariants.{Ask, Begin, Put}
+use Rattle.nat_types.specs.declared.records.Record.TheVariants.{Ask}
 use Rattle.link.specs.Link.{Link}
 use Rattle.lives.specs.declared.packets.Packet.{Packet}
 use Rattle.lives.specs.Lives.{Life, life_begun, life_carried, life_renewed}
@@ -14,7 +14,7 @@ use Rattle.bindings.specs.declared.entries.Entry.{Entry}
 use Rattle.bindings.specs.Lists.{place_in}
 use Rattle.bindings.specs.Lives.{lives_with, lives_without, rests_at, is_unused_at}
 use Rattle.bindings.specs.Revivals.{lives_of_pairs}
-use Rattle.resync.specs.Loading.{Load, loaded}
+use Rattle.resync.specs.Loading.{Load, loaded, lives_taken}
 use Rattle.binding_step.specs.declared.changes.Change.{Change}
 use Rattle.binding_step.specs.declared.changes.Change.TheVariants.{Keep, Add, Turn, Renew, Drop, Yield, Want, Give, Gain}
 use Rattle.binding_step.specs.Books.{Book, is_synced, load_of}
@@ -54,15 +54,10 @@ abbrev pub rests_for : ℕ → Ledger → Record → Bool
 rests_for now l (Ask k) = rests_at l.book.entries l.lives k now || is_unused_at l.book.entries l.lives k
 rests_for now l r = false
 
--- the lives of a table that is loaded
-abbrev pub lives_put : ℕ → Record → List Entry → List Life → List Life
-lives_put now Begin es ls = []
-lives_put now (Put p) es ls = insert ls (place_in p es) (life_begun false now)
-lives_put now r es ls = ls
-
+-- the lives of a table that is loaded: a record out of place changes nothing
 abbrev pub lives_loaded : ℕ → Record → List Entry → List Life → Option Load → List Life
 lives_loaded now r es ls None = ls
-lives_loaded now r es ls (Some l) = lives_put now r es ls
+lives_loaded now r es ls (Some l) = lives_taken now r es ls
 
 -- a record is taken
 abbrev pub taken_lives : ℕ → Ledger → Record → List Life
