@@ -89,7 +89,7 @@ yielded-distinct es q keys = keys-map (λ x. cond (has_key q x) (entry_in Doomed
     at x false = refl
 
 -- the place of a pair is the same, whatever the states
-pub turned-place : (p : Pair) (q : Key) (s : EntryState) (es : List Entry) → place_in p (with_state q s es) ≡ place_in p es
+turned-place : (p : Pair) (q : Key) (s : EntryState) (es : List Entry) → place_in p (with_state q s es) ≡ place_in p es
 turned-place p q s [] = refl
 turned-place p q s (x ∷ xs) = at (has_key q x) (turned-place p q s xs)
   where

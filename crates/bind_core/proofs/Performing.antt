@@ -51,7 +51,7 @@ use Rattle.bind_core.specs.Cores.{Core, book_of, core_after, ledger_of, is_whole
 use Rattle.bind_core.proofs.Porting.{gained-rest}
 
 -- what is gained hangs on the ranges, the entries and the owned ports alone
-pub gained-alike : (b : Book) (t : Table) (xs : List ℕ) → record b { owned = (with_gained (table_book t) xs).owned } ≡ record b { owned = (with_gained (record b { zero = t.zero; one = t.one; entries = t.entries; owned = t.owned }) xs).owned }
+gained-alike : (b : Book) (t : Table) (xs : List ℕ) → record b { owned = (with_gained (table_book t) xs).owned } ≡ record b { owned = (with_gained (record b { zero = t.zero; one = t.one; entries = t.entries; owned = t.owned }) xs).owned }
 gained-alike b t [] = refl
 gained-alike b t (x ∷ xs) = at (is_gained (table_book t) x) (gained-alike b (record t { owned = own_in x t.owned }) xs) (gained-alike b t xs)
   where
@@ -84,7 +84,7 @@ book-after now c r = at r.change
         ∙ ap (λ (z : Book). let b : Book = record z { wants = false } in b) (sym (gained-rest (book_of c) (numbers_of g)))
 
 -- and the lives those of the change
-pub ledger-after : (now : ℕ) (c : Core) (r : Row) → ledger_of (core_after now c r) ≡ ledger_after now r.change (ledger_of c)
+ledger-after : (now : ℕ) (c : Core) (r : Row) → ledger_of (core_after now c r) ≡ ledger_after now r.change (ledger_of c)
 ledger-after now c r = ap (λ (b : Book). let l : Ledger = record { book = b; lives = lives_after now r.change c.table.entries c.table.lives } in l) (book-after now c r)
 
 -- the ledger then, of a row that is worked out elsewhere
@@ -120,10 +120,6 @@ ready-same (Gain g) n h = refl
 -- and for as many where no entry comes
 pub ready-kept : (now : ℕ) (c c2 : Core) (r : Row) → adds r.change ≡ false → c2 ≡ core_after now c r → c2.table.ready ≡ c.table.ready
 ready-kept now c c2 r h made = ap (λ (k : Core). k.table.ready) made ∙ ready-same r.change c.table.ready h
-
--- other lives change nothing else
-pub relived : (c : Core) (t2 : Table) (ls : List Life) → t2 ≡ record c.table { lives = ls } → IsBook (book_of c) → IsBook (book_of (record c { table = t2 }))
-relived c t2 ls same is = subst (λ (t : Table). IsBook (book_of (record c { table = t }))) (sym same) is
 
 pub still-between : (t t2 : Table) (bounds : Bounds) → t2.zero ≡ t.zero → t2.one ≡ t.one → IsBetween t bounds → IsBetween t2 bounds
 still-between t t2 bounds zero one is = record { zero = zero ∙ is.zero; one = one ∙ is.one }

@@ -1,5 +1,5 @@
 -- The idle pairs of a tick.
-use Rattle.std.proofs.Common.{◌≡◌, ℕ, zero, suc, ◌+◌, ◌<◌, ◌≤◌, Bool, true, false, cond, nat_lt, List, [], ◌∷◌, ◌++◌, length, get_or, drop, refl, sym, ap, subst, ◌∙◌, arith, append_assoc, slice_get, Some}
+use Rattle.std.proofs.Common.{◌≡◌, ℕ, zero, suc, ◌+◌, ◌<◌, ◌≤◌, Bool, true, false, cond, List, [], ◌∷◌, ◌++◌, length, get_or, drop, refl, sym, ap, subst, ◌∙◌, arith, append_assoc, slice_get, Some}
 use Rattle.std.proofs.lemmas.Option.{get_or_from_slice_get, slice_get_within}
 use Rattle.std.proofs.Math.Seq.{drop-cons}
 use Rattle.nat_types.specs.declared.notes.Note.{Note}
@@ -10,8 +10,6 @@ use Rattle.nat_types.specs.declared.records.Record.{Record}
 use Rattle.pair_machine.specs.Box.{Letter}
 use Rattle.binding_step.specs.Books.{Book}
 use Rattle.binding_step.specs.Machine.{Stands, Works}
-use Rattle.std.proofs.lemmas.Bool.{ltb-true, ltb-false}
-use Rattle.addresses.specs.declared.transport.Port.{Port}
 use Rattle.nat_types.specs.declared.pairs.Key.{Key}
 use Rattle.lives.specs.Lives.{Life}
 use Rattle.bindings.specs.declared.entries.Entry.{Entry}
@@ -26,23 +24,6 @@ few-idle now (e ∷ es) (l ∷ ls) = at (is_idle_row now e l) (few-idle now es l
     at : (b : Bool) → length (idle_keys_in now es ls) ≤ length es → length (cond b (e.pair.key ∷ idle_keys_in now es ls) (idle_keys_in now es ls)) ≤ suc (length es)
     at true h = omega arith
     at false h = omega arith
-
--- the lower of two is above 0, and no higher than the higher one
-pub lower-positive : (a b : Port) → 0 < a.0 → 0 < b.0 → 0 < (let p : Port = cond (nat_lt a.0 b.0) a b in p).0
-lower-positive a b ha hb = at (nat_lt a.0 b.0)
-  where
-    at : (t : Bool) → 0 < (let p : Port = cond t a b in p).0
-    at true = ha
-    at false = hb
-
-pub lower-than : (a b c d : Port) → a.0 ≤ c.0 → b.0 ≤ d.0 → (let p : Port = cond (nat_lt a.0 b.0) a b in p).0 ≤ (let p : Port = cond (nat_lt c.0 d.0) d c in p).0
-lower-than a b c d ha hb = at (nat_lt a.0 b.0) (nat_lt c.0 d.0) refl refl
-  where
-    at : (s t : Bool) → nat_lt a.0 b.0 ≡ s → nat_lt c.0 d.0 ≡ t → (let p : Port = cond s a b in p).0 ≤ (let p : Port = cond t d c in p).0
-    at true true hs ht = let x = ltb-true c.0 d.0 ht in omega (arith, ha, x)
-    at true false hs ht = ha
-    at false true hs ht = hb
-    at false false hs ht = let x = ltb-false a.0 b.0 hs in omega (arith, ha, x)
 
 -- one key's row is carried out
 pub record IsReleased (now : ℕ) (k : Key) (l : Ledger) (e : Link) (ns : List Note) (l2 : Ledger) (e2 : Link) (ns2 : List Note) : Type 0 where

@@ -138,15 +138,20 @@ impl Core {
         requires ready { 0 < self.old.table.ready }
         requires places { needs_answer entry ≡ true → 0 < free_places link.old }
         requires reserved { vec_len notes.old < vec_capacity notes.old }
-        ensures ended { let row = row_of (book_of self.old) (rests_for now (ledger_of self.old) entry) entry
+        ensures ended { let rests = rests_for now (ledger_of self.old) entry in
+            let row = row_of (book_of self.old) rests entry
             in result ≡ row.ended }
-        ensures core { let row = row_of (book_of self.old) (rests_for now (ledger_of self.old) entry) entry
+        ensures core { let rests = rests_for now (ledger_of self.old) entry in
+            let row = row_of (book_of self.old) rests entry
             in self.new ≡ core_after now self.old row }
-        ensures link { let row = row_of (book_of self.old) (rests_for now (ledger_of self.old) entry) entry
+        ensures link { let rests = rests_for now (ledger_of self.old) entry in
+            let row = row_of (book_of self.old) rests entry
             in link.new ≡ answered link.old row.answer }
-        ensures pasts { let row = row_of (book_of self.old) (rests_for now (ledger_of self.old) entry) entry
+        ensures pasts { let rests = rests_for now (ledger_of self.old) entry in
+            let row = row_of (book_of self.old) rests entry
             in LivesOn now row.change self.old.table self.new.table }
-        ensures notes { let row = row_of (book_of self.old) (rests_for now (ledger_of self.old) entry) entry
+        ensures notes { let rests = rests_for now (ledger_of self.old) entry in
+            let row = row_of (book_of self.old) rests entry
             in notes.new.items ≡ notes.old.items ++ noted_by self.old.id now row.what }
         ensures len { vec_len notes.new ≤ vec_len notes.old + 1 }
         ensures capacity { vec_capacity notes.new ≡ vec_capacity notes.old }
@@ -188,9 +193,9 @@ impl Core {
         ensures works { (h : List Rec) (n : ℕ) (l : Letter) (offset : ℕ)
             → is_lone_at self.old.stage ≡ false → Stands (book_of self.old) link.old h
             → IsTurn link.old n l offset entry
-            → Works now (l ∷ []) [] (book_of self.old) link.old n (book_of self.new) link.new (suc n)
-            (noted_by self.old.id now
-            (taken_what (book_of self.old) (rests_for now (ledger_of self.old) entry) entry)) h }
+            → let rests = rests_for now (ledger_of self.old) entry in
+            Works now (l ∷ []) [] (book_of self.old) link.old n (book_of self.new) link.new
+            (suc n) (noted_by self.old.id now (taken_what (book_of self.old) rests entry)) h }
     {
         self.recall();
         record_works();

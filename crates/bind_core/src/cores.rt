@@ -41,15 +41,14 @@ use crate::deeds::{
     Bounds, carry_by, change_table, count_keys, is_link_full, is_wanting, lies_in_either, note,
     own_range, recall_port, tell,
 };
-use crate::grants::{choose_granted, higher, lower};
 use crate::loads::{loading_of, stage_after};
 use crate::resets::note_back;
-use crate::rows::{
-    accept, answering, ask, carry, ending, gives_way, is_lone, is_synced, known, no, quiet, refuse,
-    release, row, wish, yes,
-};
 use addresses::{Port, TcpFlags};
 use arrayvec::ArrayVec;
+use binding_rows::{
+    accept, answering, ask, carry, choose_granted, ending, gives_way, higher, is_lone, is_synced,
+    known, lower, no, quiet, refuse, release, row, wish, yes,
+};
 use binding_step::{
     Change, Row, Stage, Want, Wish, books_begin, books_keep, carry_works, feed_works,
 };
@@ -227,7 +226,8 @@ impl Core {
 
     /// What a record makes of a synced gateway; while its batch is promised, nothing.
     pub(crate) fn row_for(&self, entry: Record, now: u64) -> Row
-        ensures { result ≡ row_of (book_of self.now) (rests_for now (ledger_of self.now) entry) entry }
+        ensures { let rests = rests_for now (ledger_of self.now) entry
+            in result ≡ row_of (book_of self.now) rests entry }
     {
         if self.cursor.is_over() {
             let rests = self.rests(&entry, now);

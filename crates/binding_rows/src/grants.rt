@@ -66,9 +66,9 @@ fn greatest(table: &Table, highest: u16, count: u16, most: usize) -> Granted
     granted
 }
 
-/// The ports that are granted of those from one to another: the greatest spare ones, at most 16, and
-/// at most half of them.
-pub(crate) fn choose_granted(table: &Table, lowest: Port, highest: Port) -> Granted
+/// The ports that are granted of those from one to another: the greatest spare ones, at most 16,
+/// and at most half of them.
+pub fn choose_granted(table: &Table, lowest: Port, highest: Port) -> Granted
     requires low { 0 < lowest.0 }
     requires order { lowest.0 ≤ highest.0 }
     ensures { let spares = filter (is_spare table.now.entries table.now.owned)
@@ -81,14 +81,14 @@ pub(crate) fn choose_granted(table: &Table, lowest: Port, highest: Port) -> Gran
 }
 
 /// The lower of two ports.
-pub(crate) fn lower(a: Port, b: Port) -> Port
+pub fn lower(a: Port, b: Port) -> Port
     ensures { result ≡ (if nat_lt a.0 b.0 then a else b) }
 {
     if a.0 < b.0 { a } else { b }
 }
 
 /// The higher of two ports.
-pub(crate) fn higher(a: Port, b: Port) -> Port
+pub fn higher(a: Port, b: Port) -> Port
     ensures { result ≡ (if nat_lt a.0 b.0 then b else a) }
 {
     if a.0 < b.0 { b } else { a }

@@ -1,7 +1,7 @@
 use Rattle.std.proofs.Common.{refl}
 use Rattle.bindings.specs.Ports.{is_spare}
-use Rattle.bind_core.proofs.Granting.{chosen-more, few-chosen}
-use Rattle.bind_core.proofs.grants.greatest.Goals as goal
+use Rattle.binding_rows.proofs.Granting.{chosen-more, few-chosen}
+use Rattle.binding_rows.proofs.grants.greatest.Goals as goal
 
 pub put_if-requires-clause-within : goal.put_if-requires-clause-within
 put_if-requires-clause-within c = few-chosen c.args.most _ c.loop-i.granted.ports c.loop-i.invariant

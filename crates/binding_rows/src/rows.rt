@@ -1,4 +1,4 @@
-//! What a record, or a wish, makes of one entry.
+//! What a record, a wish, a tick or a packet makes of one entry.
 ghost use Rattle.std.specs.Prelude.{◌≡◌, true};
 ghost use Rattle.nat_types.specs.declared.pairs.EntryState.TheVariants.{Held, Live};
 ghost use Rattle.binding_step.specs.Books.{is_synced as is_synced_at, is_lone as is_lone_at};
@@ -14,7 +14,8 @@ use binding_step::{Change, Row, Stage, Want, Wish};
 use bindings::Entry;
 use nat_types::{Endpoint, EntryState, GatewayId, Happening, Key, Pair, Record};
 
-pub(crate) fn is_synced(stage: Stage) -> bool
+/// Whether the table is loaded.
+pub fn is_synced(stage: Stage) -> bool
     ensures { result ≡ is_synced_at stage }
 {
     match stage {
@@ -23,7 +24,8 @@ pub(crate) fn is_synced(stage: Stage) -> bool
     }
 }
 
-pub(crate) fn is_lone(stage: Stage) -> bool
+/// Whether nobody's consent is needed.
+pub fn is_lone(stage: Stage) -> bool
     ensures { result ≡ is_lone_at stage }
 {
     match stage {
@@ -32,7 +34,8 @@ pub(crate) fn is_lone(stage: Stage) -> bool
     }
 }
 
-pub(crate) fn row(change: Change, answer: Option<Record>, what: Option<Happening>) -> Row
+/// A change that is answered and noted, and by which no wait ends.
+pub fn row(change: Change, answer: Option<Record>, what: Option<Happening>) -> Row
     ensures { result ≡ row_with change answer what }
 {
     Row {
@@ -43,19 +46,22 @@ pub(crate) fn row(change: Change, answer: Option<Record>, what: Option<Happening
     }
 }
 
-pub(crate) fn quiet() -> Row
+/// Nothing changes.
+pub fn quiet() -> Row
     ensures { result ≡ quiet_row }
 {
     row(Change::Keep, None, None)
 }
 
-pub(crate) fn answering(answer: Record) -> Row
+/// Nothing changes, and this is answered.
+pub fn answering(answer: Record) -> Row
     ensures { result ≡ answering_row answer }
 {
     row(Change::Keep, Some(answer), None)
 }
 
-pub(crate) fn ending(endpoint: Endpoint, row: Row) -> Row
+/// The row, by which the packets of an endpoint needn't wait any more.
+pub fn ending(endpoint: Endpoint, row: Row) -> Row
     ensures { result ≡ ending_row endpoint row }
 {
     Row {
@@ -66,14 +72,15 @@ pub(crate) fn ending(endpoint: Endpoint, row: Row) -> Row
     }
 }
 
-pub(crate) fn wish(answer: Want, row: Row) -> Wish
+/// What a packet has to do, and what comes of its wish.
+pub fn wish(answer: Want, row: Row) -> Wish
     ensures { result ≡ wish_with answer row }
 {
     Wish { answer, row }
 }
 
 /// Whether the own proposal gives way to the peer's for the same endpoint.
-pub(crate) fn gives_way(id: GatewayId, state: EntryState) -> bool
+pub fn gives_way(id: GatewayId, state: EntryState) -> bool
     ensures { result ≡ gives_way_at id state }
 {
     match (state, id) {
@@ -95,7 +102,8 @@ fn accepted(pair: Pair, state: EntryState) -> Row
     }
 }
 
-pub(crate) fn accept(entry: Option<Entry>) -> Row
+/// The peer agrees to the pair of a key; `entry` is the key's.
+pub fn accept(entry: Option<Entry>) -> Row
     ensures { result ≡ accept_row entry }
 {
     match entry {
@@ -114,7 +122,8 @@ fn refused(pair: Pair, state: EntryState) -> Row
     }
 }
 
-pub(crate) fn refuse(entry: Option<Entry>) -> Row
+/// The peer refuses the pair of a key; `entry` is the key's.
+pub fn refuse(entry: Option<Entry>) -> Row
     ensures { result ≡ refuse_row entry }
 {
     match entry {
@@ -148,8 +157,8 @@ fn asked(pair: Pair, rests: bool, state: EntryState) -> Row
     }
 }
 
-/// `rests` says that the pair is idle, or came by Install and was never used here since.
-pub(crate) fn ask(key: Key, rests: bool, entry: Option<Entry>) -> Row
+/// The peer asks whether the pair of a key may go: `rests` says that it is idle, or came by Install and was never used here since.
+pub fn ask(key: Key, rests: bool, entry: Option<Entry>) -> Row
     ensures { result ≡ ask_row key rests entry }
 {
     match entry {
@@ -167,7 +176,8 @@ fn left(pair: Pair, state: EntryState) -> Row
     }
 }
 
-pub(crate) fn yes(entry: Option<Entry>) -> Row
+/// The peer has let the pair of a key go; `entry` is the key's.
+pub fn yes(entry: Option<Entry>) -> Row
     ensures { result ≡ yes_row entry }
 {
     match entry {
@@ -189,7 +199,8 @@ fn stayed(pair: Pair, state: EntryState) -> Row
     }
 }
 
-pub(crate) fn no(entry: Option<Entry>) -> Row
+/// The peer keeps the pair of a key; `entry` is the key's.
+pub fn no(entry: Option<Entry>) -> Row
     ensures { result ≡ no_row entry }
 {
     match entry {
@@ -199,7 +210,7 @@ pub(crate) fn no(entry: Option<Entry>) -> Row
 }
 
 /// What a packet of an endpoint has to do whose pair has an entry.
-pub(crate) fn known(pair: Pair, state: EntryState) -> Wish
+pub fn known(pair: Pair, state: EntryState) -> Wish
     ensures { result ≡ known_wish pair state }
 {
     let answer = match state {
@@ -244,7 +255,7 @@ fn released(is_lone: bool, may_ask: bool, pair: Pair, state: EntryState) -> Row
 }
 
 /// What a tick makes of an idle key.
-pub(crate) fn release(is_lone: bool, may_ask: bool, entry: Option<Entry>) -> Row
+pub fn release(is_lone: bool, may_ask: bool, entry: Option<Entry>) -> Row
     ensures { result ≡ release_row is_lone may_ask entry }
 {
     match entry {
@@ -265,7 +276,7 @@ fn used(pair: Pair, state: EntryState) -> Row
 }
 
 /// What a translated packet makes of its pair.
-pub(crate) fn carry(entry: Option<Entry>) -> Row
+pub fn carry(entry: Option<Entry>) -> Row
     ensures { result ≡ use_row entry }
 {
     match entry {

@@ -1,7 +1,7 @@
 use Rattle.std.proofs.Common.{refl, arith}
 use Rattle.bindings.specs.Ports.{is_spare}
-use Rattle.bind_core.proofs.Granting.{counted-more}
-use Rattle.bind_core.proofs.grants.count_spare.Goals as goal
+use Rattle.binding_rows.proofs.Granting.{counted-more}
+use Rattle.binding_rows.proofs.grants.count_spare.Goals as goal
 
 pub loop-i-preserved : goal.loop-i-preserved
 loop-i-preserved c = record {
