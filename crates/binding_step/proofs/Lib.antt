@@ -13,3 +13,4 @@ pub mod Comes
 pub mod Fitting
 pub mod Keeping
 pub mod Leaving
+pub mod Waiting

@@ -4,3 +4,4 @@ pub mod Fits
 pub mod Resets
 pub mod Machine
 pub mod Ledgers
+pub mod Waits

@@ -1,7 +1,7 @@
 //! What holds of each row of the record table, and of what resets a book. Each law is the contract of
 //! a function that does nothing.
 
-ghost use Rattle.std.specs.Prelude.{◌≡◌, ℕ, ◌+◌, ◌<◌, ◌≤◌, ◌∷◌, ◌++◌, ◌&&◌, [], suc, List, Bool, true, false};
+ghost use Rattle.std.specs.Prelude.{◌≡◌, ◌↔◌, ℕ, ◌+◌, ◌<◌, ◌≤◌, ◌∷◌, ◌++◌, ◌&&◌, [], suc, List, Bool, true, false};
 ghost use Rattle.std.specs.Prelude.{IfSome, None, Some, length, reverse, slice_get};
 ghost use Rattle.std.specs.List.{AllByRecursion};
 ghost use Rattle.nat_types.specs.Granted.{IsPort};
@@ -33,7 +33,8 @@ ghost use Rattle.binding_step.specs.Machine.{IsTurn, Stands, Works};
 ghost use Rattle.binding_step.specs.Resets.{back_in, put_alone, restart_batch, restart_link};
 ghost use Rattle.binding_step.specs.Resets.{restart_notes, restarted, retaken};
 ghost use Rattle.binding_step.specs.Rows.{after, answered, carry_row, changed, idle_row, noted_by};
-ghost use Rattle.binding_step.specs.Rows.{row_of, taken_answer, taken_book, taken_what, wish_of};
+ghost use Rattle.binding_step.specs.Rows.{row_of, taken_answer, taken_book, taken_ended, taken_what, wish_of};
+ghost use Rattle.binding_step.specs.Waits.{is_waiting};
 
 /// What each row changes fits the book that it is decided on.
 pub fn rows_fit()
@@ -116,6 +117,16 @@ pub fn books_begin()
     ensures founder { (zero one : PortBounds) (capacity : ℕ) → AreBounds zero
         → let b = founded_book zero one in let r = ranges_of b in
         box_at b (fresh Zero 1 capacity) [] 0 ≡ founder (λ p. r.in_ranges p && r.at_start p) }
+{}
+
+/// A record ends the wait of an endpoint (`ended` of its row) exactly where the endpoint's own proposal waited for the
+/// peer's answer before it, and doesn't after it. A gateway that isn't synced has no packets that wait.
+pub fn waits_end()
+    ensures synced { (b : Book) (rests : Bool) (r : Record) (e : Endpoint) → IsBook b
+        → IsWellFormedRecord r → is_synced b.stage ≡ true → (taken_ended b rests r ≡ Some e)
+        ↔ ((is_waiting b e ≡ true) × (is_waiting (taken_book b rests r) e ≡ false)) }
+    ensures unsynced { (b : Book) (rests : Bool) (r : Record) → is_synced b.stage ≡ false
+        → taken_ended b rests r ≡ None }
 {}
 
 /// A record that comes in its turn is an act of the machine: at a synced gateway that of its row, or where its batch is
