@@ -1,10 +1,9 @@
 -- What a step does with one packet, and with those whose wait is over, as the machine sees it.
-use Rattle.std.proofs.Common.{◌≡◌, ◌<◌, ◌≤◌, ◌^◌, ◌-◌, ℕ, Bool, true, false, cond, not, List, [], ◌∷◌, ◌++◌, get_or, length, drop, take, Option, Some, None, Result, Ok, Err, inl, inr, refl, sym, ap, subst, ◌∙◌, arith}
+use Rattle.std.proofs.Common.{◌≡◌, ◌<◌, ◌-◌, ℕ, Bool, true, false, cond, List, [], ◌∷◌, ◌++◌, drop, Option, Some, None, Result, Ok, Err, inl, inr, refl, sym, subst, arith}
 use Rattle.std.specs.List.{AllByRecursion, filter}
 use Rattle.byteorder.specs.Numbers.{big_from-lt}
 use Rattle.addresses.specs.declared.ethernet.Mac.{Mac}
 use Rattle.addresses.specs.declared.internet.Ip.{Ip}
-use Rattle.addresses.specs.declared.transport.Port.{Port}
 use Rattle.addresses.specs.declared.transport.TcpFlags.{TcpFlags}
 use Rattle.nat_types.specs.declared.gateways.Side.{Side}
 use Rattle.nat_types.specs.declared.pairs.Endpoint.{Endpoint}
@@ -12,7 +11,6 @@ use Rattle.nat_types.specs.declared.pairs.EntryState.{EntryState}
 use Rattle.nat_types.specs.declared.pairs.EntryState.TheVariants as state
 use Rattle.nat_types.specs.declared.pairs.Key.{Key}
 use Rattle.nat_types.specs.declared.pairs.Pair.{Pair}
-use Rattle.nat_types.specs.declared.records.Record.{Record}
 use Rattle.bindings.specs.declared.entries.Entry.{Entry}
 use Rattle.bindings.specs.Entries.{slot_of}
 use Rattle.frames.specs.Frame.{frame_of}
@@ -29,14 +27,13 @@ use Rattle.binding_step.specs.declared.changes.Want.{Want as Wanted}
 use Rattle.binding_step.specs.declared.changes.Want.TheVariants as want
 use Rattle.binding_step.specs.Books.{Book, is_synced}
 use Rattle.binding_step.specs.Fits.{IsWellFormedEndpoint}
-use Rattle.binding_step.specs.Machine.{Stands, Works}
+use Rattle.binding_step.specs.Machine.{Works}
 use Rattle.binding_step.specs.Rows.{after, answered, carry_row, is_full, noted_by, quiet, use_row, used_row, wish_of}
 use Rattle.binding_step.proofs.Keeping.{wish-keeps}
 use Rattle.binding_step.proofs.Wishing.{carry-works, wish-works}
 use Rattle.kept.specs.declared.waits.Ended.{Ended}
 use Rattle.kept.specs.declared.waits.Wait.{Wait}
 use Rattle.kept.specs.Packets.{Waiting, ended_by, left_by}
-use Rattle.kept.specs.Waits.{ends}
 use Rattle.packet_rules.specs.declared.networks.Direction.{Direction}
 use Rattle.packet_rules.specs.declared.networks.Direction.TheVariants as way
 use Rattle.packet_rules.specs.declared.networks.Network.{Network}
@@ -52,11 +49,11 @@ use Rattle.packet_rules.specs.Steps.{Carries, IsForwardable, reading_of, and_the
 use Rattle.sides.specs.Stations.{is_active}
 use Rattle.step_parts.specs.declared.plans.Plan.{Plan}
 use Rattle.step_parts.specs.declared.plans.Plan.TheVariants.{Send, Ask, Wait as WaitFor}
-use Rattle.step_parts.specs.Machine.{AreBytes, KeepsBytes}
+use Rattle.step_parts.specs.Machine.{AreBytes}
 use Rattle.step_parts.specs.Parts.{all_taken, by_plan, by_refusal, by_verdict, carried, carried_all, carried_by, flags_in, flow_taken, framed, keeping, released, remote, retaken_by, taken_again, wanted_by, wanted_for}
 use Rattle.step_parts.specs.Shown.{Scene, Shown, is_up, scene, station_on}
-use Rattle.step_parts.specs.Verdict.{exit_by, look_for, plan_by, plan_from, plan_of, plan_on, plan_to, reading_on, target_pair}
-use Rattle.step_parts.proofs.Passing.{Going, Goes-on, IsSound, Passes, given, going-then, going-unseen, nothing, row-goes, stays-here}
+use Rattle.step_parts.specs.Verdict.{look_for, plan_by, plan_from, plan_of, plan_on, plan_to, reading_on, target_pair}
+use Rattle.step_parts.proofs.Passing.{Going, given, going-then, going-unseen, nothing, row-goes}
 
 -- ---- the endpoint of a packet's source
 

@@ -1,6 +1,6 @@
 -- One taking of a packet tells truly, where it isn't sent: it waits, or is dropped. And no taking changes what decides
 -- where packets go.
-use Rattle.std.proofs.Common.{◌≡◌, ℕ, Bool, true, false, cond, not, List, [], ◌∷◌, ◌++◌, map, Option, Some, None, Result, Ok, Err, IsPermutation, refl, sym, ap, ◌∙◌, subst}
+use Rattle.std.proofs.Common.{◌≡◌, ℕ, Bool, true, false, cond, List, [], ◌∷◌, Option, Some, None, IsPermutation, refl, sym, subst}
 use Rattle.std.proofs.lemmas.List.{append-nil, map-append}
 use Rattle.std.proofs.lemmas.List.Sorted.{IsPermutation-append_comm}
 use Rattle.addresses.specs.declared.internet.Ip.{Ip}
@@ -35,8 +35,8 @@ use Rattle.packet_rules.specs.Frames.{is_translation}
 use Rattle.step_parts.specs.declared.plans.Plan.TheVariants.{Ask, Wait as WaitFor}
 use Rattle.step_parts.specs.Verdict.{exit_by}
 use Rattle.step_parts.specs.Parts.{by_plan, carried_all, keeping, wanted_by, wanted_for}
-use Rattle.step_parts.specs.Shown.{Scene, Shown, id_of, station_on}
-use Rattle.step_parts.specs.Truly.{AtHand, Tells, known_of, packets_of, used_pairs}
+use Rattle.step_parts.specs.Shown.{Scene, id_of, station_on}
+use Rattle.step_parts.specs.Truly.{Tells, known_of, packets_of, used_pairs}
 use Rattle.step_parts.proofs.Telling.{at_hand, framed-tells, tells-nothing, tells-quietly, tells-then}
 
 -- ---- what decides where packets go

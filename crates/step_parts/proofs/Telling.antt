@@ -1,5 +1,5 @@
 -- What is told truly: nothing, one part behind the other, frames of other sorts, and packets whose wait is over.
-use Rattle.std.proofs.Common.{◌≡◌, ℕ, Bool, true, false, not, List, [], ◌∷◌, ◌++◌, map, filter, flat_map, IsPermutation, refl, sym, ap, ◌∙◌, subst, append_assoc}
+use Rattle.std.proofs.Common.{◌≡◌, ℕ, false, not, List, [], ◌∷◌, ◌++◌, map, filter, flat_map, IsPermutation, refl, sym, ap, ◌∙◌, subst, append_assoc}
 use Rattle.std.proofs.lemmas.List.{map-append, append-nil}
 use Rattle.std.proofs.lemmas.List.Elements.{filter-append}
 use Rattle.std.proofs.lemmas.Grind.{flat_map-append}
@@ -10,9 +10,9 @@ use Rattle.kept.specs.declared.waits.Ended.{Ended}
 use Rattle.kept.specs.Packets.{Waiting, ended_by, is_young, left_by}
 use Rattle.kept.specs.Waits.{ends}
 use Rattle.packet_rules.specs.Frames.{is_translation, pairs_of}
-use Rattle.told.specs.Told.{Sent, Told}
+use Rattle.told.specs.Told.{Sent}
 use Rattle.step_parts.specs.Parts.{all_taken, framed, old_dropped, released, taken_again}
-use Rattle.step_parts.specs.Shown.{Scene, Shown, scene}
+use Rattle.step_parts.specs.Shown.{Scene, scene}
 use Rattle.step_parts.specs.Truly.{AreSent, AtHand, Known, Sending, Tells, known_of, packets_of, translated_frames, used_in, used_pairs}
 
 swap-front : {X : Type 0} (a b c : List X) → IsPermutation (a ++ (b ++ c)) (b ++ (a ++ c))

@@ -1,5 +1,5 @@
 -- A gateway as it begins.
-use Rattle.std.specs.Prelude.{ℕ, ◌+◌, ◌*◌, false, List, []}
+use Rattle.std.specs.Prelude.{ℕ, ◌+◌, ◌*◌, false, []}
 use Rattle.nat_types.specs.declared.gateways.GatewayId.{GatewayId}
 use Rattle.nat_types.specs.declared.gateways.GatewayId.TheVariants.{Zero}
 use Rattle.nat_types.specs.declared.gateways.Side.TheVariants.{Inside, Outside}

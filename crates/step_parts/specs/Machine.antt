@@ -9,7 +9,7 @@ use Rattle.link.specs.Grammar.{spelling}
 use Rattle.link.specs.Reading.{reading}
 use Rattle.pair_machine.specs.Box.{Box, Letter}
 use Rattle.pair_machine.specs.Step.{IsStep}
-use Rattle.binding_step.specs.Books.{IsBook, is_lone}
+use Rattle.binding_step.specs.Books.{is_lone}
 use Rattle.binding_step.specs.Machine.{box_at, letter_of, ranges_of, Stands}
 use Rattle.step_parts.specs.declared.events.Event.{Event}
 use Rattle.step_parts.specs.declared.events.Event.TheVariants.{Frame, Datagram, Tick, Stop, PeerOff}

@@ -1,6 +1,6 @@
 -- Told truly: the translated frames of a step are, one for one and in order, translations of different packets at hand, by
 -- the pairs that the step's Used notes name.
-use Rattle.std.specs.Prelude.{◌≡◌, ℕ, List, [], ◌∷◌, ◌++◌, map, Option, Some, Ok}
+use Rattle.std.specs.Prelude.{◌≡◌, ℕ, List, [], ◌∷◌, ◌++◌, map, Some, Ok}
 use Rattle.std.specs.List.{filter, flat_map}
 use Rattle.std.specs.List.Sorted.{IsPermutation}
 use Rattle.addresses.specs.declared.ethernet.Mac.{Mac}
@@ -19,7 +19,7 @@ use Rattle.packet_rules.specs.declared.translations.Translation.TheVariants.{Out
 use Rattle.packet_rules.specs.Flows.{flow_in, source_of, target_of}
 use Rattle.packet_rules.specs.Frames.{hop_of, is_translation, pairs_of, sent_frame, way_of}
 use Rattle.packet_rules.specs.Networks.{direction_of}
-use Rattle.told.specs.Told.{Sent, Told}
+use Rattle.told.specs.Told.{Sent}
 use Rattle.step_parts.specs.declared.events.Event.{Event}
 use Rattle.step_parts.specs.declared.events.Event.TheVariants.{Frame, Datagram, Tick, Stop, PeerOff}
 use Rattle.step_parts.specs.Shown.{Scene, Shown}
