@@ -1,5 +1,7 @@
+pub mod Beginning
 pub mod Ending
 pub mod Hearing
+pub mod Idle
 pub mod Packets
 pub mod Passing
 pub mod Records

@@ -1,13 +1,16 @@
 //! What holds of a step of a gateway. Each law is the contract of a function that does nothing.
 
-ghost use Rattle.std.specs.Prelude.{List};
+ghost use Rattle.std.specs.Prelude.{◌≡◌, ℕ, [], List};
+ghost use Rattle.nat_types.specs.declared.gateways.GatewayId.{GatewayId};
 ghost use Rattle.nat_types.specs.declared.records.Record.{Record};
+ghost use Rattle.settings.specs.declared.whole.Settings.{Settings};
 ghost use Rattle.binding_step.specs.Books.{IsBook};
 ghost use Rattle.step_parts.specs.declared.events.Event.{Event};
-ghost use Rattle.step_parts.specs.Machine.{Goes, HasBytes, HasPushed, IsAlone, KeepsBytes};
+ghost use Rattle.step_parts.specs.Founding.{HasRanges, begun, bounds_of, founded, link_places};
+ghost use Rattle.step_parts.specs.Machine.{Goes, HasBytes, HasPushed, IsAlone, IsStanding, KeepsBytes};
 ghost use Rattle.step_parts.specs.Machine.{letters_in, words_in};
 ghost use Rattle.step_parts.specs.Shown.{Scene};
-ghost use Rattle.step_parts.specs.Steps.{IsStepOn};
+ghost use Rattle.step_parts.specs.Steps.{Does, IsStepOn};
 
 use packet_rules::readings_law;
 
@@ -30,3 +33,28 @@ pub fn steps_keep()
 {
     readings_law();
 }
+
+/// Before the datagram at a step's end, too, what a step asks for holds, of a list of all records pushed or promised by
+/// then.
+pub fn parts_stand()
+    ensures { (s : Scene) (event : Event) (done : Scene) (h : List Record) → Does s event done
+        → HasBytes event → IsBook s.shown.ledger.book → IsAlone s.shown → KeepsBytes s.shown
+        → HasPushed s.shown h → (h2 : List Record) × IsStanding done.shown h2 }
+{
+    readings_law();
+}
+
+/// What a step asks for holds of a gateway as it begins, and of the founded one; nothing was pushed by then. And its link has
+/// room for a whole table.
+pub fn beginnings()
+    ensures begun { (settings : Settings) (id : GatewayId) (boot : ℕ) → HasRanges settings
+        → IsStanding (begun settings id boot) [] }
+    ensures founded { (settings : Settings) (boot : ℕ) → HasRanges settings
+        → IsStanding (founded settings boot) [] }
+    ensures begun_room { (settings : Settings) (id : GatewayId) (boot : ℕ)
+        → (begun settings id boot).link.capacity
+        ≡ link_places (bounds_of settings.ports.zero) (bounds_of settings.ports.one) }
+    ensures founded_room { (settings : Settings) (boot : ℕ)
+        → (founded settings boot).link.capacity
+        ≡ link_places (bounds_of settings.ports.zero) (bounds_of settings.ports.one) }
+{}
