@@ -2,14 +2,17 @@
 
 ghost use Rattle.std.specs.Prelude.{◌≡◌, ℕ, [], List};
 ghost use Rattle.nat_types.specs.declared.gateways.GatewayId.{GatewayId};
+ghost use Rattle.nat_types.specs.declared.pairs.Key.{Key};
 ghost use Rattle.nat_types.specs.declared.records.Record.{Record};
 ghost use Rattle.settings.specs.declared.whole.Settings.{Settings};
 ghost use Rattle.binding_step.specs.Books.{IsBook};
+ghost use Rattle.binding_step.specs.Ledgers.{let_go};
 ghost use Rattle.step_parts.specs.declared.events.Event.{Event};
 ghost use Rattle.step_parts.specs.Founding.{HasRanges, begun, bounds_of, founded, link_places};
 ghost use Rattle.step_parts.specs.Machine.{Goes, HasBytes, HasPushed, IsAlone, IsStanding, KeepsBytes};
 ghost use Rattle.step_parts.specs.Machine.{letters_in, words_in};
-ghost use Rattle.step_parts.specs.Shown.{Scene};
+ghost use Rattle.step_parts.specs.Parts.{all_idle_done};
+ghost use Rattle.step_parts.specs.Shown.{Scene, scene, with_notes};
 ghost use Rattle.step_parts.specs.Steps.{Does, IsStepOn};
 
 use packet_rules::readings_law;
@@ -57,4 +60,13 @@ pub fn beginnings()
     ensures founded_room { (settings : Settings) (boot : ℕ)
         → (founded settings boot).link.capacity
         ≡ link_places (bounds_of settings.ports.zero) (bounds_of settings.ports.one) }
+{}
+
+/// Idle pairs let go one after another change the book, its lives, the link and the notes as one fold of the ledger says, and
+/// nothing else.
+pub fn idle_at_once()
+    ensures { (s : Scene) (keys : List Key) → let g = s.shown in
+        let gone = let_go g.moment keys g.ledger g.link in
+        all_idle_done s keys ≡ scene (record g { ledger = gone.ledger; link = gone.link })
+        (with_notes s.told gone.notes) }
 {}
