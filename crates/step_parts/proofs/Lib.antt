@@ -4,8 +4,10 @@ pub mod Hearing
 pub mod Idle
 pub mod Packets
 pub mod Passing
-pub mod Sends
 pub mod Records
+pub mod Saying
+pub mod Sending
+pub mod Sends
 pub mod Sides
 pub mod Stepping
 pub mod Takings

@@ -73,7 +73,7 @@ source-formed bytes are is =
     above body (inr tcp) = tcp.segment.from
 
 -- a plan waits for an endpoint that a pair can have
-abbrev PlanFits : Result Plan Reason → Type 0
+abbrev pub PlanFits : Result Plan Reason → Type 0
 PlanFits (Ok (Send by next)) = Unit {0}
 PlanFits (Ok (Ask by hop)) = Unit {0}
 PlanFits (Ok (WaitFor e)) = IsWellFormedEndpoint e
@@ -113,7 +113,7 @@ on-fits g flow way.Hairpin formed = at (target_pair g flow)
     at (Ok p) = from-fits g flow (λ own. Hairpin own p) (look_for g flow) formed
     at (Err reason) = tt
 
-plan-fits : (g : Shown) (side : Side) (flow : Flow) → IsWellFormedEndpoint (source_of flow) → PlanFits (plan_of g side flow)
+pub plan-fits : (g : Shown) (side : Side) (flow : Flow) → IsWellFormedEndpoint (source_of flow) → PlanFits (plan_of g side flow)
 plan-fits g side flow formed = at (direction_of g.networks side flow.source.0 flow.destination.0)
   where
     at : (r : Result Direction Reason) → PlanFits (and_then r (plan_on g flow))
@@ -150,7 +150,7 @@ kept-filter p (w ∷ ws) all = at (p w) (kept-filter p ws all.1)
     at true rest = (all.0, rest)
     at false rest = rest
 
-kept-more : (ws : List Waiting) (x : Waiting) → AllByRecursion (λ (w : Waiting). AreBytes w.bytes) ws → AreBytes x.bytes → AllByRecursion (λ (w : Waiting). AreBytes w.bytes) (ws ++ x ∷ [])
+pub kept-more : (ws : List Waiting) (x : Waiting) → AllByRecursion (λ (w : Waiting). AreBytes w.bytes) ws → AreBytes x.bytes → AllByRecursion (λ (w : Waiting). AreBytes w.bytes) (ws ++ x ∷ [])
 kept-more [] x all one = (one, tt)
 kept-more (w ∷ ws) x all one = (all.0, kept-more ws x all.1 one)
 

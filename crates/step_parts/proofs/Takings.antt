@@ -53,7 +53,7 @@ carried-all-known s flow flags (Hairpin own other) = refl
 
 -- ---- a wish uses no pair
 
-abbrev IsUseless : Row → Type 0
+abbrev pub IsUseless : Row → Type 0
 IsUseless r = (i : GatewayId) (now : ℕ) → used_pairs (noted_by i now r.what) ≡ []
 
 known-useless : (p : Pair) (s : EntryState) → IsUseless (known_wish p s).row
@@ -63,7 +63,7 @@ known-useless p state.Live = λ i now. refl
 known-useless p state.Closing = λ i now. refl
 known-useless p state.Held = λ i now. refl
 
-either-row : (t : Bool) (x y : Row) → IsUseless x → IsUseless y → IsUseless (cond t x y)
+pub either-row : (t : Bool) (x y : Row) → IsUseless x → IsUseless y → IsUseless (cond t x y)
 either-row true x y a b = a
 either-row false x y a b = b
 
@@ -84,7 +84,7 @@ by-useless : (b : Book) (full : Bool) (e : Endpoint) (o : Option Entry) → IsUs
 by-useless b full e (Some x) = known-useless x.pair x.state
 by-useless b full e None = new-useless b full e (port_for b e)
 
-wish-useless : (b : Book) (full : Bool) (e : Endpoint) → IsUseless (wish_of b full e).row
+pub wish-useless : (b : Book) (full : Bool) (e : Endpoint) → IsUseless (wish_of b full e).row
 wish-useless b full e = either-wish (is_synced b.stage) (wish_by b full e (entry_of b.entries e)) (wish want.NotNow quiet) (by-useless b full e (entry_of b.entries e)) (λ i now. refl)
 
 -- an endpoint wants a port
