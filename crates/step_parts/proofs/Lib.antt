@@ -13,3 +13,4 @@ pub mod Stepping
 pub mod Takings
 pub mod Telling
 pub mod Translating
+pub mod Unused
