@@ -13,4 +13,5 @@ pub mod Stepping
 pub mod Takings
 pub mod Telling
 pub mod Translating
+pub mod Truths
 pub mod Unused
