@@ -14,8 +14,9 @@ ghost use Rattle.step_parts.specs.Machine.{letters_in, words_in};
 ghost use Rattle.step_parts.specs.Parts.{all_idle_done};
 ghost use Rattle.step_parts.specs.Shown.{Scene, scene, with_notes};
 ghost use Rattle.step_parts.specs.Steps.{Does, IsStepOn};
+ghost use Rattle.step_parts.specs.Truly.{AreWired, Tells, hand_of};
 
-use packet_rules::readings_law;
+use packet_rules::{frames_law, readings_law};
 
 /// A step is a step of the pair machine: it reads the letters and the words that the event hands in,
 /// makes just the notes and sends just the letters that were told more.
@@ -35,6 +36,21 @@ pub fn steps_keep()
         → IsBook s2.shown.ledger.book × (IsAlone s2.shown × KeepsBytes s2.shown) }
 {
     readings_law();
+}
+
+/// A step tells truly: the translated frames that it sends are, one for one and in order, translations of different packets,
+/// by the pairs that its Used notes name, each on its packet's way, to its next hop. And the hardware addresses that the
+/// gateway knows have six bytes afterwards, too.
+pub fn steps_tell()
+    ensures truly { (s : Scene) (event : Event) (s2 : Scene) → IsStepOn s event s2
+        → HasBytes event → IsBook s.shown.ledger.book → KeepsBytes s.shown → AreWired s.shown
+        → Tells (hand_of event) s s2 }
+    ensures wired { (s : Scene) (event : Event) (s2 : Scene) → IsStepOn s event s2
+        → HasBytes event → IsBook s.shown.ledger.book → KeepsBytes s.shown → AreWired s.shown
+        → AreWired s2.shown }
+{
+    readings_law();
+    frames_law();
 }
 
 /// Before the datagram at a step's end, too, what a step asks for holds, of a list of all records pushed or promised by
