@@ -1,10 +1,7 @@
 -- What holds of a gateway as it begins.
-use Rattle.std.proofs.Common.{◌≡◌, ℕ, true, [], inl, refl, arith}
-use Rattle.nat_types.specs.Granted.{IsPort}
+use Rattle.std.proofs.Common.{◌≡◌, ℕ, [], inl, refl, arith}
 use Rattle.nat_types.specs.declared.gateways.GatewayId.{GatewayId}
-use Rattle.nat_types.specs.declared.gateways.GatewayId.TheVariants.{Zero}
 use Rattle.settings.specs.declared.whole.Settings.{Settings}
-use Rattle.bindings.specs.Ports.{AreBounds}
 use Rattle.binding_step.proofs.Keeping.{empty-keeps, founded-keeps}
 use Rattle.step_parts.specs.Founding.{HasRanges, begun, bounds_of, founded, link_places}
 use Rattle.step_parts.specs.Machine.{IsStanding}

@@ -1,12 +1,12 @@
 -- Idle pairs let go one by one, and by one fold.
-use Rattle.std.proofs.Common.{◌≡◌, List, [], ◌∷◌, ◌++◌, refl, sym, ap, ◌∙◌, append_assoc}
+use Rattle.std.proofs.Common.{◌≡◌, List, [], ◌∷◌, sym, ap, ◌∙◌, append_assoc}
 use Rattle.std.proofs.lemmas.List.{append-nil}
 use Rattle.nat_types.specs.declared.notes.Note.{Note}
 use Rattle.nat_types.specs.declared.pairs.Key.{Key}
 use Rattle.binding_step.specs.Ledgers.{LetGo, let_go, may_ask}
 use Rattle.binding_step.specs.Rows.{idle_row, noted_by}
 use Rattle.step_parts.specs.Parts.{all_idle_done, idle_done}
-use Rattle.step_parts.specs.Shown.{Scene, Shown, id_of, scene, with_notes}
+use Rattle.step_parts.specs.Shown.{Scene, id_of, scene, with_notes}
 
 -- what a scene is once these pairs were let go
 abbrev pub idle_gone : Scene → LetGo → Scene

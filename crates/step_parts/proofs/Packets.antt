@@ -154,6 +154,26 @@ pub kept-more : (ws : List Waiting) (x : Waiting) → AllByRecursion (λ (w : Wa
 kept-more [] x all one = (one, tt)
 kept-more (w ∷ ws) x all one = (all.0, kept-more ws x all.1 one)
 
+-- a packet that is refused leaves the scene, or wants a port
+pub refusal-leaves : (P : Scene → Type 0) (s : Scene) (flow : Flow) (reason : Reason) → P s → P (wanted_by s (source_of flow)) → P (by_refusal s flow reason)
+refusal-leaves P s flow NoPort same wanted = wanted
+refusal-leaves P s flow ShortFrame same wanted = same
+refusal-leaves P s flow NotMine same wanted = same
+refusal-leaves P s flow BadHeader same wanted = same
+refusal-leaves P s flow BadLength same wanted = same
+refusal-leaves P s flow BadHeaderSum same wanted = same
+refusal-leaves P s flow Fragment same wanted = same
+refusal-leaves P s flow TtlOver same wanted = same
+refusal-leaves P s flow NotUdpTcp same wanted = same
+refusal-leaves P s flow BadTransport same wanted = same
+refusal-leaves P s flow BadArp same wanted = same
+refusal-leaves P s flow BadAdvert same wanted = same
+refusal-leaves P s flow NotUp same wanted = same
+refusal-leaves P s flow NoBinding same wanted = same
+refusal-leaves P s flow CannotWait same wanted = same
+refusal-leaves P s flow BadDatagram same wanted = same
+refusal-leaves P s flow OldWord same wanted = same
+
 -- what is known of a frame by what it is read as
 abbrev pub Reads : Type 0
 Reads = (network : Network) (active up : Bool) (bytes : List ℕ) (reading : Reading) → reading_of network active up bytes ≡ Ok reading → Carries bytes reading
@@ -225,23 +245,7 @@ module _ (letters : List Letter) (words : List ℕ) where
       going-then letters words s one _ (wanted-goes s e fits) (keeping-goes one side bytes _ are)
 
   refusal-goes : (s : Scene) (flow : Flow) (reason : Reason) → IsWellFormedEndpoint (source_of flow) → Going letters words s (by_refusal s flow reason)
-  refusal-goes s flow NoPort formed = wanted-goes s (source_of flow) formed
-  refusal-goes s flow ShortFrame formed = here s
-  refusal-goes s flow NotMine formed = here s
-  refusal-goes s flow BadHeader formed = here s
-  refusal-goes s flow BadLength formed = here s
-  refusal-goes s flow BadHeaderSum formed = here s
-  refusal-goes s flow Fragment formed = here s
-  refusal-goes s flow TtlOver formed = here s
-  refusal-goes s flow NotUdpTcp formed = here s
-  refusal-goes s flow BadTransport formed = here s
-  refusal-goes s flow BadArp formed = here s
-  refusal-goes s flow BadAdvert formed = here s
-  refusal-goes s flow NotUp formed = here s
-  refusal-goes s flow NoBinding formed = here s
-  refusal-goes s flow CannotWait formed = here s
-  refusal-goes s flow BadDatagram formed = here s
-  refusal-goes s flow OldWord formed = here s
+  refusal-goes s flow reason formed = refusal-leaves (λ x. Going letters words s x) s flow reason (here s) (wanted-goes s (source_of flow) formed)
 
   verdict-goes : (s : Scene) (side : Side) (bytes : List ℕ) (flow : Flow) (plan : Result Plan Reason) → AreBytes bytes → IsWellFormedEndpoint (source_of flow) → PlanFits plan → Going letters words s (by_verdict s side bytes flow plan)
   verdict-goes s side bytes flow (Ok plan) are formed fits = plan-goes s side bytes flow plan are formed fits

@@ -1,15 +1,12 @@
 -- One packet, and those whose wait is over: what is told of them is true, and what that rests on holds again.
-use Rattle.std.proofs.Common.{◌≡◌, ℕ, Bool, true, false, cond, not, ◌&&◌, List, [], ◌∷◌, ◌++◌, length, Option, Some, None, Result, Ok, Err, refl, sym, ap, subst, ◌∙◌}
+use Rattle.std.proofs.Common.{◌≡◌, ℕ, Bool, true, false, not, ◌&&◌, List, [], ◌∷◌, ◌++◌, Option, Some, None, Result, Ok, Err, refl, sym, ap, subst, ◌∙◌}
 use Rattle.std.specs.List.{AllByRecursion}
 use Rattle.addresses.specs.declared.ethernet.Mac.{Mac}
-use Rattle.addresses.specs.declared.internet.Ip.{Ip}
 use Rattle.nat_types.specs.declared.gateways.Side.{Side}
-use Rattle.nat_types.specs.declared.gateways.Side.TheVariants.{Inside, Outside}
-use Rattle.nat_types.specs.declared.notes.Note.{Note}
 use Rattle.nat_types.specs.declared.pairs.Endpoint.{Endpoint}
 use Rattle.ipv4.specs.declared.flows.Flow.{Flow}
 use Rattle.binding_step.specs.declared.changes.Row.{Row}
-use Rattle.binding_step.specs.Books.{Book, IsBook, is_synced}
+use Rattle.binding_step.specs.Books.{IsBook, is_synced}
 use Rattle.binding_step.specs.Fits.{IsWellFormedEndpoint}
 use Rattle.binding_step.specs.Rows.{after, is_full, noted_by, wish_of}
 use Rattle.binding_step.proofs.Keeping.{wish-keeps}
@@ -17,17 +14,15 @@ use Rattle.kept.specs.declared.waits.Ended.{Ended}
 use Rattle.kept.specs.declared.waits.Wait.{Wait}
 use Rattle.kept.specs.declared.waits.Wait.TheVariants as wait
 use Rattle.kept.specs.Packets.{Waiting, ended_by, left_by}
-use Rattle.packet_rules.specs.declared.networks.Network.{Network}
 use Rattle.packet_rules.specs.declared.readings.Reading.{Reading}
 use Rattle.packet_rules.specs.declared.readings.Reading.TheVariants.{Arp, Advert, Packet}
 use Rattle.packet_rules.specs.declared.reasons.Reason.{Reason}
-use Rattle.packet_rules.specs.declared.reasons.Reason.TheVariants.{ShortFrame, NotMine, BadHeader, BadLength, BadHeaderSum, Fragment, TtlOver, NotUdpTcp, BadTransport, BadArp, BadAdvert, NotUp, NoBinding, NoPort, CannotWait, BadDatagram, OldWord}
 use Rattle.packet_rules.specs.declared.translations.Translation.{Translation}
 use Rattle.packet_rules.specs.declared.translations.Translation.TheVariants.{Outward, Inward, Hairpin}
 use Rattle.packet_rules.specs.Arping.{request_frame}
 use Rattle.packet_rules.specs.Flows.{flow_in, source_of}
 use Rattle.packet_rules.specs.Frames.{is_translation, sent_frame}
-use Rattle.packet_rules.specs.Steps.{IsForwardable, reading_of, unless, up_refusal}
+use Rattle.packet_rules.specs.Steps.{IsForwardable, unless, up_refusal}
 use Rattle.sides.specs.Stations.{is_active}
 use Rattle.told.specs.Told.{Sent}
 use Rattle.step_parts.specs.declared.plans.Plan.{Plan}
@@ -37,10 +32,10 @@ use Rattle.step_parts.specs.Parts.{all_taken, by_plan, by_refusal, by_row, by_ve
 use Rattle.step_parts.specs.Shown.{Scene, Shown, id_of, is_up, scene, station_on}
 use Rattle.step_parts.specs.Truly.{AreWired, AtHand, IsSentBy, Known, Tells, known_of, packets_of}
 use Rattle.step_parts.specs.Verdict.{exit_by, plan_of, reading_on}
-use Rattle.step_parts.proofs.Packets.{PlanFits, kept-filter, kept-more, plan-fits, source-formed}
+use Rattle.step_parts.proofs.Packets.{PlanFits, kept-filter, kept-more, plan-fits, refusal-leaves, source-formed}
 use Rattle.step_parts.proofs.Passing.{IsSound}
 use Rattle.step_parts.proofs.Sending.{AllTranslate, Frames, carried-leaves, found-translate, is-sent, next-six, own-six, sending-tells}
-use Rattle.step_parts.proofs.Sends.{IsPlanned, plan-sends}
+use Rattle.step_parts.proofs.Sends.{plan-sends}
 use Rattle.step_parts.proofs.Takings.{IsUseless, keeping-tells, wanted-for-known, wish-useless}
 use Rattle.step_parts.proofs.Telling.{at_hand, framed-tells, split-kept, tells-nothing, tells-quietly, tells-then}
 use Rattle.std.proofs.lemmas.List.Sorted.{IsPermutation-sym, IsPermutation-trans}
@@ -187,23 +182,7 @@ plan-says frames s side bytes flow (WaitFor e) read plan fits =
     saying-then [] (at_hand side bytes ∷ []) s (wanted_by s e) (by_plan s side bytes flow (WaitFor e)) (wanted-says s e fits) (keeping-says (wanted_by s e) side bytes (wait.Pair e) read.are)
 
 refusal-says : (s : Scene) (flow : Flow) (reason : Reason) → IsWellFormedEndpoint (source_of flow) → Saying [] s (by_refusal s flow reason)
-refusal-says s flow NoPort formed = wanted-says s (source_of flow) formed
-refusal-says s flow ShortFrame formed = saying-nothing s []
-refusal-says s flow NotMine formed = saying-nothing s []
-refusal-says s flow BadHeader formed = saying-nothing s []
-refusal-says s flow BadLength formed = saying-nothing s []
-refusal-says s flow BadHeaderSum formed = saying-nothing s []
-refusal-says s flow Fragment formed = saying-nothing s []
-refusal-says s flow TtlOver formed = saying-nothing s []
-refusal-says s flow NotUdpTcp formed = saying-nothing s []
-refusal-says s flow BadTransport formed = saying-nothing s []
-refusal-says s flow BadArp formed = saying-nothing s []
-refusal-says s flow BadAdvert formed = saying-nothing s []
-refusal-says s flow NotUp formed = saying-nothing s []
-refusal-says s flow NoBinding formed = saying-nothing s []
-refusal-says s flow CannotWait formed = saying-nothing s []
-refusal-says s flow BadDatagram formed = saying-nothing s []
-refusal-says s flow OldWord formed = saying-nothing s []
+refusal-says s flow reason formed = refusal-leaves (λ x. Saying [] s x) s flow reason (saying-nothing s []) (wanted-says s (source_of flow) formed)
 
 flow-says : Frames → (s : Scene) (side : Side) (bytes : List ℕ) (flow : Flow) → IsRead s bytes flow → Saying (at_hand side bytes ∷ []) s (flow_taken s side bytes flow)
 flow-says frames s side bytes flow read = at (plan_of s.shown side flow) refl (plan-fits s.shown side flow (read-from s bytes flow read))

@@ -1,5 +1,5 @@
 -- A packet that is sent on is told of truly.
-use Rattle.std.proofs.Common.{◌≡◌, ℕ, Bool, true, false, Option, Some, None, Result, Ok, List, [], ◌∷◌, ◌++◌, length, map, flat_map, IsPermutation, refl, sym, ap, subst, ◌∙◌, append_assoc}
+use Rattle.std.proofs.Common.{◌≡◌, ℕ, true, false, Some, List, [], ◌∷◌, ◌++◌, length, IsPermutation, refl, sym, ap, subst, ◌∙◌, append_assoc}
 use Rattle.std.proofs.lemmas.List.{append-nil}
 use Rattle.std.proofs.lemmas.Grind.{flat_map-append}
 use Rattle.std.proofs.lemmas.List.Sorted.{IsPermutation-refl}
@@ -16,7 +16,7 @@ use Rattle.arp.specs.Neighbours.{mac_at}
 use Rattle.arp.proofs.Wholes.{near-six}
 use Rattle.ipv4.specs.declared.flows.Flow.{Flow}
 use Rattle.binding_step.specs.Books.{Book, IsBook, is_synced}
-use Rattle.binding_step.specs.Rows.{carry_row, is_full, new_pair, noted_by}
+use Rattle.binding_step.specs.Rows.{carry_row, is_full, noted_by}
 use Rattle.kept.specs.Packets.{Waiting}
 use Rattle.packet_rules.specs.declared.networks.Network.{Network}
 use Rattle.packet_rules.specs.declared.networks.Networks.{Networks}
@@ -31,11 +31,10 @@ use Rattle.packet_rules.specs.Steps.{IsForwardable}
 use Rattle.told.specs.Told.{Sent}
 use Rattle.step_parts.specs.Parts.{carried_all, framed, wanted_for}
 use Rattle.step_parts.specs.Shown.{Scene, Shown, id_of, station_on}
-use Rattle.step_parts.specs.Truly.{AreItsPairs, AreWired, AtHand, IsSentBy, Known, Sending, Tells, known_of, near_on, packets_of, used_in, used_pairs}
+use Rattle.step_parts.specs.Truly.{AreItsPairs, AreWired, IsSentBy, Known, Sending, Tells, known_of, near_on, packets_of, used_in, used_pairs}
 use Rattle.step_parts.specs.Verdict.{exit_by, hop_by, next_by}
 use Rattle.step_parts.proofs.Packets.{Reads}
 use Rattle.step_parts.proofs.Sends.{AreFound, IsOwn, IsPlanned}
-use Rattle.step_parts.proofs.Takings.{wanted-for-known}
 use Rattle.step_parts.proofs.Telling.{at_hand}
 use Rattle.step_parts.proofs.Translating.{Translates, carry-note, target-translates, wish-owns, wish-still}
 

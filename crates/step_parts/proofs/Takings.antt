@@ -3,9 +3,7 @@
 use Rattle.std.proofs.Common.{◌≡◌, ℕ, Bool, true, false, cond, List, [], ◌∷◌, Option, Some, None, IsPermutation, refl, sym, subst}
 use Rattle.std.proofs.lemmas.List.{append-nil, map-append}
 use Rattle.std.proofs.lemmas.List.Sorted.{IsPermutation-append_comm}
-use Rattle.addresses.specs.declared.internet.Ip.{Ip}
 use Rattle.addresses.specs.declared.transport.Port.{Port}
-use Rattle.addresses.specs.declared.transport.TcpFlags.{TcpFlags}
 use Rattle.nat_types.specs.declared.gateways.GatewayId.{GatewayId}
 use Rattle.nat_types.specs.declared.gateways.Side.{Side}
 use Rattle.nat_types.specs.declared.notes.Happening.TheVariants.{Retaken}
@@ -23,21 +21,15 @@ use Rattle.binding_step.specs.declared.changes.Row.{Row}
 use Rattle.binding_step.specs.declared.changes.Wish.{Wish}
 use Rattle.binding_step.specs.declared.changes.Want.TheVariants as want
 use Rattle.binding_step.specs.Books.{Book, is_lone, is_synced}
-use Rattle.binding_step.specs.Rows.{is_full, known_wish, may_want, new_pair, new_wish, none_row, noted_by, port_for, proposal, quiet, row, wish, wish_by, wish_of}
+use Rattle.binding_step.specs.Rows.{known_wish, may_want, new_pair, new_wish, none_row, noted_by, port_for, proposal, quiet, row, wish, wish_by, wish_of}
 use Rattle.kept.specs.declared.waits.Wait.{Wait}
-use Rattle.kept.specs.declared.waits.Wait.TheVariants as wait
 use Rattle.kept.specs.Packets.{Waiting}
 use Rattle.packet_rules.specs.declared.translations.Translation.{Translation}
 use Rattle.packet_rules.specs.declared.translations.Translation.TheVariants.{Outward, Inward, Hairpin}
-use Rattle.packet_rules.specs.Arping.{request_frame}
-use Rattle.packet_rules.specs.Flows.{source_of}
-use Rattle.packet_rules.specs.Frames.{is_translation}
-use Rattle.step_parts.specs.declared.plans.Plan.TheVariants.{Ask, Wait as WaitFor}
-use Rattle.step_parts.specs.Verdict.{exit_by}
-use Rattle.step_parts.specs.Parts.{by_plan, carried_all, keeping, wanted_by, wanted_for}
-use Rattle.step_parts.specs.Shown.{Scene, id_of, station_on}
+use Rattle.step_parts.specs.Parts.{keeping, wanted_for}
+use Rattle.step_parts.specs.Shown.{Scene}
 use Rattle.step_parts.specs.Truly.{Tells, known_of, packets_of, used_pairs}
-use Rattle.step_parts.proofs.Telling.{at_hand, framed-tells, tells-nothing, tells-quietly, tells-then}
+use Rattle.step_parts.proofs.Telling.{at_hand}
 
 -- ---- what decides where packets go
 
@@ -45,11 +37,6 @@ pub wanted-for-known : (s : Scene) (flow : Flow) (by : Translation) → known_of
 wanted-for-known s flow (Outward p) = refl
 wanted-for-known s flow (Inward p) = refl
 wanted-for-known s flow (Hairpin own other) = refl
-
-pub carried-all-known : (s : Scene) (flow : Flow) (flags : TcpFlags) (by : Translation) → known_of (carried_all s flow flags by).shown ≡ known_of s.shown
-carried-all-known s flow flags (Outward p) = refl
-carried-all-known s flow flags (Inward p) = refl
-carried-all-known s flow flags (Hairpin own other) = refl
 
 -- ---- a wish uses no pair
 
@@ -87,13 +74,6 @@ by-useless b full e None = new-useless b full e (port_for b e)
 pub wish-useless : (b : Book) (full : Bool) (e : Endpoint) → IsUseless (wish_of b full e).row
 wish-useless b full e = either-wish (is_synced b.stage) (wish_by b full e (entry_of b.entries e)) (wish want.NotNow quiet) (by-useless b full e (entry_of b.entries e)) (λ i now. refl)
 
--- an endpoint wants a port
-pub wanted-tells : (s : Scene) (e : Endpoint) → Tells [] s (wanted_by s e)
-wanted-tells s e =
-    let b = s.shown.ledger.book in
-    let full = is_full s.shown.link in
-    tells-quietly s (wanted_by s e) (noted_by (id_of s.shown) s.shown.moment (wish_of b full e).row.what) refl refl (wish-useless b full e (id_of s.shown) s.shown.moment) refl
-
 -- a packet is kept
 pub keeping-tells : (s : Scene) (side : Side) (bytes : List ℕ) (w : Wait) → Tells (at_hand side bytes ∷ []) s (keeping s side bytes w)
 keeping-tells s side bytes w =
@@ -110,23 +90,3 @@ keeping-tells s side bytes w =
       dropped = [];
       once = subst (λ ps. IsPermutation (at_hand side bytes ∷ packets_of s.shown.kept) ps) (sym (map-append view s.shown.kept _)) (IsPermutation-append_comm (at_hand side bytes ∷ []) (packets_of s.shown.kept));
     }
-
-wanted-for-tells : (s : Scene) (flow : Flow) (by : Translation) → Tells [] s (wanted_for s flow by)
-wanted-for-tells s flow (Outward p) = wanted-tells s (source_of flow)
-wanted-for-tells s flow (Inward p) = tells-nothing s []
-wanted-for-tells s flow (Hairpin own other) = wanted-tells s (source_of flow)
-
--- a packet waits for the answer to a proposal
-pub waiting-tells : (s : Scene) (side : Side) (bytes : List ℕ) (flow : Flow) (e : Endpoint) → Tells (at_hand side bytes ∷ []) s (by_plan s side bytes flow (WaitFor e))
-waiting-tells s side bytes flow e =
-    tells-then [] (at_hand side bytes ∷ []) s (wanted_by s e) (by_plan s side bytes flow (WaitFor e)) refl (wanted-tells s e) (keeping-tells (wanted_by s e) side bytes (wait.Pair e))
-
--- a packet waits for its next hop, which is asked for
-pub asking-tells : (s : Scene) (side : Side) (bytes : List ℕ) (flow : Flow) (by : Translation) (hop : Ip) → is_translation (request_frame (station_on s.shown (exit_by by)).network hop) ≡ false → Tells (at_hand side bytes ∷ []) s (by_plan s side bytes flow (Ask by hop))
-asking-tells s side bytes flow by hop none =
-    let one = wanted_for s flow by in
-    let two = keeping one side bytes (wait.Hop (exit_by by) hop) in
-    let hand = at_hand side bytes ∷ [] in
-    tells-then hand [] s two (by_plan s side bytes flow (Ask by hop)) refl
-    (tells-then [] hand s one two refl (wanted-for-tells s flow by) (keeping-tells one side bytes (wait.Hop (exit_by by) hop)))
-    (framed-tells two (exit_by by) (request_frame (station_on s.shown (exit_by by)).network hop) none)

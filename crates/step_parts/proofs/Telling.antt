@@ -11,8 +11,8 @@ use Rattle.kept.specs.Packets.{Waiting, ended_by, is_young, left_by}
 use Rattle.kept.specs.Waits.{ends}
 use Rattle.packet_rules.specs.Frames.{is_translation, pairs_of}
 use Rattle.told.specs.Told.{Sent}
-use Rattle.step_parts.specs.Parts.{all_taken, framed, old_dropped, released, taken_again}
-use Rattle.step_parts.specs.Shown.{Scene, scene}
+use Rattle.step_parts.specs.Parts.{framed, old_dropped}
+use Rattle.step_parts.specs.Shown.{Scene}
 use Rattle.step_parts.specs.Truly.{AreSent, AtHand, Known, Sending, Tells, known_of, packets_of, translated_frames, used_in, used_pairs}
 
 swap-front : {X : Type 0} (a b c : List X) → IsPermutation (a ++ (b ++ c)) (b ++ (a ++ c))

@@ -1,5 +1,5 @@
 -- The pairs that a packet is sent by translate: the note of each names it.
-use Rattle.std.proofs.Common.{◌≡◌, ℕ, Bool, true, false, cond, Option, Some, None, Result, Ok, Err, List, [], ◌∷◌, refl, sym, ap, subst, ◌∙◌}
+use Rattle.std.proofs.Common.{◌≡◌, ℕ, Bool, true, false, cond, Option, Some, None, Ok, [], ◌∷◌, refl, sym, ap, subst, ◌∙◌}
 use Rattle.std.proofs.lemmas.Bool.{cond-false, cond-true}
 use Rattle.addresses.specs.declared.transport.Port.{Port}
 use Rattle.addresses.specs.declared.transport.Protocol.{Protocol}
@@ -26,7 +26,6 @@ use Rattle.binding_step.specs.declared.changes.Wish.{Wish}
 use Rattle.binding_step.specs.Books.{Book, IsBook, is_lone, is_synced}
 use Rattle.binding_step.specs.Rows.{after, carry_row, known_wish, may_want, new_pair, new_wish, none_row, noted_by, port_for, proposal, quiet, row, use_row, used_row, wish, wish_by, wish_of}
 use Rattle.binding_step.proofs.Wishing.{at-key, chosen-says}
-use Rattle.packet_rules.specs.declared.reasons.Reason.{Reason}
 use Rattle.packet_rules.specs.Flows.{target_of}
 use Rattle.step_parts.specs.Shown.{Shown}
 use Rattle.step_parts.specs.Truly.{used_pairs}

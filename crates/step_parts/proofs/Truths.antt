@@ -1,11 +1,10 @@
 -- What each part of a step tells is true: interfaces, datagrams, the operator's word, ticks; and so what a whole step tells.
-use Rattle.std.proofs.Common.{◌≡◌, ℕ, Bool, true, false, cond, not, ◌&&◌, List, [], ◌∷◌, ◌++◌, length, drop, take, Option, Some, None, Result, Ok, Err, refl, sym, ap, subst, ◌∙◌}
+use Rattle.std.proofs.Common.{◌≡◌, ℕ, Bool, true, false, cond, not, ◌&&◌, List, [], ◌∷◌, ◌++◌, length, Option, Some, None, Result, Ok, Err, refl, sym, ap, subst}
 use Rattle.std.specs.List.{AllByRecursion}
 use Rattle.std.proofs.lemmas.List.{append-nil}
 use Rattle.addresses.specs.declared.ethernet.Mac.{Mac}
 use Rattle.nat_types.specs.declared.gateways.Side.{Side}
 use Rattle.nat_types.specs.declared.gateways.Side.TheVariants.{Inside, Outside}
-use Rattle.nat_types.specs.declared.notes.Note.{Note}
 use Rattle.nat_types.specs.declared.pairs.Endpoint.{Endpoint}
 use Rattle.nat_types.specs.declared.pairs.Key.{Key}
 use Rattle.nat_types.specs.declared.records.Record.{Record}
@@ -49,7 +48,7 @@ use Rattle.step_parts.specs.Truly.{AreWired, AtHand, Known, Tells, hand_of, know
 use Rattle.step_parts.specs.Verdict.{reading_on}
 use Rattle.step_parts.proofs.Packets.{kept-filter}
 use Rattle.step_parts.proofs.Passing.{IsSound}
-use Rattle.step_parts.proofs.Saying.{Says, Saying, Speaks, framed-says, packet-says, released-says, row-says, saying-nothing, saying-then, speaks-then}
+use Rattle.step_parts.proofs.Saying.{Saying, Speaks, framed-says, packet-says, released-says, row-says, saying-nothing, saying-then, speaks-then}
 use Rattle.step_parts.proofs.Sending.{Frames, own-six}
 use Rattle.step_parts.proofs.Telling.{at_hand, old-tells, tells-quietly, tells-then}
 use Rattle.step_parts.proofs.Unused.{idle-useless, restart-useless, retaken-useless, taken-useless}

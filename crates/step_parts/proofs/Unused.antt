@@ -1,5 +1,5 @@
 -- What a record, an idle pair, a greater boot and the operator's word note: no use of a pair.
-use Rattle.std.proofs.Common.{◌≡◌, ℕ, Bool, true, false, cond, not, ◌&&◌, is_none, Option, Some, None, List, [], ◌∷◌, refl}
+use Rattle.std.proofs.Common.{◌≡◌, ℕ, Bool, true, false, cond, ◌&&◌, is_none, Option, Some, None, List, [], ◌∷◌, refl}
 use Rattle.nat_types.specs.declared.gateways.GatewayId.{GatewayId}
 use Rattle.nat_types.specs.declared.notes.Happening.{Happening}
 use Rattle.nat_types.specs.declared.notes.Happening.TheVariants.{Retaken}
@@ -12,14 +12,14 @@ use Rattle.nat_types.specs.declared.records.Granted.{Granted}
 use Rattle.nat_types.specs.declared.records.Record.{Record}
 use Rattle.nat_types.specs.declared.records.Record.TheVariants as rec
 use Rattle.bindings.specs.declared.entries.Entry.{Entry}
-use Rattle.bindings.specs.Entries.{entry_in, entry_of, slot_of}
+use Rattle.bindings.specs.Entries.{entry_of, slot_of}
 use Rattle.binding_step.specs.declared.changes.Change.TheVariants as change_of
 use Rattle.binding_step.specs.declared.changes.Row.{Row}
 use Rattle.binding_step.specs.Books.{Book, is_lone, is_promised, is_synced, load_of}
 use Rattle.binding_step.specs.Resets.{restart_notes, retaken, back_in}
-use Rattle.binding_step.specs.Rows.{accept_row, accepted_row, answering, ask_row, asked_row, asking, ending, gives_way, grant_row, idle_row, install_row, is_theirs, left_row, load_what, no_row, noted_by, proposed_row, quiet, refuse_row, refused_row, release_row, released_row, row, row_of, stayed_row, synced_row, taken_what, unsynced_what, want_row, yes_row}
+use Rattle.binding_step.specs.Rows.{accept_row, accepted_row, answering, ask_row, asked_row, ending, gives_way, grant_row, idle_row, install_row, is_theirs, left_row, load_what, no_row, noted_by, proposed_row, quiet, refuse_row, refused_row, release_row, released_row, row, row_of, stayed_row, synced_row, taken_what, unsynced_what, yes_row}
 use Rattle.resync.specs.Loading.{Load, loaded}
-use Rattle.step_parts.specs.Truly.{used_in, used_pairs}
+use Rattle.step_parts.specs.Truly.{used_pairs}
 use Rattle.step_parts.proofs.Takings.{IsUseless, either-row}
 
 -- ---- the rows of records

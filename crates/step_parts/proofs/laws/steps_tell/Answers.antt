@@ -1,4 +1,3 @@
-use Rattle.step_parts.proofs.Sending.{Frames}
 use Rattle.step_parts.proofs.Truths.{step-tells}
 use Rattle.step_parts.proofs.laws.steps_tell.Goals as goal
 
