@@ -1,7 +1,9 @@
+pub mod Asking
 pub mod Beginning
 pub mod Ending
 pub mod Hearing
 pub mod Idle
+pub mod Others
 pub mod Packets
 pub mod Passing
 pub mod Records

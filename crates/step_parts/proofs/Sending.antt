@@ -113,10 +113,11 @@ pub record Carries-on (s s2 : Scene) (by : Translation) : Type 0 where
   pub known : known_of s2.shown ≡ known_of s.shown
   pub book : s2.shown.ledger.book ≡ s.shown.ledger.book
   pub wired : AreWired s.shown → AreWired s2.shown
+  pub nets : (s2.shown.inside.network ≡ s.shown.inside.network) × (s2.shown.outside.network ≡ s.shown.outside.network)
 
 pub carried-leaves : (s : Scene) (flow : Flow) (flags : TcpFlags) (by : Translation) → Carries-on s (carried_all s flow flags by) by
-carried-leaves s flow flags (Outward p) = record { frames = refl; notes = refl; kept = refl; known = refl; book = refl; wired = λ w. w }
-carried-leaves s flow flags (Inward p) = record { frames = refl; notes = refl; kept = refl; known = refl; book = refl; wired = λ w. w }
+carried-leaves s flow flags (Outward p) = record { frames = refl; notes = refl; kept = refl; known = refl; book = refl; wired = λ w. w; nets = (refl, refl) }
+carried-leaves s flow flags (Inward p) = record { frames = refl; notes = refl; kept = refl; known = refl; book = refl; wired = λ w. w; nets = (refl, refl) }
 carried-leaves s flow flags (Hairpin own other) = record {
   frames = refl;
   notes = append_assoc s.told.notes (carry_notes s.shown own) (carry_notes s.shown other);
@@ -124,6 +125,7 @@ carried-leaves s flow flags (Hairpin own other) = record {
   known = refl;
   book = refl;
   wired = λ w. w;
+  nets = (refl, refl);
 }
 
 -- ---- the frame

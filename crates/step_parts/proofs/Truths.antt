@@ -78,13 +78,13 @@ station-known : (g : Shown) (side : Side) (station : Station) → station.neighb
 station-known g Inside station same = ap (λ (n : Neighbours). let k : Known = record (known_of g) { near_inside = n } in k) same
 station-known g Outside station same = ap (λ (n : Neighbours). let k : Known = record (known_of g) { near_outside = n } in k) same
 
-wired-on : (g : Shown) → AreWired g → (side : Side) → IsWired (station_on g side)
+pub wired-on : (g : Shown) → AreWired g → (side : Side) → IsWired (station_on g side)
 wired-on g w Inside = w.1.0
 wired-on g w Outside = w.1.1
 
 -- ---- ARP
 
-after-wired : (station : Station) (p : ArpPacket) (now : ℕ) → length p.sender_mac.0 ≡ 6 → IsWired station → IsWired (after_arp station p now)
+pub after-wired : (station : Station) (p : ArpPacket) (now : ℕ) → length p.sender_mac.0 ≡ 6 → IsWired station → IsWired (after_arp station p now)
 unfolding after_arp
 after-wired station p now six w = at (is_learnable station.network p)
   where
@@ -114,7 +114,7 @@ arp-speaks frames s side p six =
 
 -- ---- routers
 
-abbrev AllOther : List (List ℕ) → Type 0
+abbrev pub AllOther : List (List ℕ) → Type 0
 AllOther fs = AllByRecursion (λ f. is_translation f ≡ false) fs
 
 all-framed-says : (s : Scene) (side : Side) (fs : List (List ℕ)) → AllOther fs → Saying [] s (all_framed s side fs)
@@ -122,12 +122,12 @@ all-framed-says s side [] all = saying-nothing s []
 all-framed-says s side (f ∷ fs) all =
     saying-then [] [] s (framed s side f) (all_framed s side (f ∷ fs)) (framed-says s side f (λ w. all.0)) (all-framed-says (framed s side f) side fs all.1)
 
-action-frames : Frames → (station : Station) (action : Action) → AllOther (frames_of station action)
+pub action-frames : Frames → (station : Station) (action : Action) → AllOther (frames_of station action)
 action-frames frames station Nothing = tt
 action-frames frames station (Advertise priority) = (frames.advert station.network priority station.interval, tt)
 action-frames frames station (AdvertiseAndArp priority) = (frames.advert station.network priority station.interval, (frames.gratuitous station.network, tt))
 
-routed-wired : (station : Station) (router : Router) → IsWired station → IsWired (record station { router = router })
+pub routed-wired : (station : Station) (router : Router) → IsWired station → IsWired (record station { router = router })
 routed-wired station router w = record { own = w.own; known = w.known }
 
 acted-says : Frames → (s : Scene) (side : Side) (station : Station) (action : Action) → station ≡ record (station_on s.shown side) { router = station.router } → Saying [] s (acted s side station action)

@@ -11,6 +11,7 @@ ghost use Rattle.step_parts.specs.declared.events.Event.{Event};
 ghost use Rattle.step_parts.specs.Founding.{HasRanges, begun, bounds_of, founded, link_places};
 ghost use Rattle.step_parts.specs.Machine.{Goes, HasBytes, HasPushed, IsAlone, IsStanding, KeepsBytes};
 ghost use Rattle.step_parts.specs.Machine.{letters_in, words_in};
+ghost use Rattle.step_parts.specs.Others.{AreOthers};
 ghost use Rattle.step_parts.specs.Parts.{all_idle_done};
 ghost use Rattle.step_parts.specs.Shown.{Scene, scene, with_notes};
 ghost use Rattle.step_parts.specs.Steps.{Does, IsStepOn};
@@ -48,6 +49,16 @@ pub fn steps_tell()
     ensures wired { (s : Scene) (event : Event) (s2 : Scene) → IsStepOn s event s2
         → HasBytes event → IsBook s.shown.ledger.book → KeepsBytes s.shown → AreWired s.shown
         → AreWired s2.shown }
+{
+    readings_law();
+    frames_law();
+}
+
+/// All other frames of a step are, in their order: an answer to the ARP request that came in, or the frames of the routers'
+/// actions; then a request for each packet that comes to wait for its next hop.
+pub fn other_frames()
+    ensures { (s : Scene) (event : Event) (s2 : Scene) → IsStepOn s event s2 → AreWired s.shown
+        → AreOthers s event s2 }
 {
     readings_law();
     frames_law();
