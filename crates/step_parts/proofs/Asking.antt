@@ -1,10 +1,8 @@
 -- The other frames of parts of a step: requests for next hops, one for each packet that comes to wait for one.
-use Rattle.std.proofs.Common.{◌≡◌, ℕ, Bool, true, false, cond, not, ◌&&◌, List, [], ◌∷◌, ◌++◌, filter, Option, Some, None, Result, Ok, Err, refl, sym, ap, subst, ◌∙◌, append_assoc}
+use Rattle.std.proofs.Common.{◌≡◌, ℕ, Bool, true, false, cond, not, ◌&&◌, List, [], ◌∷◌, ◌++◌, filter, Result, Ok, Err, refl, sym, ap, ◌∙◌, append_assoc}
 use Rattle.std.proofs.lemmas.List.{append-nil}
 use Rattle.std.proofs.lemmas.List.Elements.{filter-append}
 use Rattle.std.proofs.lemmas.Grind.{flat_map-append}
-use Rattle.addresses.specs.declared.ethernet.Mac.{Mac}
-use Rattle.addresses.specs.declared.internet.Ip.{Ip}
 use Rattle.nat_types.specs.declared.gateways.Side.{Side}
 use Rattle.nat_types.specs.declared.gateways.Side.TheVariants.{Inside, Outside}
 use Rattle.nat_types.specs.declared.pairs.Endpoint.{Endpoint}
@@ -32,7 +30,7 @@ use Rattle.told.specs.Told.{Sent}
 use Rattle.step_parts.specs.declared.plans.Plan.{Plan}
 use Rattle.step_parts.specs.declared.plans.Plan.TheVariants.{Send, Ask, Wait as WaitFor}
 use Rattle.step_parts.specs.Others.{other_frames, request_for, requests}
-use Rattle.step_parts.specs.Parts.{all_taken, by_plan, by_refusal, by_row, by_verdict, carried_all, flags_in, flow_taken, framed, released, retaken_by, taken_again, wanted_by, wanted_for}
+use Rattle.step_parts.specs.Parts.{all_taken, by_plan, by_row, by_verdict, carried_all, flags_in, flow_taken, framed, released, retaken_by, taken_again, wanted_by, wanted_for}
 use Rattle.step_parts.specs.Shown.{Scene, Shown, is_up, scene, station_on}
 use Rattle.step_parts.specs.Truly.{AreWired}
 use Rattle.step_parts.specs.Verdict.{exit_by, plan_of, reading_on}

@@ -12,7 +12,7 @@ use Rattle.arp.specs.declared.packets.ArpPacket.{ArpPacket}
 use Rattle.bindings.specs.Lives.{idle_keys_in}
 use Rattle.link.specs.declared.datagrams.Datagram.{Datagram}
 use Rattle.link.specs.declared.faults.LinkFault.{LinkFault}
-use Rattle.link.specs.Link.{Link, after_take, closed_at, is_due_on_tick, is_restart, records_taken, refusal, sent_on_tick}
+use Rattle.link.specs.Link.{after_take, closed_at, is_due_on_tick, is_restart, records_taken, refusal, sent_on_tick}
 use Rattle.link.specs.Reading.{reading}
 use Rattle.binding_step.specs.Ledgers.{alone_ledger, may_ask, restarted_ledger, rests_for, taken_ledger}
 use Rattle.binding_step.specs.Resets.{back_in, restart_link, restart_notes, retaken}
@@ -28,18 +28,17 @@ use Rattle.packet_rules.specs.Arping.{answer_frame, answer_to, is_learnable}
 use Rattle.packet_rules.specs.Frames.{is_translation}
 use Rattle.sides.specs.Stations.{IsRouterStep, IsWired, Station, after_arp, frames_of, is_active, with_neighbour}
 use Rattle.told.specs.Told.{Sent, Told, with_datagram}
-use Rattle.vrrp_states.specs.declared.Action.{Action}
 use Rattle.vrrp_states.specs.Table as table
 use Rattle.vrrp_states.specs.Table.{Event as RouterEvent}
 use Rattle.step_parts.specs.declared.events.Event.{Event}
 use Rattle.step_parts.specs.declared.events.Event.TheVariants.{Frame, Datagram as Comes, Tick, Stop, PeerOff}
-use Rattle.step_parts.specs.Others.{AreOfAction, AreOfBoth, AreOthers, FrameOwes, Owes, answers_by, other_frames, requests, sent_on}
+use Rattle.step_parts.specs.Others.{AreOfBoth, AreOthers, FrameOwes, Owes, answers_by, other_frames, sent_on}
 use Rattle.step_parts.specs.Parts.{acted, all_framed, all_idle_done, answered_by, arp_taken, datagram_in, datagram_read, datagram_taken, framed, handed_in, has_synced, heard_by, heard_unless, idle_done, idle_taken, link_answered, link_ticked, old_dropped, record_done, record_shown, record_told, records_done, released, reset, started, wait_ended, with_link, word_taken}
 use Rattle.step_parts.specs.Shown.{Scene, Shown, id_of, scene, station_on, with_notes, with_station}
 use Rattle.step_parts.specs.Steps.{BothAct, Does, FrameDoes, IsStepOn, RouterActs, ended_on, stopped, ticked, word_by, word_refusal}
 use Rattle.step_parts.specs.Truly.{AreWired}
 use Rattle.step_parts.specs.Verdict.{reading_on}
-use Rattle.step_parts.proofs.Asking.{Ask-on, Asking, Asks, NetsStay, all-apart, asking-then, asks-then, dropped-ask, net-stays, nothing-asks, one-apart, packet-asks, pairs-ask, quiet-asks, released-asks, requests-same, row-asks}
+use Rattle.step_parts.proofs.Asking.{Ask-on, Asks, NetsStay, all-apart, asking-then, asks-then, dropped-ask, net-stays, nothing-asks, one-apart, packet-asks, pairs-ask, quiet-asks, released-asks, requests-same, row-asks}
 use Rattle.step_parts.proofs.Sending.{Frames, own-six}
 use Rattle.step_parts.proofs.Truths.{AllOther, action-frames, after-wired, routed-wired, wired-on}
 

@@ -63,8 +63,7 @@ speaks-then h h2 a b c x y = λ is w.
 pub saying-then : (h h2 : List AtHand) (a b c : Scene) → Saying h a b → Saying h2 b c → Saying (h ++ h2) a c
 saying-then h h2 a b c x y = λ is w.
     let one = x is w in
-    let two = y one.0.sound one.0.wired in
-    (
+    let two = y one.0.sound one.0.wired in (
       record { tells = tells-then h h2 a b c two.1 one.0.tells two.0.tells; sound = two.0.sound; wired = two.0.wired },
       two.1 ∙ one.1,
     )
@@ -136,8 +135,7 @@ sending-says frames s one side bytes by next read plan at book wired = λ is w.
     let frame = sent_frame s.shown.networks by next bytes in
     let same : known_of one.shown ≡ known_of s.shown = ap (λ (x : Scene). known_of x.shown) at ∙ wanted-for-known s flow by in
     let sent = is-sent s.shown side bytes by next planned found.1 in
-    let c = carried-leaves (framed one (exit_by by) frame) flow (flags_in bytes) by in
-    (
+    let c = carried-leaves (framed one (exit_by by) frame) flow (flags_in bytes) by in (
       record {
         tells = sending-tells one side bytes flow (flags_in bytes) by frame
             (subst (λ (k : Known). IsSentBy k (at_hand side bytes) by (let x : Sent = record { side = exit_by by; bytes = frame } in x)) (sym same) sent)
@@ -177,7 +175,7 @@ plan-says frames s side bytes flow (Ask by hop) read plan fits =
     let network = (station_on s.shown (exit_by by)).network in
     let first = saying-then [] hand s one two (wanted-for-says s flow by (read-from s bytes flow read)) (keeping-says one side bytes (wait.Hop (exit_by by) hop) read.are) in
     λ is w. saying-then hand [] s two (framed two (exit_by by) (request_frame network hop)) first
-        (framed-says two (exit_by by) (request_frame network hop) (λ x. frames.request network hop (own-six s.shown w (exit_by by)))) is w
+    (framed-says two (exit_by by) (request_frame network hop) (λ x. frames.request network hop (own-six s.shown w (exit_by by)))) is w
 plan-says frames s side bytes flow (WaitFor e) read plan fits =
     saying-then [] (at_hand side bytes ∷ []) s (wanted_by s e) (by_plan s side bytes flow (WaitFor e)) (wanted-says s e fits) (keeping-says (wanted_by s e) side bytes (wait.Pair e) read.are)
 

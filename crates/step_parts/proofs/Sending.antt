@@ -71,7 +71,7 @@ own-translates : (s : Scene) (flow : Flow) (p : Pair) → IsBook s.shown.ledger.
     → Translates (wanted_for s flow (Outward p)).shown.ledger.book p × (p.endpoint ≡ source_of flow)
 own-translates s flow p is own = (
   subst (λ (q : Pair). Translates (wanted_for s flow (Outward p)).shown.ledger.book q) (sym own.1.1)
-  (wish-owns s.shown.ledger.book (is_full s.shown.link) (source_of flow) is own.0 own.1.0),
+      (wish-owns s.shown.ledger.book (is_full s.shown.link) (source_of flow) is own.0 own.1.0),
   ap (λ (q : Pair). q.endpoint) own.1.1,
 )
 
@@ -81,8 +81,7 @@ found-translate s flow (Outward p) is synced found = own-translates s flow p is 
 found-translate s flow (Inward p) is synced found = target-translates s.shown flow p synced found
 found-translate s flow (Hairpin own other) is synced found =
     let first = own-translates s flow own is found.0 in
-    let second = target-translates s.shown flow other synced found.1 in
-    (
+    let second = target-translates s.shown flow other synced found.1 in (
       (first.0, wish-still s.shown.ledger.book (is_full s.shown.link) (source_of flow) is other second.0),
       (first.1, second.1),
     )

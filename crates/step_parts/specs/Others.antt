@@ -76,8 +76,9 @@ request_for g (Pair endpoint) = []
 abbrev pub requests : Shown → List Waiting → List Sent
 requests g waiting = flat_map (λ w. request_for g w.wait) waiting
 
--- In their order: what the event has the gateway send by itself, then a request for each packet that comes to wait for its
--- next hop, and no more.
+-- The other frames in their order: what the event has the gateway send by itself, then a request for each packet that comes
+-- to wait for its next hop. Of the packets that waited before, those that this test passes still do, in front of those that
+-- came.
 pub record AreOthers (s : Scene) (event : Event) (s2 : Scene) : Type 0 where
   pub frames : List Sent
   pub frames_are : s2.told.frames ≡ s.told.frames ++ frames

@@ -39,9 +39,10 @@ pub fn steps_keep()
     readings_law();
 }
 
-/// A step tells truly: the translated frames that it sends are, one for one and in order, translations of different packets,
-/// by the pairs that its Used notes name, each on its packet's way, to its next hop. And the hardware addresses that the
-/// gateway knows have six bytes afterwards, too.
+/// A step tells truly: the translated frames that it sends are, one for one and in order,
+/// translations of different packets, by the pairs that its Used notes name, each on its packet's way
+/// and to its next hop. And the hardware addresses that the gateway knows have six bytes afterwards,
+/// too.
 pub fn steps_tell()
     ensures truly { (s : Scene) (event : Event) (s2 : Scene) → IsStepOn s event s2
         → HasBytes event → IsBook s.shown.ledger.book → KeepsBytes s.shown → AreWired s.shown
@@ -54,8 +55,9 @@ pub fn steps_tell()
     frames_law();
 }
 
-/// All other frames of a step are, in their order: an answer to the ARP request that came in, or the frames of the routers'
-/// actions; then a request for each packet that comes to wait for its next hop.
+/// All other frames of a step are, in their order: an answer to the ARP request that came in, or the
+/// frames of the routers' actions; then a request for each packet that comes to wait for its next
+/// hop.
 pub fn other_frames()
     ensures { (s : Scene) (event : Event) (s2 : Scene) → IsStepOn s event s2 → AreWired s.shown
         → AreOthers s event s2 }
@@ -64,8 +66,8 @@ pub fn other_frames()
     frames_law();
 }
 
-/// Before the datagram at a step's end, too, what a step asks for holds, of a list of all records pushed or promised by
-/// then.
+/// What a step asks for holds already before the datagram at a step's end, of a list of all records
+/// that were pushed or promised by then.
 pub fn parts_stand()
     ensures { (s : Scene) (event : Event) (done : Scene) (h : List Record) → Does s event done
         → HasBytes event → IsBook s.shown.ledger.book → IsAlone s.shown → KeepsBytes s.shown
@@ -74,8 +76,8 @@ pub fn parts_stand()
     readings_law();
 }
 
-/// What a step asks for holds of a gateway as it begins, and of the founded one; nothing was pushed by then. And its link has
-/// room for a whole table.
+/// What a step asks for holds of a gateway as it begins, and of the founded one; nothing was pushed by
+/// then. And its link has room for a whole table.
 pub fn beginnings()
     ensures begun { (settings : Settings) (id : GatewayId) (boot : ℕ) → HasRanges settings
         → IsStanding (begun settings id boot) [] }
@@ -89,8 +91,8 @@ pub fn beginnings()
         ≡ link_places (bounds_of settings.ports.zero) (bounds_of settings.ports.one) }
 {}
 
-/// Idle pairs let go one after another change the book, its lives, the link and the notes as one fold of the ledger says, and
-/// nothing else.
+/// Idle pairs let go one after another change the book, its lives, the link and the notes as one fold
+/// of the ledger says, and nothing else.
 pub fn idle_at_once()
     ensures { (s : Scene) (keys : List Key) → let g = s.shown in
         let gone = let_go g.moment keys g.ledger g.link in
