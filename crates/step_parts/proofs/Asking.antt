@@ -1,5 +1,6 @@
 -- The other frames of parts of a step: requests for next hops, one for each packet that comes to wait for one.
-use Rattle.std.proofs.Common.{◌≡◌, ℕ, Bool, true, false, cond, not, ◌&&◌, List, [], ◌∷◌, ◌++◌, filter, Result, Ok, Err, refl, sym, ap, ◌∙◌, append_assoc}
+use Rattle.std.proofs.Common.{◌≡◌, ℕ, Bool, true, false, cond, not, ◌&&◌, List, [], ◌∷◌, ◌++◌, filter, Result, Ok, Err, refl, sym, ap, subst, ◌∙◌, append_assoc}
+use Rattle.std.specs.List.{AllByRecursion}
 use Rattle.std.proofs.lemmas.List.{append-nil}
 use Rattle.std.proofs.lemmas.List.Elements.{filter-append}
 use Rattle.std.proofs.lemmas.Grind.{flat_map-append}
@@ -32,7 +33,7 @@ use Rattle.step_parts.specs.declared.plans.Plan.TheVariants.{Send, Ask, Wait as 
 use Rattle.step_parts.specs.Others.{other_frames, request_for, requests}
 use Rattle.step_parts.specs.Parts.{all_taken, by_plan, by_row, by_verdict, carried_all, flags_in, flow_taken, framed, released, retaken_by, taken_again, wanted_by, wanted_for}
 use Rattle.step_parts.specs.Shown.{Scene, Shown, is_up, scene, station_on}
-use Rattle.step_parts.specs.Truly.{AreWired}
+use Rattle.step_parts.specs.Truly.{AreWired, Known}
 use Rattle.step_parts.specs.Verdict.{exit_by, plan_of, reading_on}
 use Rattle.step_parts.proofs.Packets.{refusal-leaves}
 use Rattle.step_parts.proofs.Sending.{Frames, carried-leaves, next-six, own-six}
@@ -46,6 +47,22 @@ pub net-stays : (g g2 : Shown) → NetsStay g g2 → (side : Side) → (station_
 net-stays g g2 nets Inside = nets.0
 net-stays g g2 nets Outside = nets.1
 
+-- packets that are kept since a moment
+abbrev pub AreFresh : ℕ → List Waiting → Type 0
+AreFresh now ws = AllByRecursion (λ w. w.since ≡ now) ws
+
+fresh-filter : (now : ℕ) (f : Waiting → Bool) (ws : List Waiting) → AreFresh now ws → AreFresh now (filter f ws)
+fresh-filter now f [] all = tt
+fresh-filter now f (w ∷ ws) all = at (f w) (fresh-filter now f ws all.1)
+  where
+    at : (b : Bool) → AreFresh now (filter f ws) → AreFresh now (let xs : List Waiting = cond b (w ∷ filter f ws) (filter f ws) in xs)
+    at true rest = (all.0, rest)
+    at false rest = rest
+
+fresh-append : (now : ℕ) (ws vs : List Waiting) → AreFresh now ws → AreFresh now vs → AreFresh now (ws ++ vs)
+fresh-append now [] vs x y = y
+fresh-append now (w ∷ ws) vs x y = (x.0, fresh-append now ws vs x.1 y)
+
 -- From a scene to a later one: the other frames are requests for the next hops of the packets that came to wait.
 pub record Asks (s s2 : Scene) : Type 0 where
   pub frames : List Sent
@@ -53,6 +70,8 @@ pub record Asks (s s2 : Scene) : Type 0 where
   pub stays : Waiting → Bool
   pub came : List Waiting
   pub kept_are : s2.shown.kept ≡ filter stays s.shown.kept ++ came
+  pub fresh : AreFresh s2.shown.moment came
+  pub moment : s2.shown.moment ≡ s.shown.moment
   pub others : other_frames frames ≡ requests s.shown came
   pub nets : NetsStay s.shown s2.shown
   pub wired : AreWired s2.shown
@@ -118,6 +137,8 @@ asks-then a b c x y =
           ∙ ap (λ (ws : List Waiting). filter z.stays ws ++ z.came) x.kept_are
           ∙ ap (λ (ws : List Waiting). ws ++ z.came) (filter-append z.stays (filter x.stays a.shown.kept) x.came ∙ ap (λ (ws : List Waiting). ws ++ left) (filter-both x.stays z.stays a.shown.kept))
           ∙ append_assoc (filter (λ w. x.stays w && z.stays w) a.shown.kept) left z.came;
+      fresh = fresh-append c.shown.moment left z.came (fresh-filter c.shown.moment z.stays x.came (subst (λ (n : ℕ). AreFresh n x.came) (sym z.moment) x.fresh)) z.fresh;
+      moment = z.moment ∙ x.moment;
       others = filter-append (λ (f : Sent). not (is_translation f.bytes)) x.frames z.frames
           ∙ ap (λ (fs : List Sent). fs ++ other_frames z.frames) x.others
           ∙ ap (λ (fs : List Sent). requests a.shown x.came ++ fs) (z.others ∙ requests-same a.shown b.shown x.nets z.came)
@@ -139,14 +160,16 @@ asking-then a b c x y = λ w.
     both false c x y = x
 
 -- a part that sends no frame and leaves the packets that wait
-pub quiet-asks : (s s2 : Scene) → s2.told.frames ≡ s.told.frames → s2.shown.kept ≡ s.shown.kept → NetsStay s.shown s2.shown → (AreWired s.shown → AreWired s2.shown) → Ask-on s s2
-quiet-asks s s2 frames kept nets wired = λ w. record {
+pub quiet-asks : (s s2 : Scene) → s2.told.frames ≡ s.told.frames → s2.shown.kept ≡ s.shown.kept → s2.shown.moment ≡ s.shown.moment → NetsStay s.shown s2.shown → (AreWired s.shown → AreWired s2.shown) → Ask-on s s2
+quiet-asks s s2 frames kept moment nets wired = λ w. record {
   asks = record {
     frames = [];
     frames_are = frames ∙ sym (append-nil s.told.frames);
     stays = λ x. true;
     came = [];
     kept_are = kept ∙ (sym (filter-all s.shown.kept) ∙ sym (append-nil (filter (λ (x : Waiting). true) s.shown.kept)));
+    fresh = tt;
+    moment = moment;
     others = refl;
     nets = nets;
     wired = wired w;
@@ -155,10 +178,10 @@ quiet-asks s s2 frames kept nets wired = λ w. record {
 }
 
 pub row-asks : (s : Scene) (row : Row) → Ask-on s (by_row s row)
-row-asks s row = quiet-asks s (by_row s row) refl refl (refl, refl) (λ w. w)
+row-asks s row = quiet-asks s (by_row s row) refl refl refl (refl, refl) (λ w. w)
 
 pub nothing-asks : (s : Scene) → Ask-on s s
-nothing-asks s = quiet-asks s s refl refl (refl, refl) (λ w. w)
+nothing-asks s = quiet-asks s s refl refl refl (refl, refl) (λ w. w)
 
 wanted-asks : (s : Scene) (e : Endpoint) → Ask-on s (wanted_by s e)
 wanted-asks s e = row-asks s (wish_of s.shown.ledger.book (is_full s.shown.link) e).row
@@ -170,14 +193,16 @@ wanted-for-asks s flow (Hairpin own other) = wanted-asks s (source_of flow)
 
 -- a packet is kept, and these frames are sent
 keeping-asks : (s s2 : Scene) (packet : Waiting) (frames : List Sent) → s2.told.frames ≡ s.told.frames ++ frames → s2.shown.kept ≡ s.shown.kept ++ packet ∷ [] → other_frames frames ≡ request_for s.shown packet.wait
-    → NetsStay s.shown s2.shown → AreWired s2.shown → Asking s s2
-keeping-asks s s2 packet frames frames_are kept others nets wired = record {
+    → packet.since ≡ s2.shown.moment → s2.shown.moment ≡ s.shown.moment → NetsStay s.shown s2.shown → AreWired s2.shown → Asking s s2
+keeping-asks s s2 packet frames frames_are kept others since moment nets wired = record {
   asks = record {
     frames = frames;
     frames_are = frames_are;
     stays = λ x. true;
     came = packet ∷ [];
     kept_are = kept ∙ ap (λ (ws : List Waiting). ws ++ packet ∷ []) (sym (filter-all s.shown.kept));
+    fresh = (since, tt);
+    moment = moment;
     others = others ∙ sym (append-nil (request_for s.shown packet.wait));
     nets = nets;
     wired = wired;
@@ -209,6 +234,8 @@ sent-asks s flow bytes by frame is = λ w.
         stays = λ p. true;
         came = [];
         kept_are = c.kept ∙ (sym (filter-all s.shown.kept) ∙ sym (append-nil (filter (λ (p : Waiting). true) s.shown.kept)));
+        fresh = tt;
+        moment = ap (λ (k : Known). k.moment) c.known;
         others = rw is refl;
         nets = c.nets;
         wired = c.wired w;
@@ -232,14 +259,14 @@ plan-asks frames s side bytes flow (Ask by hop) passes plan = λ w.
     let others : other_frames (x ∷ []) ≡ request_for one.shown (wait.Hop exit hop) =
     alone x is ∙ ap (λ (n : Network). let y : Sent = record { side = exit; bytes = request_frame n hop } in y ∷ []) (sym (net-stays s.shown one.shown nets exit)) in
     asking-then s one (by_plan s side bytes flow (Ask by hop)) (wanted-for-asks s flow by)
-    (λ v. keeping-asks one (by_plan s side bytes flow (Ask by hop)) (record { side = side; bytes = bytes; since = one.shown.moment; wait = wait.Hop exit hop }) (x ∷ []) refl refl others (refl, refl) v) w
+    (λ v. keeping-asks one (by_plan s side bytes flow (Ask by hop)) (record { side = side; bytes = bytes; since = one.shown.moment; wait = wait.Hop exit hop }) (x ∷ []) refl refl others refl refl (refl, refl) v) w
   where
     alone : (x : Sent) → is_translation x.bytes ≡ false → other_frames (x ∷ []) ≡ x ∷ []
     alone x is = rw is refl
 plan-asks frames s side bytes flow (WaitFor e) passes plan =
     let one = wanted_by s e in
     asking-then s one (by_plan s side bytes flow (WaitFor e)) (wanted-asks s e)
-    (λ v. keeping-asks one (by_plan s side bytes flow (WaitFor e)) (record { side = side; bytes = bytes; since = one.shown.moment; wait = wait.Pair e }) [] (sym (append-nil one.told.frames)) refl refl (refl, refl) v)
+    (λ v. keeping-asks one (by_plan s side bytes flow (WaitFor e)) (record { side = side; bytes = bytes; since = one.shown.moment; wait = wait.Pair e }) [] (sym (append-nil one.told.frames)) refl refl refl refl (refl, refl) v)
 
 flow-asks : Frames → (s : Scene) (side : Side) (bytes : List ℕ) (flow : Flow) → IsForwardable bytes → Ask-on s (flow_taken s side bytes flow)
 flow-asks frames s side bytes flow passes = at (plan_of s.shown side flow) refl
@@ -274,6 +301,8 @@ dropped-ask s f w = record {
   stays = f;
   came = [];
   kept_are = sym (append-nil (filter f s.shown.kept));
+  fresh = tt;
+  moment = refl;
   others = refl;
   nets = (refl, refl);
   wired = w;

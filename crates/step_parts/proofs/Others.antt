@@ -38,7 +38,7 @@ use Rattle.step_parts.specs.Shown.{Scene, Shown, id_of, scene, station_on, with_
 use Rattle.step_parts.specs.Steps.{BothAct, Does, FrameDoes, IsStepOn, RouterActs, ended_on, stopped, ticked, word_by, word_refusal}
 use Rattle.step_parts.specs.Truly.{AreWired}
 use Rattle.step_parts.specs.Verdict.{reading_on}
-use Rattle.step_parts.proofs.Asking.{Ask-on, Asks, NetsStay, all-apart, asking-then, asks-then, dropped-ask, net-stays, nothing-asks, one-apart, packet-asks, pairs-ask, quiet-asks, released-asks, requests-same, row-asks}
+use Rattle.step_parts.proofs.Asking.{AreFresh, Ask-on, Asks, NetsStay, all-apart, asking-then, asks-then, dropped-ask, net-stays, nothing-asks, one-apart, packet-asks, pairs-ask, quiet-asks, released-asks, requests-same, row-asks}
 use Rattle.step_parts.proofs.Sending.{Frames, own-six}
 use Rattle.step_parts.proofs.Truths.{AllOther, action-frames, after-wired, routed-wired, wired-on}
 
@@ -75,6 +75,7 @@ others-then event own a b c owed x y = record {
   stays = y.stays;
   came = y.came;
   kept_are = y.kept_are ∙ ap (λ (ws : List Waiting). filter y.stays ws ++ y.came) x.kept;
+  fresh = y.fresh;
   others = filter-append (λ (z : Sent). not (is_translation z.bytes)) own y.frames
       ∙ ap (λ (fs : List Sent). fs ++ other_frames y.frames) x.apart
       ∙ ap (λ (fs : List Sent). own ++ fs) (y.others ∙ requests-same a.shown b.shown x.nets y.came);
@@ -191,7 +192,7 @@ frame-others frames s event side bytes (Err reason) s2 read owes w does =
 
 routed-asks : (now : ℕ) (g : Shown) (told : Told) (b : Bool) → Ask-on (scene g told) (scene (let x : Shown = cond b (record g { inside = started g.inside now; outside = started g.outside now }) g in x) told)
 routed-asks now g told true =
-    quiet-asks (scene g told) (scene (record g { inside = started g.inside now; outside = started g.outside now }) told) refl refl (refl, refl)
+    quiet-asks (scene g told) (scene (record g { inside = started g.inside now; outside = started g.outside now }) told) refl refl refl (refl, refl)
     (λ w. (w.0, (record { own = w.1.0.own; known = w.1.0.known }, record { own = w.1.1.own; known = w.1.1.known })))
 routed-asks now g told false = nothing-asks (scene g told)
 
@@ -208,7 +209,7 @@ record-asks frames s r =
     let s2 = scene g2 told in
     let s3 = scene (record_shown g r) told in
     asking-then s s3 (record_done s r)
-    (asking-then s s2 s3 (quiet-asks s s2 refl refl (refl, refl) (λ w. w)) (routed-asks g2.moment g2 told (has_synced g g2 && not g2.stopped)))
+    (asking-then s s2 s3 (quiet-asks s s2 refl refl refl (refl, refl) (λ w. w)) (routed-asks g2.moment g2 told (has_synced g g2 && not g2.stopped)))
     (ended-asks frames s3 (taken_ended b rests r))
 
 records-ask : Frames → (s : Scene) (rs : List Record) → Ask-on s (records_done s rs)
@@ -221,13 +222,13 @@ reset-asks : Frames → (s : Scene) → Ask-on s (reset s)
 reset-asks frames s =
     let g = s.shown in let b = g.ledger.book in
     let mid = scene (record g { ledger = restarted_ledger g.ledger; link = restart_link b g.link }) (with_notes s.told (restart_notes b g.moment)) in
-    asking-then s mid (reset s) (quiet-asks s mid refl refl (refl, refl) (λ w. w)) (pairs-ask frames mid AllPairs all-apart)
+    asking-then s mid (reset s) (quiet-asks s mid refl refl refl (refl, refl) (λ w. w)) (pairs-ask frames mid AllPairs all-apart)
 
 heard-asks : Frames → (s : Scene) (d : Datagram) → Ask-on s (heard_by s d)
 heard-asks frames s d = at (is_restart s.shown.link d)
   where
     after : Ask-on s (with_link s (after_take s.shown.link d s.shown.moment))
-    after = quiet-asks s (with_link s (after_take s.shown.link d s.shown.moment)) refl refl (refl, refl) (λ w. w)
+    after = quiet-asks s (with_link s (after_take s.shown.link d s.shown.moment)) refl refl refl (refl, refl) (λ w. w)
 
     at : (b : Bool) → Ask-on s (let e = s.shown.link in let x = with_link s (after_take e d s.shown.moment) in records_done (let y : Scene = cond b (reset x) x in y) (records_taken e d))
     at true =
@@ -251,7 +252,7 @@ word-asks : Frames → (s : Scene) (n : ℕ) (o : Option Reason) → Ask-on s (w
 word-asks frames s n None =
     let g = s.shown in let b = g.ledger.book in
     let mid = scene (record g { ledger = alone_ledger g.ledger; link = closed_at g.link n }) (with_notes s.told (retaken (id_of g) g.moment (back_in b.entries))) in
-    asking-then s mid (word_taken s n) (quiet-asks s mid refl refl (refl, refl) (λ w. w)) (pairs-ask frames mid AllPairs all-apart)
+    asking-then s mid (word_taken s n) (quiet-asks s mid refl refl refl (refl, refl) (λ w. w)) (pairs-ask frames mid AllPairs all-apart)
 word-asks frames s n (Some reason) = nothing-asks s
 
 -- ---- ticks
@@ -293,15 +294,15 @@ does-others frames s (Tick now) done does w =
 does-others frames s Stop done does w =
     let middle = does.0 in
     let both = both-give frames s table.Stop middle does.1 w in
-    let asks = (quiet-asks middle (stopped middle) refl refl (refl, refl) (λ v. v) both.gives.wired).asks in
+    let asks = (quiet-asks middle (stopped middle) refl refl refl (refl, refl) (λ v. v) both.gives.wired).asks in
     subst (λ (x : Scene). AreOthers s Stop x) (sym does.2) (others-then Stop both.own s middle (stopped middle) both.owed both.gives asks)
 does-others frames s (PeerOff n) done does w =
     subst (λ (x : Scene). AreOthers s (PeerOff n) x) (sym does) (asks-alone s (PeerOff n) _ refl w (word-asks frames s n (word_refusal s.shown n)))
 
 -- ---- the datagram at the end
 
-others-end : (s : Scene) (event : Event) (done end : Scene) → end.told.frames ≡ done.told.frames → end.shown.kept ≡ done.shown.kept → AreOthers s event done → AreOthers s event end
-others-end s event done end frames kept x = record {
+others-end : (s : Scene) (event : Event) (done end : Scene) → end.told.frames ≡ done.told.frames → end.shown.kept ≡ done.shown.kept → end.shown.moment ≡ done.shown.moment → AreOthers s event done → AreOthers s event end
+others-end s event done end frames kept moment x = record {
   frames = x.frames;
   frames_are = frames ∙ x.frames_are;
   own = x.own;
@@ -309,6 +310,7 @@ others-end s event done end frames kept x = record {
   stays = x.stays;
   came = x.came;
   kept_are = kept ∙ x.kept_are;
+  fresh = subst (λ (n : ℕ). AreFresh n x.came) (sym moment) x.fresh;
   others = x.others;
 }
 
@@ -319,19 +321,19 @@ answered-frames s = at (handed_in s.shown).link.due
     at true = refl
     at false = refl
 
-ticked-same : (s : Scene) → ((link_ticked s).told.frames ≡ s.told.frames) × ((link_ticked s).shown.kept ≡ s.shown.kept)
+ticked-same : (s : Scene) → ((link_ticked s).told.frames ≡ s.told.frames) × (((link_ticked s).shown.kept ≡ s.shown.kept) × ((link_ticked s).shown.moment ≡ s.shown.moment))
 ticked-same s = at (is_due_on_tick (handed_in s.shown).link s.shown.moment)
   where
-    at : (b : Bool) → (let x : Scene = (let g = handed_in s.shown in cond b (scene (record g { link = sent_on_tick g.link g.moment }) (with_datagram s.told (datagram_in g))) (scene g s.told)) in (x.told.frames ≡ s.told.frames) × (x.shown.kept ≡ s.shown.kept))
-    at true = (refl, refl)
-    at false = (refl, refl)
+    at : (b : Bool) → (let x : Scene = (let g = handed_in s.shown in cond b (scene (record g { link = sent_on_tick g.link g.moment }) (with_datagram s.told (datagram_in g))) (scene g s.told)) in (x.told.frames ≡ s.told.frames) × ((x.shown.kept ≡ s.shown.kept) × (x.shown.moment ≡ s.shown.moment)))
+    at true = (refl, (refl, refl))
+    at false = (refl, (refl, refl))
 
 end-others : (s : Scene) (event : Event) (done : Scene) → AreOthers s event done → AreOthers s event (ended_on event done)
-end-others s (Frame side bytes) done x = others-end s (Frame side bytes) done (link_answered done) (answered-frames done) refl x
-end-others s (Comes bytes) done x = others-end s (Comes bytes) done (link_answered done) (answered-frames done) refl x
-end-others s (Tick now) done x = let t = ticked-same done in others-end s (Tick now) done (link_ticked done) t.0 t.1 x
-end-others s Stop done x = others-end s Stop done (link_answered done) (answered-frames done) refl x
-end-others s (PeerOff n) done x = others-end s (PeerOff n) done (link_answered done) (answered-frames done) refl x
+end-others s (Frame side bytes) done x = others-end s (Frame side bytes) done (link_answered done) (answered-frames done) refl refl x
+end-others s (Comes bytes) done x = others-end s (Comes bytes) done (link_answered done) (answered-frames done) refl refl x
+end-others s (Tick now) done x = let t = ticked-same done in others-end s (Tick now) done (link_ticked done) t.0 t.1.0 t.1.1 x
+end-others s Stop done x = others-end s Stop done (link_answered done) (answered-frames done) refl refl x
+end-others s (PeerOff n) done x = others-end s (PeerOff n) done (link_answered done) (answered-frames done) refl refl x
 
 -- a whole step
 pub step-others : Frames → (s : Scene) (event : Event) (s2 : Scene) → IsStepOn s event s2 → AreWired s.shown → AreOthers s event s2

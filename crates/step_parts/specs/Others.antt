@@ -1,7 +1,7 @@
 -- The other frames of a step, whose packet wasn't translated: an answer to an ARP request, requests for next hops, and the
 -- frames of the routers' actions.
 use Rattle.std.specs.Prelude.{◌≡◌, ℕ, Bool, not, Option, Some, None, Result, Ok, Err, List, [], ◌∷◌, ◌++◌, map}
-use Rattle.std.specs.List.{filter, flat_map}
+use Rattle.std.specs.List.{AllByRecursion, filter, flat_map}
 use Rattle.addresses.specs.declared.ethernet.Mac.{Mac}
 use Rattle.nat_types.specs.declared.gateways.Side.{Side}
 use Rattle.nat_types.specs.declared.gateways.Side.TheVariants.{Inside, Outside}
@@ -87,4 +87,5 @@ pub record AreOthers (s : Scene) (event : Event) (s2 : Scene) : Type 0 where
   pub stays : Waiting → Bool
   pub came : List Waiting
   pub kept_are : s2.shown.kept ≡ filter stays s.shown.kept ++ came
+  pub fresh : AllByRecursion (λ w. w.since ≡ s2.shown.moment) came
   pub others : other_frames frames ≡ own ++ requests s.shown came
