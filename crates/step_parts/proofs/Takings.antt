@@ -1,5 +1,4 @@
--- One taking of a packet tells truly, where it isn't sent: it waits, or is dropped. And no taking changes what decides
--- where packets go.
+-- A wish for a port uses no pair, and a packet that is kept is told of truly.
 use Rattle.std.proofs.Common.{◌≡◌, ℕ, Bool, true, false, cond, List, [], ◌∷◌, Option, Some, None, IsPermutation, refl, sym, subst}
 use Rattle.std.proofs.lemmas.List.{append-nil, map-append}
 use Rattle.std.proofs.lemmas.List.Sorted.{IsPermutation-append_comm}
