@@ -1,5 +1,5 @@
 -- What a change needs of a table, and what it makes of the lives.
-use Rattle.std.proofs.Common.{◌≡◌, ℕ, zero, suc, nat_lt, Bool, true, false, cond, Option, Some, None, List, [], ◌∷◌, refl, sym, ap, subst, ◌∙◌}
+use Rattle.std.proofs.Common.{◌≡◌, ℕ, Bool, true, false, cond, Option, Some, None, List, refl, sym, ap, subst, ◌∙◌}
 use Rattle.std.specs.Option.{option_map}
 use Rattle.std.specs.List.{insert}
 use Rattle.nat_types.specs.declared.pairs.EntryState.{EntryState}
@@ -11,7 +11,7 @@ use Rattle.nat_types.specs.Same.{same_key}
 use Rattle.nat_types.proofs.Equal.{key-eq, key-true}
 use Rattle.lives.specs.Lives.{Past, Life, renewed}
 use Rattle.bindings.specs.declared.entries.Entry.{Entry}
-use Rattle.bindings.specs.Entries.{slot_of, entry_of, entry_in, is_pair, has_key, place_of, refusal_of, HasDistinctKeys}
+use Rattle.bindings.specs.Entries.{slot_of, entry_of, entry_in, is_pair, has_key, refusal_of, HasDistinctKeys}
 use Rattle.bindings.specs.Lists.{place_in, with_state, IsOneToOne}
 use Rattle.bindings.specs.Lives.{KeepsOthers}
 use Rattle.bindings.specs.Ports.{in_either}
