@@ -1,4 +1,5 @@
-//! What a record, a wish, a tick or a packet makes of one entry of the table, and which ports are granted: decisions on values, which change nothing.
+//! What a record, a wish, a tick or a packet makes of one entry of the table, and which ports are
+//! granted: decisions on values, which change nothing.
 #![tactic(auto)]
 
 mod grants;

@@ -157,7 +157,8 @@ fn asked(pair: Pair, rests: bool, state: EntryState) -> Row
     }
 }
 
-/// The peer asks whether the pair of a key may go: `rests` says that it is idle, or came by Install and was never used here since.
+/// The peer asks whether the pair of a key may go: `rests` says that it is idle, or came by Install and was never used
+/// here since; `entry` is the key's.
 pub fn ask(key: Key, rests: bool, entry: Option<Entry>) -> Row
     ensures { result ≡ ask_row key rests entry }
 {

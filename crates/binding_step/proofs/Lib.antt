@@ -14,3 +14,7 @@ pub mod Fitting
 pub mod Keeping
 pub mod Leaving
 pub mod Waiting
+pub mod Knowing
+pub mod Accounting
+pub mod Staying
+pub mod Settling

@@ -5,3 +5,4 @@ pub mod Resets
 pub mod Machine
 pub mod Ledgers
 pub mod Waits
+pub mod Uses
