@@ -1,6 +1,10 @@
 //! What takes packets: a gateway but for its clock, its routers and the other gateway's datagrams.
 #![tactic(auto)]
 
+mod flags;
 mod forwarders;
+mod outgoing;
+mod plans;
+mod sending;
 
 pub use forwarders::Forwarder;
