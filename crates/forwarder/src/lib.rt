@@ -6,5 +6,6 @@ mod forwarders;
 mod outgoing;
 mod plans;
 mod sending;
+mod waiting;
 
 pub use forwarders::Forwarder;
