@@ -1,1 +1,2 @@
 mod Planning
+mod Taking

@@ -6,6 +6,7 @@ mod forwarders;
 mod outgoing;
 mod plans;
 mod sending;
+mod takings;
 mod waiting;
 
 pub use forwarders::Forwarder;
