@@ -28,9 +28,9 @@ pub plan-waits : (g : Shown) (flow : Flow) (by : Translation) (hop : Ip) (place 
     → (let r : Result Plan Reason = cond place (Ok (Ask by hop)) (Err CannotWait) in r) ≡ plan_by g flow by
 plan-waits g flow by hop place is none at =
     sym (
-      ap (λ (o : Option Mac). plan_to g by (hop_by g by flow) o) none
-          ∙ ap (λ (i : Ip). let r : Result Plan Reason = cond (has_place g.kept (wait.Hop (exit_by by) i)) (Ok (Ask by i)) (Err CannotWait) in r) (sym is)
-          ∙ ap (λ (b : Bool). let r : Result Plan Reason = cond b (Ok (Ask by hop)) (Err CannotWait) in r) at
+    ap (λ (o : Option Mac). plan_to g by (hop_by g by flow) o) none
+    ∙ ap (λ (i : Ip). let r : Result Plan Reason = cond (has_place g.kept (wait.Hop (exit_by by) i)) (Ok (Ask by i)) (Err CannotWait) in r) (sym is)
+    ∙ ap (λ (b : Bool). let r : Result Plan Reason = cond b (Ok (Ask by hop)) (Err CannotWait) in r) at
     )
 
 -- what is planned to wait has a place, and waits for the packet's own pair, or for its next hop

@@ -3,6 +3,7 @@
 
 mod flags;
 mod forwarders;
+mod hosts;
 mod outgoing;
 mod plans;
 mod sending;

@@ -12,9 +12,7 @@ use binding_step::Want;
 use ipv4::Flow;
 use kept::Wait;
 use nat_types::{EntryState, Key, Pair, Side};
-use packet_rules::{
-    Direction, Reason, Translation, direction_taken, source_endpoint, target_key,
-};
+use packet_rules::{Direction, Reason, Translation, direction_taken, source_endpoint, target_key};
 use step_parts::Plan;
 
 /// The pair that a packet's endpoint has, or is to have, with this outside port.

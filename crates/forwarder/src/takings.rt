@@ -71,4 +71,99 @@ impl Forwarder {
             Err(reason) => self.refuse(page, flow, reason),
         }
     }
+
+    /// Takes a kept packet, which was read again.
+    fn take_flow_again(&mut self, page: &mut Page, flow: Flow, packet: Waiting)
+        requires forwardable { IsForwardable packet.bytes }
+        requires read { flow ≡ flow_in packet.bytes }
+        requires frames { 1 ≤ page.old.room.frames }
+        requires notes { 3 ≤ page.old.room.notes }
+        requires ready { 1 ≤ self.old.core.table.ready }
+        ensures scene { scene_on self.new page.new
+            ≡ flow_taken (scene_on self.old page.old) packet.side packet.bytes flow }
+        ensures frames { page.old.room.frames ≤ page.new.room.frames + 1 }
+        ensures datagrams { page.new.room.datagrams ≡ page.old.room.datagrams }
+        ensures notes { page.old.room.notes ≤ page.new.room.notes + 3 }
+        ensures ready { self.old.core.table.ready ≤ self.new.core.table.ready + 1 }
+        ensures places { min 64 (free_places self.old.link) ≤ free_places self.new.link }
+    {
+        recall_source(&packet.bytes, flow);
+        match self.plan(packet.side, flow) {
+            Ok(Plan::Send { by, next }) => self.send(page, &packet.bytes, flow, by, next),
+            Ok(Plan::Ask { by, hop }) => {
+                let wait = Wait::Hop(by.direction().exit(), hop);
+                let copy = packet.again(self.moment, wait);
+                self.ask(page, flow, by, hop, copy);
+            }
+            Ok(Plan::Wait(endpoint)) => {
+                let copy = packet.again(self.moment, Wait::Pair(endpoint));
+                self.wait(page, flow, copy);
+            }
+            Err(reason) => self.refuse(page, flow, reason),
+        }
+    }
+
+    /// Takes a kept packet, which is read again from the first step on.
+    fn take_again(&mut self, page: &mut Page, packet: Waiting)
+        requires frames { 1 ≤ page.old.room.frames }
+        requires notes { 3 ≤ page.old.room.notes }
+        requires ready { 1 ≤ self.old.core.table.ready }
+        ensures scene { scene_on self.new page.new
+            ≡ taken_again (scene_on self.old page.old) packet }
+        ensures frames { page.old.room.frames ≤ page.new.room.frames + 1 }
+        ensures datagrams { page.new.room.datagrams ≡ page.old.room.datagrams }
+        ensures notes { page.old.room.notes ≤ page.new.room.notes + 3 }
+        ensures ready { self.old.core.table.ready ≤ self.new.core.table.ready + 1 }
+        ensures places { min 64 (free_places self.old.link) ≤ free_places self.new.link }
+    {
+        match self.read_frame(packet.side, &packet.bytes) {
+            Ok(Reading::Packet(flow)) => self.take_flow_again(page, flow, packet),
+            Ok(Reading::Arp(_)) => {}
+            Ok(Reading::Advert(_, _)) => {}
+            Err(_) => {}
+        }
+    }
+
+    /// The packet that waited for this, if one did, waits no more, and is taken again.
+    pub fn release_one(&mut self, page: &mut Page, wait: Wait)
+        requires frames { 1 ≤ page.old.room.frames }
+        requires notes { 3 ≤ page.old.room.notes }
+        requires ready { 1 ≤ self.old.core.table.ready }
+        ensures scene { scene_on self.new page.new
+            ≡ released (scene_on self.old page.old) (One wait) }
+        ensures frames { page.old.room.frames ≤ page.new.room.frames + 1 }
+        ensures datagrams { page.new.room.datagrams ≡ page.old.room.datagrams }
+        ensures notes { page.old.room.notes ≤ page.new.room.notes + 3 }
+        ensures ready { self.old.core.table.ready ≤ self.new.core.table.ready + 1 }
+        ensures places { min 64 (free_places self.old.link) ≤ free_places self.new.link }
+    {
+        match self.kept.take_one(wait) {
+            Some(packet) => self.take_again(page, packet),
+            None => {}
+        }
+    }
+
+    /// The packets that waited for pairs wait no more, and are taken again in the order of keeping.
+    /// `list` is an empty list with room for all packets that wait.
+    pub fn release_all(&mut self, page: &mut Page, list: Vec<Waiting>)
+        requires empty { list.items ≡ [] }
+        requires room { length self.old.kept ≤ vec_capacity list }
+        requires frames { 64 ≤ page.old.room.frames }
+        requires notes { 192 ≤ page.old.room.notes }
+        requires ready { 64 ≤ self.old.core.table.ready }
+        ensures scene { scene_on self.new page.new
+            ≡ released (scene_on self.old page.old) AllPairs }
+        ensures frames { page.old.room.frames ≤ page.new.room.frames + 64 }
+        ensures datagrams { page.new.room.datagrams ≡ page.old.room.datagrams }
+        ensures notes { page.old.room.notes ≤ page.new.room.notes + 192 }
+        ensures ready { self.old.core.table.ready ≤ self.new.core.table.ready + 64 }
+        ensures places { min 64 (free_places self.old.link) ≤ free_places self.new.link }
+    {
+        let mut ended = list;
+        self.kept.take_ended(Ended::AllPairs, &mut ended);
+        while !ended.is_empty() {
+            let packet = ended.remove(0);
+            self.take_again(page, packet);
+        }
+    }
 }

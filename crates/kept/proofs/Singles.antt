@@ -1,12 +1,10 @@
 -- The packet that waits for one thing, where no two wait for the same.
-use Rattle.std.proofs.Common.{◌≡◌, ℕ, zero, suc, ◌+◌, ◌<◌, ◌≤◌, Bool, true, false, cond, not, nat_lt, Option, Some, None, List, [], ◌∷◌, ◌++◌, length, get_or, take, drop, refl, sym, ap, subst, ◌∙◌, ◌⊎◌, inl, inr, nat_eq, arith}
+use Rattle.std.proofs.Common.{◌≡◌, ℕ, zero, suc, ◌+◌, ◌<◌, ◌≤◌, Bool, true, false, cond, not, nat_lt, Option, Some, None, List, [], ◌∷◌, ◌++◌, length, get_or, take, drop, refl, ap, subst, ◌∙◌, ◌⊎◌, inl, inr, nat_eq, arith}
 use Rattle.std.specs.List.{filter, position, position_or_len}
 use Rattle.std.proofs.lemmas.Bool.{and_parts, and_from, eqb-true, eq-eqb, both_ways, cases_order, ltb-false}
 use Rattle.std.proofs.lemmas.List.Quantifiers.{position-Some}
-use Rattle.addresses.specs.declared.internet.Ip.{Ip}
 use Rattle.nat_types.specs.declared.gateways.Side.{Side}
 use Rattle.nat_types.specs.declared.gateways.Side.TheVariants.{Inside, Outside}
-use Rattle.nat_types.specs.Same.{same_endpoint}
 use Rattle.nat_types.proofs.Equal.{endpoint-eq, endpoint-self}
 use Rattle.kept.specs.declared.waits.Wait.{Wait}
 use Rattle.kept.specs.declared.waits.Wait.TheVariants.{Pair, Hop}

@@ -137,9 +137,7 @@ fn is_awaited(packets: &[Waiting], wait: Wait) -> bool
 fn place_for(packets: &[Waiting], wait: Wait) -> Option<usize>
     ensures { result ≡ position (λ packet. same_wait wait packet.wait) packets.now }
 {
-    packets
-        .iter()
-        .position(|packet| wait.is_same(packet.wait))
+    packets.iter().position(|packet| wait.is_same(packet.wait))
 }
 
 /// Moves the packets whose wait is over behind another list, which has room for them.

@@ -1,4 +1,4 @@
-use Rattle.std.proofs.Common.{◌≡◌, [], ◌∷◌, ap, sym, ◌∙◌}
+use Rattle.std.proofs.Common.{[], ◌∷◌, ap, sym, ◌∙◌}
 use Rattle.kept.specs.Packets.{Waiting}
 use Rattle.kept.proofs.Singles.{nobody, only}
 use Rattle.kept.proofs.list.remove_one.Goals as goal

@@ -19,8 +19,8 @@ returns-then-has_place c =
     let hop : c.next_hop-hop.result ≡ hop_by g c.args.by c.args.flow = ap (λ (n : ℕ). let i : Ip = record { 0 = n } in i) c.next_hop-hop.ensures in
     let next : next_by g c.args.by c.args.flow ≡ None =
     sym (c.in-None.ensures.mac
-        ∙ ap (λ (s : Station). mac_at c.next_hop-hop.result.0 c.args.self.now.moment s.neighbours) (c.station.ensures ∙ ap (station_on g) exit)
-        ∙ ap (λ (i : Ip). mac_at i.0 c.args.self.now.moment (station_on g (exit_by c.args.by)).neighbours) hop) in
+    ∙ ap (λ (s : Station). mac_at c.next_hop-hop.result.0 c.args.self.now.moment s.neighbours) (c.station.ensures ∙ ap (station_on g) exit)
+    ∙ ap (λ (i : Ip). mac_at i.0 c.args.self.now.moment (station_on g (exit_by c.args.by)).neighbours) hop) in
     plan-waits g c.args.flow c.args.by c.next_hop-hop.result _ hop next (ap (λ (s : Side). has_place c.args.self.now.kept (Hop s c.next_hop-hop.result)) (sym exit) ∙ sym c.has_place.ensures ∙ c.if-has_place.true)
 
 pub returns-else-has_place : goal.returns-else-has_place
@@ -30,6 +30,6 @@ returns-else-has_place c =
     let hop : c.next_hop-hop.result ≡ hop_by g c.args.by c.args.flow = ap (λ (n : ℕ). let i : Ip = record { 0 = n } in i) c.next_hop-hop.ensures in
     let next : next_by g c.args.by c.args.flow ≡ None =
     sym (c.in-None.ensures.mac
-        ∙ ap (λ (s : Station). mac_at c.next_hop-hop.result.0 c.args.self.now.moment s.neighbours) (c.station.ensures ∙ ap (station_on g) exit)
-        ∙ ap (λ (i : Ip). mac_at i.0 c.args.self.now.moment (station_on g (exit_by c.args.by)).neighbours) hop) in
+    ∙ ap (λ (s : Station). mac_at c.next_hop-hop.result.0 c.args.self.now.moment s.neighbours) (c.station.ensures ∙ ap (station_on g) exit)
+    ∙ ap (λ (i : Ip). mac_at i.0 c.args.self.now.moment (station_on g (exit_by c.args.by)).neighbours) hop) in
     plan-waits g c.args.flow c.args.by c.next_hop-hop.result _ hop next (ap (λ (s : Side). has_place c.args.self.now.kept (Hop s c.next_hop-hop.result)) (sym exit) ∙ sym c.has_place.ensures ∙ c.if-has_place.false)

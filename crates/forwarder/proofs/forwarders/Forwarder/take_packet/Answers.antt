@@ -1,6 +1,5 @@
 use Rattle.std.proofs.Common.{◌≡◌, Result, Ok, refl, ap, sym, ◌∙◌}
 use Rattle.nat_types.specs.declared.pairs.Endpoint.{Endpoint}
-use Rattle.kept.specs.declared.waits.Wait.{Wait}
 use Rattle.kept.specs.declared.waits.Wait.TheVariants as wait
 use Rattle.kept.specs.Packets.{Waiting, has_place}
 use Rattle.packet_rules.specs.declared.reasons.Reason.{Reason}
@@ -8,8 +7,8 @@ use Rattle.packet_rules.specs.Flows.{source_of}
 use Rattle.step_parts.specs.declared.plans.Plan.{Plan}
 use Rattle.step_parts.specs.declared.plans.Plan.TheVariants.{Send, Ask, Wait as WaitFor}
 use Rattle.step_parts.specs.Parts.{by_plan}
-use Rattle.step_parts.specs.Verdict.{exit_by, plan_of}
-use Rattle.forwarder.specs.Forwarder.{copy_for, scene_on, shown_of, wait_in}
+use Rattle.step_parts.specs.Verdict.{exit_by}
+use Rattle.forwarder.specs.Forwarder.{scene_on, shown_of}
 use Rattle.forwarder.proofs.Planning.{plan-holds}
 use Rattle.forwarder.proofs.Taking.{copied-as, taken-as}
 use Rattle.forwarder.proofs.forwarders.Forwarder.take_packet.Goals as goal
