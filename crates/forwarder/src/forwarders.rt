@@ -1,23 +1,16 @@
 //! A gateway as far as packets need it.
-ghost use Rattle.std.specs.Prelude.{◌≡◌, ◌≤◌, ◌+◌, IfOk, Some, Ok, min, length, vec_capacity, []};
-ghost use Rattle.link.specs.Link.{free_places};
-ghost use Rattle.kept.specs.declared.waits.Ended.TheVariants.{One, AllPairs};
-ghost use Rattle.packet_rules.specs.Steps.{Carries, IsForwardable};
-ghost use Rattle.step_parts.specs.Parts.{arp_taken, flow_taken, released};
+ghost use Rattle.std.specs.Prelude.{◌≡◌, IfOk};
+ghost use Rattle.packet_rules.specs.Steps.{Carries};
 ghost use Rattle.step_parts.specs.Shown.{is_up, station_on};
-ghost use Rattle.step_parts.specs.Verdict.{plan_of, reading_on};
-ghost use Rattle.forwarder.specs.Forwarder.{copy_for, scene_on, shown_of, wait_in};
+ghost use Rattle.step_parts.specs.Verdict.{reading_on};
+ghost use Rattle.forwarder.specs.Forwarder.{shown_of};
 
-use arp::ArpPacket;
 use bind_core::Core;
-use ipv4::Flow;
-use kept::{Kept, Wait, Waiting};
+use kept::Kept;
 use link::Link;
 use nat_types::Side;
 use packet_rules::{Networks, Reading, Reason};
 use sides::Station;
-use step_parts::Plan;
-use told::Page;
 
 /// A gateway: its two networks, clock and interfaces, its side of the binding protocol, its end of
 /// the link, and the packets that wait. Moments are in centiseconds.

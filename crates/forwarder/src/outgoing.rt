@@ -1,5 +1,5 @@
 //! The frames that are made where they are to lie.
-ghost use Rattle.std.specs.Prelude.{◌≡◌, length, ⊤};
+ghost use Rattle.std.specs.Prelude.{length, ⊤};
 ghost use Rattle.packet_rules.specs.Arping.{answer_frame, request_frame};
 ghost use Rattle.packet_rules.specs.Frames.{sent_frame};
 ghost use Rattle.packet_rules.specs.Steps.{IsForwardable};

@@ -2,7 +2,8 @@
 ghost use Rattle.std.specs.Prelude.{◌≡◌};
 ghost use Rattle.binding_step.specs.Rows.{new_pair};
 ghost use Rattle.packet_rules.specs.Flows.{source_of};
-ghost use Rattle.step_parts.specs.Verdict.{look_for, plan_by, plan_from, plan_of, plan_on, target_pair};
+ghost use Rattle.step_parts.specs.Verdict.{look_for, plan_by, plan_from, plan_of};
+ghost use Rattle.step_parts.specs.Verdict.{plan_on, target_pair};
 ghost use Rattle.forwarder.specs.Forwarder.{shown_of};
 ghost use Rattle.forwarder.specs.Plans.{leaving_by};
 

@@ -1,5 +1,5 @@
 //! What a packet does that goes on at once.
-ghost use Rattle.std.specs.Prelude.{◌≡◌, ◌≤◌, ◌+◌, length, min};
+ghost use Rattle.std.specs.Prelude.{◌≡◌, ◌≤◌, ◌+◌, min};
 ghost use Rattle.link.specs.Link.{free_places};
 ghost use Rattle.lives.specs.declared.packets.Packet.{Packet as Carried};
 ghost use Rattle.binding_step.specs.Fits.{IsWellFormedEndpoint};
@@ -8,7 +8,8 @@ ghost use Rattle.packet_rules.specs.Flows.{source_of};
 ghost use Rattle.packet_rules.specs.Frames.{sent_frame};
 ghost use Rattle.packet_rules.specs.Steps.{IsForwardable};
 ghost use Rattle.step_parts.specs.declared.plans.Plan.TheVariants.{Send};
-ghost use Rattle.step_parts.specs.Parts.{by_plan, carried_all, carried_by, framed, remote, wanted_by, wanted_for};
+ghost use Rattle.step_parts.specs.Parts.{by_plan, carried_all, carried_by, framed};
+ghost use Rattle.step_parts.specs.Parts.{remote, wanted_by, wanted_for};
 ghost use Rattle.step_parts.specs.Verdict.{exit_by};
 ghost use Rattle.forwarder.specs.Forwarder.{scene_on};
 

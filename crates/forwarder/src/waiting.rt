@@ -1,17 +1,16 @@
 //! What a packet does that has to wait, or is dropped.
-ghost use Rattle.std.specs.Prelude.{◌≡◌, ◌≤◌, ◌+◌, ◌++◌, ◌∷◌, [], true, min};
+ghost use Rattle.std.specs.Prelude.{◌≡◌, ◌≤◌, ◌+◌, true, min};
 ghost use Rattle.kept.specs.declared.waits.Wait.TheVariants.{Hop, Pair};
 ghost use Rattle.kept.specs.Packets.{has_place};
 ghost use Rattle.link.specs.Link.{free_places};
 ghost use Rattle.binding_step.specs.Fits.{IsWellFormedEndpoint};
 ghost use Rattle.packet_rules.specs.Arping.{request_frame};
-ghost use Rattle.packet_rules.specs.Flows.{flow_in, source_of};
-ghost use Rattle.packet_rules.specs.Steps.{IsForwardable};
+ghost use Rattle.packet_rules.specs.Flows.{source_of};
 ghost use Rattle.step_parts.specs.declared.plans.Plan.TheVariants.{Ask, Wait as WaitFor};
-ghost use Rattle.step_parts.specs.Parts.{by_plan, by_refusal, flow_taken, framed};
+ghost use Rattle.step_parts.specs.Parts.{by_plan, by_refusal, framed};
 ghost use Rattle.step_parts.specs.Shown.{station_on};
-ghost use Rattle.step_parts.specs.Verdict.{exit_by, plan_of};
-ghost use Rattle.forwarder.specs.Forwarder.{copy_for, scene_on, shown_of, wait_in};
+ghost use Rattle.step_parts.specs.Verdict.{exit_by};
+ghost use Rattle.forwarder.specs.Forwarder.{scene_on, shown_of};
 
 use crate::Forwarder;
 use crate::outgoing::Request;
