@@ -1,1 +1,3 @@
+pub mod Cues
+pub mod Ends
 pub mod Gateway

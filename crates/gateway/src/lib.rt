@@ -2,8 +2,10 @@
 //! a note of each thing that it does with its pairs.
 #![tactic(auto)]
 
+mod ends;
 mod gateways;
 mod memory;
+mod routers;
 
 pub use gateways::Gateway;
 pub use memory::NoMemory;
