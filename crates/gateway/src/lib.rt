@@ -5,6 +5,7 @@
 mod ends;
 mod gateways;
 mod memory;
+mod records;
 mod routers;
 
 pub use gateways::Gateway;
