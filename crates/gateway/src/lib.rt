@@ -2,6 +2,7 @@
 //! a note of each thing that it does with its pairs.
 #![tactic(auto)]
 
+mod datagrams;
 mod ends;
 mod gateways;
 mod memory;

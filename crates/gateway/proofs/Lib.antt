@@ -1,0 +1,4 @@
+pub mod Hearing
+pub mod Places
+pub mod Staying
+pub mod Taking
