@@ -8,6 +8,8 @@ mod gateways;
 mod memory;
 mod records;
 mod routers;
+mod ticks;
+mod words;
 
 pub use gateways::Gateway;
 pub use memory::NoMemory;
