@@ -4,9 +4,11 @@
 
 mod datagrams;
 mod ends;
+mod frames;
 mod gateways;
 mod memory;
 mod records;
+mod rooms;
 mod routers;
 mod ticks;
 mod words;
