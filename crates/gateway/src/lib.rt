@@ -2,9 +2,9 @@
 //! a note of each thing that it does with its pairs.
 #![tactic(auto)]
 
+mod arrivals;
 mod datagrams;
 mod ends;
-mod frames;
 mod gateways;
 mod memory;
 mod records;

@@ -29,13 +29,13 @@ fn exit_by(by: Translation) -> Side
 }
 
 /// What a plan makes a packet wait for.
-fn wait_in(plan: Result<Plan, Reason>) -> Option<Wait>
-    ensures { result ≡ wait_in plan }
+fn wait_in(plan: &Result<Plan, Reason>) -> Option<Wait>
+    ensures { result ≡ wait_in plan.now }
 {
     match plan {
         Ok(Plan::Send { by: _, next: _ }) => None,
-        Ok(Plan::Ask { by, hop }) => Some(Wait::Hop(exit_by(by), hop)),
-        Ok(Plan::Wait(endpoint)) => Some(Wait::Pair(endpoint)),
+        Ok(Plan::Ask { by, hop }) => Some(Wait::Hop(exit_by(*by), *hop)),
+        Ok(Plan::Wait(endpoint)) => Some(Wait::Pair(*endpoint)),
         Err(_reason) => None,
     }
 }
@@ -60,13 +60,13 @@ fn copy_for(
 }
 
 /// What comes of a plan.
-fn outcome_by(plan: Result<Plan, Reason>) -> Outcome
-    ensures { result ≡ outcome_by plan }
+fn outcome_by(plan: &Result<Plan, Reason>) -> Outcome
+    ensures { result ≡ outcome_by plan.now }
 {
     match plan {
         Ok(Plan::Send { by: _, next: _ }) => Outcome::Sent,
         Ok(Plan::Ask { by: _, hop: _ }) | Ok(Plan::Wait(_)) => Outcome::Waiting,
-        Err(reason) => Outcome::Dropped(reason),
+        Err(reason) => Outcome::Dropped(*reason),
     }
 }
 
@@ -92,9 +92,15 @@ fn take_flow(
         ≡ scene_on forwarder.old page.old) }
 {
     let plan = forwarder.plan(side, flow);
-    let copy = copy_for(alloc, side, bytes, forwarder.moment, wait_in(plan))?;
-    forwarder.take_packet(page, side, bytes, flow, plan, copy);
-    Ok(outcome_by(plan))
+    let outcome = outcome_by(&plan);
+    let now = forwarder.moment;
+    match copy_for(alloc, side, bytes, now, wait_in(&plan)) {
+        Ok(copy) => {
+            forwarder.take_packet(page, side, bytes, flow, plan, copy);
+            Ok(outcome)
+        }
+        Err(fault) => Err(fault),
+    }
 }
 
 /// Reads a frame, and does what it asks for. It needs room for two frames and three notes, and a
