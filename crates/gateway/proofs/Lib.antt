@@ -1,5 +1,5 @@
 pub mod Hearing
-pub mod Idling
+pub mod Lasting
 pub mod Places
 pub mod Staying
 pub mod Taking

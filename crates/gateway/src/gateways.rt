@@ -96,11 +96,11 @@ impl Gateway {
     /// One step: takes an event, and appends to `out` what is sent and noted with it. An `Err`
     /// stands for a refused growth; nothing has changed then.
     pub fn step(&mut self, event: Event<'_>, out: &mut Out) -> Result<Outcome, NoMemory>
-        ensures outcome { IfOk result (λ o. o ≡ outcome_on self.old event) }
-        ensures step { OnOk result (IsStepOn (scene self.old out.old) event
+        ensures outcome { IfOk result (λ o. o ≡ outcome_on self.old event.entry) }
+        ensures step { OnOk result (IsStepOn (scene self.old out.old) event.entry
             (scene self.new out.new)) }
         // The bytes that came in are bytes.
-        ensures bytes { HasBytes event }
+        ensures bytes { HasBytes event.entry }
         ensures err { OnErr result (self.new ≡ self.old) }
         ensures untold { OnErr result (out.new ≡ out.old) }
     {

@@ -10,6 +10,7 @@ mod memory;
 mod records;
 mod rooms;
 mod routers;
+mod steps;
 mod ticks;
 mod words;
 

@@ -34,7 +34,13 @@ pub(crate) fn make_ready(
     requires datagrams { room.datagrams ≤ 4096 }
     requires pairs { pairs ≤ 192 }
     ensures scene { scene_on forwarder.new page.new ≡ scene_on forwarder.old page.old }
-    ensures rest { forwarder.new ≡ record forwarder.old { core = forwarder.new.core } }
+    ensures rest { forwarder.new ≡ record forwarder.old {
+      core = record forwarder.old.core {
+        table = record forwarder.old.core.table {
+          ready = forwarder.new.core.table.ready;
+        };
+      };
+    } }
     ensures room { OnOk result (page.new.room ≡ room) }
     ensures ready { OnOk result (forwarder.new.core.table.ready ≡ pairs) }
 {

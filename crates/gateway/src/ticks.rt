@@ -9,6 +9,7 @@ ghost use Rattle.forwarder.specs.Forwarder.{scene_on};
 
 use crate::routers::{Cue, cue_both};
 use forwarder::Forwarder;
+use step_parts::idle_at_once;
 use told::Page;
 
 /// The greatest moment of a clock, in centiseconds.
@@ -27,6 +28,7 @@ fn release_idle(forwarder: &mut Forwarder, page: &mut Page)
     ensures scene { scene_on forwarder.new page.new ≡ idle_taken (scene_on forwarder.old page.old) }
     ensures datagrams { page.new.room.datagrams ≡ page.old.room.datagrams }
 {
+    idle_at_once();
     let mut notes = page.take_notes();
     let now = forwarder.moment;
     forwarder.core.tick(&mut forwarder.link, now, &mut notes);
