@@ -1,12 +1,13 @@
 -- A gateway as it begins.
-use Rattle.std.specs.Prelude.{ℕ, ◌+◌, ◌*◌, false, List, []}
+use Rattle.std.specs.Prelude.{ℕ, ◌+◌, ◌*◌, false, []}
 use Rattle.nat_types.specs.declared.gateways.GatewayId.{GatewayId}
 use Rattle.nat_types.specs.declared.gateways.GatewayId.TheVariants.{Zero}
 use Rattle.nat_types.specs.declared.gateways.Side.TheVariants.{Inside, Outside}
+use Rattle.nat_types.specs.Granted.{IsPort}
 use Rattle.settings.specs.declared.ranges.PortRange.{PortRange}
 use Rattle.settings.specs.declared.whole.Settings.{Settings}
 use Rattle.bindings.specs.declared.entries.PortBounds.{PortBounds}
-use Rattle.bindings.specs.Ports.{key_count}
+use Rattle.bindings.specs.Ports.{AreBounds, key_count}
 use Rattle.binding_step.specs.Books.{empty_book, founded_book}
 use Rattle.link.specs.Link.{fresh}
 use Rattle.packet_rules.specs.Networks.{networks_of}
@@ -48,3 +49,10 @@ founded settings boot =
       inside = started g.inside 0;
       outside = started g.outside 0;
     }
+
+-- what a gateway's beginning asks of the settings: both ranges go from a lowest to a highest port
+pub record HasRanges (settings : Settings) : Type 0 where
+  pub zero : AreBounds (bounds_of settings.ports.zero)
+  pub one : AreBounds (bounds_of settings.ports.one)
+  pub highest_zero : IsPort settings.ports.zero.highest.0
+  pub highest_one : IsPort settings.ports.one.highest.0

@@ -35,7 +35,15 @@ AreBytes bytes = (place : ℕ) → get_or bytes place 0 < 256
 abbrev pub KeepsBytes : Shown → Type 0
 KeepsBytes g = AllByRecursion (λ w. AreBytes w.bytes) g.kept
 
--- and so is the frame or the datagram of an event
+-- What holds of a gateway that has pushed or promised h in the session: its book's facts, that it is lone only by right,
+-- that it keeps bytes.
+pub record IsStanding (g : Shown) (h : List Record) : Type 0 where
+  pub book : IsBook g.ledger.book
+  pub alone : IsAlone g
+  pub kept : KeepsBytes g
+  pub pushed : HasPushed g h
+
+-- the frame or the datagram of an event is bytes
 abbrev pub HasBytes : Event → Type 0
 HasBytes (Frame side bytes) = AreBytes bytes.now
 HasBytes (Datagram bytes) = AreBytes bytes.now

@@ -1,6 +1,6 @@
 -- The parts of a step: what each does to a gateway and to what it has told, and the takings of the packets whose wait it
 -- ended.
-use Rattle.std.specs.Prelude.{ℕ, ◌+◌, ◌-◌, Bool, true, false, not, ◌&&◌, nat_le, min, Option, Some, None, Result, Ok, Err, List, [], ◌∷◌, ◌++◌, take, drop, if◌then◌else◌}
+use Rattle.std.specs.Prelude.{ℕ, ◌+◌, Bool, not, ◌&&◌, Option, Some, None, Result, Ok, Err, List, [], ◌∷◌, ◌++◌, take, drop, if◌then◌else◌}
 use Rattle.std.specs.List.{filter}
 use Rattle.addresses.specs.declared.ethernet.Mac.{Mac}
 use Rattle.addresses.specs.declared.internet.Ip.{Ip}
@@ -37,7 +37,6 @@ use Rattle.kept.specs.declared.waits.Wait.TheVariants as wait
 use Rattle.kept.specs.Packets.{Waiting, ended_by, is_young, left_by}
 use Rattle.packet_rules.specs.declared.readings.Reading.{Reading}
 use Rattle.packet_rules.specs.declared.readings.Reading.TheVariants.{Arp, Advert, Packet}
-use Rattle.packet_rules.specs.declared.networks.Networks.{Networks}
 use Rattle.packet_rules.specs.declared.reasons.Reason.{Reason}
 use Rattle.packet_rules.specs.declared.reasons.Reason.TheVariants.{ShortFrame, NotMine, BadHeader, BadLength, BadHeaderSum, Fragment, TtlOver, NotUdpTcp, BadTransport, BadArp, BadAdvert, NotUp, NoBinding, NoPort, CannotWait, BadDatagram, OldWord}
 use Rattle.packet_rules.specs.declared.translations.Translation.{Translation}
@@ -53,7 +52,7 @@ use Rattle.vrrp_states.specs.Table.{Router, active_down_interval}
 use Rattle.told.specs.Told.{Told, with_datagram, with_frame}
 use Rattle.step_parts.specs.declared.plans.Plan.{Plan}
 use Rattle.step_parts.specs.declared.plans.Plan.TheVariants.{Send, Ask, Wait as WaitFor}
-use Rattle.step_parts.specs.Shown.{Scene, Shown, id_of, is_up, scene, station_on, with_notes, with_station}
+use Rattle.step_parts.specs.Shown.{Scene, Shown, id_of, scene, station_on, with_notes, with_station}
 use Rattle.step_parts.specs.Verdict.{exit_by, plan_of, reading_on}
 
 -- ---- rows of the binding protocol

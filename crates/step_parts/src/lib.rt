@@ -6,5 +6,7 @@ mod laws;
 mod plans;
 
 pub use events::{Event, Outcome};
-pub use laws::{steps_go, steps_keep};
+pub use laws::{
+    beginnings, idle_at_once, other_frames, parts_stand, steps_go, steps_keep, steps_tell,
+};
 pub use plans::Plan;
