@@ -14,8 +14,8 @@ use Rattle.link.specs.Link.{Link, after_take, closed_at, is_due_on_tick, is_rest
 use Rattle.link.specs.Reading.{reading}
 use Rattle.resync.specs.Loading.{Load, loaded}
 use Rattle.binding_step.specs.Books.{Book, is_synced, load_of}
-use Rattle.binding_step.specs.Ledgers.{may_ask, rests_for, taken_ledger}
-use Rattle.binding_step.specs.Resets.{restart_link, restarted}
+use Rattle.binding_step.specs.Ledgers.{alone_ledger, may_ask, restarted_ledger, rests_for, taken_ledger}
+use Rattle.binding_step.specs.Resets.{back_in, restart_link, restart_notes, restarted, retaken}
 use Rattle.binding_step.specs.Rows.{answered, idle_row, load_taken, row_of, taken_answer, taken_book, taken_ended}
 use Rattle.binding_step.proofs.Leaving.{change-leaves}
 use Rattle.kept.specs.declared.waits.Ended.TheVariants.{One, AllPairs}
@@ -31,14 +31,10 @@ use Rattle.vrrp_states.specs.declared.Action.{Action}
 use Rattle.step_parts.specs.declared.events.Event.{Event}
 use Rattle.step_parts.specs.declared.events.Event.TheVariants.{Frame, Datagram as Comes, Tick, Stop, PeerOff}
 use Rattle.step_parts.specs.Parts.{acted, all_framed, all_idle_done, answered_by, arp_taken, datagram_read, datagram_taken, framed, handed_in, has_synced, heard_by, heard_unless, idle_done, idle_taken, link_answered, link_ticked, old_dropped, record_done, record_shown, records_done, released, reset, wait_ended, with_link, with_routers, word_taken}
-use Rattle.step_parts.specs.Shown.{Scene, Shown, scene, station_on, with_station}
+use Rattle.step_parts.specs.Shown.{Scene, Shown, id_of, scene, station_on, with_notes, with_station}
 use Rattle.step_parts.specs.Steps.{BothAct, Does, FrameDoes, IsStepOn, RouterActs, clock_after, ended_on, stopped, ticked, word_by, word_refusal}
 use Rattle.step_parts.specs.Verdict.{reading_on}
 use Rattle.gateway.proofs.Staying.{Stays, answered-capacity, flow-stays, released-stays, row-stays, stays-here, stays-then}
-
--- only these four are looked at
-same-four : (g g2 g3 : Shown) → Stays g g2 → g3.moment ≡ g2.moment → g3.link.capacity ≡ g2.link.capacity → g3.ledger.book.zero ≡ g2.ledger.book.zero → g3.ledger.book.one ≡ g2.ledger.book.one → Stays g g3
-same-four g g2 g3 x m c z o = stays-then g g2 g3 x (record { moment = m; capacity = c; zero = z; one = o })
 
 -- an equal scene
 stays-as : (g : Shown) (s s2 : Scene) → s2 ≡ s → Stays g s.shown → Stays g s2.shown
@@ -119,7 +115,9 @@ reset-stays s =
     let b = s.shown.ledger.book in
     let ranges = restarted-by b (is_synced b.stage) refl in
     let capacity = restart-capacity b s.shown.link (is_synced b.stage) refl in
-    let x = released-stays _ AllPairs in
+    let g = s.shown in
+    let begun = scene (record g { ledger = restarted_ledger g.ledger; link = restart_link b g.link }) (with_notes s.told (restart_notes b g.moment)) in
+    let x = released-stays begun AllPairs in
     record { moment = x.moment; capacity = x.capacity ∙ capacity; zero = x.zero ∙ ranges.zero; one = x.one ∙ ranges.one }
 
 with-routers-stays : (g g2 : Shown) (starts : Bool) → (has_synced g g2 && not g2.stopped) ≡ starts → Stays g2 (with_routers g g2)
@@ -181,7 +179,11 @@ read-stays s (Err fault) = stays-here s.shown
 -- ---- the operator's word, and a tick's own parts
 
 word-stays : (s : Scene) (n : ℕ) (o : Option Reason) → Stays s.shown (word_by s n o).shown
-word-stays s n None = let x = released-stays _ AllPairs in record { moment = x.moment; capacity = x.capacity; zero = x.zero; one = x.one }
+word-stays s n None =
+    let g = s.shown in
+    let alone = scene (record g { ledger = alone_ledger g.ledger; link = closed_at g.link n }) (with_notes s.told (retaken (id_of g) g.moment (back_in g.ledger.book.entries))) in
+    let x = released-stays alone AllPairs in
+    record { moment = x.moment; capacity = x.capacity; zero = x.zero; one = x.one }
 word-stays s n (Some reason) = stays-here s.shown
 
 idle-stays : (s : Scene) (keys : List Key) → Stays s.shown (all_idle_done s keys).shown

@@ -3,6 +3,7 @@
 #![tactic(auto)]
 
 mod arrivals;
+mod begins;
 mod datagrams;
 mod ends;
 mod gateways;
