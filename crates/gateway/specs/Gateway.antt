@@ -1,5 +1,5 @@
 -- What each gateway keeps.
-use Rattle.std.specs.Prelude.{◌≡◌, ◌≤◌, ◌×◌, ◌→◌, ℕ, List, if◌then◌else◌}
+use Rattle.std.specs.Prelude.{◌≡◌, List}
 use Rattle.nat_types.specs.declared.records.Record.{Record}
 use Rattle.addresses.specs.declared.transport.Port.{Port}
 use Rattle.bindings.specs.Runs.{port_at}

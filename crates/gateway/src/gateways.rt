@@ -10,14 +10,15 @@ ghost use Rattle.step_parts.specs.Shown.{scene};
 ghost use Rattle.step_parts.specs.Steps.{IsStepOn, outcome_on};
 ghost use Rattle.gateway.specs.Gateway.{IsGateway};
 
-use crate::{NoMemory, Out};
+use crate::begins::begin;
+use crate::{NoMemory, Out, steps};
 use addresses::Port;
 use forwarder::Forwarder;
 use nat_types::{GatewayId, Pair};
 use settings::Settings;
 use std::alloc::Global;
 use std::marker::Model;
-use step_parts::{Event, Outcome};
+use step_parts::{Event, Outcome, beginnings};
 
 /// One gateway of the pair. Moments are in centiseconds.
 #[derive(Drop)]
@@ -53,7 +54,9 @@ impl Gateway {
         ensures { IfOk result (λ g. g
             ≡ (if found then founded settings.now boot else begun settings.now id boot)) }
     {
-        unreachable!()
+        beginnings();
+        let forwarder = begin(alloc, settings, id, boot, found)?;
+        Ok(Gateway { alloc, forwarder })
     }
 
     /// Reminds the prover of what each gateway keeps; it does nothing when it runs.
@@ -67,21 +70,23 @@ impl Gateway {
     pub fn synced(&self) -> bool
         ensures { result ≡ is_synced self.now.ledger.book.stage }
     {
-        unreachable!()
+        self.forwarder.core.is_synced()
     }
 
     /// All pairs of its table, by protocol (tcp first) and port; a proposal given up is none.
     pub fn pairs(&self) -> Result<Vec<Pair>, NoMemory>
         ensures { IfOk result (λ v. v.items ≡ pairs_in is_pair self.now.ledger.book.entries) }
     {
-        unreachable!()
+        let pairs = self.forwarder.core.table().pairs()?;
+        Ok(pairs)
     }
 
     /// The pairs that translate, in the same order.
     pub fn translating(&self) -> Result<Vec<Pair>, NoMemory>
         ensures { IfOk result (λ v. v.items ≡ pairs_in translates self.now.ledger.book.entries) }
     {
-        unreachable!()
+        let pairs = self.forwarder.core.table().translating()?;
+        Ok(pairs)
     }
 
     /// The ports that it owns, rising; none where it isn't synced.
@@ -90,20 +95,21 @@ impl Gateway {
             ≡ (if is_synced self.now.ledger.book.stage
             then map port_at self.now.ledger.book.owned else [])) }
     {
-        unreachable!()
+        let ports = self.forwarder.core.owned()?;
+        Ok(ports)
     }
 
     /// One step: takes an event, and appends to `out` what is sent and noted with it. An `Err`
     /// stands for a refused growth; nothing has changed then.
     pub fn step(&mut self, event: Event<'_>, out: &mut Out) -> Result<Outcome, NoMemory>
-        ensures outcome { IfOk result (λ o. o ≡ outcome_on self.old event) }
-        ensures step { OnOk result (IsStepOn (scene self.old out.old) event
+        ensures outcome { IfOk result (λ o. o ≡ outcome_on self.old event.entry) }
+        ensures step { OnOk result (IsStepOn (scene self.old out.old) event.entry
             (scene self.new out.new)) }
         // The bytes that came in are bytes.
-        ensures bytes { HasBytes event }
+        ensures bytes { HasBytes event.entry }
         ensures err { OnErr result (self.new ≡ self.old) }
         ensures untold { OnErr result (out.new ≡ out.old) }
     {
-        unreachable!()
+        steps::step(self.alloc, &mut self.forwarder, &mut out.page, event)
     }
 }

@@ -2,8 +2,18 @@
 //! a note of each thing that it does with its pairs.
 #![tactic(auto)]
 
+mod arrivals;
+mod begins;
+mod datagrams;
+mod ends;
 mod gateways;
 mod memory;
+mod records;
+mod rooms;
+mod routers;
+mod steps;
+mod ticks;
+mod words;
 
 pub use gateways::Gateway;
 pub use memory::NoMemory;

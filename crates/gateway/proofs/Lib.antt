@@ -1,0 +1,5 @@
+pub mod Hearing
+pub mod Lasting
+pub mod Places
+pub mod Staying
+pub mod Taking
