@@ -1,3 +1,4 @@
+pub mod Beginning
 pub mod Hearing
 pub mod Lasting
 pub mod Places

@@ -65,26 +65,6 @@ fn ports_in(bounds: PortBounds) -> usize
     usize::from(bounds.highest.0) + 1 - usize::from(bounds.lowest.0)
 }
 
-/// The core of a gateway that is founded, or of another one.
-fn core_of(alloc: Global, settings: &Settings, id: GatewayId, found: bool) -> Result<Core, NoMemory>
-    requires { IsTrue found → id ≡ Zero }
-    ensures { IfOk result (λ c. let zero = bounds_in settings.now.ports.zero in
-        let one = bounds_in settings.now.ports.one in ledger_of c ≡ record {
-          book = if found then founded_book zero one else empty_book id zero one;
-          lives = [];
-        }) }
-{
-    recall_ranges(settings);
-    let zero = bounds_of(settings.ports.zero);
-    let one = bounds_of(settings.ports.one);
-    let core = if found {
-        Core::founder(alloc, zero, one)?
-    } else {
-        Core::unsynced(alloc, id, zero, one)?
-    };
-    Ok(core)
-}
-
 /// The link of a gateway that has just booted.
 fn link_of(alloc: Global, settings: &Settings, id: GatewayId, boot: u64) -> Result<Link, NoMemory>
     requires { 0 < boot }
@@ -99,6 +79,7 @@ fn link_of(alloc: Global, settings: &Settings, id: GatewayId, boot: u64) -> Resu
 }
 
 /// A gateway whose routers stand in Initialize, with this core.
+#[tactic(auto, unfolding(step_parts::specs::Founding::begun))]
 fn with_core(
     alloc: Global,
     settings: &Settings,
@@ -107,8 +88,9 @@ fn with_core(
     core: Core,
 ) -> Result<Forwarder, NoMemory>
     requires { 0 < boot }
-    ensures { IfOk result (λ f. shown_of f
-        ≡ record (begun settings.now id boot) { ledger = ledger_of core.entry }) }
+    ensures shown { IfOk result (λ f. shown_of f
+        ≡ record (begun settings.now id boot) { ledger = ledger_of core }) }
+    ensures moment { IfOk result (λ f. f.moment ≡ 0) }
 {
     let link = link_of(alloc, settings, id, boot)?;
     let inside = Station::new(alloc, settings, id, Side::Inside)?;
@@ -126,6 +108,39 @@ fn with_core(
     })
 }
 
+/// A gateway without a table.
+#[tactic(auto, unfolding(step_parts::specs::Founding::begun))]
+fn begin_unsynced(
+    alloc: Global,
+    settings: &Settings,
+    id: GatewayId,
+    boot: u64,
+) -> Result<Forwarder, NoMemory>
+    requires { 0 < boot }
+    ensures { IfOk result (λ f. shown_of f ≡ begun settings.now id boot) }
+{
+    recall_ranges(settings);
+    let zero = bounds_of(settings.ports.zero);
+    let one = bounds_of(settings.ports.one);
+    let core = Core::unsynced(alloc, id, zero, one)?;
+    with_core(alloc, settings, id, boot, core)
+}
+
+/// Gateway 0, founded alone: its routers are started.
+#[tactic(auto, unfolding(step_parts::specs::Founding::begun, step_parts::specs::Founding::founded))]
+fn begin_founded(alloc: Global, settings: &Settings, boot: u64) -> Result<Forwarder, NoMemory>
+    requires { 0 < boot }
+    ensures { IfOk result (λ f. shown_of f ≡ founded settings.now boot) }
+{
+    recall_ranges(settings);
+    let zero = bounds_of(settings.ports.zero);
+    let one = bounds_of(settings.ports.one);
+    let core = Core::founder(alloc, zero, one)?;
+    let mut forwarder = with_core(alloc, settings, GatewayId::Zero, boot, core)?;
+    start_routers(&mut forwarder);
+    Ok(forwarder)
+}
+
 /// A gateway in the life of this number: gateway 0 that is founded anew is synced, and its routers
 /// are started; any other isn't.
 pub(crate) fn begin(
@@ -135,17 +150,15 @@ pub(crate) fn begin(
     boot: u64,
     found: bool,
 ) -> Result<Forwarder, NoMemory>
-    requires boot { 0 < boot }
-    requires found { IsTrue found → id ≡ Zero }
+    requires { 0 < boot }
     ensures ranges { HasRanges settings.now }
     ensures shown { IfOk result (λ f. shown_of f
         ≡ (if found then founded settings.now boot else begun settings.now id boot)) }
 {
     recall_ranges(settings);
-    let core = core_of(alloc, settings, id, found)?;
-    let mut forwarder = with_core(alloc, settings, id, boot, core)?;
     if found {
-        start_routers(&mut forwarder);
+        begin_founded(alloc, settings, boot)
+    } else {
+        begin_unsynced(alloc, settings, id, boot)
     }
-    Ok(forwarder)
 }
