@@ -128,7 +128,7 @@ pub fn books_begin()
 {}
 
 /// A record ends the wait of an endpoint (`ended` of its row) exactly where the endpoint's own proposal waited for the
-/// peer's answer before it, and doesn't after it. A gateway that isn't synced has no packets that wait.
+/// peer's answer before it, and doesn't after it. At a gateway that isn't synced it ends none.
 pub fn waits_end()
     ensures synced { (b : Book) (rests : Bool) (r : Record) (e : Endpoint) → IsBook b
         → IsWellFormedRecord r → is_synced b.stage ≡ true → (taken_ended b rests r ≡ Some e)
