@@ -161,8 +161,7 @@ impl Forwarder {
     {
         let mut ended = list;
         self.kept.take_ended(Ended::AllPairs, &mut ended);
-        while !ended.is_empty() {
-            let packet = ended.remove(0);
+        for packet in ended {
             self.take_again(page, packet);
         }
     }
