@@ -1,12 +1,12 @@
 -- What a forwarder shows of a gateway.
-use Rattle.std.specs.Prelude.{◌≡◌, ◌≤◌, ◌+◌, ℕ, Option, Some, None, Result, Ok, Err, List}
+use Rattle.std.specs.Prelude.{ℕ, Option, Some, None, Result, Ok, Err, List}
 use Rattle.nat_types.specs.declared.gateways.Side.{Side}
 use Rattle.bind_core.specs.Cores.{ledger_of}
 use Rattle.kept.specs.declared.waits.Wait.{Wait}
 use Rattle.kept.specs.declared.waits.Wait.TheVariants as wait
 use Rattle.kept.specs.Packets.{Waiting}
 use Rattle.packet_rules.specs.declared.reasons.Reason.{Reason}
-use Rattle.told.specs.Told.{Paged, Told}
+use Rattle.told.specs.Told.{Paged}
 use Rattle.step_parts.specs.declared.plans.Plan.{Plan}
 use Rattle.step_parts.specs.declared.plans.Plan.TheVariants as plans
 use Rattle.step_parts.specs.Shown.{Scene, Shown, scene}

@@ -1,1 +1,2 @@
 pub mod Forwarder
+pub mod Plans
