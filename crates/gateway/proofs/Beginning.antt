@@ -1,9 +1,9 @@
 -- What holds of a gateway as it begins.
-use Rattle.std.proofs.Common.{◌≡◌, ◌≤◌, ℕ, Bool, true, false, [], refl, sym, subst, arith}
+use Rattle.std.proofs.Common.{◌≡◌, ℕ, Bool, true, false, [], refl, sym, subst, arith}
 use Rattle.std.specs.Prelude.{if◌then◌else◌}
 use Rattle.nat_types.specs.declared.gateways.GatewayId.{GatewayId}
 use Rattle.settings.specs.declared.whole.Settings.{Settings}
-use Rattle.step_parts.specs.Founding.{begun, bounds_of, founded, link_places}
+use Rattle.step_parts.specs.Founding.{begun, founded}
 use Rattle.step_parts.specs.Machine.{IsStanding}
 use Rattle.step_parts.specs.Shown.{Shown}
 use Rattle.gateway.specs.Gateway.{IsGateway}

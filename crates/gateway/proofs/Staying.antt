@@ -1,13 +1,10 @@
 -- What no part of a step changes: the clock's moment, the ranges of ports, and for how much the link has room.
-use Rattle.std.proofs.Common.{◌≡◌, ℕ, Bool, true, false, List, [], ◌∷◌, Option, Some, None, Result, Ok, Err, cond, refl, sym, ap, subst, ◌∙◌}
+use Rattle.std.proofs.Common.{◌≡◌, ℕ, List, [], ◌∷◌, Option, Some, None, Result, Ok, Err, refl, ◌∙◌}
 use Rattle.nat_types.specs.declared.gateways.Side.{Side}
-use Rattle.nat_types.specs.declared.gateways.Side.TheVariants.{Inside, Outside}
 use Rattle.nat_types.specs.declared.pairs.Endpoint.{Endpoint}
 use Rattle.nat_types.specs.declared.pairs.Key.{Key}
 use Rattle.nat_types.specs.declared.records.Record.{Record}
-use Rattle.addresses.specs.declared.ethernet.Mac.{Mac}
 use Rattle.addresses.specs.declared.transport.TcpFlags.{TcpFlags}
-use Rattle.arp.specs.declared.packets.ArpPacket.{ArpPacket}
 use Rattle.ipv4.specs.declared.flows.Flow.{Flow}
 use Rattle.lives.specs.declared.packets.Packet.{Packet as Carried}
 use Rattle.link.specs.Link.{Link}
@@ -26,7 +23,7 @@ use Rattle.packet_rules.specs.Flows.{source_of}
 use Rattle.packet_rules.specs.Frames.{sent_frame}
 use Rattle.step_parts.specs.declared.plans.Plan.{Plan}
 use Rattle.step_parts.specs.declared.plans.Plan.TheVariants.{Send, Ask, Wait as WaitFor}
-use Rattle.step_parts.specs.Parts.{all_framed, all_taken, by_plan, by_refusal, by_row, by_verdict, carried_all, carried_by, flow_taken, released, retaken_by, taken_again, flags_in, framed, wanted_by, wanted_for}
+use Rattle.step_parts.specs.Parts.{all_taken, by_plan, by_refusal, by_row, by_verdict, carried_all, carried_by, flow_taken, released, retaken_by, taken_again, flags_in, framed, wanted_by, wanted_for}
 use Rattle.step_parts.specs.Shown.{Scene, Shown, scene}
 use Rattle.step_parts.specs.Verdict.{exit_by, plan_of, reading_on}
 

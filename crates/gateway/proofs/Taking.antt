@@ -1,8 +1,6 @@
 -- The records of a datagram, one after another.
-use Rattle.std.proofs.Common.{◌≡◌, ◌≤◌, ◌<◌, ◌+◌, ◌*◌, ◌∷◌, [], ℕ, suc, Bool, true, false, List, length, drop, slice_index_or, get_or, refl, sym, ap, ◌∙◌, subst, arith, add-one, drop-cons}
-use Rattle.std.specs.List.{AllByRecursion}
+use Rattle.std.proofs.Common.{◌≡◌, ◌≤◌, ◌<◌, ◌+◌, ◌∷◌, [], ℕ, suc, Bool, true, false, List, length, drop, slice_index_or, refl, sym, ap, ◌∙◌, arith, add-one, drop-cons}
 use Rattle.nat_types.specs.declared.records.Record.{Record}
-use Rattle.link.specs.Grammar.{IsWellFormedRecord}
 use Rattle.link.specs.Link.{answers_count, needs_answer}
 use Rattle.gateway.specs.Rooms.{answers_to}
 

@@ -1,5 +1,4 @@
 -- What a router is told.
-use Rattle.std.specs.Prelude.{ℕ}
 use Rattle.vrrp_states.specs.Table as table
 use Rattle.vrrp_states.specs.Table.{Event}
 use Rattle.gateway.specs.declared.routers.Cue.{Cue}

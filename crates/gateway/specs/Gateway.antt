@@ -1,9 +1,7 @@
 -- What each gateway keeps.
 use Rattle.std.specs.Prelude.{◌≡◌, List}
 use Rattle.nat_types.specs.declared.records.Record.{Record}
-use Rattle.addresses.specs.declared.transport.Port.{Port}
-use Rattle.bindings.specs.Runs.{port_at}
-use Rattle.binding_step.specs.Books.{IsBook, is_synced}
+use Rattle.binding_step.specs.Books.{IsBook}
 use Rattle.vrrp_states.specs.Table.{IsMoment}
 use Rattle.step_parts.specs.Founding.{link_places}
 use Rattle.step_parts.specs.Machine.{HasPushed, IsAlone, KeepsBytes}

@@ -1,6 +1,7 @@
 //! A frame that came in.
 ghost use Rattle.std.specs.Prelude.{◌≡◌, ◌≤◌, IfOk, OnErr, OnOk};
 ghost use Rattle.vrrp_states.specs.Table.{IsMoment};
+ghost use Rattle.packet_rules.specs.Flows.{flow_in};
 ghost use Rattle.packet_rules.specs.Steps.{IsForwardable};
 ghost use Rattle.step_parts.specs.Parts.{flow_taken};
 ghost use Rattle.step_parts.specs.Steps.{FrameDoes};
@@ -80,6 +81,7 @@ fn take_flow(
     flow: Flow,
 ) -> Result<Outcome, NoMemory>
     requires forwardable { IsForwardable bytes.now }
+    requires read { flow ≡ flow_in bytes.now }
     requires frames { 1 ≤ page.old.room.frames }
     requires notes { 3 ≤ page.old.room.notes }
     requires ready { 1 ≤ forwarder.old.core.table.ready }

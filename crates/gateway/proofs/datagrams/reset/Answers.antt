@@ -1,4 +1,4 @@
-use Rattle.std.proofs.Common.{◌≡◌, ap, ◌∙◌}
+use Rattle.std.proofs.Common.{ap, ◌∙◌}
 use Rattle.kept.specs.declared.waits.Ended.TheVariants.{AllPairs}
 use Rattle.step_parts.specs.Shown.{Scene}
 use Rattle.forwarder.specs.Forwarder.{scene_on}

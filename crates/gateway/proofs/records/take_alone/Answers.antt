@@ -1,4 +1,3 @@
-use Rattle.std.proofs.Common.{◌≡◌}
 use Rattle.binding_step.specs.Ledgers.{rests_for}
 use Rattle.binding_step.specs.Rows.{taken_answer}
 use Rattle.forwarder.specs.Forwarder.{shown_of}

@@ -1,4 +1,4 @@
-use Rattle.std.proofs.Common.{◌≡◌, ap, ◌∙◌}
+use Rattle.std.proofs.Common.{ap, ◌∙◌}
 use Rattle.kept.specs.declared.waits.Ended.TheVariants.{One}
 use Rattle.kept.specs.declared.waits.Wait.TheVariants.{Pair}
 use Rattle.step_parts.specs.Shown.{Scene}

@@ -1,4 +1,3 @@
-use Rattle.std.proofs.Common.{◌≡◌}
 use Rattle.step_parts.specs.Shown.{Shown}
 use Rattle.forwarder.specs.Forwarder.{shown_of}
 use Rattle.gateway.proofs.routers.cue_router.Goals as goal

@@ -1,4 +1,3 @@
-use Rattle.std.proofs.Common.{rules, ◌≡◌}
 use Rattle.gateway.proofs.routers.tell.Goals as goal
 
 pub returns-in-Stop : goal.returns-in-Stop

@@ -1,4 +1,4 @@
-use Rattle.std.proofs.Common.{◌≡◌, ◌∙◌}
+use Rattle.std.proofs.Common.{◌∙◌}
 use Rattle.step_parts.specs.Steps.{IsStepOn}
 use Rattle.forwarder.specs.Forwarder.{scene_on}
 use Rattle.gateway.proofs.Lasting.{step-lasts}

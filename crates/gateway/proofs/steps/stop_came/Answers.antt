@@ -1,4 +1,4 @@
-use Rattle.std.proofs.Common.{◌≡◌, subst}
+use Rattle.std.proofs.Common.{subst}
 use Rattle.step_parts.specs.declared.events.Event.TheVariants.{Stop}
 use Rattle.step_parts.specs.Shown.{Scene}
 use Rattle.step_parts.specs.Steps.{Does}

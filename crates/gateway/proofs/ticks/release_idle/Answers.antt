@@ -1,4 +1,4 @@
-use Rattle.std.proofs.Common.{◌≡◌, rules}
+use Rattle.std.proofs.Common.{rules}
 use Rattle.bindings.specs.Lives.{idle_keys_in}
 use Rattle.forwarder.specs.Forwarder.{scene_on}
 use Rattle.gateway.proofs.ticks.release_idle.Goals as goal

@@ -1,4 +1,3 @@
-use Rattle.std.proofs.Common.{◌≡◌}
 use Rattle.forwarder.specs.Forwarder.{shown_of}
 use Rattle.gateway.proofs.Beginning.{beginning-is}
 use Rattle.gateway.proofs.gateways.Gateway.new.Goals as goal
