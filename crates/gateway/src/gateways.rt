@@ -8,9 +8,12 @@ ghost use Rattle.step_parts.specs.Founding.{begun, founded};
 ghost use Rattle.step_parts.specs.Machine.{HasBytes};
 ghost use Rattle.step_parts.specs.Shown.{scene};
 ghost use Rattle.step_parts.specs.Steps.{IsStepOn, outcome_on};
-ghost use Rattle.gateway.specs.Gateway.{IsGateway};
+ghost use Rattle.step_parts.specs.Truly.{AreWired};
+ghost use Rattle.link.specs.Link.{IsLink};
+ghost use Rattle.gateway.specs.Gateway.{IsGateway, most_notes};
 
 use crate::begins::begin;
+use crate::rooms::entry_count;
 use crate::{NoMemory, Out, steps};
 use addresses::Port;
 use forwarder::Forwarder;
@@ -61,9 +64,30 @@ impl Gateway {
 
     /// Reminds the prover of what each gateway keeps; it does nothing when it runs.
     pub fn recall(&self)
-        ensures { IsGateway self.now }
+        ensures gateway { IsGateway self.now }
+        ensures link { IsLink self.now.link }
+        ensures wired { AreWired self.now }
     {
-        let _ = &self.alloc;
+        self.forwarder.link.recall();
+        self.forwarder.networks.recall();
+        self.forwarder.inside.recall();
+        self.forwarder.outside.recall();
+    }
+
+    /// No step makes more notes than this.
+    pub fn most_notes(&self) -> usize
+        ensures { result ≡ most_notes self.now }
+    {
+        self.forwarder.kept.recall();
+        let freed = 3 * self.forwarder.kept.len();
+        entry_count(&self.forwarder) + freed + 64 * (1 + freed) + 3
+    }
+
+    /// Its clock's moment, in centiseconds.
+    pub fn moment(&self) -> u64
+        ensures { result ≡ self.now.moment }
+    {
+        self.forwarder.moment
     }
 
     /// Whether its table is loaded.
