@@ -1,11 +1,11 @@
 //! A frame that came in.
-ghost use Rattle.std.specs.Prelude.{◌≡◌, ◌≤◌, IfOk, OnErr, OnOk};
+ghost use Rattle.std.specs.Prelude.{◌≡◌, ◌≤◌, IfOk, Ok, OnErr, OnOk};
 ghost use Rattle.vrrp_states.specs.Table.{IsMoment};
 ghost use Rattle.packet_rules.specs.Flows.{flow_in};
-ghost use Rattle.packet_rules.specs.Steps.{IsForwardable};
+ghost use Rattle.packet_rules.specs.Steps.{Carries, IsForwardable};
 ghost use Rattle.step_parts.specs.Parts.{flow_taken};
 ghost use Rattle.step_parts.specs.Steps.{FrameDoes};
-ghost use Rattle.step_parts.specs.Verdict.{exit_by, outcome_by, plan_of, reading_on, verdict};
+ghost use Rattle.step_parts.specs.Verdict.{exit_by, outcome_by, outcome_read, plan_of};
 ghost use Rattle.forwarder.specs.Forwarder.{copy_for, scene_on, shown_of, wait_in};
 
 use crate::NoMemory;
@@ -105,36 +105,38 @@ fn take_flow(
     }
 }
 
-/// Reads a frame, and does what it asks for. It needs room for two frames and three notes, and a
+/// Does what a frame that was read asks for. It needs room for two frames and three notes, and a
 /// core that is ready for a pair. An `Err` stands for a refused copy; nothing has changed then.
-pub(crate) fn take_frame(
+pub(crate) fn take_reading(
     alloc: Global,
     forwarder: &mut Forwarder,
     page: &mut Page,
     side: Side,
     bytes: &[u8],
+    reading: Reading,
 ) -> Result<Outcome, NoMemory>
+    requires carries { Carries bytes.now reading }
     requires moment { IsMoment forwarder.old.moment }
     requires frames { 2 ≤ page.old.room.frames }
     requires notes { 3 ≤ page.old.room.notes }
     requires ready { 1 ≤ forwarder.old.core.table.ready }
-    ensures outcome { IfOk result (λ o. o ≡ verdict (shown_of forwarder.old) side bytes.now) }
+    ensures outcome { IfOk result (λ o. o
+        ≡ outcome_read (shown_of forwarder.old) side (Ok reading)) }
     ensures does { OnOk result (FrameDoes (scene_on forwarder.old page.old) side bytes.now
-        (reading_on (shown_of forwarder.old) side bytes.now) (scene_on forwarder.new page.new)) }
+        (Ok reading) (scene_on forwarder.new page.new)) }
     ensures datagrams { page.new.room.datagrams ≡ page.old.room.datagrams }
     ensures err { OnErr result (scene_on forwarder.new page.new
         ≡ scene_on forwarder.old page.old) }
 {
-    match forwarder.read_frame(side, bytes) {
-        Ok(Reading::Arp(packet)) => {
+    match reading {
+        Reading::Arp(packet) => {
             forwarder.take_arp(page, side, &packet);
             Ok(Outcome::Done)
         }
-        Ok(Reading::Advert(advert, from)) => {
+        Reading::Advert(advert, from) => {
             cue_router(forwarder, page, side, Cue::Heard(advert, from));
             Ok(Outcome::Done)
         }
-        Ok(Reading::Packet(flow)) => take_flow(alloc, forwarder, page, side, bytes, flow),
-        Err(reason) => Ok(Outcome::Dropped(reason)),
+        Reading::Packet(flow) => take_flow(alloc, forwarder, page, side, bytes, flow),
     }
 }

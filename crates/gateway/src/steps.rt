@@ -16,7 +16,7 @@ ghost use Rattle.forwarder.specs.Forwarder.{scene_on, shown_of};
 ghost use Rattle.gateway.specs.Gateway.{IsGateway};
 
 use crate::NoMemory;
-use crate::arrivals::take_frame;
+use crate::arrivals::take_reading;
 use crate::datagrams::take_datagram;
 use crate::ends::{end_other, end_tick};
 use crate::rooms::{entry_count, list_for, make_ready};
@@ -27,6 +27,21 @@ use nat_types::Side;
 use std::alloc::Global;
 use step_parts::{Event, Outcome, parts_stand, steps_go, steps_keep};
 use told::{Page, Room};
+
+/// What a frame asks room for that is taken: an answer and a packet that goes on, three notes, and
+/// the datagram at the end.
+const FRAME_ROOM: Room = Room {
+    frames: 2,
+    datagrams: 1,
+    notes: 3,
+};
+
+/// Room for the datagram at the end alone.
+const END_ROOM: Room = Room {
+    frames: 0,
+    datagrams: 1,
+    notes: 0,
+};
 
 fn frame_came(
     alloc: Global,
@@ -43,13 +58,16 @@ fn frame_came(
     ensures err { OnErr result (scene_on forwarder.new page.new
         ≡ scene_on forwarder.old page.old) }
 {
-    let room = Room {
-        frames: 2,
-        datagrams: 1,
-        notes: 3,
-    };
-    make_ready(forwarder, page, room, 1)?;
-    take_frame(alloc, forwarder, page, side, bytes)
+    match forwarder.read_frame(side, bytes) {
+        Ok(reading) => {
+            make_ready(forwarder, page, FRAME_ROOM, 1)?;
+            take_reading(alloc, forwarder, page, side, bytes, reading)
+        }
+        Err(reason) => {
+            make_ready(forwarder, page, END_ROOM, 0)?;
+            Ok(Outcome::Dropped(reason))
+        }
+    }
 }
 
 fn datagram_came(
