@@ -1,3 +1,4 @@
+pub mod Accounting
 pub mod Asking
 pub mod Beginning
 pub mod Ending
@@ -7,6 +8,7 @@ pub mod Others
 pub mod Packets
 pub mod Passing
 pub mod Records
+pub mod Resting
 pub mod Saying
 pub mod Sending
 pub mod Sends

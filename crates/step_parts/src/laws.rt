@@ -2,17 +2,20 @@
 
 ghost use Rattle.std.specs.Prelude.{◌≡◌, ℕ, [], List};
 ghost use Rattle.nat_types.specs.declared.gateways.GatewayId.{GatewayId};
+ghost use Rattle.nat_types.specs.declared.notes.Note.{Note};
 ghost use Rattle.nat_types.specs.declared.pairs.Key.{Key};
 ghost use Rattle.nat_types.specs.declared.records.Record.{Record};
 ghost use Rattle.settings.specs.declared.whole.Settings.{Settings};
 ghost use Rattle.binding_step.specs.Books.{IsBook};
 ghost use Rattle.binding_step.specs.Ledgers.{let_go};
+ghost use Rattle.binding_step.specs.Uses.{Accounts};
 ghost use Rattle.step_parts.specs.declared.events.Event.{Event};
 ghost use Rattle.step_parts.specs.Founding.{HasRanges, begun, bounds_of, founded, link_places};
 ghost use Rattle.step_parts.specs.Machine.{Goes, HasBytes, HasPushed, IsAlone, IsStanding, KeepsBytes};
 ghost use Rattle.step_parts.specs.Machine.{letters_in, words_in};
 ghost use Rattle.step_parts.specs.Others.{AreOthers};
 ghost use Rattle.step_parts.specs.Parts.{all_idle_done};
+ghost use Rattle.step_parts.specs.Rests.{Notes, Rests};
 ghost use Rattle.step_parts.specs.Shown.{Scene, scene, with_notes};
 ghost use Rattle.step_parts.specs.Steps.{Does, IsStepOn};
 ghost use Rattle.step_parts.specs.Truly.{AreWired, Tells, hand_of};
@@ -72,6 +75,27 @@ pub fn parts_stand()
     ensures { (s : Scene) (event : Event) (done : Scene) (h : List Record) → Does s event done
         → HasBytes event → IsBook s.shown.ledger.book → IsAlone s.shown → KeepsBytes s.shown
         → HasPushed s.shown h → (h2 : List Record) × IsStanding done.shown h2 }
+{
+    readings_law();
+}
+
+/// The sentence on uses and releases through a whole step. Where the gateway's ledger accounts for the
+/// uses that a trace shows of its present life (`before`, the newest note first), it does so after the
+/// step, with what the step noted put in front; and so each release of the step comes where its pair is
+/// idle.
+pub fn steps_account()
+    ensures { (s : Scene) (event : Event) (s2 : Scene) (before : List Note) → IsStepOn s event s2
+        → HasBytes event → IsBook s.shown.ledger.book → KeepsBytes s.shown
+        → Accounts s.shown.moment s.shown.ledger before → Rests s s2 before }
+{
+    readings_law();
+}
+
+/// All that a step notes is noted by the gateway itself, at the moment of its clock after the step; and
+/// it is the same gateway.
+pub fn notes_are_own()
+    ensures { (s : Scene) (event : Event) (s2 : Scene) → IsStepOn s event s2 → HasBytes event
+        → IsBook s.shown.ledger.book → KeepsBytes s.shown → Notes s s2 }
 {
     readings_law();
 }
