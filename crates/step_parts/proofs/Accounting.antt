@@ -45,7 +45,7 @@ use Rattle.step_parts.specs.declared.events.Event.{Event}
 use Rattle.step_parts.specs.declared.events.Event.TheVariants.{Frame, Datagram as Comes, Tick, Stop, PeerOff}
 use Rattle.step_parts.specs.Machine.{AreBytes, HasBytes, KeepsBytes}
 use Rattle.step_parts.specs.Parts.{acted, all_framed, all_idle_done, answered_by, arp_taken, datagram_in, datagram_read, framed, handed_in, has_synced, heard_by, heard_unless, idle_done, idle_taken, link_answered, link_ticked, old_dropped, record_done, record_shown, record_told, records_done, released, reset, started, wait_ended, with_link, word_taken}
-use Rattle.step_parts.specs.Rests.{AreBy, Notes, Rests}
+use Rattle.step_parts.specs.Rests.{AreBy, Rests}
 use Rattle.step_parts.specs.Shown.{Scene, Shown, id_of, scene, station_on, with_notes, with_station}
 use Rattle.step_parts.specs.Steps.{BothAct, Does, FrameDoes, IsStepOn, RouterActs, clock_after, ended_on, stopped, ticked, word_by, word_refusal}
 use Rattle.step_parts.specs.Verdict.{reading_on}
@@ -340,18 +340,8 @@ step-rested reads s event s2 step has is =
     (resting-then (begun_on s event) step.done (ended_on event step.done) (does-rest reads s event step.done step.does has) (end-rests event step.done)
     ((begun-leads s event).sound is))
 
-pub step-accounts : Reads → (s : Scene) (event : Event) (s2 : Scene) (before : List Note) → IsStepOn s event s2 → HasBytes event → IsBook s.shown.ledger.book → KeepsBytes s.shown → Accounts s.shown.moment s.shown.ledger before → Rests s s2 before
-step-accounts reads s event s2 before step has book kept a =
-    let start = begun-leads s event in
-    let x = step-rested reads s event s2 step has (record { book = book; kept = kept }) in
-    record {
-      notes = x.notes;
-      notes_are = x.notes_are ∙ ap (λ (ns : List Note). ns ++ x.notes) start.notes;
-      accounts = x.accounts before (start.accounts before a);
-    }
-
-pub step-notes : Reads → (s : Scene) (event : Event) (s2 : Scene) → IsStepOn s event s2 → HasBytes event → IsBook s.shown.ledger.book → KeepsBytes s.shown → Notes s s2
-step-notes reads s event s2 step has book kept =
+pub step-rests : Reads → (s : Scene) (event : Event) (s2 : Scene) → IsStepOn s event s2 → HasBytes event → IsBook s.shown.ledger.book → KeepsBytes s.shown → Rests s s2
+step-rests reads s event s2 step has book kept =
     let start = begun-leads s event in
     let x = step-rested reads s event s2 step has (record { book = book; kept = kept }) in
     record {
@@ -360,4 +350,5 @@ step-notes reads s event s2 step has book kept =
       own = subst (λ (i : GatewayId). AreBy i s2.shown.moment x.notes) start.id
           (subst (λ (m : ℕ). AreBy (id_of (begun_on s event).shown) m x.notes) (sym x.moment) x.own);
       id = x.id ∙ start.id;
+      accounts = λ before a. x.accounts before (start.accounts before a);
     }

@@ -1,4 +1,5 @@
 pub mod Accounting
+pub mod Apart
 pub mod Asking
 pub mod Beginning
 pub mod Ending
