@@ -1,3 +1,5 @@
+pub mod Accounting
+pub mod Apart
 pub mod Asking
 pub mod Beginning
 pub mod Ending
@@ -7,6 +9,7 @@ pub mod Others
 pub mod Packets
 pub mod Passing
 pub mod Records
+pub mod Resting
 pub mod Saying
 pub mod Sending
 pub mod Sends

@@ -5,4 +5,5 @@ pub mod Steps
 pub mod Truly
 pub mod Others
 pub mod Machine
+pub mod Rests
 pub mod Founding

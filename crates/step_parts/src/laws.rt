@@ -1,10 +1,15 @@
 //! What holds of a step of a gateway. Each law is the contract of a function that does nothing.
 
-ghost use Rattle.std.specs.Prelude.{◌≡◌, ℕ, [], List};
+ghost use Rattle.std.specs.Prelude.{◌≡◌, ◌∷◌, ◌++◌, ℕ, false, [], List, reverse};
 ghost use Rattle.nat_types.specs.declared.gateways.GatewayId.{GatewayId};
+ghost use Rattle.nat_types.specs.declared.notes.Happening.TheVariants.{Booted, Crashed};
+ghost use Rattle.nat_types.specs.declared.notes.Note.{Note};
 ghost use Rattle.nat_types.specs.declared.pairs.Key.{Key};
 ghost use Rattle.nat_types.specs.declared.records.Record.{Record};
+ghost use Rattle.nat_types.specs.Same.{same};
 ghost use Rattle.settings.specs.declared.whole.Settings.{Settings};
+ghost use Rattle.trace_words.specs.Past.{Idle};
+ghost use Rattle.pair_machine.specs.Talk.{note};
 ghost use Rattle.binding_step.specs.Books.{IsBook};
 ghost use Rattle.binding_step.specs.Ledgers.{let_go};
 ghost use Rattle.step_parts.specs.declared.events.Event.{Event};
@@ -13,7 +18,8 @@ ghost use Rattle.step_parts.specs.Machine.{Goes, HasBytes, HasPushed, IsAlone, I
 ghost use Rattle.step_parts.specs.Machine.{letters_in, words_in};
 ghost use Rattle.step_parts.specs.Others.{AreOthers};
 ghost use Rattle.step_parts.specs.Parts.{all_idle_done};
-ghost use Rattle.step_parts.specs.Shown.{Scene, scene, with_notes};
+ghost use Rattle.step_parts.specs.Rests.{AccountsOn, Rests};
+ghost use Rattle.step_parts.specs.Shown.{Scene, Shown, id_of, scene, with_notes};
 ghost use Rattle.step_parts.specs.Steps.{Does, IsStepOn};
 ghost use Rattle.step_parts.specs.Truly.{AreWired, Tells, hand_of};
 
@@ -75,6 +81,40 @@ pub fn parts_stand()
 {
     readings_law();
 }
+
+/// The sentence on uses and releases through a whole step. All that a step notes is noted by the
+/// gateway itself, at the moment of its clock after the step. Whatever trace its ledger accounted for
+/// before (the newest note first), it does so after the step, with what was noted put in front; and so
+/// each release of the step comes where its pair is idle.
+pub fn steps_account()
+    ensures { (s : Scene) (event : Event) (s2 : Scene) → IsStepOn s event s2 → HasBytes event
+        → IsBook s.shown.ledger.book → KeepsBytes s.shown → Rests s s2 }
+{
+    readings_law();
+}
+
+/// What the other gateway notes leaves a gateway's account as it is: at a step of the other one whose
+/// own ledger accounts for the trace, at its crash and at its boot.
+pub fn others_account()
+    ensures step { (s s2 : Scene) (g : Shown) (before : List Note) (x : Rests s s2)
+        → same (id_of g) (id_of s.shown) ≡ false → AccountsOn s.shown before → AccountsOn g before
+        → AccountsOn g (reverse x.notes ++ before) }
+    ensures crashed { (g : Shown) (by : GatewayId) (at : ℕ) (before : List Note)
+        → same (id_of g) by ≡ false → AccountsOn g before
+        → AccountsOn g (note by at Crashed ∷ before) }
+    ensures booted { (g : Shown) (by : GatewayId) (at number : ℕ) (before : List Note)
+        → same (id_of g) by ≡ false → AccountsOn g before
+        → AccountsOn g (note by at (Booted number) ∷ before) }
+{}
+
+/// A gateway's ledger accounts for the trace as it begins: once its boot is noted, for each trace whose
+/// releases came where their pairs were idle, and as gateway 0 is founded, when nothing is noted.
+pub fn beginnings_account()
+    ensures begun { (settings : Settings) (id : GatewayId) (boot at : ℕ) (before : List Note)
+        → Idle before
+        → AccountsOn (begun settings id boot) (note id at (Booted boot) ∷ before) }
+    ensures founded { (settings : Settings) (boot : ℕ) → AccountsOn (founded settings boot) [] }
+{}
 
 /// What a step asks for holds of a gateway as it begins, and of the founded one; nothing was pushed by
 /// then. And its link has room for a whole table.

@@ -7,6 +7,7 @@ mod plans;
 
 pub use events::{Event, Outcome};
 pub use laws::{
-    beginnings, idle_at_once, other_frames, parts_stand, steps_go, steps_keep, steps_tell,
+    beginnings, beginnings_account, idle_at_once, other_frames, others_account, parts_stand,
+    steps_account, steps_go, steps_keep, steps_tell,
 };
 pub use plans::Plan;
