@@ -1,4 +1,5 @@
-pub mod Scenes
-pub mod Founding
-pub mod Keeping
-pub mod Runs
+pub mod Laws
+pub mod Mails
+pub mod Stepping
+pub mod Turning
+pub mod Handing

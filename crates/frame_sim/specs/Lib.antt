@@ -1,4 +1,4 @@
 pub mod World
+pub mod Events
 pub mod Scene
-pub mod Truly
 pub mod Runs

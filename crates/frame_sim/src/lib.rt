@@ -2,8 +2,6 @@
 #![tactic(auto)]
 
 mod events;
-mod worlds;
 
 pub use events::{Step, WorldEvent, WorldFault};
 pub use trace_words::{AuditFault, audit};
-pub use worlds::World;
