@@ -1,5 +1,5 @@
 -- A step as the pair machine sees it.
-use Rattle.std.specs.Prelude.{◌≡◌, ◌<◌, ℕ, true, List, [], ◌∷◌, ◌++◌, get_or, map, reverse, Result, Ok, Err, ◌⊎◌}
+use Rattle.std.specs.Prelude.{◌≡◌, ◌<◌, ◌≤◌, ℕ, true, List, [], ◌∷◌, ◌++◌, get_or, length, map, reverse, Result, Ok, Err, ◌⊎◌}
 use Rattle.std.specs.List.{AllByRecursion}
 use Rattle.nat_types.specs.declared.notes.Note.{Note}
 use Rattle.nat_types.specs.declared.records.Record.{Record}
@@ -73,7 +73,8 @@ pub record Goes (letters : List Letter) (words : List ℕ) (old new : Scene) (h 
   pub notes_are : new.told.notes ≡ old.told.notes ++ notes
   pub sent : List Letters
   pub datagrams_are : new.told.datagrams ≡ old.told.datagrams ++ map spelling sent
-  -- each is the datagram of its link as it stands then
+  -- at most one, which is that of its link as it stands then
+  pub few : length sent ≤ 1
   pub own : AllByRecursion (λ d. d ≡ datagram_of (is_synced new.shown.ledger.book.stage) new.shown.link) sent
   -- and it is still who it was
   pub house : IsSameHouse old.shown.ledger.book new.shown.ledger.book
