@@ -3,3 +3,4 @@ pub mod Mails
 pub mod Stepping
 pub mod Turning
 pub mod Handing
+pub mod Keeping

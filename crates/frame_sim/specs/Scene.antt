@@ -44,11 +44,11 @@ scene_of w pushed = record {
 }
 
 -- it is gateway i of the pair, in the life of this number, and pushed these
-pub record IsThat (ports : PortRanges) (i : GatewayId) (boot : ℕ) (g : Shown) (h : List Record) : Type 0 where
+pub record IsThat (ports : PortRanges) (i : GatewayId) (number : ℕ) (g : Shown) (h : List Record) : Type 0 where
   pub id : id_of g ≡ i
   pub zero : g.ledger.book.zero ≡ bounds_of ports.zero
   pub one : g.ledger.book.one ≡ bounds_of ports.one
-  pub boot : g.link.boot ≡ boot
+  pub boot : g.link.boot ≡ number
   pub pushed : HasPushed g h
 
 abbrev pub IsHalf : PortRanges → GatewayId → ℕ → Option Shown → List Record → Type 0

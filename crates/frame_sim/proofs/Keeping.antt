@@ -1,0 +1,120 @@
+-- What the machine says of slots, as it is said of tables.
+use Rattle.std.proofs.Common.{◌≡◌, ℕ, true, List, [], Option, Some, None, ◌↔◌, IsTrue, reverse, refl, sym, ap, subst, ◌∙◌}
+use Rattle.std.specs.List.{Contains}
+use Rattle.nat_types.specs.declared.gateways.GatewayId.{GatewayId}
+use Rattle.nat_types.specs.declared.gateways.GatewayId.TheVariants.{Zero, One}
+use Rattle.nat_types.specs.declared.notes.Note.{Note}
+use Rattle.nat_types.specs.declared.pairs.EntryState.{EntryState}
+use Rattle.nat_types.specs.declared.pairs.EntryState.TheVariants as state
+use Rattle.nat_types.specs.declared.pairs.Endpoint.{Endpoint}
+use Rattle.nat_types.specs.declared.pairs.Key.{Key}
+use Rattle.nat_types.specs.declared.pairs.Pair.{Pair}
+use Rattle.nat_types.specs.declared.records.Record.{Record}
+use Rattle.bindings.specs.declared.entries.Entry.{Entry}
+use Rattle.bindings.specs.Entries.{slot_of, entry_in, pairs_in, is_pair, translates, HasDistinctKeys}
+use Rattle.bindings.proofs.Slots.{slot-key}
+use Rattle.bindings.proofs.Members.{listed-slot, slot-listed}
+use Rattle.trace_words.specs.Past.{is_synced}
+use Rattle.trace_words.specs.Trace.{Kept, GoesOn}
+use Rattle.pair_machine.specs.Box.{Box}
+use Rattle.pair_machine.specs.Talk as machine
+use Rattle.pair_machine.specs.World as machine_world
+use Rattle.pair_machine.specs.World.{box_in}
+use Rattle.pair_machine.specs.Mapped.{slot_in}
+use Rattle.binding_step.specs.Machine.{machine_slot, slots_of}
+use Rattle.step_parts.specs.Shown.{Shown}
+use Rattle.frame_sim.specs.World.{World, gateway_at, half, entries_of, synced_at, ShowsSynced, Holds, Translates}
+use Rattle.frame_sim.specs.Scene.{box_at, scene_of}
+use Rattle.frame_sim.proofs.Stepping.{box-is}
+use Rattle.frame_sim.proofs.Turning.{synced-of}
+
+-- a state in which the machine translates
+translated-state : (s : EntryState) (e x : Endpoint) → machine.translated (slot_in s e) ≡ Some x → (translates s ≡ true) × (e ≡ x)
+translated-state state.Pending e x h = cc
+translated-state state.Doomed e x h = cc
+translated-state state.Live e x h = (refl, cc)
+translated-state state.Closing e x h = cc
+translated-state state.Held e x h = (refl, cc)
+
+-- a state whose pair translates
+in-translates : (s : EntryState) (e : Endpoint) → translates s ≡ true → machine.translated (slot_in s e) ≡ Some e
+in-translates state.Pending e t = cc
+in-translates state.Doomed e t = cc
+in-translates state.Live e t = refl
+in-translates state.Closing e t = cc
+in-translates state.Held e t = refl
+
+-- a state whose pair is held
+in-held : (s : EntryState) (e x : Endpoint) → machine.held (slot_in s e) ≡ Some x → (is_pair s ≡ true) × (e ≡ x)
+in-held state.Pending e x t = (refl, cc)
+in-held state.Doomed e x t = cc
+in-held state.Live e x t = (refl, cc)
+in-held state.Closing e x t = (refl, cc)
+in-held state.Held e x t = (refl, cc)
+
+-- an entry is its pair in its state
+whole : (es : List Entry) (p : Pair) (x : Entry) → slot_of es p.key ≡ Some x → x.pair.endpoint ≡ p.endpoint → slot_of es p.key ≡ Some (entry_in x.state p)
+whole es p x found same =
+    let key : x.pair.key ≡ p.key = slot-key es p.key x found in
+    let pair : x.pair ≡ p = ap (λ (k : Key). let q : Pair = record { key = k; endpoint = x.pair.endpoint } in q) key ∙ ap (λ (e : Endpoint). let q : Pair = record { key = p.key; endpoint = e } in q) same in
+    found ∙ ap (λ (q : Pair). let e : Entry = record { pair = q; state = x.state } in Some e) pair
+
+held-listed : (es : List Entry) (p : Pair) → machine.held (slots_of es p.key) ≡ Some p.endpoint → Contains (pairs_in is_pair es) p
+held-listed es p h = at (slot_of es p.key) refl h
+  where
+    at : (o : Option Entry) → slot_of es p.key ≡ o → machine.held (machine_slot o) ≡ Some p.endpoint → Contains (pairs_in is_pair es) p
+    at None found h = cc
+    at (Some x) found h =
+        let parts = in-held x.state x.pair.endpoint p.endpoint h in
+        listed-slot is_pair es p x.state (whole es p x found parts.1) parts.0
+
+translated-listed : (es : List Entry) (p : Pair) → machine.translated (slots_of es p.key) ≡ Some p.endpoint → Contains (pairs_in translates es) p
+translated-listed es p h = at (slot_of es p.key) refl h
+  where
+    at : (o : Option Entry) → slot_of es p.key ≡ o → machine.translated (machine_slot o) ≡ Some p.endpoint → Contains (pairs_in translates es) p
+    at None found h = cc
+    at (Some x) found h =
+        let parts = translated-state x.state x.pair.endpoint p.endpoint h in
+        listed-slot translates es p x.state (whole es p x found parts.1) parts.0
+
+listed-translated : (es : List Entry) (p : Pair) → HasDistinctKeys es → Contains (pairs_in translates es) p → machine.translated (slots_of es p.key) ≡ Some p.endpoint
+listed-translated es p keys h =
+    let found = slot-listed translates es p keys h in
+    ap (λ (o : Option Entry). machine.translated (machine_slot o)) found.1 ∙ in-translates found.0 p.endpoint found.2
+
+-- the entries of a gateway that is up have distinct keys
+abbrev pub HasKeys : Option Shown → Type 0
+HasKeys g = HasDistinctKeys (entries_of g)
+
+-- of one gateway
+at-held : (g : Option Shown) (boot : ℕ) (h : List Record) (p : Pair) → machine.held ((box_at g boot h).table p.key) ≡ Some p.endpoint → Contains (pairs_in is_pair (entries_of g)) p
+at-held None boot h p is = cc
+at-held (Some g) boot h p is = held-listed g.ledger.book.entries p is
+
+at-translated : (g : Option Shown) (boot : ℕ) (h : List Record) (p : Pair) → HasKeys g → (machine.translated ((box_at g boot h).table p.key) ≡ Some p.endpoint) ↔ Contains (pairs_in translates (entries_of g)) p
+at-translated None boot h p keys = (λ is. cc, λ is. listed-translated [] p tt is)
+at-translated (Some g) boot h p keys = (translated-listed g.ledger.book.entries p, listed-translated g.ledger.book.entries p keys)
+
+pub holds-kept : (w : World) (pushed : GatewayId → List Record) (t : List Note) → Kept (machine_world.TableHolds (machine_world.tables_of (scene_of w pushed))) t → Kept (Holds w) t
+holds-kept w pushed t kept p opened i synced = at i (kept p opened i synced)
+  where
+    at : (i : GatewayId) → machine_world.TableHolds (machine_world.tables_of (scene_of w pushed)) i p → Holds w i p
+    at Zero h = at-held w.zero.gateway w.zero.boot (pushed Zero) p h
+    at One h = at-held w.one.gateway w.one.boot (pushed One) p h
+
+pub translates-on : (w : World) (pushed : GatewayId → List Record) (t : List Note) → HasKeys w.zero.gateway → HasKeys w.one.gateway → GoesOn (machine_world.TableTranslates (machine_world.tables_of (scene_of w pushed))) t → GoesOn (Translates w) t
+translates-on w pushed t zero one goes i synced p = at i (goes i synced p)
+  where
+    over : {A B C : Type 0} → (A ↔ B) → (B ↔ C) → (A ↔ C)
+    over f g = (λ a. g.0 (f.0 a), λ c. f.1 (g.1 c))
+
+    at : {A : Type 0} (j : GatewayId) → (A ↔ machine_world.TableTranslates (machine_world.tables_of (scene_of w pushed)) j p) → (A ↔ Translates w j p)
+    at Zero h = over h (at-translated w.zero.gateway w.zero.boot (pushed Zero) p zero)
+    at One h = over h (at-translated w.one.gateway w.one.boot (pushed One) p one)
+
+-- what a box shows as synced is what its gateway shows
+pub shows-synced : (w : World) (pushed : GatewayId → List Record) → ((i : GatewayId) → (box_in (scene_of w pushed) i).synced ≡ is_synced i (reverse w.trace)) → ShowsSynced w
+shows-synced w pushed says i =
+    let same : synced_at (gateway_at w i) ≡ is_synced i (reverse w.trace) =
+        sym (ap (λ (b : Box). b.synced) (box-is w pushed i) ∙ synced-of (gateway_at w i) (half w i).boot (pushed i)) ∙ says i in
+    (λ h. subst IsTrue same h, λ h. subst IsTrue (sym same) h)
