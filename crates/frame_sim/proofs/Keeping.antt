@@ -17,14 +17,15 @@ use Rattle.bindings.proofs.Members.{listed-slot, slot-listed}
 use Rattle.trace_words.specs.Past.{is_synced}
 use Rattle.trace_words.specs.Trace.{Kept, GoesOn}
 use Rattle.pair_machine.specs.Box.{Box}
+use Rattle.pair_machine.specs.Ownership.{Ranges}
 use Rattle.pair_machine.specs.Talk as machine
 use Rattle.pair_machine.specs.World as machine_world
 use Rattle.pair_machine.specs.World.{box_in}
 use Rattle.pair_machine.specs.Mapped.{slot_in}
 use Rattle.binding_step.specs.Machine.{machine_slot, slots_of}
 use Rattle.step_parts.specs.Shown.{Shown}
-use Rattle.frame_sim.specs.World.{World, gateway_at, half, entries_of, synced_at, ShowsSynced, Holds, Translates}
-use Rattle.frame_sim.specs.Scene.{box_at, scene_of}
+use Rattle.frame_sim.specs.World.{HasKeys, World, gateway_at, half, entries_of, synced_at, ShowsSynced, Holds, Translates}
+use Rattle.frame_sim.specs.Scene.{IsSound, box_at, ranges_of, scene_of}
 use Rattle.frame_sim.proofs.Stepping.{box-is}
 use Rattle.frame_sim.proofs.Turning.{synced-of}
 
@@ -82,10 +83,6 @@ listed-translated es p keys h =
     let found = slot-listed translates es p keys h in
     ap (λ (o : Option Entry). machine.translated (machine_slot o)) found.1 ∙ in-translates found.0 p.endpoint found.2
 
--- the entries of a gateway that is up have distinct keys
-abbrev pub HasKeys : Option Shown → Type 0
-HasKeys g = HasDistinctKeys (entries_of g)
-
 -- of one gateway
 at-held : (g : Option Shown) (boot : ℕ) (h : List Record) (p : Pair) → machine.held ((box_at g boot h).table p.key) ≡ Some p.endpoint → Contains (pairs_in is_pair (entries_of g)) p
 at-held None boot h p is = cc
@@ -118,3 +115,23 @@ shows-synced w pushed says i =
     let same : synced_at (gateway_at w i) ≡ is_synced i (reverse w.trace) =
         sym (ap (λ (b : Box). b.synced) (box-is w pushed i) ∙ synced-of (gateway_at w i) (half w i).boot (pushed i)) ∙ says i in
     (λ h. subst IsTrue same h, λ h. subst IsTrue (sym same) h)
+
+-- ---- what a sound world keeps
+
+abbrev pub Keeps : Type 0
+Keeps = (r : Ranges) (s : machine_world.Scene) (trace : List Note) → machine_world.IsWorld r s → s.trace ≡ reverse trace → Kept (machine_world.TableHolds (machine_world.tables_of s)) trace
+
+abbrev pub Goes : Type 0
+Goes = (r : Ranges) (s : machine_world.Scene) (trace : List Note) → machine_world.IsWorld r s → s.trace ≡ reverse trace → GoesOn (machine_world.TableTranslates (machine_world.tables_of s)) trace
+
+abbrev pub Says : Type 0
+Says = (r : Ranges) (s : machine_world.Scene) (trace : List Note) (i : GatewayId) → machine_world.IsWorld r s → s.trace ≡ reverse trace → (box_in s i).synced ≡ is_synced i (reverse trace)
+
+pub sound-kept : Keeps → (w : World) → IsSound w → Kept (Holds w) w.trace
+sound-kept law w sound = holds-kept w sound.pushed w.trace (law (ranges_of w.settings.ports) (scene_of w sound.pushed) w.trace sound.scene refl)
+
+pub sound-goes : Goes → (w : World) → HasKeys w.zero.gateway → HasKeys w.one.gateway → IsSound w → GoesOn (Translates w) w.trace
+sound-goes law w zero one sound = translates-on w sound.pushed w.trace zero one (law (ranges_of w.settings.ports) (scene_of w sound.pushed) w.trace sound.scene refl)
+
+pub sound-says : Says → (w : World) → IsSound w → ShowsSynced w
+sound-says law w sound = shows-synced w sound.pushed (λ i. law (ranges_of w.settings.ports) (scene_of w sound.pushed) w.trace i sound.scene refl)

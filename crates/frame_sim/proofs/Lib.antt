@@ -4,3 +4,5 @@ pub mod Stepping
 pub mod Turning
 pub mod Handing
 pub mod Keeping
+pub mod Short
+pub mod Sendings

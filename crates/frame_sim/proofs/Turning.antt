@@ -159,3 +159,7 @@ founding-sound begins law settings are = record {
     halves : (i : GatewayId) → IsHalf settings.ports i (half (founding settings) i).boot (half (founding settings) i).gateway []
     halves Zero = founded-that settings
     halves One = tt
+
+pub founded-zero : (settings : Settings) → (founded settings 1).ledger.book.zero ≡ bounds_of settings.ports.zero
+unfolding founded begun
+founded-zero settings = refl

@@ -5,11 +5,12 @@ use Rattle.addresses.specs.declared.transport.Port.{Port}
 use Rattle.nat_types.specs.declared.gateways.GatewayId.{GatewayId}
 use Rattle.nat_types.specs.declared.gateways.GatewayId.TheVariants.{Zero, One}
 use Rattle.nat_types.specs.declared.notes.Note.{Note}
+use Rattle.nat_types.specs.declared.pairs.EntryState.{EntryState}
 use Rattle.nat_types.specs.declared.pairs.Pair.{Pair}
 use Rattle.settings.specs.declared.whole.Settings.{Settings}
 use Rattle.settings.specs.Ranges.{of_gateway}
 use Rattle.bindings.specs.declared.entries.Entry.{Entry}
-use Rattle.bindings.specs.Entries.{is_pair, pairs_in, translates}
+use Rattle.bindings.specs.Entries.{HasDistinctKeys, is_pair, pairs_in, translates}
 use Rattle.bindings.specs.Runs.{port_at}
 use Rattle.trace_words.specs.Trace.{IsSynced}
 use Rattle.binding_step.specs.Books.{is_synced}
@@ -74,6 +75,14 @@ abbrev pub owned_by : Option Shown → List Port
 owned_by None = []
 owned_by (Some g) = if is_synced g.ledger.book.stage then map port_at g.ledger.book.owned else []
 
+-- no key has two entries
+abbrev pub HasKeys : Option Shown → Type 0
+HasKeys g = HasDistinctKeys (entries_of g)
+
+-- its pairs in the states that pass a test
+abbrev pub pairs_of : (EntryState → Bool) → Option Shown → List Pair
+pairs_of test g = pairs_in test (entries_of g)
+
 -- its clock's moment
 abbrev pub moment_of : Option Shown → ℕ
 moment_of None = 0
@@ -83,11 +92,11 @@ moment_of (Some g) = g.moment
 
 -- a gateway holds the pair; a proposal given up is none
 abbrev pub Holds : World → GatewayId → Pair → Type 0
-Holds w i p = Contains (pairs_in is_pair (entries_of (gateway_at w i))) p
+Holds w i p = Contains (pairs_of is_pair (gateway_at w i)) p
 
 -- a gateway translates with the pair
 abbrev pub Translates : World → GatewayId → Pair → Type 0
-Translates w i p = Contains (pairs_in translates (entries_of (gateway_at w i))) p
+Translates w i p = Contains (pairs_of translates (gateway_at w i)) p
 
 -- a gateway is synced exactly where the trace says so
 abbrev pub ShowsSynced : World → Type 0

@@ -1,10 +1,9 @@
 //! What can happen to the world, and what it gave.
 ghost use Rattle.std.specs.Prelude.{◌≡◌};
 
+use gateway::{NoMemory, Out, Outcome};
 use nat_types::{GatewayId, Side};
 use std::alloc::AllocError;
-use step_parts::Outcome;
-use told::Out;
 use thiserror::Error;
 
 /// What can happen to the world.
@@ -48,6 +47,17 @@ impl From<AllocError> for WorldFault {
     ghost from_gives = { λ _ fault. fault ≡ faults.NoMemory };
 
     fn from(_: AllocError) -> WorldFault {
+        WorldFault::NoMemory
+    }
+}
+
+impl From<NoMemory> for WorldFault {
+    ghost use Rattle.std.specs.Prelude.{◌≡◌};
+    ghost use Rattle.frame_sim.specs.declared.events.WorldFault.TheVariants as faults;
+
+    ghost from_gives = { λ _ fault. fault ≡ faults.NoMemory };
+
+    fn from(_: NoMemory) -> WorldFault {
         WorldFault::NoMemory
     }
 }

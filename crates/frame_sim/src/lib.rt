@@ -2,6 +2,10 @@
 #![tactic(auto)]
 
 mod events;
+mod halves;
+mod bounds;
+mod worlds;
 
 pub use events::{Step, WorldEvent, WorldFault};
 pub use trace_words::{AuditFault, audit};
+pub use worlds::World;

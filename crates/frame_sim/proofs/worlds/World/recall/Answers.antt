@@ -1,0 +1,11 @@
+use Rattle.frame_sim.proofs.Keeping.{sound-goes, sound-kept, sound-says}
+use Rattle.frame_sim.proofs.worlds.World.recall.Goals as goal
+
+pub returns-clause-kept : goal.returns-clause-kept
+returns-clause-kept c = rw (← c.self.view_is) (sound-kept c.promises_in_order.ensures.kept _ c.self.invariant)
+
+pub returns-clause-goes_on : goal.returns-clause-goes_on
+returns-clause-goes_on c = rw (← c.self.view_is) (sound-goes c.promises_in_order.ensures.goes_on _ c.recall.ensures c.recall-2.ensures c.self.invariant)
+
+pub returns-clause-synced : goal.returns-clause-synced
+returns-clause-synced c = rw (← c.self.view_is) (sound-says c.promises_in_order.ensures.synced _ c.self.invariant)
