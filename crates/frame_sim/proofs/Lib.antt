@@ -6,3 +6,5 @@ pub mod Handing
 pub mod Keeping
 pub mod Short
 pub mod Sendings
+pub mod Handed
+pub mod Taking

@@ -1,5 +1,5 @@
 //! One of the two gateways, with all that it sent.
-ghost use Rattle.std.specs.Prelude.{◌≡◌, ◌<◌, ◌≤◌, ◌+◌, ◌++◌, ℕ, List, [], Some, drop, length, option_map, slice_get, vec_len, vec_capacity, IfOk, IfErr, OnOk, OnErr, is_some};
+ghost use Rattle.std.specs.Prelude.{◌≡◌, ◌<◌, ◌≤◌, ◌+◌, ◌++◌, ℕ, List, [], Some, None, drop, length, option_map, slice_get, vec_len, vec_capacity, IfOk, IfErr, OnOk, OnErr, is_some};
 ghost use Rattle.bindings.specs.Entries.{is_pair, translates};
 ghost use Rattle.link.specs.Link.{IsLink};
 ghost use Rattle.step_parts.specs.Machine.{HasBytes};
@@ -151,9 +151,34 @@ impl Half {
         ensures untold { OnErr result (out.new ≡ out.old) }
     {
         match &mut self.gateway {
-            Some(gateway) => step_up(alloc, gateway, &mut self.sent, trace, event, out),
+            Some(gateway) => {
+                let outcome = step_up(alloc, gateway, &mut self.sent, trace, event, out)?;
+                Ok(outcome)
+            }
             None => Ok(Outcome::Done),
         }
+    }
+
+    /// It goes down.
+    pub(crate) fn stop(&mut self)
+        ensures { self.new ≡ record self.old { gateway = None } }
+    {
+        self.gateway = None;
+    }
+
+    /// It comes up, in the life of that number.
+    pub(crate) fn start(&mut self, gateway: Gateway, boot: u64)
+        ensures { self.new ≡ record self.old { gateway = Some gateway; boot = boot } }
+    {
+        self.gateway = Some(gateway);
+        self.boot = boot;
+    }
+
+    /// The number of its last boot, or 0.
+    pub(crate) fn boot(&self) -> u64
+        ensures { result ≡ self.now.boot }
+    {
+        self.boot
     }
 
     /// It takes the datagram of this number among those that the other one ever sent.

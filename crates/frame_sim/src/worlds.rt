@@ -1,18 +1,29 @@
 //! The world of a script: two gateways, what happens to them, and the trace of their notes.
-ghost use Rattle.std.specs.Prelude.{◌≡◌, IfOk};
+ghost use Rattle.std.specs.Prelude.{◌≡◌, ◌<◌, ◌++◌, ◌∷◌, [], true, vec_len, vec_capacity, IfOk, OnOk, OnErr};
 ghost use Rattle.bindings.specs.Entries.{is_pair, translates};
 ghost use Rattle.trace_words.specs.Trace.{Fits, GoesOn, Kept, Silent};
+ghost use Rattle.told.specs.Told.{with_note};
+ghost use Rattle.frame_sim.specs.declared.events.WorldEvent.TheVariants as events;
+ghost use Rattle.frame_sim.specs.declared.events.WorldFault.TheVariants as faults;
+ghost use Rattle.frame_sim.specs.Events.{TakesAt, may_be_told, may_boot, may_crash};
+ghost use Rattle.frame_sim.specs.Runs.{Answers, AreSteps, fault_of};
+ghost use Rattle.frame_sim.specs.Scene.{IsHanded};
 ghost use Rattle.frame_sim.specs.World.{Holds, ShowsSynced, Translates, founding, gateway_at, half, is_up, owned_by, pairs_of, synced_at};
 
 use crate::halves::Half;
+use crate::{Step, WorldEvent, WorldFault};
 use addresses::Port;
 use binding_step::books_begin;
-use gateway::{Gateway, NoMemory};
-use nat_types::{GatewayId, Note, Pair};
-use pair_machine::laws::{begins, promises_in_order};
+use gateway::{Event, Gateway, NoMemory, Out, Outcome};
+use link::one_spelling;
+use nat_types::{GatewayId, Happening, Note, Pair};
+use pair_machine::laws::{a_step_keeps, begins, goes_to, promises_in_order, steps_anywhere};
 use settings::Settings;
 use std::alloc::Global;
 use std::marker::Model;
+use std::slice;
+use step_parts::steps_go;
+use told::Room;
 
 /// Two gateways on one inside and one outside network, all that they sent to each other, and all that
 /// they noted.
@@ -44,6 +55,36 @@ impl<'a> Model for World<'a> {
       one = w.one;
       trace = w.trace.items;
     }) };
+}
+
+/// Tells a note more.
+fn tell(out: &mut Out, note: &Note) -> Result<(), NoMemory>
+    ensures ok { OnOk result (out.new ≡ with_note out.old note.now) }
+    ensures err { OnErr result (out.new ≡ out.old) }
+{
+    out.page.ready(Room {
+        frames: 0,
+        datagrams: 0,
+        notes: 1,
+    })?;
+    out.page.note(note);
+    Ok(())
+}
+
+/// Notes it on the trace, too.
+fn note_both(trace: &mut Vec<Note>, out: &mut Out, note: &Note) -> Result<(), NoMemory>
+    ensures trace { OnOk result (trace.new.items ≡ trace.old.items ++ note.now ∷ []) }
+    ensures out { OnOk result (out.new ≡ with_note out.old note.now) }
+    ensures unnoted { OnErr result (trace.new.items ≡ trace.old.items) }
+    ensures untold { OnErr result (out.new ≡ out.old) }
+{
+    trace.reserve(1)?;
+    tell(out, note)?;
+    match trace.extend_from_slice(slice::from_ref(note)) {
+        Ok(()) => {}
+        Err(_full) => unreachable!(),
+    }
+    Ok(())
 }
 
 impl<'a> World<'a> {
@@ -135,5 +176,144 @@ impl<'a> World<'a> {
         ensures { result ≡ is_up (gateway_at self.now id) }
     {
         self.half(id).up()
+    }
+
+    /// Takes one event. What the gateway sends and notes is appended to `out`.
+    pub fn apply(&mut self, event: &WorldEvent, out: &mut Out) -> Result<Outcome, WorldFault>
+        ensures { Answers self.old event.now out.old result out.new self.new }
+    {
+        match event {
+            WorldEvent::Frame(id, side, bytes) => {
+                let event = Event::Frame(*side, bytes.as_slice());
+                Ok(self.hand(*id, event, out)?)
+            }
+            WorldEvent::Tick(id, moment) => Ok(self.hand(*id, Event::Tick(*moment), out)?),
+            WorldEvent::Stop(id) => Ok(self.hand(*id, Event::Stop, out)?),
+            WorldEvent::Deliver(id, number) => self.deliver(*id, *number, out),
+            WorldEvent::Crash(id) => self.crash(*id, out),
+            WorldEvent::Boot(id, number) => self.boot(*id, *number, out),
+            WorldEvent::PeerOff(id, number) => self.pass_word(*id, *number, out),
+        }
+    }
+
+    /// One of the two takes what it is handed.
+    fn hand(&mut self, id: GatewayId, event: Event<'_>, out: &mut Out) -> Result<Outcome, NoMemory>
+        requires { IsHanded self.old id event }
+        ensures takes { IfOk result (λ o. TakesAt self.old id (gateway_at self.old id) event.entry
+            out.old o out.new self.new) }
+        ensures err { OnErr result (self.new ≡ self.old) }
+        ensures untold { OnErr result (out.new ≡ out.old) }
+    {
+        steps_go();
+        one_spelling();
+        a_step_keeps();
+        steps_anywhere();
+        match id {
+            GatewayId::Zero => self.zero.hand(self.alloc, &mut self.trace, event, out),
+            GatewayId::One => self.one.hand(self.alloc, &mut self.trace, event, out),
+        }
+    }
+
+    /// One of the two takes a datagram that the other sent.
+    fn deliver(
+        &mut self,
+        id: GatewayId,
+        number: u64,
+        out: &mut Out,
+    ) -> Result<Outcome, WorldFault>
+        ensures { Answers self.old (events.Deliver id number) out.old result out.new self.new }
+    {
+        steps_go();
+        one_spelling();
+        a_step_keeps();
+        steps_anywhere();
+        let trace = &mut self.trace;
+        match id {
+            GatewayId::Zero => self.zero.receive(self.alloc, &self.one, number, trace, out),
+            GatewayId::One => self.one.receive(self.alloc, &self.zero, number, trace, out),
+        }
+    }
+
+    /// The operator's word, if it is true.
+    fn pass_word(
+        &mut self,
+        id: GatewayId,
+        number: u64,
+        out: &mut Out,
+    ) -> Result<Outcome, WorldFault>
+        ensures { Answers self.old (events.PeerOff id number) out.old result out.new self.new }
+    {
+        if !self.may_be_told(id, number) {
+            return Err(WorldFault::PremiseBroken);
+        }
+        Ok(self.hand(id, Event::PeerOff(number), out)?)
+    }
+
+    fn crash(&mut self, id: GatewayId, out: &mut Out) -> Result<Outcome, WorldFault>
+        ensures { Answers self.old (events.Crash id) out.old result out.new self.new }
+    {
+        goes_to();
+        if !self.may_crash(id) {
+            return Err(WorldFault::PremiseBroken);
+        }
+        let note = Note {
+            by: id,
+            at: self.half(id).moment(),
+            what: Happening::Crashed,
+        };
+        note_both(&mut self.trace, out, &note)?;
+        match id {
+            GatewayId::Zero => self.zero.stop(),
+            GatewayId::One => self.one.stop(),
+        }
+        Ok(Outcome::Done)
+    }
+
+    fn boot(
+        &mut self,
+        id: GatewayId,
+        number: u64,
+        out: &mut Out,
+    ) -> Result<Outcome, WorldFault>
+        ensures { Answers self.old (events.Boot id number) out.old result out.new self.new }
+    {
+        goes_to();
+        books_begin();
+        if !self.may_boot(id, number) {
+            return Err(WorldFault::PremiseBroken);
+        }
+        let gateway = Gateway::new(self.alloc, self.settings, id, number, false)?;
+        let note = Note {
+            by: id,
+            at: 0,
+            what: Happening::Booted(number),
+        };
+        note_both(&mut self.trace, out, &note)?;
+        match id {
+            GatewayId::Zero => self.zero.start(gateway, number),
+            GatewayId::One => self.one.start(gateway, number),
+        }
+        Ok(Outcome::Done)
+    }
+
+    fn may_crash(&self, id: GatewayId) -> bool
+        ensures { result ≡ may_crash self.now id }
+    {
+        let half = self.half(id);
+        half.up() && (!half.synced() || self.half(id.other()).synced())
+    }
+
+    fn may_boot(&self, id: GatewayId, number: u64) -> bool
+        ensures { result ≡ may_boot self.now id number }
+    {
+        let half = self.half(id);
+        !half.up() && half.boot() < number
+    }
+
+    fn may_be_told(&self, id: GatewayId, number: u64) -> bool
+        ensures { result ≡ may_be_told self.now id number }
+    {
+        let other = self.half(id.other());
+        self.half(id).up() && (!other.up() && (0 < number && other.boot() == number))
     }
 }
