@@ -8,3 +8,4 @@ pub mod Short
 pub mod Sendings
 pub mod Handed
 pub mod Taking
+pub mod Lending

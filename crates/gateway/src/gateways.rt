@@ -1,5 +1,5 @@
 //! One gateway of the pair, and its step.
-ghost use Rattle.std.specs.Prelude.{◌≡◌, ◌<◌, IsTrue, IfOk, OnOk, OnErr, [], map, if◌then◌else◌};
+ghost use Rattle.std.specs.Prelude.{◌≡◌, ◌<◌, ◌≤◌, IsTrue, IfOk, OnOk, OnErr, [], map, if◌then◌else◌};
 ghost use Rattle.nat_types.specs.declared.gateways.GatewayId.TheVariants.{Zero};
 ghost use Rattle.bindings.specs.Entries.{is_pair, pairs_in, translates};
 ghost use Rattle.bindings.specs.Runs.{port_at};
@@ -8,7 +8,9 @@ ghost use Rattle.step_parts.specs.Founding.{begun, founded};
 ghost use Rattle.step_parts.specs.Machine.{HasBytes};
 ghost use Rattle.step_parts.specs.Shown.{scene};
 ghost use Rattle.step_parts.specs.Steps.{IsStepOn, outcome_on};
-ghost use Rattle.gateway.specs.Gateway.{IsGateway};
+ghost use Rattle.step_parts.specs.Truly.{AreWired};
+ghost use Rattle.link.specs.Link.{IsLink};
+ghost use Rattle.gateway.specs.Gateway.{IsGateway, most_notes};
 
 use crate::{NoMemory, Out};
 use addresses::Port;
@@ -58,9 +60,25 @@ impl Gateway {
 
     /// Reminds the prover of what each gateway keeps; it does nothing when it runs.
     pub fn recall(&self)
-        ensures { IsGateway self.now }
+        ensures gateway { IsGateway self.now }
+        ensures link { IsLink self.now.link }
+        ensures wired { AreWired self.now }
     {
-        let _ = &self.alloc;
+        unreachable!()
+    }
+
+    /// No step makes more notes than this.
+    pub fn most_notes(&self) -> usize
+        ensures { most_notes self.now ≤ result }
+    {
+        unreachable!()
+    }
+
+    /// Its clock's moment, in centiseconds.
+    pub fn moment(&self) -> u64
+        ensures { result ≡ self.now.moment }
+    {
+        unreachable!()
     }
 
     /// Whether its table is loaded.
@@ -96,11 +114,11 @@ impl Gateway {
     /// One step: takes an event, and appends to `out` what is sent and noted with it. An `Err`
     /// stands for a refused growth; nothing has changed then.
     pub fn step(&mut self, event: Event<'_>, out: &mut Out) -> Result<Outcome, NoMemory>
-        ensures outcome { IfOk result (λ o. o ≡ outcome_on self.old event) }
-        ensures step { OnOk result (IsStepOn (scene self.old out.old) event
+        ensures outcome { IfOk result (λ o. o ≡ outcome_on self.old event.entry) }
+        ensures step { OnOk result (IsStepOn (scene self.old out.old) event.entry
             (scene self.new out.new)) }
         // The bytes that came in are bytes.
-        ensures bytes { HasBytes event }
+        ensures bytes { HasBytes event.entry }
         ensures err { OnErr result (self.new ≡ self.old) }
         ensures untold { OnErr result (out.new ≡ out.old) }
     {

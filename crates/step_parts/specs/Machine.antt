@@ -10,7 +10,7 @@ use Rattle.link.specs.Link.{datagram_of}
 use Rattle.link.specs.Reading.{reading}
 use Rattle.pair_machine.specs.Box.{Box, Letter}
 use Rattle.pair_machine.specs.Step.{IsStep}
-use Rattle.binding_step.specs.Books.{is_lone, is_synced}
+use Rattle.binding_step.specs.Books.{IsBook, is_lone, is_synced}
 use Rattle.binding_step.specs.Machine.{IsSameHouse, Stands, box_at, letter_of, ranges_of}
 use Rattle.step_parts.specs.declared.events.Event.{Event}
 use Rattle.step_parts.specs.declared.events.Event.TheVariants.{Frame, Datagram, Tick, Stop, PeerOff}
