@@ -1,4 +1,11 @@
-pub mod Scenes
-pub mod Founding
+pub mod Laws
+pub mod Mails
+pub mod Stepping
+pub mod Turning
+pub mod Handing
 pub mod Keeping
-pub mod Runs
+pub mod Short
+pub mod Sendings
+pub mod Handed
+pub mod Taking
+pub mod Lending

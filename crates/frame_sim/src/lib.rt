@@ -2,6 +2,8 @@
 #![tactic(auto)]
 
 mod events;
+mod halves;
+mod bounds;
 mod worlds;
 
 pub use events::{Step, WorldEvent, WorldFault};

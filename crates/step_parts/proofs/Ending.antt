@@ -71,6 +71,9 @@ module _ (letters : List Letter) (words : List ℕ) (s : Scene) (h : List Record
         notes_are = x.notes_are;
         sent = d ∷ [];
         datagrams_are = ap (λ (ds : List (List ℕ)). ds ++ spelling d ∷ []) x.datagrams;
+        few = omega arith;
+        own = (refl, tt);
+        house = x.works.house;
         step = subst (λ (m : ℕ). IsStep (ranges_of b) b.id m (box_at b e h e.taken) (box_at b2 (ended e2 ticked) hs e2.taken) letters words [] (reverse x.notes) [] (letter_of d ∷ [])) (sym x.moment) step;
       }
 
@@ -88,6 +91,9 @@ module _ (letters : List Letter) (words : List ℕ) (s : Scene) (h : List Record
         notes_are = x.notes_are;
         sent = [];
         datagrams_are = x.datagrams ∙ sym (append-nil s.told.datagrams);
+        few = omega arith;
+        own = tt;
+        house = x.works.house;
         step = subst (λ (m : ℕ). IsStep (ranges_of b) b.id m (box_at b e h e.taken) (box_at b2 e2 hs e2.taken) letters words [] (reverse x.notes) [] []) (sym x.moment) x.works.step;
       }
 

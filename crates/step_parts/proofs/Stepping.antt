@@ -69,6 +69,9 @@ ended-goes s (Tick now) done h a =
       notes_are = g.notes_are;
       sent = g.sent;
       datagrams_are = g.datagrams_are;
+      few = g.few;
+      own = g.own;
+      house = g.house;
       step = g.step;
     }
 ended-goes s Stop done h a = answered-goes [] [] s h done a

@@ -1,16 +1,17 @@
 -- A step as the pair machine sees it.
-use Rattle.std.specs.Prelude.{◌≡◌, ◌<◌, ℕ, true, List, [], ◌∷◌, ◌++◌, get_or, map, reverse, Result, Ok, Err, ◌⊎◌}
+use Rattle.std.specs.Prelude.{◌≡◌, ◌<◌, ◌≤◌, ℕ, true, List, [], ◌∷◌, ◌++◌, get_or, length, map, reverse, Result, Ok, Err, ◌⊎◌}
 use Rattle.std.specs.List.{AllByRecursion}
 use Rattle.nat_types.specs.declared.notes.Note.{Note}
 use Rattle.nat_types.specs.declared.records.Record.{Record}
 use Rattle.link.specs.declared.datagrams.Datagram.{Datagram as Letters}
 use Rattle.link.specs.declared.faults.LinkFault.{LinkFault}
 use Rattle.link.specs.Grammar.{spelling}
+use Rattle.link.specs.Link.{datagram_of}
 use Rattle.link.specs.Reading.{reading}
 use Rattle.pair_machine.specs.Box.{Box, Letter}
 use Rattle.pair_machine.specs.Step.{IsStep}
-use Rattle.binding_step.specs.Books.{IsBook, is_lone}
-use Rattle.binding_step.specs.Machine.{box_at, letter_of, ranges_of, Stands}
+use Rattle.binding_step.specs.Books.{IsBook, is_lone, is_synced}
+use Rattle.binding_step.specs.Machine.{IsSameHouse, Stands, box_at, letter_of, ranges_of}
 use Rattle.step_parts.specs.declared.events.Event.{Event}
 use Rattle.step_parts.specs.declared.events.Event.TheVariants.{Frame, Datagram, Tick, Stop, PeerOff}
 use Rattle.step_parts.specs.Shown.{Scene, Shown, id_of}
@@ -80,6 +81,11 @@ pub record Goes (letters : List Letter) (words : List ℕ) (old new : Scene) (h 
   pub notes_are : new.told.notes ≡ old.told.notes ++ notes
   pub sent : List Letters
   pub datagrams_are : new.told.datagrams ≡ old.told.datagrams ++ map spelling sent
+  -- at most one, which is that of its link as it stands then
+  pub few : length sent ≤ 1
+  pub own : AllByRecursion (λ d. d ≡ datagram_of (is_synced new.shown.ledger.book.stage) new.shown.link) sent
+  -- and it is still who it was
+  pub house : IsSameHouse old.shown.ledger.book new.shown.ledger.book
   pub step : let g = old.shown in
       IsStep (ranges_of g.ledger.book) (id_of g) new.shown.moment (box_of g h) (box_of new.shown history)
       letters words [] (reverse notes) [] (reverse (map letter_of sent))
