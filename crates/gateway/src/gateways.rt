@@ -4,20 +4,22 @@ ghost use Rattle.nat_types.specs.declared.gateways.GatewayId.TheVariants.{Zero};
 ghost use Rattle.bindings.specs.Entries.{is_pair, pairs_in, translates};
 ghost use Rattle.bindings.specs.Runs.{port_at};
 ghost use Rattle.binding_step.specs.Books.{is_synced};
+ghost use Rattle.binding_step.specs.Ledgers.{is_heard};
 ghost use Rattle.step_parts.specs.Founding.{begun, founded};
 ghost use Rattle.step_parts.specs.Machine.{HasBytes};
-ghost use Rattle.step_parts.specs.Shown.{scene};
+ghost use Rattle.step_parts.specs.Shown.{scene, station_on};
 ghost use Rattle.step_parts.specs.Steps.{IsStepOn, outcome_on};
 ghost use Rattle.gateway.specs.Gateway.{IsGateway};
 
 use crate::{NoMemory, Out};
 use addresses::Port;
 use forwarder::Forwarder;
-use nat_types::{GatewayId, Pair};
+use nat_types::{GatewayId, Pair, Side};
 use settings::Settings;
 use std::alloc::Global;
 use std::marker::Model;
 use step_parts::{Event, Outcome};
+use vrrp_states::State;
 
 /// One gateway of the pair. Moments are in centiseconds.
 #[derive(Drop)]
@@ -66,6 +68,34 @@ impl Gateway {
     /// Whether its table is loaded.
     pub fn synced(&self) -> bool
         ensures { result ≡ is_synced self.now.ledger.book.stage }
+    {
+        unreachable!()
+    }
+
+    /// The moment of its clock, in centiseconds.
+    pub fn moment(&self) -> u64
+        ensures { result ≡ self.now.moment }
+    {
+        unreachable!()
+    }
+
+    /// The state of the virtual router on a side.
+    pub fn router_state(&self, side: Side) -> State
+        ensures { result ≡ (station_on self.now side).router.state }
+    {
+        unreachable!()
+    }
+
+    /// The boot of the other gateway that it knows; 0 where it knows none.
+    pub fn known_peer(&self) -> u64
+        ensures { result ≡ self.now.link.known }
+    {
+        unreachable!()
+    }
+
+    /// Whether the other gateway was heard at most 300 centiseconds ago.
+    pub fn hears_peer(&self) -> bool
+        ensures { result ≡ is_heard self.now.link.heard self.now.moment }
     {
         unreachable!()
     }

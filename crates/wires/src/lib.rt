@@ -6,5 +6,5 @@ mod sockets;
 mod wire;
 
 pub use places::{Place, Ports, ports_of};
-pub use sockets::{SocketFault, Sockets};
+pub use sockets::{SocketFault, Sockets, send_once};
 pub use wire::{Failing, LONGEST, Wire, WireFault};

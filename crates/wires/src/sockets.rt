@@ -75,6 +75,17 @@ fn loopback(port: u16) -> SocketAddr {
     SocketAddr::V4(SocketAddrV4::new(Ipv4Addr::LOCALHOST, port))
 }
 
+/// Sends one datagram to a port of the loopback address, from any port that is free.
+///
+/// # Errors
+///
+/// `NoSocket` where no port can be had, or the system doesn't take the datagram.
+pub fn send_once<R: Net>(net: &R, port: u16, bytes: &[u8]) -> Result<(), SocketFault> {
+    let socket = Socket::bind(net, (0, port))?;
+    socket.inner.send_to(bytes, socket.target)?;
+    Ok(())
+}
+
 /// The sockets of a box: for the link and for each side.
 #[derive(Drop)]
 pub struct Sockets {

@@ -1,0 +1,106 @@
+//! The rounds of a box.
+
+use crate::Clockwork;
+use crate::letters::event_of;
+use crate::logs::tell;
+use crate::views::view_of;
+use gateway::{Event, Gateway, Out};
+use std::alloc::Global;
+use std::io::{self, Write};
+use std::time::Duration;
+use wires::{LONGEST, Place, Wire};
+
+/// How many datagrams a round receives at most, so that a flood doesn't keep its tick back. What is
+/// left is there for the next round.
+pub const MOST: usize = 256;
+
+/// How long a round waits for its first datagram, in milliseconds.
+pub const WAIT: u64 = 10;
+
+/// Runs a box for so many rounds, writes `end`, and is done. A round hands in what comes by the
+/// wire, and then one tick; what the gateway tells is sent at once. On `errors` stands a line for
+/// each event that is dropped, and for each change that an operator watches for.
+///
+/// A send that fails is a lost datagram; where to receive fails, nothing was received. An event for
+/// which memory is refused changes nothing: a frame or a datagram is lost then, and what a tick was
+/// to do the next one does. A line that can't be written on `errors` is left out.
+///
+/// # Errors
+///
+/// Those of writing `end`.
+pub fn serve<W: Wire, C: Clockwork, O: Write, E: Write>(
+    alloc: Global,
+    gateway: &mut Gateway,
+    wire: &mut W,
+    clock: &mut C,
+    rounds: u32,
+    output: &mut O,
+    errors: &mut E,
+) -> io::Result<()> {
+    let mut out = Out::new(alloc);
+    for _ in 0..rounds {
+        round(gateway, wire, clock, &mut out, errors);
+    }
+    writeln!(output, "end")?;
+    output.flush()
+}
+
+/// Hands in what comes, and then the clock's moment.
+fn round<W: Wire, C: Clockwork, E: Write>(
+    gateway: &mut Gateway,
+    wire: &mut W,
+    clock: &mut C,
+    out: &mut Out,
+    errors: &mut E,
+) {
+    take_what_comes(gateway, wire, out, errors);
+    let tick = Event::Tick(clock.moment());
+    hand_in(gateway, tick, wire, out, errors);
+}
+
+/// Waits for a datagram, and hands in what is there.
+fn take_what_comes<W: Wire, E: Write>(
+    gateway: &mut Gateway,
+    wire: &mut W,
+    out: &mut Out,
+    errors: &mut E,
+) {
+    let mut room = [0; LONGEST];
+    let mut limit = Duration::from_millis(WAIT);
+    for _ in 0..MOST {
+        match wire.receive(limit, &mut room) {
+            Ok(Some((place, count))) => {
+                let event = event_of(place, &room[..count]);
+                hand_in(gateway, event, wire, out, errors);
+            }
+            Ok(None) => return,
+            Err(_nothing_received) => {}
+        }
+        limit = Duration::ZERO;
+    }
+}
+
+/// Hands an event in, sends what the gateway tells, and writes the lines for the operator.
+fn hand_in<W: Wire, E: Write>(
+    gateway: &mut Gateway,
+    event: Event<'_>,
+    wire: &mut W,
+    out: &mut Out,
+    errors: &mut E,
+) {
+    let before = view_of(gateway);
+    out.clear();
+    let outcome = gateway.step(event, out);
+    send_all(wire, out);
+    let _left_out = tell(errors, &event, outcome, &before, &view_of(gateway));
+}
+
+/// Sends what was told: the frames by the wires of their sides, the datagrams by the link.
+fn send_all<W: Wire>(wire: &mut W, out: &Out) {
+    for frame in out.frames() {
+        let _lost = wire.send(Place::Side(frame.side), frame.bytes);
+    }
+    for datagram in out.datagrams() {
+        let _lost = wire.send(Place::Link, datagram);
+    }
+}
