@@ -1,11 +1,13 @@
 //! A wire in memory, and a clock that goes by steps.
 
+ghost use Rattle.std.specs.Prelude.{◌≤◌};
+
 use nat_types::Side;
 use serving::Clockwork;
 use std::alloc::Global;
 use std::io::{self, Write};
 use std::time::Duration;
-use wires::{LONGEST, Place, Wire, WireFault};
+use wires::{LONGEST, Place, Received, Wire, WireFault};
 
 /// A datagram, and where it came from or went to.
 #[derive(Drop)]
@@ -21,6 +23,7 @@ pub(crate) struct Memory {
     pub(crate) coming: Vec<Letter>,
     /// How many of them have come.
     pub(crate) come: usize,
+    received: Received,
     pub(crate) sent: Vec<Letter>,
 }
 
@@ -30,6 +33,7 @@ impl Memory {
             alloc,
             coming: Vec::new(alloc),
             come: 0,
+            received: Received::none(),
             sent: Vec::new(alloc),
         }
     }
@@ -52,6 +56,8 @@ impl Memory {
 }
 
 impl Wire for Memory {
+    ghost received = { λ m. m.received };
+
     fn send(&mut self, to: Place, bytes: &[u8]) -> Result<(), WireFault> {
         let bytes = Vec::from_slice(self.alloc, bytes).map_err(|_| WireFault)?;
         let letter = Letter { place: to, bytes };
@@ -67,13 +73,19 @@ impl Wire for Memory {
             return Ok(None);
         };
         self.come = self.come.saturating_add(1);
-        let mut count = 0;
-        for (to, from) in room.iter_mut().zip(&letter.bytes) {
-            *to = *from;
-            count += 1;
-        }
+        let count = copied(letter.bytes.as_slice(), room);
+        self.received.keep(letter.place, count, room);
         Ok(Some((letter.place, count)))
     }
+}
+
+/// Copies bytes as far as there is room, and says how many.
+fn copied(bytes: &[u8], room: &mut [u8; LONGEST]) -> usize
+    ensures { result ≤ 4096 }
+{
+    let count = bytes.len().min(LONGEST);
+    room[..count].copy_from_slice(&bytes[..count]);
+    count
 }
 
 /// A clock that goes on by as much at each reading.

@@ -1,4 +1,6 @@
 //! The rounds of a box.
+ghost use Rattle.std.specs.Prelude.{◌≡◌};
+ghost use Rattle.serving.specs.Rounds.{AreRounds, IsRound, Takes, TakesNew};
 
 use crate::Clockwork;
 use crate::letters::event_of;
@@ -36,7 +38,10 @@ pub fn serve<W: Wire, C: Clockwork, O: Write, E: Write>(
     rounds: u32,
     output: &mut O,
     errors: &mut E,
-) -> io::Result<()> {
+) -> io::Result<()>
+    ensures { AreRounds rounds gateway.old (W.received wire.old) gateway.new
+        (W.received wire.new) }
+{
     let mut out = Out::new(alloc);
     for _ in 0..rounds {
         round(gateway, wire, clock, &mut out, errors);
@@ -52,7 +57,9 @@ fn round<W: Wire, C: Clockwork, E: Write>(
     clock: &mut C,
     out: &mut Out,
     errors: &mut E,
-) {
+)
+    ensures { IsRound gateway.old (W.received wire.old) gateway.new (W.received wire.new) }
+{
     take_what_comes(gateway, wire, out, errors);
     let tick = Event::Tick(clock.moment());
     hand_in(gateway, tick, wire, out, errors);
@@ -64,19 +71,37 @@ fn take_what_comes<W: Wire, E: Write>(
     wire: &mut W,
     out: &mut Out,
     errors: &mut E,
-) {
-    let mut room = [0; LONGEST];
+)
+    ensures { TakesNew gateway.old (W.received wire.old) gateway.new (W.received wire.new) }
+{
     let mut limit = Duration::from_millis(WAIT);
     for _ in 0..MOST {
-        match wire.receive(limit, &mut room) {
-            Ok(Some((place, count))) => {
-                let event = event_of(place, &room[..count]);
-                hand_in(gateway, event, wire, out, errors);
-            }
-            Ok(None) => return,
-            Err(_nothing_received) => {}
+        if !take_next(gateway, wire, limit, out, errors) {
+            return;
         }
         limit = Duration::ZERO;
+    }
+}
+
+/// Hands in the next datagram, and says whether there may be more. Where one is lost, there may.
+fn take_next<W: Wire, E: Write>(
+    gateway: &mut Gateway,
+    wire: &mut W,
+    limit: Duration,
+    out: &mut Out,
+    errors: &mut E,
+) -> bool
+    ensures { TakesNew gateway.old (W.received wire.old) gateway.new (W.received wire.new) }
+{
+    let mut room = [0; LONGEST];
+    match wire.receive(limit, &mut room) {
+        Ok(Some((place, count))) => {
+            let event = event_of(place, &room[..count]);
+            hand_in(gateway, event, wire, out, errors);
+            true
+        }
+        Ok(None) => false,
+        Err(_nothing_received) => true,
     }
 }
 
@@ -87,7 +112,10 @@ fn hand_in<W: Wire, E: Write>(
     wire: &mut W,
     out: &mut Out,
     errors: &mut E,
-) {
+)
+    ensures taken { Takes gateway.old event gateway.new }
+    ensures received { W.received wire.new ≡ W.received wire.old }
+{
     let before = view_of(gateway);
     out.clear();
     let outcome = gateway.step(event, out);
@@ -96,7 +124,9 @@ fn hand_in<W: Wire, E: Write>(
 }
 
 /// Sends what was told: the frames by the wires of their sides, the datagrams by the link.
-fn send_all<W: Wire>(wire: &mut W, out: &Out) {
+fn send_all<W: Wire>(wire: &mut W, out: &Out)
+    ensures { W.received wire.new ≡ W.received wire.old }
+{
     for frame in out.frames() {
         let _lost = wire.send(Place::Side(frame.side), frame.bytes);
     }
