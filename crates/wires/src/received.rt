@@ -6,19 +6,18 @@ use crate::{LONGEST, Place};
 use std::marker::Model;
 use std::snapshot::Snapshot;
 
-/// The datagrams that a wire has received, in order. No byte of them is kept.
+/// A datagram that was received.
 #[derive(Drop)]
-pub struct Received {
-    last: Option<Last>,
-}
-
-/// The last of them, and those before it.
-#[derive(Drop)]
-struct Last {
+struct Found {
     place: Place,
     count: usize,
     room: Snapshot<[u8; LONGEST]>,
-    before: Snapshot<Received>,
+}
+
+/// The datagrams that a wire has received, in order. No byte of them is kept.
+#[derive(Drop)]
+pub struct Received {
+    last: Option<(Found, Snapshot<Received>)>,
 }
 
 impl Model for Received {
@@ -45,12 +44,12 @@ impl Received {
     pub fn keep(&mut self, place: Place, count: usize, room: &[u8; LONGEST])
         ensures { self.new ≡ self.old ++ letters_in (Some (place, count)) room.now }
     {
-        let last = Last {
+        let found = Found {
             place,
             count,
             room: Snapshot::of(room),
-            before: Snapshot::of(self),
         };
-        *self = Received { last: Some(last) };
+        let last = Some((found, Snapshot::of(self)));
+        *self = Received { last };
     }
 }
