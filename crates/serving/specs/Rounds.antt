@@ -19,11 +19,16 @@ pub record Brings (letter : Letter) (event : Event) : Type 0 where
 abbrev pub Takes : Shown → Event → Shown → Type 0
 Takes g event g2 = ((told : Told) × IsStepOn (scene g none_told) event (scene g2 told)) ⊎ (g2 ≡ g)
 
+-- a letter is taken as its event
+pub record TakesLetter (g : Shown) (letter : Letter) (g2 : Shown) : Type 0 where
+  pub event : Event
+  pub brings : Brings letter event
+  pub taken : Takes g event g2
+
 -- letters are taken one after the other
 abbrev pub TakesAll : Shown → List Letter → Shown → Type 0
 TakesAll g [] g2 = g2 ≡ g
-TakesAll g (letter ∷ rest) g2 =
-    (event : Event) × ((middle : Shown) × (Brings letter event × (Takes g event middle × TakesAll middle rest g2)))
+TakesAll g (letter ∷ rest) g2 = (middle : Shown) × (TakesLetter g letter middle × TakesAll middle rest g2)
 
 -- Of what was received, just the new letters are taken, in order. It is said of all letters received before and after.
 pub record TakesNew (g : Shown) (before : List Letter) (g2 : Shown) (after : List Letter) : Type 0 where

@@ -19,8 +19,20 @@ pub(crate) fn tell<E: Write>(
     after: &View,
 ) -> io::Result<()> {
     tell_outcome(errors, after.moment, event, outcome)?;
-    tell_router(errors, after.moment, Side::Inside, before.inside, after.inside)?;
-    tell_router(errors, after.moment, Side::Outside, before.outside, after.outside)?;
+    tell_router(
+        errors,
+        after.moment,
+        Side::Inside,
+        before.inside,
+        after.inside,
+    )?;
+    tell_router(
+        errors,
+        after.moment,
+        Side::Outside,
+        before.outside,
+        after.outside,
+    )?;
     tell_synced(errors, before, after)?;
     tell_peer(errors, before, after)
 }

@@ -113,7 +113,7 @@ fn hand_in<W: Wire, E: Write>(
     out: &mut Out,
     errors: &mut E,
 )
-    ensures taken { Takes gateway.old event gateway.new }
+    ensures taken { Takes gateway.old event.entry gateway.new }
     ensures received { W.received wire.new ≡ W.received wire.old }
 {
     let before = view_of(gateway);
