@@ -5,6 +5,7 @@ ghost use Rattle.bindings.specs.Entries.{is_pair, pairs_in, translates};
 ghost use Rattle.bindings.specs.Runs.{port_at};
 ghost use Rattle.binding_step.specs.Books.{is_synced};
 ghost use Rattle.binding_step.specs.Ledgers.{is_heard};
+ghost use Rattle.sides.specs.Stations.{is_active};
 ghost use Rattle.step_parts.specs.Founding.{begun, founded};
 ghost use Rattle.step_parts.specs.Machine.{HasBytes};
 ghost use Rattle.step_parts.specs.Shown.{scene, station_on};
@@ -19,7 +20,6 @@ use settings::Settings;
 use std::alloc::Global;
 use std::marker::Model;
 use step_parts::{Event, Outcome};
-use vrrp_states::State;
 
 /// One gateway of the pair. Moments are in centiseconds.
 #[derive(Drop)]
@@ -79,9 +79,9 @@ impl Gateway {
         unreachable!()
     }
 
-    /// The state of the virtual router on a side.
-    pub fn router_state(&self, side: Side) -> State
-        ensures { result ≡ (station_on self.now side).router.state }
+    /// Whether the virtual router on a side is Active.
+    pub fn is_active(&self, side: Side) -> bool
+        ensures { result ≡ is_active (station_on self.now side) }
     {
         unreachable!()
     }

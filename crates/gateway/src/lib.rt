@@ -10,4 +10,3 @@ pub use memory::NoMemory;
 pub use packet_rules::Reason;
 pub use step_parts::{Event, Outcome};
 pub use told::Out;
-pub use vrrp_states::State;

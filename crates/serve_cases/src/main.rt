@@ -42,7 +42,9 @@ fn act<O: Write>(
 
 fn main(rt: HostRuntime) -> Result<()> {
     let text = fs::read_to_string(&rt, "S.toml")?;
-    let settings = settings_file::read(rt.alloc(), text.as_str()).ok().context("no settings")?;
+    let settings = settings_file::read(rt.alloc(), text.as_str())
+        .ok()
+        .context("no settings")?;
     let cases = fs::read_to_string(&rt, "rounds.cases")?;
     let mut output = BufWriter::new(rt.alloc(), io::writer(&rt))?;
     let mut boxes = Boxes::new(rt.alloc());

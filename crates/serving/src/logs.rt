@@ -1,7 +1,7 @@
 //! The lines that a box writes for its operator.
 
 use crate::View;
-use gateway::{Event, NoMemory, Outcome, State};
+use gateway::{Event, NoMemory, Outcome};
 use nat_types::Side;
 use std::io::{self, Write};
 
@@ -19,20 +19,9 @@ pub(crate) fn tell<E: Write>(
     after: &View,
 ) -> io::Result<()> {
     tell_outcome(errors, after.moment, event, outcome)?;
-    tell_router(
-        errors,
-        after.moment,
-        Side::Inside,
-        before.inside,
-        after.inside,
-    )?;
-    tell_router(
-        errors,
-        after.moment,
-        Side::Outside,
-        before.outside,
-        after.outside,
-    )?;
+    for side in [Side::Inside, Side::Outside] {
+        tell_router(errors, side, before, after)?;
+    }
     tell_synced(errors, before, after)?;
     tell_peer(errors, before, after)
 }
@@ -68,15 +57,29 @@ fn name_of(event: &Event<'_>) -> &'static str {
 
 fn tell_router<E: Write>(
     errors: &mut E,
-    moment: u64,
     side: Side,
-    before: State,
-    after: State,
+    before: &View,
+    after: &View,
 ) -> io::Result<()> {
-    if before == after {
+    let state = state_of(after, side);
+    if state == state_of(before, side) {
         return Ok(());
     }
-    writeln!(errors, "log {moment} {side} {after:?}")
+    let moment = after.moment;
+    writeln!(errors, "log {moment} {side} {state}")
+}
+
+/// The state of a side's router, which is started as soon as the table is loaded.
+fn state_of(view: &View, side: Side) -> &'static str {
+    let active = match side {
+        Side::Inside => view.inside,
+        Side::Outside => view.outside,
+    };
+    match (view.synced, active) {
+        (_, true) => "Active",
+        (true, false) => "Backup",
+        (false, false) => "Initialize",
+    }
 }
 
 fn tell_synced<E: Write>(errors: &mut E, before: &View, after: &View) -> io::Result<()> {

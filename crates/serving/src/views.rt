@@ -2,7 +2,7 @@
 ghost use Rattle.std.specs.Prelude.{◌≡◌};
 ghost use Rattle.serving.specs.Views.{seen};
 
-use gateway::{Gateway, State};
+use gateway::Gateway;
 use nat_types::Side;
 
 /// What an operator watches of a gateway.
@@ -10,10 +10,10 @@ use nat_types::Side;
 pub struct View {
     /// The gateway's moment, in centiseconds since its start.
     pub moment: u64,
-    /// The state of the inside's virtual router.
-    pub inside: State,
-    /// The state of the outside's virtual router.
-    pub outside: State,
+    /// Whether the inside's virtual router is Active.
+    pub inside: bool,
+    /// Whether the outside's virtual router is Active.
+    pub outside: bool,
     /// Whether its table is loaded.
     pub synced: bool,
     /// The known boot of the other gateway, or 0.
@@ -28,8 +28,8 @@ pub fn view_of(gateway: &Gateway) -> View
 {
     View {
         moment: gateway.moment(),
-        inside: gateway.router_state(Side::Inside),
-        outside: gateway.router_state(Side::Outside),
+        inside: gateway.is_active(Side::Inside),
+        outside: gateway.is_active(Side::Outside),
         synced: gateway.synced(),
         peer: gateway.known_peer(),
         heard: gateway.hears_peer(),
