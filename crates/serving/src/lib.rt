@@ -3,12 +3,14 @@
 #![tactic(auto)]
 
 mod clocks;
+mod left;
 mod letters;
 mod logs;
 mod rounds;
 mod views;
 
 pub use clocks::{Clockwork, Stopwatch};
+pub use left::LeftOut;
 pub use letters::{event_of, spelled_word};
 pub use rounds::{MOST, WAIT, serve};
 pub use views::{View, view_of};

@@ -1,8 +1,9 @@
 //! The rounds of a box.
-ghost use Rattle.std.specs.Prelude.{◌≡◌};
-ghost use Rattle.serving.specs.Rounds.{AreRounds, IsRound, Takes, TakesNew};
+ghost use Rattle.std.specs.Prelude.{◌≡◌, IfOk};
+ghost use Rattle.serving.specs.Rounds.{AreRounds, IsRound, Takes, TakesNew, box};
 
 use crate::Clockwork;
+use crate::left::LeftOut;
 use crate::letters::event_of;
 use crate::logs::tell;
 use crate::views::view_of;
@@ -18,6 +19,13 @@ pub const MOST: usize = 256;
 
 /// How long a round waits for its first datagram, in milliseconds.
 pub const WAIT: u64 = 10;
+
+/// What the gateway has told in its last step, and how many events were left out.
+#[derive(Drop)]
+struct Desk {
+    out: Out,
+    left: LeftOut,
+}
 
 /// Runs a box for so many rounds, writes `end`, and is done. A round hands in what comes by the
 /// wire, and then one tick; what the gateway tells is sent at once. On `errors` stands a line for
@@ -38,16 +46,20 @@ pub fn serve<W: Wire, C: Clockwork, O: Write, E: Write>(
     rounds: u32,
     output: &mut O,
     errors: &mut E,
-) -> io::Result<()>
-    ensures { AreRounds rounds gateway.old (W.received wire.old) gateway.new
-        (W.received wire.new) }
+) -> io::Result<LeftOut>
+    ensures { IfOk result (λ left. AreRounds rounds (box gateway.old (W.received wire.old) 0)
+        (box gateway.new (W.received wire.new) left)) }
 {
-    let mut out = Out::new(alloc);
+    let mut desk = Desk {
+        out: Out::new(alloc),
+        left: LeftOut::none(),
+    };
     for _ in 0..rounds {
-        round(gateway, wire, clock, &mut out, errors);
+        round(gateway, wire, clock, &mut desk, errors);
     }
     writeln!(output, "end")?;
-    output.flush()
+    output.flush()?;
+    Ok(desk.left)
 }
 
 /// Hands in what comes, and then the clock's moment.
@@ -55,28 +67,30 @@ fn round<W: Wire, C: Clockwork, E: Write>(
     gateway: &mut Gateway,
     wire: &mut W,
     clock: &mut C,
-    out: &mut Out,
+    desk: &mut Desk,
     errors: &mut E,
 )
-    ensures { IsRound gateway.old (W.received wire.old) gateway.new (W.received wire.new) }
+    ensures { IsRound (box gateway.old (W.received wire.old) desk.old.left)
+        (box gateway.new (W.received wire.new) desk.new.left) }
 {
-    take_what_comes(gateway, wire, out, errors);
+    take_what_comes(gateway, wire, desk, errors);
     let tick = Event::Tick(clock.moment());
-    hand_in(gateway, tick, wire, out, errors);
+    hand_in(gateway, tick, wire, desk, errors);
 }
 
 /// Waits for a datagram, and hands in what is there.
 fn take_what_comes<W: Wire, E: Write>(
     gateway: &mut Gateway,
     wire: &mut W,
-    out: &mut Out,
+    desk: &mut Desk,
     errors: &mut E,
 )
-    ensures { TakesNew gateway.old (W.received wire.old) gateway.new (W.received wire.new) }
+    ensures { TakesNew (box gateway.old (W.received wire.old) desk.old.left)
+        (box gateway.new (W.received wire.new) desk.new.left) }
 {
     let mut limit = Duration::from_millis(WAIT);
     for _ in 0..MOST {
-        if !take_next(gateway, wire, limit, out, errors) {
+        if !take_next(gateway, wire, limit, desk, errors) {
             return;
         }
         limit = Duration::ZERO;
@@ -88,16 +102,17 @@ fn take_next<W: Wire, E: Write>(
     gateway: &mut Gateway,
     wire: &mut W,
     limit: Duration,
-    out: &mut Out,
+    desk: &mut Desk,
     errors: &mut E,
 ) -> bool
-    ensures { TakesNew gateway.old (W.received wire.old) gateway.new (W.received wire.new) }
+    ensures { TakesNew (box gateway.old (W.received wire.old) desk.old.left)
+        (box gateway.new (W.received wire.new) desk.new.left) }
 {
     let mut room = [0; LONGEST];
     match wire.receive(limit, &mut room) {
         Ok(Some((place, count))) => {
             let event = event_of(place, &room[..count]);
-            hand_in(gateway, event, wire, out, errors);
+            hand_in(gateway, event, wire, desk, errors);
             true
         }
         Ok(None) => false,
@@ -110,16 +125,19 @@ fn hand_in<W: Wire, E: Write>(
     gateway: &mut Gateway,
     event: Event<'_>,
     wire: &mut W,
-    out: &mut Out,
+    desk: &mut Desk,
     errors: &mut E,
 )
-    ensures taken { Takes gateway.old event.entry gateway.new }
+    ensures taken { Takes gateway.old desk.old.left event.entry gateway.new desk.new.left }
     ensures received { W.received wire.new ≡ W.received wire.old }
 {
     let before = view_of(gateway);
-    out.clear();
-    let outcome = gateway.step(event, out);
-    send_all(wire, out);
+    desk.out.clear();
+    let outcome = gateway.step(event, &mut desk.out);
+    if outcome.is_err() {
+        desk.left.count();
+    }
+    send_all(wire, &desk.out);
     let _left_out = tell(errors, &event, outcome, &before, &view_of(gateway));
 }
 
