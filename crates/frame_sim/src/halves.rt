@@ -21,8 +21,7 @@ use link::limits_law;
 use nat_types::{Note, Pair};
 use std::alloc::Global;
 use std::marker::Model;
-use crate::bounds::steps_note;
-use step_parts::{steps_go, steps_tell};
+use step_parts::{steps_go, steps_note, steps_tell};
 
 /// The longest datagram, in bytes.
 const LONGEST_DATAGRAM: usize = 2214;

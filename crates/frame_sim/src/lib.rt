@@ -3,7 +3,6 @@
 
 mod events;
 mod halves;
-mod bounds;
 mod worlds;
 
 pub use events::{Step, WorldEvent, WorldFault};

@@ -1,5 +1,5 @@
 -- What each gateway keeps.
-use Rattle.std.specs.Prelude.{◌≡◌, ℕ, ◌+◌, ◌*◌, List, length}
+use Rattle.std.specs.Prelude.{◌≡◌, List}
 use Rattle.nat_types.specs.declared.records.Record.{Record}
 use Rattle.binding_step.specs.Books.{IsBook}
 use Rattle.vrrp_states.specs.Table.{IsMoment}
@@ -17,10 +17,3 @@ pub record IsGateway (g : Shown) : Type 0 where
   pub pushed : HasPushed g history
   -- a whole batch finds room in the link, and 64 answers beside it
   pub places : g.link.capacity ≡ link_places g.ledger.book.zero g.ledger.book.one
-
--- No step makes more notes: one for each entry that is revived or let go; of each kept packet that is taken again three;
--- and of each of 64 records one, and then of the packets that it frees.
-abbrev pub most_notes : Shown → ℕ
-most_notes g =
-    let freed = 3 * length g.kept in
-    length g.ledger.book.entries + freed + 64 * (1 + freed) + 3

@@ -4,20 +4,23 @@ ghost use Rattle.nat_types.specs.declared.gateways.GatewayId.TheVariants.{Zero};
 ghost use Rattle.bindings.specs.Entries.{is_pair, pairs_in, translates};
 ghost use Rattle.bindings.specs.Runs.{port_at};
 ghost use Rattle.binding_step.specs.Books.{is_synced};
+ghost use Rattle.binding_step.specs.Ledgers.{is_heard};
+ghost use Rattle.sides.specs.Stations.{is_active};
 ghost use Rattle.step_parts.specs.Founding.{begun, founded};
 ghost use Rattle.step_parts.specs.Machine.{HasBytes};
-ghost use Rattle.step_parts.specs.Shown.{scene};
+ghost use Rattle.step_parts.specs.Shown.{scene, station_on};
 ghost use Rattle.step_parts.specs.Steps.{IsStepOn, outcome_on};
 ghost use Rattle.step_parts.specs.Truly.{AreWired};
 ghost use Rattle.link.specs.Link.{IsLink};
-ghost use Rattle.gateway.specs.Gateway.{IsGateway, most_notes};
+ghost use Rattle.step_parts.specs.Rests.{most_notes};
+ghost use Rattle.gateway.specs.Gateway.{IsGateway};
 
 use crate::begins::begin;
 use crate::rooms::entry_count;
 use crate::{NoMemory, Out, steps};
 use addresses::Port;
 use forwarder::Forwarder;
-use nat_types::{GatewayId, Pair};
+use nat_types::{GatewayId, Pair, Side};
 use settings::Settings;
 use std::alloc::Global;
 use std::marker::Model;
@@ -95,6 +98,30 @@ impl Gateway {
         ensures { result ≡ is_synced self.now.ledger.book.stage }
     {
         self.forwarder.core.is_synced()
+    }
+
+    /// Whether the virtual router on a side is Active.
+    pub fn is_active(&self, side: Side) -> bool
+        ensures { result ≡ is_active (station_on self.now side) }
+    {
+        self.forwarder.station(side).is_active()
+    }
+
+    /// The boot of the other gateway that it knows; 0 where it knows none.
+    pub fn known_peer(&self) -> u64
+        ensures { result ≡ self.now.link.known }
+    {
+        self.forwarder.link.known_peer()
+    }
+
+    /// Whether the other gateway was heard at most 300 centiseconds ago.
+    pub fn hears_peer(&self) -> bool
+        ensures { result ≡ is_heard self.now.link.heard self.now.moment }
+    {
+        match self.forwarder.link.heard() {
+            Some(last) => self.forwarder.moment.saturating_sub(last) <= 300,
+            None => false,
+        }
     }
 
     /// All pairs of its table, by protocol (tcp first) and port; a proposal given up is none.

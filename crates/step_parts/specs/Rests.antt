@@ -1,5 +1,5 @@
 -- What a step notes, and that the gateway's ledger accounts for it.
-use Rattle.std.specs.Prelude.{◌≡◌, ℕ, List, ◌++◌, reverse}
+use Rattle.std.specs.Prelude.{◌≡◌, ℕ, ◌+◌, ◌*◌, List, ◌++◌, length, reverse}
 use Rattle.std.specs.List.{AllByRecursion}
 use Rattle.nat_types.specs.declared.gateways.GatewayId.{GatewayId}
 use Rattle.nat_types.specs.declared.notes.Note.{Note}
@@ -22,3 +22,10 @@ pub record Rests (old new : Scene) : Type 0 where
   pub own : AreBy (id_of old.shown) new.shown.moment notes
   pub id : id_of new.shown ≡ id_of old.shown
   pub accounts : (before : List Note) → AccountsOn old.shown before → AccountsOn new.shown (reverse notes ++ before)
+
+-- No step makes more notes: one for each entry that is revived or let go; of each kept packet that is taken again three;
+-- and of each of 64 records one, and then of the packets that it frees.
+abbrev pub most_notes : Shown → ℕ
+most_notes g =
+    let freed = 3 * length g.kept in
+    length g.ledger.book.entries + freed + 64 * (1 + freed) + 3

@@ -1,6 +1,6 @@
 //! What holds of a step of a gateway. Each law is the contract of a function that does nothing.
 
-ghost use Rattle.std.specs.Prelude.{◌≡◌, ◌∷◌, ◌++◌, ℕ, false, [], List, reverse};
+ghost use Rattle.std.specs.Prelude.{◌≡◌, ◌≤◌, ◌+◌, ◌∷◌, ◌++◌, ℕ, false, [], List, length, reverse};
 ghost use Rattle.nat_types.specs.declared.gateways.GatewayId.{GatewayId};
 ghost use Rattle.nat_types.specs.declared.notes.Happening.TheVariants.{Booted, Crashed};
 ghost use Rattle.nat_types.specs.declared.notes.Note.{Note};
@@ -18,7 +18,7 @@ ghost use Rattle.step_parts.specs.Machine.{Goes, HasBytes, HasPushed, IsAlone, I
 ghost use Rattle.step_parts.specs.Machine.{letters_in, words_in};
 ghost use Rattle.step_parts.specs.Others.{AreOthers};
 ghost use Rattle.step_parts.specs.Parts.{all_idle_done};
-ghost use Rattle.step_parts.specs.Rests.{AccountsOn, Rests};
+ghost use Rattle.step_parts.specs.Rests.{AccountsOn, Rests, most_notes};
 ghost use Rattle.step_parts.specs.Shown.{Scene, Shown, id_of, scene, with_notes};
 ghost use Rattle.step_parts.specs.Steps.{Does, IsStepOn};
 ghost use Rattle.step_parts.specs.Truly.{AreWired, Tells, hand_of};
@@ -138,4 +138,10 @@ pub fn idle_at_once()
         let gone = let_go g.moment keys g.ledger g.link in
         all_idle_done s keys ≡ scene (record g { ledger = gone.ledger; link = gone.link })
         (with_notes s.told gone.notes) }
+{}
+
+/// No step makes more notes than `most_notes` says.
+pub fn steps_note()
+    ensures { (s : Scene) (event : Event) (s2 : Scene) → IsStepOn s event s2 → HasBytes event
+        → length s2.told.notes ≤ length s.told.notes + most_notes s.shown }
 {}
