@@ -1,5 +1,4 @@
 -- How many notes each part of a step makes, how many packets it keeps more, and that no step makes more than it may.
-use native.Mathlib.Numerals.{unary_clauses}
 use Rattle.std.proofs.Common.{◌≡◌, ◌≤◌, ℕ, zero, suc, ◌+◌, ◌-◌, ◌*◌, Bool, true, false, cond, not, ◌&&◌, List, [], ◌∷◌, ◌++◌, length, map, filter, Option, Some, None, Result, Ok, Err, refl, sym, ap, subst, ◌∙◌, arith}
 use Rattle.std.proofs.lemmas.List.{length-append, length-drop, length-map}
 use Rattle.std.proofs.lemmas.List.Filters.{length-filter_both}
@@ -283,7 +282,7 @@ record-within c s r =
 -- at most n records, of at most m notes each
 within-more : (c m n : ℕ) (a b d : Scene) → Within c m a b → Within c (n * m) b d → Within c (suc n * m) a d
 within-more c m n a b d x y =
-    let more : suc n * m ≡ m + n * m = simp unary_clauses (omega arith) in
+    let more : suc n * m ≡ m + n * m = omega arith in
     subst (λ (k : ℕ). Within c k a d) (sym more) (within-then c m (n * m) a b d x y)
 
 records-within : (c n : ℕ) (s : Scene) (rs : List Record) → length rs ≤ n → Within c (n * (1 + 3 * c)) s (records_done s rs)
@@ -339,13 +338,13 @@ heard-within c s d fits = at (is_restart s.shown.link d)
     at true =
         let heard = with_link s (after_take s.shown.link d s.shown.moment) in
         let m = length s.shown.ledger.book.entries + 3 * c in
-        within-then c m (64 * (1 + 3 * c)) s (reset heard) _
+        within-then c m (64 * (1 + 3 * c)) s (reset heard) (records_done (reset heard) (records_taken s.shown.link d))
         (within-after c m s heard (reset heard) (adds-none s heard refl refl) (reset-within c heard))
         (records-within c 64 (reset heard) (records_taken s.shown.link d) (few-taken s.shown.link d fits))
     at false =
         let heard = with_link s (after_take s.shown.link d s.shown.moment) in
         let m = length s.shown.ledger.book.entries + 3 * c in
-        within-then c m (64 * (1 + 3 * c)) s heard _
+        within-then c m (64 * (1 + 3 * c)) s heard (records_done heard (records_taken s.shown.link d))
         (within-fewer c 0 m s heard (omega arith) (within-adds c 0 s heard (adds-none s heard refl refl)))
         (records-within c 64 heard (records_taken s.shown.link d) (few-taken s.shown.link d fits))
 
