@@ -1,5 +1,5 @@
 -- How many notes each part of a step makes, how many packets it keeps more, and that no step makes more than it may.
-use Rattle.std.proofs.Common.{◌≡◌, ◌≤◌, ℕ, zero, suc, ◌+◌, ◌-◌, ◌*◌, Bool, true, false, cond, not, ◌&&◌, List, [], ◌∷◌, ◌++◌, length, map, filter, Option, Some, None, Result, Ok, Err, refl, sym, ap, subst, ◌∙◌, arith}
+use Rattle.std.proofs.Common.{◌≡◌, ◌≤◌, ℕ, zero, suc, ◌+◌, ◌-◌, ◌*◌, Bool, true, false, cond, not, ◌&&◌, List, [], ◌∷◌, ◌++◌, length, filter, Option, Some, None, Result, Ok, Err, refl, sym, ap, subst, ◌∙◌, arith}
 use Rattle.std.proofs.lemmas.List.{length-append, length-drop, length-map}
 use Rattle.std.proofs.lemmas.List.Filters.{length-filter_both}
 use Rattle.addresses.specs.declared.ethernet.Mac.{Mac}
@@ -24,13 +24,13 @@ use Rattle.bindings.specs.Revivals.{comes_back}
 use Rattle.link.specs.declared.datagrams.Datagram.{Datagram}
 use Rattle.link.specs.declared.faults.LinkFault.{LinkFault}
 use Rattle.link.specs.Grammar.{IsWellFormed}
-use Rattle.link.specs.Link.{Link, after_take, closed_at, free_places, is_beginning, is_due_on_tick, is_restart, met, records_taken, refusal, sent_on_answer, sent_on_tick, takeable, untaken}
+use Rattle.link.specs.Link.{Link, after_take, closed_at, free_places, is_beginning, is_due_on_tick, is_restart, met, records_taken, refusal, sent_on_tick, takeable, untaken}
 use Rattle.link.specs.Reading.{reading}
 use Rattle.link.proofs.Ends.{length-takeable}
 use Rattle.link.proofs.Wholes.{reading_takes}
 use Rattle.binding_step.specs.declared.changes.Row.{Row}
 use Rattle.binding_step.specs.Books.{Book, is_synced}
-use Rattle.binding_step.specs.Ledgers.{Ledger, alone_ledger, carried_ledger, may_ask, restarted_ledger, rests_for, taken_ledger}
+use Rattle.binding_step.specs.Ledgers.{Ledger, alone_ledger, may_ask, restarted_ledger, rests_for, taken_ledger}
 use Rattle.binding_step.specs.Resets.{back_in, restart_link, restart_notes, retaken}
 use Rattle.binding_step.specs.Rows.{answered, carry_row, idle_row, is_full, noted_by, taken_answer, taken_ended, taken_what, wish_of}
 use Rattle.kept.specs.declared.waits.Ended.{Ended}
@@ -48,7 +48,6 @@ use Rattle.packet_rules.specs.Arping.{answer_to, is_learnable}
 use Rattle.packet_rules.specs.Flows.{source_of}
 use Rattle.sides.specs.Stations.{Station, after_arp, frames_of, is_active}
 use Rattle.told.specs.Told.{Told, with_datagram}
-use Rattle.vrrp_states.specs.declared.Action.{Action}
 use Rattle.vrrp_states.specs.Table as table
 use Rattle.vrrp_states.specs.Table.{Event as RouterEvent}
 use Rattle.step_parts.specs.declared.events.Event.{Event}
@@ -56,10 +55,10 @@ use Rattle.step_parts.specs.declared.events.Event.TheVariants.{Frame, Datagram a
 use Rattle.step_parts.specs.declared.plans.Plan.{Plan}
 use Rattle.step_parts.specs.declared.plans.Plan.TheVariants.{Send, Ask, Wait as WaitFor}
 use Rattle.step_parts.specs.Machine.{AreBytes, HasBytes}
-use Rattle.step_parts.specs.Parts.{acted, all_framed, all_idle_done, all_taken, answered_by, arp_taken, by_plan, by_row, by_verdict, carried_all, carried_by, datagram_in, datagram_read, flow_taken, framed, handed_in, has_synced, heard_by, heard_unless, idle_done, idle_taken, keeping, link_answered, link_ticked, old_dropped, record_done, record_shown, record_told, records_done, released, reset, retaken_by, started, taken_again, wait_ended, wanted_by, wanted_for, with_link, word_taken}
+use Rattle.step_parts.specs.Parts.{all_framed, all_idle_done, all_taken, answered_by, arp_taken, by_plan, by_row, by_verdict, carried_all, carried_by, datagram_in, datagram_read, flow_taken, framed, handed_in, has_synced, heard_by, heard_unless, idle_done, idle_taken, keeping, link_answered, link_ticked, old_dropped, record_done, record_shown, record_told, records_done, released, reset, retaken_by, started, taken_again, wait_ended, wanted_by, wanted_for, with_link, word_taken}
 use Rattle.step_parts.specs.Rests.{most_notes}
 use Rattle.step_parts.specs.Shown.{Scene, Shown, id_of, scene, station_on, with_notes, with_station}
-use Rattle.step_parts.specs.Steps.{BothAct, Does, FrameDoes, IsStepOn, RouterActs, ended_on, stopped, ticked, word_by, word_refusal}
+use Rattle.step_parts.specs.Steps.{BothAct, Does, FrameDoes, IsStepOn, RouterActs, ended_on, ticked, word_by, word_refusal}
 use Rattle.step_parts.specs.Verdict.{plan_of, reading_on}
 use Rattle.step_parts.proofs.Packets.{refusal-leaves}
 
@@ -300,7 +299,9 @@ few-taken e d fits = at (is_restart e d && not (is_beginning e d))
     at : (b : Bool) → length (let rs : List Record = cond b [] (takeable (free_places (met e d)) (untaken (met e d).taken d)) in rs) ≤ 64
     at true = omega arith
     at false = omega (
-      arith, fits.count, length-takeable (free_places (met e d)) (untaken (met e d).taken d),
+      arith,
+      fits.count,
+      length-takeable (free_places (met e d)) (untaken (met e d).taken d),
       length-drop ((met e d).taken + 1 - d.first) d.records.items,
     )
 
