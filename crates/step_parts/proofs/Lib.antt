@@ -2,6 +2,7 @@ pub mod Accounting
 pub mod Apart
 pub mod Asking
 pub mod Beginning
+pub mod Counting
 pub mod Ending
 pub mod Hearing
 pub mod Idle
