@@ -2,7 +2,7 @@
 ghost use Rattle.std.specs.Prelude.{◌≡◌, ◌<◌, ◌++◌, ◌∷◌, [], true, vec_len, vec_capacity, IfOk, OnOk, OnErr};
 ghost use Rattle.bindings.specs.Entries.{is_pair, translates};
 ghost use Rattle.trace_words.specs.Trace.{Fits, GoesOn, Kept, Silent};
-ghost use Rattle.told.specs.Told.{with_note};
+ghost use Rattle.told.specs.Told.{none_told, with_note};
 ghost use Rattle.frame_sim.specs.declared.events.WorldEvent.TheVariants as events;
 ghost use Rattle.frame_sim.specs.declared.events.WorldFault.TheVariants as faults;
 ghost use Rattle.frame_sim.specs.Events.{TakesAt, may_be_told, may_boot, may_crash};
@@ -194,6 +194,35 @@ impl<'a> World<'a> {
             WorldEvent::Boot(id, number) => self.boot(*id, *number, out),
             WorldEvent::PeerOff(id, number) => self.pass_word(*id, *number, out),
         }
+    }
+
+    /// Takes the events in order, and gives a step for each. An `Err` applies none.
+    pub fn run(&mut self, events: &[WorldEvent]) -> Result<Vec<Step>, NoMemory>
+        ensures fits { Fits self.new.trace }
+        ensures kept { Kept (Holds self.new) self.new.trace }
+        ensures silent { Silent self.new.trace }
+        ensures goes_on { GoesOn (Translates self.new) self.new.trace }
+        ensures synced { ShowsSynced self.new }
+        ensures steps { IfOk result (λ ss. AreSteps self.old events.now ss.items self.new) }
+        ensures err { OnErr result (self.new ≡ self.old) }
+    {
+        self.recall();
+        let mut steps = Vec::with_capacity(self.alloc, events.len())?;
+        for event in events {
+            let step = self.step(event);
+            steps.push_reserved(step);
+        }
+        self.recall();
+        Ok(steps)
+    }
+
+    /// What one event gives.
+    fn step(&mut self, event: &WorldEvent) -> Step
+        ensures { Answers self.old event.now none_told result.answer result.out self.new }
+    {
+        let mut out = Out::new(self.alloc);
+        let answer = self.apply(event, &mut out);
+        Step { answer, out }
     }
 
     /// One of the two takes what it is handed.
