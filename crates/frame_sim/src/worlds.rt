@@ -244,12 +244,7 @@ impl<'a> World<'a> {
     }
 
     /// One of the two takes a datagram that the other sent.
-    fn deliver(
-        &mut self,
-        id: GatewayId,
-        number: u64,
-        out: &mut Out,
-    ) -> Result<Outcome, WorldFault>
+    fn deliver(&mut self, id: GatewayId, number: u64, out: &mut Out) -> Result<Outcome, WorldFault>
         ensures { Answers self.old (events.Deliver id number) out.old result out.new self.new }
     {
         steps_go();
@@ -298,12 +293,7 @@ impl<'a> World<'a> {
         Ok(Outcome::Done)
     }
 
-    fn boot(
-        &mut self,
-        id: GatewayId,
-        number: u64,
-        out: &mut Out,
-    ) -> Result<Outcome, WorldFault>
+    fn boot(&mut self, id: GatewayId, number: u64, out: &mut Out) -> Result<Outcome, WorldFault>
         ensures { Answers self.old (events.Boot id number) out.old result out.new self.new }
     {
         goes_to();
