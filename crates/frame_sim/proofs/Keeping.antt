@@ -113,7 +113,7 @@ translates-on w pushed t zero one goes i synced p = at i (goes i synced p)
 pub shows-synced : (w : World) (pushed : GatewayId → List Record) → ((i : GatewayId) → (box_in (scene_of w pushed) i).synced ≡ is_synced i (reverse w.trace)) → ShowsSynced w
 shows-synced w pushed says i =
     let same : synced_at (gateway_at w i) ≡ is_synced i (reverse w.trace) =
-        sym (ap (λ (b : Box). b.synced) (box-is w pushed i) ∙ synced-of (gateway_at w i) (half w i).boot (pushed i)) ∙ says i in
+    sym (ap (λ (b : Box). b.synced) (box-is w pushed i) ∙ synced-of (gateway_at w i) (half w i).boot (pushed i)) ∙ says i in
     (λ h. subst IsTrue same h, λ h. subst IsTrue (sym same) h)
 
 -- ---- what a sound world keeps

@@ -1,4 +1,4 @@
--- It doesn't matter where the bytes of a frame lie.
+-- It doesn't matter where the bytes of a frame or a datagram lie.
 use Rattle.std.proofs.Common.{◌≡◌, ℕ, List, Option, Some, None, subst}
 use Rattle.std.specs.Borrow.{Bor}
 use Rattle.nat_types.specs.declared.gateways.GatewayId.{GatewayId}
@@ -24,3 +24,14 @@ anywhere w i (Some g) side b told o told2 w2 t = record {
 pub takes-lent : (w : World) (i : GatewayId) (g : Option Shown) (side : Side) (b : Bor (List ℕ)) (bytes : List ℕ) (told : Told) (o : Outcome) (told2 : Told) (w2 : World) → b.now ≡ bytes → TakesAt w i g (given.Frame side b) told o told2 w2
     → TakesAt w i g (given.Frame side (lent bytes)) told o told2 w2
 takes-lent w i g side b bytes told o told2 w2 same t = subst (λ (x : List ℕ). TakesAt w i g (given.Frame side (lent x)) told o told2 w2) same (anywhere w i g side b told o told2 w2 t)
+
+pub datagram-lent : (w : World) (i : GatewayId) (g : Option Shown) (b : Bor (List ℕ)) (told : Told) (o : Outcome) (told2 : Told) (w2 : World) → TakesAt w i g (given.Datagram b) told o told2 w2
+    → TakesAt w i g (given.Datagram (lent b.now)) told o told2 w2
+datagram-lent w i None b told o told2 w2 t = t
+datagram-lent w i (Some g) b told o told2 w2 t = record {
+  new = t.new;
+  step = let s = t.step in record { done = s.done; does = s.does; sends = s.sends };
+  truly = t.truly;
+  answer = t.answer;
+  world = t.world;
+}

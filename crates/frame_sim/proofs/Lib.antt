@@ -7,5 +7,6 @@ pub mod Keeping
 pub mod Short
 pub mod Sendings
 pub mod Handed
-pub mod Taking
 pub mod Lending
+pub mod Taking
+pub mod Runs

@@ -65,7 +65,17 @@ short most d is =
     let e4 = a4 ++ (length rs ∷ []) in
     let e3 = a3 ++ e4 in
     let e2 = a2 ++ (status ∷ e3) in
-    omega (arith, records-short most rs is.records, count,
-    length-append (78 ∷ 80 ∷ 2 ∷ gateway_number d.sender ∷ (a1 ++ e2)) tail,
-    length-append a1 e2, length-append a2 (status ∷ e3), length-append a3 e4, length-append a4 (length rs ∷ []),
-    big 8 d.first, big 8 d.delivered, big 8 d.receiver_boot, big 8 d.boot)
+    omega (
+      arith,
+      records-short most rs is.records,
+      count,
+      length-append (78 ∷ 80 ∷ 2 ∷ gateway_number d.sender ∷ (a1 ++ e2)) tail,
+      length-append a1 e2,
+      length-append a2 (status ∷ e3),
+      length-append a3 e4,
+      length-append a4 (length rs ∷ []),
+      big 8 d.first,
+      big 8 d.delivered,
+      big 8 d.receiver_boot,
+      big 8 d.boot,
+    )

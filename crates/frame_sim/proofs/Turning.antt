@@ -52,11 +52,13 @@ crashed_world w i moment = with_half w i (record (half w i) { gateway = None }) 
 crash-parts : (w : World) (i : GatewayId) → may_crash w i ≡ true → (is_up (gateway_at w i) ≡ true) × (synced_at (gateway_at w i) ≡ true → synced_at (gateway_at w (other i)) ≡ true)
 crash-parts w i may =
     let mine = synced_at (gateway_at w i) in let theirs = synced_at (gateway_at w (other i)) in
-    let parts = and_parts (is_up (gateway_at w i)) (not mine || theirs) may in
-    (parts.0, λ s. elim (or_cases (not mine) theirs parts.1) [
-      | inl unsynced ↦ absurd (both_ways mine (not-true mine unsynced) s)
-      | inr synced ↦ synced
-    ])
+    let parts = and_parts (is_up (gateway_at w i)) (not mine || theirs) may in (
+      parts.0,
+      λ s. elim (or_cases (not mine) theirs parts.1) [
+        | inl unsynced ↦ absurd (both_ways mine (not-true mine unsynced) s)
+        | inr synced ↦ synced
+      ],
+    )
 
 can-crash : (w : World) (pushed : GatewayId → List Record) (i : GatewayId) → may_crash w i ≡ true → Can (ranges_of w.settings.ports) i (seen_by i (scene_of w pushed)) act.Crash
 can-crash w pushed Zero may =

@@ -14,8 +14,8 @@ ghost use Rattle.frame_sim.specs.Halves.{IsShort, Receives, StepsAt, items_of};
 ghost use Rattle.frame_sim.specs.Runs.{fault_of};
 ghost use Rattle.frame_sim.specs.World.{HasKeys};
 
-use addresses::Port;
 use crate::WorldFault;
+use addresses::Port;
 use gateway::{Event, Gateway, NoMemory, Out, Outcome};
 use link::limits_law;
 use nat_types::{Note, Pair};

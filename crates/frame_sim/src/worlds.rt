@@ -2,7 +2,7 @@
 ghost use Rattle.std.specs.Prelude.{◌≡◌, ◌<◌, ◌++◌, ◌∷◌, [], true, vec_len, vec_capacity, IfOk, OnOk, OnErr};
 ghost use Rattle.bindings.specs.Entries.{is_pair, translates};
 ghost use Rattle.trace_words.specs.Trace.{Fits, GoesOn, Kept, Silent};
-ghost use Rattle.told.specs.Told.{with_note};
+ghost use Rattle.told.specs.Told.{none_told, with_note};
 ghost use Rattle.frame_sim.specs.declared.events.WorldEvent.TheVariants as events;
 ghost use Rattle.frame_sim.specs.declared.events.WorldFault.TheVariants as faults;
 ghost use Rattle.frame_sim.specs.Events.{TakesAt, may_be_told, may_boot, may_crash};
@@ -196,6 +196,35 @@ impl<'a> World<'a> {
         }
     }
 
+    /// Takes the events in order, and gives a step for each. An `Err` applies none.
+    pub fn run(&mut self, events: &[WorldEvent]) -> Result<Vec<Step>, NoMemory>
+        ensures fits { Fits self.new.trace }
+        ensures kept { Kept (Holds self.new) self.new.trace }
+        ensures silent { Silent self.new.trace }
+        ensures goes_on { GoesOn (Translates self.new) self.new.trace }
+        ensures synced { ShowsSynced self.new }
+        ensures steps { IfOk result (λ ss. AreSteps self.old events.now ss.items self.new) }
+        ensures err { OnErr result (self.new ≡ self.old) }
+    {
+        self.recall();
+        let mut steps = Vec::with_capacity(self.alloc, events.len())?;
+        for event in events {
+            let step = self.step(event);
+            steps.push_reserved(step);
+        }
+        self.recall();
+        Ok(steps)
+    }
+
+    /// What one event gives.
+    fn step(&mut self, event: &WorldEvent) -> Step
+        ensures { Answers self.old event.now none_told result.answer result.out self.new }
+    {
+        let mut out = Out::new(self.alloc);
+        let answer = self.apply(event, &mut out);
+        Step { answer, out }
+    }
+
     /// One of the two takes what it is handed.
     fn hand(&mut self, id: GatewayId, event: Event<'_>, out: &mut Out) -> Result<Outcome, NoMemory>
         requires { IsHanded self.old id event }
@@ -215,12 +244,7 @@ impl<'a> World<'a> {
     }
 
     /// One of the two takes a datagram that the other sent.
-    fn deliver(
-        &mut self,
-        id: GatewayId,
-        number: u64,
-        out: &mut Out,
-    ) -> Result<Outcome, WorldFault>
+    fn deliver(&mut self, id: GatewayId, number: u64, out: &mut Out) -> Result<Outcome, WorldFault>
         ensures { Answers self.old (events.Deliver id number) out.old result out.new self.new }
     {
         steps_go();
@@ -269,12 +293,7 @@ impl<'a> World<'a> {
         Ok(Outcome::Done)
     }
 
-    fn boot(
-        &mut self,
-        id: GatewayId,
-        number: u64,
-        out: &mut Out,
-    ) -> Result<Outcome, WorldFault>
+    fn boot(&mut self, id: GatewayId, number: u64, out: &mut Out) -> Result<Outcome, WorldFault>
         ensures { Answers self.old (events.Boot id number) out.old result out.new self.new }
     {
         goes_to();
