@@ -1,11 +1,11 @@
 use Rattle.std.proofs.Common.{◌≡◌, ◌++◌, ◌∷◌, [], true, ap, subst, sym, ◌∙◌}
 use Rattle.nat_types.specs.declared.gateways.GatewayId.{GatewayId}
 use Rattle.nat_types.specs.declared.gateways.GatewayId.TheVariants.{Zero, One}
-use Rattle.nat_types.specs.declared.notes.Happening.TheVariants.{Crashed, Booted}
+use Rattle.nat_types.specs.declared.notes.Happening.TheVariants.{Crashed}
 use Rattle.frame_sim.specs.World.{Half, World}
-use Rattle.frame_sim.specs.Events.{may_boot, may_crash, noting}
+use Rattle.frame_sim.specs.Events.{may_crash, noting}
 use Rattle.frame_sim.proofs.Taking.{sound-so}
-use Rattle.frame_sim.proofs.Turning.{boot-sound, crash-sound}
+use Rattle.frame_sim.proofs.Turning.{crash-sound}
 use Rattle.frame_sim.proofs.worlds.World.crash.Goals as goal
 
 pub invariant_of-self-in-Zero : goal.invariant_of-self-in-Zero
