@@ -123,7 +123,7 @@ words_event (verb ∷ gateway ∷ number ∷ []) =
     by_word (gateway_named gateway) (λ id. by_word (number_named number) (λ n. counted_named verb id n))
 words_event (verb ∷ gateway ∷ side ∷ text ∷ []) =
     by_word (gateway_named gateway) (λ id. by_word (side_named side)
-        (λ at. by_word (bytes_named text) (λ bytes. frame_named verb id at bytes)))
+    (λ at. by_word (bytes_named text) (λ bytes. frame_named verb id at bytes)))
 words_event others = None
 
 -- the event that a line names, if it isn't silent and names one
