@@ -1,8 +1,9 @@
 -- The laws of the crates below on which a world stands.
-use Rattle.std.proofs.Common.{◌≡◌, ℕ, ◌&&◌, List, [], ◌++◌, Ok}
-use Rattle.nat_types.specs.Same.{other}
+use Rattle.std.proofs.Common.{◌≡◌, ℕ, ◌&&◌, false, List, [], ◌∷◌, ◌++◌, reverse, Ok}
+use Rattle.nat_types.specs.Same.{other, same}
 use Rattle.nat_types.specs.declared.gateways.GatewayId.{GatewayId}
 use Rattle.nat_types.specs.declared.gateways.GatewayId.TheVariants.{Zero}
+use Rattle.nat_types.specs.declared.notes.Happening.TheVariants.{Booted, Crashed}
 use Rattle.nat_types.specs.declared.notes.Note.{Note}
 use Rattle.nat_types.specs.declared.records.Record.{Record}
 use Rattle.bindings.specs.declared.entries.PortBounds.{PortBounds}
@@ -11,15 +12,20 @@ use Rattle.link.specs.declared.datagrams.Datagram.{Datagram}
 use Rattle.link.specs.Grammar.{IsWellFormed, spelling}
 use Rattle.link.specs.Link.{fresh}
 use Rattle.link.specs.Reading.{reading}
+use Rattle.settings.specs.declared.whole.Settings.{Settings}
+use Rattle.trace_words.specs.Past.{Idle}
 use Rattle.pair_machine.specs.Box.{Box, Letter, booted, founder}
 use Rattle.pair_machine.specs.Ownership.{Ranges}
 use Rattle.pair_machine.specs.Step.{IsOff, IsStep, WasSent}
+use Rattle.pair_machine.specs.Talk.{note}
 use Rattle.pair_machine.specs.World.{Can, IsWorld, MachineEvent, Scene as Seen, after_event, box_in, founding, mail_in, seen_by, with_step}
 use Rattle.binding_step.specs.Books.{IsBook, empty_book, founded_book}
 use Rattle.binding_step.specs.Machine.{box_at, ranges_of}
 use Rattle.step_parts.specs.declared.events.Event.{Event}
 use Rattle.step_parts.specs.Machine.{Goes, HasBytes, HasPushed, IsAlone, KeepsBytes, letters_in, words_in}
-use Rattle.step_parts.specs.Shown.{Scene}
+use Rattle.step_parts.specs.Founding.{begun, founded}
+use Rattle.step_parts.specs.Rests.{AccountsOn, Rests}
+use Rattle.step_parts.specs.Shown.{Scene, Shown, id_of}
 use Rattle.step_parts.specs.Steps.{IsStepOn}
 
 -- a step of a gateway is one of the machine
@@ -56,3 +62,24 @@ BoxFounded = (zero one : PortBounds) (capacity : ℕ) → AreBounds zero → let
 -- the founding can come about
 abbrev pub Begins : Type 0
 Begins = (r : Ranges) → IsWorld r (founding r)
+
+-- a step rests on the ledger's account, and the other gateway's account isn't touched by it
+abbrev pub StepsAccount : Type 0
+StepsAccount = (s : Scene) (event : Event) (s2 : Scene) → IsStepOn s event s2 → HasBytes event → IsBook s.shown.ledger.book → KeepsBytes s.shown → Rests s s2
+
+abbrev pub OthersStep : Type 0
+OthersStep = (s s2 : Scene) (g : Shown) (before : List Note) (x : Rests s s2) → same (id_of g) (id_of s.shown) ≡ false → AccountsOn s.shown before → AccountsOn g before → AccountsOn g (reverse x.notes ++ before)
+
+-- nor by the other's crash or boot
+abbrev pub OthersCrash : Type 0
+OthersCrash = (g : Shown) (by : GatewayId) (at : ℕ) (before : List Note) → same (id_of g) by ≡ false → AccountsOn g before → AccountsOn g (note by at Crashed ∷ before)
+
+abbrev pub OthersBoot : Type 0
+OthersBoot = (g : Shown) (by : GatewayId) (at number : ℕ) (before : List Note) → same (id_of g) by ≡ false → AccountsOn g before → AccountsOn g (note by at (Booted number) ∷ before)
+
+-- a gateway accounts for the trace as it begins
+abbrev pub BegunAccounts : Type 0
+BegunAccounts = (settings : Settings) (id : GatewayId) (boot at : ℕ) (before : List Note) → Idle before → AccountsOn (begun settings id boot) (note id at (Booted boot) ∷ before)
+
+abbrev pub FoundedAccounts : Type 0
+FoundedAccounts = (settings : Settings) (boot : ℕ) → AccountsOn (founded settings boot) []

@@ -10,3 +10,5 @@ pub mod Handed
 pub mod Lending
 pub mod Taking
 pub mod Runs
+pub mod Accounting
+pub mod Owning

@@ -28,7 +28,8 @@ use Rattle.step_parts.specs.Steps.{IsStepOn}
 use Rattle.frame_sim.specs.World.{Half, World, gateway_at, half, with_half}
 use Rattle.frame_sim.specs.Events.{since, stepped}
 use Rattle.frame_sim.specs.Scene.{IsHalf, IsHanded, IsSound, IsThat, box_at, mail_of, ranges_of, scene_of}
-use Rattle.frame_sim.proofs.Laws.{AreRead, StepsAnywhere, StepsGo, StepsKeep}
+use Rattle.frame_sim.proofs.Laws.{AreRead, OthersStep, StepsAccount, StepsAnywhere, StepsGo, StepsKeep}
+use Rattle.frame_sim.proofs.Accounting.{step-accounted}
 use Rattle.frame_sim.proofs.Mails.{are-formed, more-mail, since-is}
 
 -- ---- what a scene shows of gateway i
@@ -87,11 +88,11 @@ halves-are w pushed One h records trace all that One = that
 
 -- ---- the step
 
-pub step-sound : StepsGo → AreRead → StepsKeep → StepsAnywhere → (w : World) (i : GatewayId) (g new : Shown) (event : Event) (told told2 : Told)
+pub step-sound : StepsGo → AreRead → StepsKeep → StepsAnywhere → StepsAccount → OthersStep → (w : World) (i : GatewayId) (g new : Shown) (event : Event) (told told2 : Told)
     → IsSound w → gateway_at w i ≡ Some g → IsStepOn (scene g told) event (scene new told2) → HasBytes event
     → IsBook g.ledger.book → IsAlone g → KeepsBytes g → IsLink new.link
     → IsHanded w i event → IsSound (stepped w i new told told2)
-step-sound go read keep anywhere w i g new event told told2 sound up step bytes book alone kept link handed =
+step-sound go read keep anywhere account others w i g new event told told2 sound up step bytes book alone kept link handed =
     let ports = w.settings.ports in
     let r = ranges_of ports in
     let pushed = sound.pushed in
@@ -125,4 +126,5 @@ step-sound go read keep anywhere w i g new event told told2 sound up step bytes 
         pushed = goes.pushed;
       });
       scene = subst (IsWorld r) (scene-is w pushed i new h2 told told2 ns ms trace mail) there2;
+      accounted = step-accounted others w pushed i g new told told2 (account (scene g told) event (scene new told2) step bytes book kept) sound.halves that.id up sound.accounted;
     }

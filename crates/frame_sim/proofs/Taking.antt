@@ -18,7 +18,7 @@ use Rattle.frame_sim.specs.declared.events.WorldFault.TheVariants.{NoSuchDatagra
 use Rattle.frame_sim.specs.Runs.{Answers, fault_of}
 use Rattle.frame_sim.specs.Halves.{Receives, StepsAt}
 use Rattle.frame_sim.specs.Scene.{IsHanded, IsSound}
-use Rattle.frame_sim.proofs.Laws.{AreRead, StepsAnywhere, StepsGo, StepsKeep}
+use Rattle.frame_sim.proofs.Laws.{AreRead, OthersStep, StepsAccount, StepsAnywhere, StepsGo, StepsKeep}
 use Rattle.frame_sim.proofs.Handing.{hands-datagram}
 use Rattle.frame_sim.proofs.Lending.{datagram-lent}
 use Rattle.frame_sim.proofs.Stepping.{step-sound}
@@ -32,13 +32,13 @@ same-world : (w : World) (i : GatewayId) → IsSound w → IsSound (with_half w 
 same-world w Zero sound = sound
 same-world w One sound = sound
 
-module _ (go : StepsGo) (read : AreRead) (keep : StepsKeep) (anywhere : StepsAnywhere) where
+module _ (go : StepsGo) (read : AreRead) (keep : StepsKeep) (anywhere : StepsAnywhere) (account : StepsAccount) (others : OthersStep) where
   steps-sound : (w : World) (i : GatewayId) (g : Option Shown) (event : Event) (told : Told) (o : Outcome) (told2 : Told) (h2 : Half) (trace2 : List Note) → IsSound w → IsHanded w i event → gateway_at w i ≡ g
       → StepsAt (half w i) g w.trace event told o told2 h2 trace2 → IsSound (with_half w i h2 trace2)
   steps-sound w i None event told o told2 h2 trace2 sound handed up s = sound-so w i (half w i) h2 w.trace trace2 s.2 s.3 (same-world w i sound)
   steps-sound w i (Some g) event told o told2 h2 trace2 sound handed up s =
       sound-so w i _ h2 (w.trace ++ since told.notes told2.notes) trace2 s.half_is s.trace_is
-      (step-sound go read keep anywhere w i g s.new event told told2 sound up s.step s.bytes s.was.book s.was.alone s.was.bytes s.link handed)
+      (step-sound go read keep anywhere account others w i g s.new event told told2 sound up s.step s.bytes s.was.book s.was.alone s.was.bytes s.link handed)
 
   pub hand-sound : {E : Type 0} (w : World) (i : GatewayId) (result : Result Outcome E) (event : Event) (told told2 : Told) (h2 : Half) (trace2 : List Note) → IsSound w → IsHanded w i event
       → IfOk result (λ o. StepsAt (half w i) (gateway_at w i) w.trace event told o told2 h2 trace2) → OnErr result (h2 ≡ half w i) → OnErr result (trace2 ≡ w.trace) → IsSound (with_half w i h2 trace2)

@@ -21,7 +21,8 @@ use Rattle.step_parts.specs.Shown.{Shown}
 use Rattle.frame_sim.specs.World.{Half, World, founding, gateway_at, half, is_up, synced_at, with_half}
 use Rattle.frame_sim.specs.Events.{may_boot, may_crash, noting}
 use Rattle.frame_sim.specs.Scene.{IsHalf, IsSound, IsThat, box_at, ranges_of, scene_of}
-use Rattle.frame_sim.proofs.Laws.{Begins, BoxBooted, BoxFounded, GoesTo}
+use Rattle.frame_sim.proofs.Laws.{Begins, BegunAccounts, BoxBooted, BoxFounded, FoundedAccounts, GoesTo, OthersBoot, OthersCrash}
+use Rattle.frame_sim.proofs.Accounting.{boot-accounted, crash-accounted, founding-accounted}
 use Rattle.frame_sim.proofs.Stepping.{halves-are, with_pushed}
 
 -- ---- what a box shows of a gateway that may be down
@@ -79,14 +80,15 @@ crashed-is w pushed One moment all =
     ap (λ (b : ℕ). let x : Scene = record s { theirs = bare false b; trace = noting One moment Crashed ∷ reverse w.trace } in x) (boot-of w.settings.ports One w.one.gateway w.one.boot (pushed One) (all One))
     ∙ ap (λ (t : List Note). let x : Scene = record s { theirs = bare false w.one.boot; trace = t } in x) (one-more w.trace (noting One moment Crashed))
 
-pub crash-sound : GoesTo → (w : World) (i : GatewayId) (moment : ℕ) → IsSound w → may_crash w i ≡ true → IsSound (crashed_world w i moment)
-crash-sound goes w i moment sound may =
+pub crash-sound : GoesTo → OthersCrash → (w : World) (i : GatewayId) (moment : ℕ) → IsSound w → may_crash w i ≡ true → IsSound (crashed_world w i moment)
+crash-sound goes others w i moment sound may =
     let r = ranges_of w.settings.ports in
     record {
       pushed = with_pushed sound.pushed i [];
       halves = halves-are w sound.pushed i (record (half w i) { gateway = None }) [] (w.trace ++ noting i moment Crashed ∷ []) sound.halves tt;
       scene = subst (IsWorld r) (crashed-is w sound.pushed i moment sound.halves)
           (goes r (scene_of w sound.pushed) (crash i moment) sound.scene (can-crash w sound.pushed i may));
+      accounted = crash-accounted others w sound.pushed i moment sound.halves sound.accounted;
     }
 
 -- ---- a boot
@@ -129,14 +131,15 @@ booted-is law w pushed One n =
     ap (λ (b : Box). let x : Scene = record s { theirs = b; trace = noting One 0 (Booted n) ∷ reverse w.trace } in x) (begun-box law w.settings One n)
     ∙ ap (λ (t : List Note). let x : Scene = record s { theirs = box_of (begun w.settings One n) []; trace = t } in x) (one-more w.trace (noting One 0 (Booted n)))
 
-pub boot-sound : GoesTo → BoxBooted → (w : World) (i : GatewayId) (n : ℕ) → IsSound w → may_boot w i n ≡ true → IsSound (booted_world w i n)
-boot-sound goes law w i n sound may =
+pub boot-sound : GoesTo → BoxBooted → OthersBoot → BegunAccounts → (w : World) (i : GatewayId) (n : ℕ) → IsSound w → may_boot w i n ≡ true → IsSound (booted_world w i n)
+boot-sound goes law others begins w i n sound may =
     let r = ranges_of w.settings.ports in
     record {
       pushed = with_pushed sound.pushed i [];
       halves = halves-are w sound.pushed i (record (half w i) { gateway = Some (begun w.settings i n); boot = n }) [] (w.trace ++ noting i 0 (Booted n) ∷ []) sound.halves (begun-that w.settings i n);
       scene = subst (IsWorld r) (booted-is law w sound.pushed i n)
           (goes r (scene_of w sound.pushed) (boot i n) sound.scene (can-boot w sound.pushed i n sound.halves may));
+      accounted = boot-accounted others begins w sound.pushed i n sound.halves sound.accounted;
     }
 
 -- ---- the founding
@@ -151,11 +154,12 @@ founded-that : (settings : Settings) → IsThat settings.ports Zero 1 (founded s
 unfolding founded begun
 founded-that settings = record { id = refl; zero = refl; one = refl; boot = refl; pushed = record { counted = omega arith; coming = refl; behind = refl } }
 
-pub founding-sound : Begins → BoxFounded → (settings : Settings) → AreBounds (bounds_of settings.ports.zero) → IsSound (founding settings)
-founding-sound begins law settings are = record {
+pub founding-sound : Begins → BoxFounded → FoundedAccounts → (settings : Settings) → AreBounds (bounds_of settings.ports.zero) → IsSound (founding settings)
+founding-sound begins law founds settings are = record {
   pushed = λ i. [];
   halves = halves;
   scene = subst (IsWorld (ranges_of settings.ports)) (founded-box law settings are) (begins (ranges_of settings.ports));
+  accounted = founding-accounted founds settings;
 }
   where
     halves : (i : GatewayId) → IsHalf settings.ports i (half (founding settings) i).boot (half (founding settings) i).gateway []

@@ -4,10 +4,12 @@ use Rattle.std.specs.List.{flat_map}
 use Rattle.nat_types.specs.Same.{other}
 use Rattle.nat_types.specs.declared.gateways.GatewayId.{GatewayId}
 use Rattle.nat_types.specs.declared.gateways.GatewayId.TheVariants.{Zero, One}
+use Rattle.nat_types.specs.declared.notes.Note.{Note}
 use Rattle.nat_types.specs.declared.records.Record.{Record}
 use Rattle.settings.specs.declared.ranges.PortRanges.{PortRanges}
 use Rattle.bindings.specs.Ports.{in_bounds, in_either}
 use Rattle.link.specs.Reading.{reading}
+use Rattle.trace_words.specs.Trace.{Idle}
 use Rattle.pair_machine.specs.Box.{Box, Letter, bare}
 use Rattle.pair_machine.specs.Ownership.{Ranges, moving}
 use Rattle.pair_machine.specs.Step.{IsOff, WasSent}
@@ -15,8 +17,9 @@ use Rattle.pair_machine.specs.World.{IsWorld, Scene}
 use Rattle.step_parts.specs.Founding.{bounds_of}
 use Rattle.step_parts.specs.declared.events.Event.{Event}
 use Rattle.step_parts.specs.Machine.{HasPushed, box_of, letter_in, letters_in, words_in}
+use Rattle.step_parts.specs.Rests.{AccountsOn}
 use Rattle.step_parts.specs.Shown.{Shown, id_of}
-use Rattle.frame_sim.specs.World.{Half, World, half}
+use Rattle.frame_sim.specs.World.{Half, World, gateway_at, half}
 
 -- the two ranges: gateway 0 is founded with range zero, and ports move
 abbrev pub ranges_of : PortRanges → Ranges
@@ -55,12 +58,23 @@ abbrev pub IsHalf : PortRanges → GatewayId → ℕ → Option Shown → List R
 IsHalf ports i boot None h = Unit {0}
 IsHalf ports i boot (Some g) h = IsThat ports i boot g h
 
--- for some lists of pushed records the scene of the world can come about
+-- the ledger of a gateway that is up accounts for the trace, the oldest note first
+abbrev pub AccountsAt : Option Shown → List Note → Type 0
+AccountsAt None trace = Unit {0}
+AccountsAt (Some g) trace = AccountsOn g (reverse trace)
+
+-- each release so far came where its pair was idle, and the two account for the trace
+pub record IsAccounted (w : World) : Type 0 where
+  pub idle : Idle w.trace
+  pub accounts : (i : GatewayId) → AccountsAt (gateway_at w i) w.trace
+
+-- for some lists of pushed records the scene of the world can come about; and the trace is accounted for
 pub record IsSound (w : World) : Type 0 where
   pub pushed : GatewayId → List Record
   pub halves : (i : GatewayId) →
       IsHalf w.settings.ports i (half w i).boot (half w i).gateway (pushed i)
   pub scene : IsWorld (ranges_of w.settings.ports) (scene_of w pushed)
+  pub accounted : IsAccounted w
 
 -- what gateway i may be handed: a datagram that the other sent, and a true word about it
 pub record IsHanded (w : World) (i : GatewayId) (event : Event) : Type 0 where

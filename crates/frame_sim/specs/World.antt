@@ -101,3 +101,8 @@ Translates w i p = Contains (pairs_of translates (gateway_at w i)) p
 -- a gateway is synced exactly where the trace says so
 abbrev pub ShowsSynced : World → Type 0
 ShowsSynced w = (i : GatewayId) → IsTrue (synced_at (gateway_at w i)) ↔ IsSynced i w.trace
+
+-- no port is owned by two synced gateways
+abbrev pub OwnsApart : World → Type 0
+OwnsApart w =
+    (p : Port) → Contains (owned_by (gateway_at w Zero)) p → Contains (owned_by (gateway_at w One)) p → ⊥

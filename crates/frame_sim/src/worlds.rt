@@ -1,14 +1,15 @@
 //! The world of a script: two gateways, what happens to them, and the trace of their notes.
 ghost use Rattle.std.specs.Prelude.{◌≡◌, ◌<◌, ◌++◌, ◌∷◌, [], true, vec_len, vec_capacity, IfOk, OnOk, OnErr};
 ghost use Rattle.bindings.specs.Entries.{is_pair, translates};
-ghost use Rattle.trace_words.specs.Trace.{Fits, GoesOn, Kept, Silent};
+ghost use Rattle.trace_words.specs.OneBox.{IsOneBox};
+ghost use Rattle.trace_words.specs.Trace.{Fits, GoesOn, Idle, Kept, Silent};
 ghost use Rattle.told.specs.Told.{none_told, with_note};
 ghost use Rattle.frame_sim.specs.declared.events.WorldEvent.TheVariants as events;
 ghost use Rattle.frame_sim.specs.declared.events.WorldFault.TheVariants as faults;
 ghost use Rattle.frame_sim.specs.Events.{TakesAt, may_be_told, may_boot, may_crash};
 ghost use Rattle.frame_sim.specs.Runs.{Answers, AreSteps, fault_of};
 ghost use Rattle.frame_sim.specs.Scene.{IsHanded};
-ghost use Rattle.frame_sim.specs.World.{Holds, ShowsSynced, Translates, founding, gateway_at, half, is_up, owned_by, pairs_of, synced_at};
+ghost use Rattle.frame_sim.specs.World.{Holds, OwnsApart, ShowsSynced, Translates, founding, gateway_at, half, is_up, owned_by, pairs_of, synced_at};
 
 use crate::halves::Half;
 use crate::{Step, WorldEvent, WorldFault};
@@ -17,13 +18,14 @@ use binding_step::books_begin;
 use gateway::{Event, Gateway, NoMemory, Out, Outcome};
 use link::one_spelling;
 use nat_types::{GatewayId, Happening, Note, Pair};
-use pair_machine::laws::{a_step_keeps, begins, goes_to, promises_in_order, steps_anywhere};
+use pair_machine::laws::{a_step_keeps, begins, goes_to, promises, promises_in_order, steps_anywhere};
 use settings::Settings;
 use std::alloc::Global;
 use std::marker::Model;
 use std::slice;
-use step_parts::steps_go;
+use step_parts::{beginnings_account, others_account, steps_account, steps_go};
 use told::Room;
+use trace_words::laws::is_one_box;
 
 /// Two gateways on one inside and one outside network, all that they sent to each other, and all that
 /// they noted.
@@ -94,6 +96,7 @@ impl<'a> World<'a> {
     {
         begins();
         books_begin();
+        beginnings_account();
         let gateway = Gateway::new(alloc, settings, GatewayId::Zero, 1, true)?;
         gateway.recall();
         Ok(World {
@@ -129,8 +132,13 @@ impl<'a> World<'a> {
         ensures silent { Silent self.now.trace }
         ensures goes_on { GoesOn (Translates self.now) self.now.trace }
         ensures synced { ShowsSynced self.now }
+        ensures idle { Idle self.now.trace }
+        ensures one_box { IsOneBox self.now.trace }
+        ensures owned_ports { OwnsApart self.now }
     {
         promises_in_order();
+        promises();
+        is_one_box();
         self.zero.recall();
         self.one.recall();
     }
@@ -203,6 +211,9 @@ impl<'a> World<'a> {
         ensures silent { Silent self.new.trace }
         ensures goes_on { GoesOn (Translates self.new) self.new.trace }
         ensures synced { ShowsSynced self.new }
+        ensures idle { Idle self.new.trace }
+        ensures one_box { IsOneBox self.new.trace }
+        ensures owned_ports { OwnsApart self.new }
         ensures steps { IfOk result (λ ss. AreSteps self.old events.now ss.items self.new) }
         ensures err { OnErr result (self.new ≡ self.old) }
     {
@@ -237,6 +248,8 @@ impl<'a> World<'a> {
         one_spelling();
         a_step_keeps();
         steps_anywhere();
+        steps_account();
+        others_account();
         match id {
             GatewayId::Zero => self.zero.hand(self.alloc, &mut self.trace, event, out),
             GatewayId::One => self.one.hand(self.alloc, &mut self.trace, event, out),
@@ -251,6 +264,8 @@ impl<'a> World<'a> {
         one_spelling();
         a_step_keeps();
         steps_anywhere();
+        steps_account();
+        others_account();
         let trace = &mut self.trace;
         match id {
             GatewayId::Zero => self.zero.receive(self.alloc, &self.one, number, trace, out),
@@ -277,6 +292,7 @@ impl<'a> World<'a> {
         ensures { Answers self.old (events.Crash id) out.old result out.new self.new }
     {
         goes_to();
+        others_account();
         if !self.may_crash(id) {
             return Err(WorldFault::PremiseBroken);
         }
@@ -298,6 +314,8 @@ impl<'a> World<'a> {
     {
         goes_to();
         books_begin();
+        beginnings_account();
+        others_account();
         if !self.may_boot(id, number) {
             return Err(WorldFault::PremiseBroken);
         }

@@ -14,7 +14,7 @@ invariant_of-self-in-Zero c =
     let may = subst (λ (x : World). may_crash x c.args.id ≡ true) (sym c.self.view_is) (sym c.may_crash.ensures ∙ (let f : c.may_crash.result ≡ true = cc in f)) in
     let may2 = subst (λ (i : GatewayId). may_crash w i ≡ true) c.in-Zero.is may in
     let noted = c.in_ok-note_both.ensures.trace ∙ ap (λ (i : GatewayId). w.trace ++ noting i c.moment.result Crashed ∷ []) c.in-Zero.is in
-    sound-so w Zero _ c.stop.new.self _ c.note_both.new.trace.items c.stop.ensures noted (crash-sound c.goes_to.ensures w Zero c.moment.result c.self.invariant may2)
+    sound-so w Zero _ c.stop.new.self _ c.note_both.new.trace.items c.stop.ensures noted (crash-sound c.goes_to.ensures c.others_account.ensures.crashed w Zero c.moment.result c.self.invariant may2)
 
 pub invariant_of-self-in-One : goal.invariant_of-self-in-One
 invariant_of-self-in-One c =
@@ -22,4 +22,4 @@ invariant_of-self-in-One c =
     let may = subst (λ (x : World). may_crash x c.args.id ≡ true) (sym c.self.view_is) (sym c.may_crash.ensures ∙ (let f : c.may_crash.result ≡ true = cc in f)) in
     let may2 = subst (λ (i : GatewayId). may_crash w i ≡ true) c.in-One.is may in
     let noted = c.in_ok-note_both.ensures.trace ∙ ap (λ (i : GatewayId). w.trace ++ noting i c.moment.result Crashed ∷ []) c.in-One.is in
-    sound-so w One _ c.stop-in-One.new.self _ c.note_both.new.trace.items c.stop-in-One.ensures noted (crash-sound c.goes_to.ensures w One c.moment.result c.self.invariant may2)
+    sound-so w One _ c.stop-in-One.new.self _ c.note_both.new.trace.items c.stop-in-One.ensures noted (crash-sound c.goes_to.ensures c.others_account.ensures.crashed w One c.moment.result c.self.invariant may2)
