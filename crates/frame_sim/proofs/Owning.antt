@@ -1,5 +1,5 @@
 -- The ports that the two own.
-use Rattle.std.proofs.Common.{◌≡◌, ℕ, ◌==◌, Bool, true, false, ◌||◌, IsTrue, inl, inr, List, [], ◌∷◌, map, Option, Some, None, if◌then◌else◌, refl, sym, ap, subst, ◌∙◌, arith}
+use Rattle.std.proofs.Common.{◌≡◌, ℕ, ◌==◌, Bool, true, false, ◌||◌, inl, inr, List, [], ◌∷◌, map, Option, Some, None, if◌then◌else◌, refl, subst, arith}
 use Rattle.std.specs.List.{Contains}
 use Rattle.std.proofs.lemmas.Bool.Decides.{nat_tests}
 use Rattle.std.proofs.lemmas.List.Elements.{Contains-append_cases, Contains-push_cases}
@@ -51,12 +51,8 @@ owned-so (Some g) boot h p is = at-synced (is_synced g.ledger.book.stage) g.ledg
 abbrev pub Owners : Type 0
 Owners = (r : Ranges) (s : machine.Scene) → machine.IsWorld r s → machine.HasOwners r s
 
-true-so : (b : Bool) → b ≡ true → IsTrue b
-true-so true is = tt
-true-so false is = absurd (cc)
-
 pub sound-apart : Owners → (w : World) → IsSound w → OwnsApart w
 sound-apart law w sound p zero one =
     let a = owned-so w.zero.gateway w.zero.boot (sound.pushed Zero) p zero in
     let b = owned-so w.one.gateway w.one.boot (sound.pushed One) p one in
-    (law (ranges_of w.settings.ports) (scene_of w sound.pushed) sound.scene).apart a.0 b.0 p.0 (true-so _ a.1) (true-so _ b.1)
+    (law (ranges_of w.settings.ports) (scene_of w sound.pushed) sound.scene).apart a.0 b.0 p.0 a.1 b.1
