@@ -18,7 +18,9 @@ use binding_step::books_begin;
 use gateway::{Event, Gateway, NoMemory, Out, Outcome};
 use link::one_spelling;
 use nat_types::{GatewayId, Happening, Note, Pair};
-use pair_machine::laws::{a_step_keeps, begins, goes_to, promises, promises_in_order, steps_anywhere};
+use pair_machine::laws::{
+    a_step_keeps, begins, goes_to, promises, promises_in_order, steps_anywhere,
+};
 use settings::Settings;
 use std::alloc::Global;
 use std::marker::Model;
