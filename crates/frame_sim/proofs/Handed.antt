@@ -1,5 +1,5 @@
 -- A gateway that is up, and what it is handed.
-use Rattle.std.proofs.Common.{◌≡◌, ℕ, List, ◌++◌, Option, Some, sym, subst}
+use Rattle.std.proofs.Common.{◌≡◌, List, ◌++◌, Option, Some, sym, subst}
 use Rattle.nat_types.specs.declared.notes.Note.{Note}
 use Rattle.link.specs.Link.{IsLink}
 use Rattle.told.specs.Told.{Told}

@@ -1,5 +1,5 @@
 -- What a gateway is handed in a world.
-use Rattle.std.proofs.Common.{◌≡◌, ℕ, ◌==◌, nat_lt, Bool, true, false, not, ◌&&◌, inl, inr, List, Option, Some, None, refl, sym, ap, subst, ◌∙◌, eqb-true}
+use Rattle.std.proofs.Common.{◌≡◌, ℕ, ◌==◌, nat_lt, true, false, not, ◌&&◌, inl, inr, List, Option, Some, None, refl, sym, ◌∙◌, eqb-true}
 use Rattle.std.specs.Borrow.{Bor}
 use Rattle.std.proofs.lemmas.Bool.{and_parts, not-true}
 use Rattle.nat_types.specs.Same.{other}

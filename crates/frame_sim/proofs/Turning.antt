@@ -1,5 +1,5 @@
 -- The founding can come about, and a crash and a boot lead from a world that can to one that can.
-use Rattle.std.proofs.Common.{◌≡◌, ◌<◌, ℕ, nat_lt, Bool, true, false, not, ◌&&◌, ◌||◌, inl, inr, List, [], ◌∷◌, ◌++◌, reverse, Option, Some, None, refl, sym, ap, subst, ◌∙◌, ltb-true, arith}
+use Rattle.std.proofs.Common.{◌≡◌, ◌<◌, ℕ, nat_lt, true, false, not, ◌||◌, inl, inr, List, [], ◌∷◌, ◌++◌, reverse, Option, Some, None, refl, sym, ap, subst, ◌∙◌, ltb-true, arith}
 use Rattle.std.proofs.lemmas.Bool.{and_parts, both_ways, not-true, or_cases}
 use Rattle.std.proofs.lemmas.List.{reverse-append}
 use Rattle.nat_types.specs.Same.{other}
@@ -18,7 +18,7 @@ use Rattle.pair_machine.specs.World.{Can, IsWorld, Scene, after_event, seen_by}
 use Rattle.step_parts.specs.Founding.{begun, bounds_of, founded, link_places}
 use Rattle.step_parts.specs.Machine.{box_of}
 use Rattle.step_parts.specs.Shown.{Shown}
-use Rattle.frame_sim.specs.World.{Half, World, founding, gateway_at, half, is_up, synced_at, with_half}
+use Rattle.frame_sim.specs.World.{World, founding, gateway_at, half, is_up, synced_at, with_half}
 use Rattle.frame_sim.specs.Events.{may_boot, may_crash, noting}
 use Rattle.frame_sim.specs.Scene.{IsHalf, IsSound, IsThat, box_at, ranges_of, scene_of}
 use Rattle.frame_sim.proofs.Laws.{Begins, BegunAccounts, BoxBooted, BoxFounded, FoundedAccounts, GoesTo, OthersBoot, OthersCrash}

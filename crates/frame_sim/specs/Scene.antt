@@ -1,5 +1,5 @@
 -- The scene of the pair machine that a world stands for.
-use Rattle.std.specs.Prelude.{◌≡◌, ℕ, Bool, false, Option, Some, None, List, [], reverse}
+use Rattle.std.specs.Prelude.{◌≡◌, ℕ, false, Option, Some, None, List, reverse}
 use Rattle.std.specs.List.{flat_map}
 use Rattle.nat_types.specs.Same.{other}
 use Rattle.nat_types.specs.declared.gateways.GatewayId.{GatewayId}
@@ -19,7 +19,7 @@ use Rattle.step_parts.specs.declared.events.Event.{Event}
 use Rattle.step_parts.specs.Machine.{HasPushed, box_of, letter_in, letters_in, words_in}
 use Rattle.step_parts.specs.Rests.{AccountsOn}
 use Rattle.step_parts.specs.Shown.{Shown, id_of}
-use Rattle.frame_sim.specs.World.{Half, World, gateway_at, half}
+use Rattle.frame_sim.specs.World.{World, gateway_at, half}
 
 -- the two ranges: gateway 0 is founded with range zero, and ports move
 abbrev pub ranges_of : PortRanges → Ranges

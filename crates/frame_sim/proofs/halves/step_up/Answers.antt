@@ -1,5 +1,4 @@
-use Rattle.std.proofs.Common.{subst, sym, ap, length, drop, ◌≤◌, arith}
-use Rattle.frame_sim.specs.Halves.{IsShort}
+use Rattle.std.proofs.Common.{arith}
 use Rattle.frame_sim.proofs.Sendings.{sends}
 use Rattle.frame_sim.proofs.halves.step_up.Goals as goal
 

@@ -2,7 +2,7 @@ use Rattle.std.proofs.Common.{◌≡◌, ◌++◌, ◌∷◌, [], true, ap, subs
 use Rattle.nat_types.specs.declared.gateways.GatewayId.{GatewayId}
 use Rattle.nat_types.specs.declared.gateways.GatewayId.TheVariants.{Zero, One}
 use Rattle.nat_types.specs.declared.notes.Happening.TheVariants.{Crashed}
-use Rattle.frame_sim.specs.World.{Half, World}
+use Rattle.frame_sim.specs.World.{World}
 use Rattle.frame_sim.specs.Events.{may_crash, noting}
 use Rattle.frame_sim.proofs.Taking.{sound-so}
 use Rattle.frame_sim.proofs.Turning.{crash-sound}
