@@ -5,4 +5,4 @@ mod Shifts
 mod Spelling
 mod Spelt
 mod Tallies
-mod Wholes
+pub mod Wholes

@@ -1,19 +1,22 @@
 -- What a change needs of a table, and what it makes of the lives.
 use Rattle.std.proofs.Common.{◌≡◌, ℕ, Bool, true, false, cond, Option, Some, None, List, refl, sym, ap, subst, ◌∙◌}
 use Rattle.std.specs.Option.{option_map}
+use Rattle.std.specs.List.{insert}
 use Rattle.nat_types.specs.declared.pairs.EntryState.{EntryState}
 use Rattle.nat_types.specs.declared.pairs.EntryState.TheVariants.{Doomed}
 use Rattle.nat_types.specs.declared.pairs.Endpoint.{Endpoint}
 use Rattle.nat_types.specs.declared.pairs.Key.{Key}
+use Rattle.nat_types.specs.declared.pairs.Pair.{Pair}
 use Rattle.nat_types.specs.Same.{same_key}
 use Rattle.nat_types.proofs.Equal.{key-eq, key-true}
-use Rattle.lives.specs.Lives.{Past, renewed}
+use Rattle.lives.specs.Lives.{Past, Life, renewed}
 use Rattle.bindings.specs.declared.entries.Entry.{Entry}
 use Rattle.bindings.specs.Entries.{slot_of, entry_of, entry_in, is_pair, has_key, refusal_of, HasDistinctKeys}
-use Rattle.bindings.specs.Lists.{with_state, IsOneToOne}
+use Rattle.bindings.specs.Lists.{place_in, with_state, IsOneToOne}
 use Rattle.bindings.specs.Lives.{KeepsOthers}
 use Rattle.bindings.specs.Ports.{in_either}
-use Rattle.bindings.specs.Table.{Table, IsTable, IsPast, AreInRanges}
+use Rattle.bindings.specs.Table.{Table, IsTable, IsPast, AreInRanges, with_entry_state}
+use Rattle.binding_step.proofs.Staying.{turned-place}
 use Rattle.bindings.proofs.Edits.{slot-with_state, either_slot, restated}
 use Rattle.bindings.proofs.Pasts.{no-past}
 use Rattle.bindings.proofs.Rooms.{has-room}
@@ -85,3 +88,8 @@ yielded-distinct es q keys = keys-map (λ x. cond (has_key q x) (entry_in Doomed
     at : (x : Entry) (b : Bool) → (let y : Entry = cond b (entry_in Doomed x.pair) x in y).pair.key ≡ x.pair.key
     at x true = refl
     at x false = refl
+
+-- so a pair that a proposal gives way to has its life where it would have had it before
+pub turned-life : (p : Pair) (q : Key) (s : EntryState) (t t1 t2 : Table) (l : Life) → t1 ≡ with_entry_state t q s → t2.lives ≡ insert t1.lives (place_in p t1.entries) l → t2.lives ≡ insert t.lives (place_in p t.entries) l
+turned-life p q s t t1 t2 l made is =
+    is ∙ ap (λ (u : Table). insert u.lives (place_in p u.entries) l) made ∙ ap (λ (n : ℕ). insert t.lives n l) (turned-place p q s t.entries)

@@ -23,7 +23,7 @@ use Rattle.binding_step.specs.declared.changes.Want.TheVariants as want
 use Rattle.binding_step.specs.Books.{Book, IsBook, is_synced, is_lone, is_promised}
 use Rattle.binding_step.specs.Rows.{row, quiet, wish, wish_of, wish_by, known_wish, new_wish, new_pair, none_row, may_want, port_for, idle_row, release_row, released_row, is_full}
 use Rattle.bind_core.specs.Changes.{IsSteady, adds}
-use Rattle.bind_core.specs.Ticks.{may_ask, is_lately}
+use Rattle.binding_step.specs.Ledgers.{may_ask, is_heard}
 
 known-steady : (b : Book) (p : Pair) (s : EntryState) → IsSteady b (known_wish p s).row.change
 known-steady b p state.Pending = tt
@@ -118,7 +118,7 @@ idle-asks b ask k = at (is_synced b.stage) (slot_of b.entries k)
 pub idle-places : (b : Book) (now : ℕ) (e : Link) (k : Key) → is_some (idle_row b (may_ask now e) k).answer ≡ true → 0 < free_places e
 idle-places b now e k h =
     let asks = idle-asks b (may_ask now e) k h in
-    let parts = and_parts (is_lately now e.heard) (not (is_full e)) asks in
+    let parts = and_parts (is_heard e.heard now) (not (is_full e)) asks in
     let room = ltb-false (free_places e) 65 (not-true (is_full e) parts.1) in
     omega (arith, room)
   where

@@ -6,7 +6,7 @@ use Rattle.port_range.specs.Ports.{is_listed}
 use Rattle.bindings.specs.Runs.{own_in}
 use Rattle.bindings.specs.Table.{Table}
 
-pub own-end : (a n : ℕ) → own_in (a + n) (range_with_len a n) ≡ range_with_len a (suc n)
+own-end : (a n : ℕ) → own_in (a + n) (range_with_len a n) ≡ range_with_len a (suc n)
 own-end a zero = ap (λ (x : ℕ). x ∷ []) (let e : a + 0 ≡ a = omega arith in e)
 own-end a (suc n) =
     cond-false (nat_lt (a + suc n) a) ((a + suc n) ∷ a ∷ range_with_len (a + 1) n) (a ∷ own_in (a + suc n) (range_with_len (a + 1) n)) (le-ltb (a + suc n) a (omega arith))

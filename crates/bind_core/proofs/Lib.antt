@@ -1,7 +1,6 @@
 pub mod Changing
 pub mod Deciding
 pub mod Founding
-pub mod Granting
 pub mod Performing
 pub mod Porting
 pub mod Releasing

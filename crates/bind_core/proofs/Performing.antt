@@ -1,5 +1,5 @@
 -- What carrying out a row makes of a core.
-use Rattle.std.proofs.Common.{◌≡◌, ℕ, Bool, List, refl, sym, ap, subst, ◌∙◌}
+use Rattle.std.proofs.Common.{◌≡◌, ℕ, ◌+◌, ◌*◌, ◌≤◌, Bool, List, refl, sym, ap, subst, ◌∙◌, arith}
 use Rattle.nat_types.specs.declared.records.Record.{Record}
 use Rattle.bindings.specs.Entries.{HasDistinctKeys}
 use Rattle.resync.specs.Cursor.{coming, to_come}
@@ -13,8 +13,13 @@ use Rattle.pair_machine.specs.Box.{Letter}
 use Rattle.binding_step.specs.Machine.{Works}
 use Rattle.nat_types.specs.declared.gateways.GatewayId.{GatewayId}
 use Rattle.bindings.specs.declared.entries.Entry.{Entry}
-use Rattle.bindings.specs.Revivals.{revived_entries}
-use Rattle.bindings.specs.Entries.{slot_of}
+use Rattle.bindings.specs.Revivals.{revived_entries, woken_entry}
+use Rattle.bindings.proofs.Places.{length-keep}
+use Rattle.resync.specs.Batch.{batch_of}
+use Rattle.resync.proofs.Few.{few-of}
+use Rattle.std.specs.List.{filter}
+use Rattle.std.proofs.lemmas.List.{length-map}
+use Rattle.bindings.specs.Entries.{slot_of, is_pair}
 use Rattle.nat_types.specs.declared.pairs.EntryState.{EntryState}
 use Rattle.nat_types.specs.declared.pairs.EntryState.TheVariants as state
 use Rattle.nat_types.specs.declared.pairs.Key.{Key}
@@ -24,7 +29,7 @@ use Rattle.std.proofs.Common.{◌==◌}
 use Rattle.std.proofs.lemmas.Bool.{or_left, eq-eqb}
 use Rattle.binding_step.specs.Resets.{revived, restarted, restart_batch, restart_link}
 use Rattle.lives.specs.Lives.{Life}
-use Rattle.bindings.specs.Table.{Table}
+use Rattle.bindings.specs.Table.{Table, IsTable}
 use Rattle.binding_step.specs.declared.changes.Change.{Change}
 use Rattle.binding_step.specs.declared.changes.Change.TheVariants.{Keep, Add, Turn, Renew, Drop, Yield, Want, Give, Gain}
 use Rattle.binding_step.specs.declared.changes.Row.{Row}
@@ -39,13 +44,14 @@ use Rattle.resync.specs.Loading as progress
 use Rattle.std.proofs.Common.{Option, Some, None}
 use Rattle.bindings.specs.Runs.{own_in}
 use Rattle.std.proofs.Common.{true, false, cond, [], ◌∷◌, ◌++◌, take, drop}
-use Rattle.bind_core.specs.Changes.{table_book, table_after, wants_after, IsBetween, IsSteady}
+use Rattle.bind_core.specs.Changes.{table_book, table_after, wants_after, ready_after, adds, IsBetween, IsSteady}
 use Rattle.bind_core.specs.declared.deeds.Bounds.{Bounds}
-use Rattle.bind_core.specs.Cores.{Core, book_of, core_after, is_whole, revived_with}
+use Rattle.binding_step.specs.Ledgers.{Ledger, ledger_after, lives_after, lives_loaded, rests_for, taken_ledger}
+use Rattle.bind_core.specs.Cores.{Core, book_of, core_after, ledger_of, is_whole, revived_with}
 use Rattle.bind_core.proofs.Porting.{gained-rest}
 
 -- what is gained hangs on the ranges, the entries and the owned ports alone
-pub gained-alike : (b : Book) (t : Table) (xs : List ℕ) → record b { owned = (with_gained (table_book t) xs).owned } ≡ record b { owned = (with_gained (record b { zero = t.zero; one = t.one; entries = t.entries; owned = t.owned }) xs).owned }
+gained-alike : (b : Book) (t : Table) (xs : List ℕ) → record b { owned = (with_gained (table_book t) xs).owned } ≡ record b { owned = (with_gained (record b { zero = t.zero; one = t.one; entries = t.entries; owned = t.owned }) xs).owned }
 gained-alike b t [] = refl
 gained-alike b t (x ∷ xs) = at (is_gained (table_book t) x) (gained-alike b (record t { owned = own_in x t.owned }) xs) (gained-alike b t xs)
   where
@@ -77,9 +83,43 @@ book-after now c r = at r.change
         ∙ ap (λ (z : List ℕ). let b : Book = record (book_of c) { owned = z; wants = false } in b) (gained-owned (book_of c) c.table (numbers_of g))
         ∙ ap (λ (z : Book). let b : Book = record z { wants = false } in b) (sym (gained-rest (book_of c) (numbers_of g)))
 
--- other lives change nothing else
-pub relived : (c : Core) (t2 : Table) (ls : List Life) → t2 ≡ record c.table { lives = ls } → IsBook (book_of c) → IsBook (book_of (record c { table = t2 }))
-relived c t2 ls same is = subst (λ (t : Table). IsBook (book_of (record c { table = t }))) (sym same) is
+-- and the lives those of the change
+ledger-after : (now : ℕ) (c : Core) (r : Row) → ledger_of (core_after now c r) ≡ ledger_after now r.change (ledger_of c)
+ledger-after now c r = ap (λ (b : Book). let l : Ledger = record { book = b; lives = lives_after now r.change c.table.entries c.table.lives } in l) (book-after now c r)
+
+-- the ledger then, of a row that is worked out elsewhere
+pub ledger-then : (now : ℕ) (c c2 : Core) (r r2 : Row) → c2 ≡ core_after now c r → r ≡ r2 → ledger_of c2 ≡ ledger_after now r2.change (ledger_of c)
+ledger-then now c c2 r r2 made is = ap ledger_of made ∙ ledger-after now c r ∙ ap (λ (x : Row). ledger_after now x.change (ledger_of c)) is
+
+ready-near : (ch : Change) (n : ℕ) → n ≤ ready_after ch n + 1
+ready-near Keep n = omega arith
+ready-near (Add e) n = omega arith
+ready-near (Turn k s) n = omega arith
+ready-near (Renew k) n = omega arith
+ready-near (Drop k) n = omega arith
+ready-near (Yield q p) n = omega arith
+ready-near Want n = omega arith
+ready-near (Give g) n = omega arith
+ready-near (Gain g) n = omega arith
+
+-- the table is ready for at most one pair less
+pub ready-then : (now : ℕ) (c c2 : Core) (r : Row) → c2 ≡ core_after now c r → c.table.ready ≤ c2.table.ready + 1
+ready-then now c c2 r made = subst (λ (k : Core). c.table.ready ≤ k.table.ready + 1) (sym made) (ready-near r.change c.table.ready)
+
+ready-same : (ch : Change) (n : ℕ) → adds ch ≡ false → ready_after ch n ≡ n
+ready-same Keep n h = refl
+ready-same (Add e) n h = cc
+ready-same (Turn k s) n h = refl
+ready-same (Renew k) n h = refl
+ready-same (Drop k) n h = refl
+ready-same (Yield q p) n h = cc
+ready-same Want n h = refl
+ready-same (Give g) n h = refl
+ready-same (Gain g) n h = refl
+
+-- and for as many where no entry comes
+pub ready-kept : (now : ℕ) (c c2 : Core) (r : Row) → adds r.change ≡ false → c2 ≡ core_after now c r → c2.table.ready ≡ c.table.ready
+ready-kept now c c2 r h made = ap (λ (k : Core). k.table.ready) made ∙ ready-same r.change c.table.ready h
 
 pub still-between : (t t2 : Table) (bounds : Bounds) → t2.zero ≡ t.zero → t2.one ≡ t.one → IsBetween t bounds → IsBetween t2 bounds
 still-between t t2 bounds zero one is = record { zero = zero ∙ is.zero; one = one ∙ is.one }
@@ -112,10 +152,6 @@ kept-after now c r c2 same kept = subst (λ (k : Core). IsBook (book_of k)) (sym
 pub same-book : (c : Core) (cursor : Cursor) (t t2 : Table) → t2 ≡ t → IsBook (book_of (record c { table = t; coming = coming cursor t })) → IsBook (book_of (record c { table = t2; coming = coming cursor t2 }))
 same-book c cursor t t2 same is = subst (λ (u : Table). IsBook (book_of (record c { table = u; coming = coming cursor u }))) (sym same) is
 
--- the book then, of a row that is worked out elsewhere
-pub book-then : (now : ℕ) (c c2 : Core) (r r2 : Row) → c2 ≡ core_after now c r → r ≡ r2 → book_of c2 ≡ after (book_of c) r2
-book-then now c c2 r r2 made is = ap book_of made ∙ book-after now c r ∙ ap (after (book_of c)) is
-
 pub works-as : (now : ℕ) (letters : List Letter) (words : List ℕ) (b : Book) (e : Link) (n : ℕ) (b2 b3 : Book) (e2 e3 : Link) (n2 : ℕ) (ns : List Note) (h : List Record) → b3 ≡ b2 → e3 ≡ e2 → Works now letters words b e n b2 e2 n2 ns h → Works now letters words b e n b3 e3 n2 ns h
 works-as now letters words b e n b2 b3 e2 e3 n2 ns h book link works = rw (book, link) works
 
@@ -132,6 +168,34 @@ loaded-book b rests r h = ap (λ (t : Bool). let x : Book = cond t (after b (row
 
 pub loaded-answer : (b : Book) (rests : Bool) (r : Record) → is_synced b.stage ≡ false → taken_answer b rests r ≡ None
 loaded-answer b rests r h = ap (λ (t : Bool). let x : Option Record = cond t (row_of b rests r).answer None in x) h
+
+pub taken-ledger : (now : ℕ) (c c2 : Core) (r : Record) → is_synced c.stage ≡ true → c2 ≡ core_after now c (row_of (book_of c) (rests_for now (ledger_of c) r) r) → ledger_of c2 ≡ taken_ledger now (ledger_of c) r
+taken-ledger now c c2 r h made = ledger-then now c c2 row row made refl ∙ sym (ap of h)
+  where
+    row : Row
+    row = row_of (book_of c) (rests_for now (ledger_of c) r) r
+
+    of : Bool → Ledger
+    of t = record {
+      book = cond t (after (book_of c) row) (unsynced_after (book_of c) r);
+      lives = cond t (lives_after now row.change c.table.entries c.table.lives) (lives_loaded now r c.table.entries c.table.lives (loaded (load_of (book_of c)) r));
+    }
+
+pub loaded-ledger : (now : ℕ) (c c2 : Core) (r : Record) → is_synced c.stage ≡ false → book_of c2 ≡ unsynced_after (book_of c) r
+    → c2.table.lives ≡ lives_loaded now r c.table.entries c.table.lives (loaded (load_of (book_of c)) r) → ledger_of c2 ≡ taken_ledger now (ledger_of c) r
+loaded-ledger now c c2 r h book lives =
+    ap (λ (b : Book). let l : Ledger = record { book = b; lives = c2.table.lives } in l) book
+    ∙ ap (λ (ls : List Life). let l : Ledger = record { book = unsynced_after (book_of c) r; lives = ls } in l) lives
+    ∙ sym (ap of h)
+  where
+    row : Row
+    row = row_of (book_of c) (rests_for now (ledger_of c) r) r
+
+    of : Bool → Ledger
+    of t = record {
+      book = cond t (after (book_of c) row) (unsynced_after (book_of c) r);
+      lives = cond t (lives_after now row.change c.table.entries c.table.lives) (lives_loaded now r c.table.entries c.table.lives (loaded (load_of (book_of c)) r));
+    }
 
 -- ---- loading
 
@@ -245,3 +309,11 @@ carry-quiet b e k = at (is_synced b.stage) (slot_of b.entries k)
 
 pub same-carried : (c : Core) (t2 : Table) (cursor : Cursor) → t2 ≡ record c.table { lives = t2.lives } → book_of (record c { table = t2; coming = coming cursor t2 }) ≡ book_of (record c { coming = coming cursor c.table })
 same-carried c t2 cursor same = ap (λ (t : Table). book_of (record c { table = t; coming = coming cursor t })) same
+
+-- the batch of a table whose pairs are revived has room in twice its keys, and two more
+pub revived-few : (t : Table) → IsTable t → length (batch_of t.owned (revived_entries t.entries)) ≤ 2 * t.capacity + 2
+revived-few t is =
+    let woken : length (revived_entries t.entries) ≡ length (filter (λ (e : Entry). is_pair e.state) t.entries) = length-map (filter (λ (e : Entry). is_pair e.state) t.entries) woken_entry in
+    let pairs : length (filter (λ (e : Entry). is_pair e.state) t.entries) ≤ length t.entries = length-keep (λ (e : Entry). is_pair e.state) t.entries in
+    let within = is.within in
+    few-of t (revived_entries t.entries) is (omega (arith, woken, pairs, within))

@@ -33,7 +33,7 @@ turned a b =
       | inr other ↦ ne_eqb a b other ∙ sym (ne_eqb b a (λ e. other (sym e)))
     ]
 
-pub without-more : (ps : List ℕ) (p : ℕ) (owned : List ℕ) → without_ports (ps ++ p ∷ []) owned ≡ without_port p (without_ports ps owned)
+without-more : (ps : List ℕ) (p : ℕ) (owned : List ℕ) → without_ports (ps ++ p ∷ []) owned ≡ without_port p (without_ports ps owned)
 without-more ps p [] = refl
 without-more ps p (q ∷ qs) =
     ap (λ (b : Bool). cond (not b) (q ∷ without_ports (ps ++ p ∷ []) qs) (without_ports (ps ++ p ∷ []) qs)) (list_any-append (λ x. x == q) ps (p ∷ []))
@@ -46,7 +46,7 @@ without-more ps p (q ∷ qs) =
     at false true is = sym (ap (λ (b : Bool). cond (not b) (q ∷ without_port p (without_ports ps qs)) (without_port p (without_ports ps qs))) is)
     at false false is = sym (ap (λ (b : Bool). cond (not b) (q ∷ without_port p (without_ports ps qs)) (without_port p (without_ports ps qs))) is)
 
-pub listed-at : (ports : List Port) (i : ℕ) (d : Port) → i < length ports → is_listed (get_or ports i d).0 (map (λ (p : Port). p.0) ports) ≡ true
+listed-at : (ports : List Port) (i : ℕ) (d : Port) → i < length ports → is_listed (get_or ports i d).0 (map (λ (p : Port). p.0) ports) ≡ true
 listed-at [] i d h = absurd (omega (arith, h))
 listed-at (x ∷ xs) zero d h = or_left (x.0 == x.0) (is_listed x.0 (map (λ (p : Port). p.0) xs)) (eq-eqb x.0 x.0 refl)
 listed-at (x ∷ xs) (suc i) d h = or_right (x.0 == (get_or xs i d).0) (is_listed (get_or xs i d).0 (map (λ (p : Port). p.0) xs)) (listed-at xs i d (omega arith))
@@ -63,10 +63,10 @@ without-absent p (q ∷ qs) h = at (q == p) h (without-absent p qs)
     at true h ih = cc
     at false h ih = ap (λ (z : List ℕ). q ∷ z) (ih h)
 
-pub given-more : (ports : List Port) (i : ℕ) (d : Port) (owned : List ℕ) → i < length ports → without_ports (map (λ (p : Port). p.0) (take (i + 1) ports)) owned ≡ without_port (get_or ports i d).0 (without_ports (map (λ (p : Port). p.0) (take i ports)) owned)
+given-more : (ports : List Port) (i : ℕ) (d : Port) (owned : List ℕ) → i < length ports → without_ports (map (λ (p : Port). p.0) (take (i + 1) ports)) owned ≡ without_port (get_or ports i d).0 (without_ports (map (λ (p : Port). p.0) (take i ports)) owned)
 given-more ports i d owned h = ap (λ (z : List ℕ). without_ports z owned) (one-more ports i d h) ∙ without-more (map (λ (p : Port). p.0) (take i ports)) (get_or ports i d).0 owned
 
-pub given-step : (ports items : List Port) (i : ℕ) (d : Port) (owned : List ℕ) → items ≡ ports → i < length items → without_ports (map (λ (p : Port). p.0) (take (i + 1) ports)) owned ≡ without_port (get_or items i d).0 (without_ports (map (λ (p : Port). p.0) (take i ports)) owned)
+given-step : (ports items : List Port) (i : ℕ) (d : Port) (owned : List ℕ) → items ≡ ports → i < length items → without_ports (map (λ (p : Port). p.0) (take (i + 1) ports)) owned ≡ without_port (get_or items i d).0 (without_ports (map (λ (p : Port). p.0) (take i ports)) owned)
 given-step ports items i d owned same h = subst (λ (z : List Port). without_ports (map (λ (p : Port). p.0) (take (i + 1) z)) owned ≡ without_port (get_or items i d).0 (without_ports (map (λ (p : Port). p.0) (take i z)) owned)) same (given-more items i d owned h)
 
 spare-vacant : (es : List Entry) (owned : List ℕ) (port : ℕ) → is_spare es owned port ≡ true → is_vacant es port ≡ true
@@ -89,14 +89,14 @@ given-next t t0 t2 ports items i d same h was is =
 
 -- ---- gained
 
-pub gained-append : (xs ys : List ℕ) (b : Book) → with_gained b (xs ++ ys) ≡ with_gained (with_gained b xs) ys
+gained-append : (xs ys : List ℕ) (b : Book) → with_gained b (xs ++ ys) ≡ with_gained (with_gained b xs) ys
 gained-append [] ys b = refl
 gained-append (x ∷ xs) ys b = gained-append xs ys (cond (is_gained b x) (record b { owned = own_in x b.owned }) b)
 
-pub gained-more : (ports : List Port) (i : ℕ) (d : Port) (b : Book) → i < length ports → with_gained b (map (λ (p : Port). p.0) (take (i + 1) ports)) ≡ with_gained (with_gained b (map (λ (p : Port). p.0) (take i ports))) ((get_or ports i d).0 ∷ [])
+gained-more : (ports : List Port) (i : ℕ) (d : Port) (b : Book) → i < length ports → with_gained b (map (λ (p : Port). p.0) (take (i + 1) ports)) ≡ with_gained (with_gained b (map (λ (p : Port). p.0) (take i ports))) ((get_or ports i d).0 ∷ [])
 gained-more ports i d b h = ap (with_gained b) (one-more ports i d h) ∙ gained-append (map (λ (p : Port). p.0) (take i ports)) ((get_or ports i d).0 ∷ []) b
 
-pub gained-step : (ports items : List Port) (i : ℕ) (d : Port) (b : Book) → items ≡ ports → i < length items → with_gained b (map (λ (p : Port). p.0) (take (i + 1) ports)) ≡ with_gained (with_gained b (map (λ (p : Port). p.0) (take i ports))) ((get_or items i d).0 ∷ [])
+gained-step : (ports items : List Port) (i : ℕ) (d : Port) (b : Book) → items ≡ ports → i < length items → with_gained b (map (λ (p : Port). p.0) (take (i + 1) ports)) ≡ with_gained (with_gained b (map (λ (p : Port). p.0) (take i ports))) ((get_or items i d).0 ∷ [])
 gained-step ports items i d b same h = subst (λ (z : List Port). with_gained b (map (λ (p : Port). p.0) (take (i + 1) z)) ≡ with_gained (with_gained b (map (λ (p : Port). p.0) (take i z))) ((get_or items i d).0 ∷ [])) same (gained-more items i d b h)
 
 -- only the ports change

@@ -1,19 +1,15 @@
 -- The idle pairs of a tick.
-use Rattle.std.proofs.Common.{◌≡◌, ℕ, zero, suc, ◌+◌, ◌<◌, ◌≤◌, Bool, true, false, cond, nat_lt, List, [], ◌∷◌, ◌++◌, length, get_or, drop, refl, sym, ap, subst, ◌∙◌, arith, append_assoc, slice_get, Some}
+use Rattle.std.proofs.Common.{◌≡◌, ℕ, zero, suc, ◌+◌, ◌<◌, ◌≤◌, Bool, true, false, cond, List, [], ◌∷◌, ◌++◌, length, get_or, drop, refl, sym, ap, subst, ◌∙◌, arith, append_assoc, slice_get, Some}
 use Rattle.std.proofs.lemmas.Option.{get_or_from_slice_get, slice_get_within}
 use Rattle.std.proofs.Math.Seq.{drop-cons}
 use Rattle.nat_types.specs.declared.notes.Note.{Note}
 use Rattle.link.specs.Link.{Link}
 use Rattle.binding_step.specs.Rows.{idle_row, after, answered, noted_by}
-use Rattle.bind_core.specs.Cores.{Core, book_of, core_after}
+use Rattle.binding_step.specs.Ledgers.{Ledger, ledger_after, let_go, may_ask}
 use Rattle.nat_types.specs.declared.records.Record.{Record}
 use Rattle.pair_machine.specs.Box.{Letter}
 use Rattle.binding_step.specs.Books.{Book}
 use Rattle.binding_step.specs.Machine.{Stands, Works}
-use Rattle.bind_core.proofs.Performing.{book-after, works-as}
-use Rattle.bind_core.specs.Ticks.{may_ask, ticked, IsReleased}
-use Rattle.std.proofs.lemmas.Bool.{ltb-true, ltb-false}
-use Rattle.addresses.specs.declared.transport.Port.{Port}
 use Rattle.nat_types.specs.declared.pairs.Key.{Key}
 use Rattle.lives.specs.Lives.{Life}
 use Rattle.bindings.specs.declared.entries.Entry.{Entry}
@@ -29,46 +25,35 @@ few-idle now (e ∷ es) (l ∷ ls) = at (is_idle_row now e l) (few-idle now es l
     at true h = omega arith
     at false h = omega arith
 
--- the lower of two is above 0, and no higher than the higher one
-pub lower-positive : (a b : Port) → 0 < a.0 → 0 < b.0 → 0 < (let p : Port = cond (nat_lt a.0 b.0) a b in p).0
-lower-positive a b ha hb = at (nat_lt a.0 b.0)
-  where
-    at : (t : Bool) → 0 < (let p : Port = cond t a b in p).0
-    at true = ha
-    at false = hb
-
-pub lower-than : (a b c d : Port) → a.0 ≤ c.0 → b.0 ≤ d.0 → (let p : Port = cond (nat_lt a.0 b.0) a b in p).0 ≤ (let p : Port = cond (nat_lt c.0 d.0) d c in p).0
-lower-than a b c d ha hb = at (nat_lt a.0 b.0) (nat_lt c.0 d.0) refl refl
-  where
-    at : (s t : Bool) → nat_lt a.0 b.0 ≡ s → nat_lt c.0 d.0 ≡ t → (let p : Port = cond s a b in p).0 ≤ (let p : Port = cond t d c in p).0
-    at true true hs ht = let x = ltb-true c.0 d.0 ht in omega (arith, ha, x)
-    at true false hs ht = ha
-    at false true hs ht = hb
-    at false false hs ht = let x = ltb-false a.0 b.0 hs in omega (arith, ha, x)
+-- one key's row is carried out
+pub record IsReleased (now : ℕ) (k : Key) (l : Ledger) (e : Link) (ns : List Note) (l2 : Ledger) (e2 : Link) (ns2 : List Note) : Type 0 where
+  pub ledger : l2 ≡ ledger_after now (idle_row l.book (may_ask now e) k).change l
+  pub link : e2 ≡ answered e (idle_row l.book (may_ask now e) k).answer
+  pub notes : ns2 ≡ ns ++ noted_by l.book.id now (idle_row l.book (may_ask now e) k).what
 
 -- one key more
-pub record IsOneMore (now : ℕ) (i : ℕ) (keys : List Key) (c : Core) (e : Link) (ns : List Note) (c2 : Core) (e2 : Link) (ns2 : List Note) : Type 0 where
-  pub core : (ticked now (drop i keys) c e).core ≡ (ticked now (drop (i + 1) keys) c2 e2).core
-  pub link : (ticked now (drop i keys) c e).link ≡ (ticked now (drop (i + 1) keys) c2 e2).link
-  pub notes : ns ++ (ticked now (drop i keys) c e).notes ≡ ns2 ++ (ticked now (drop (i + 1) keys) c2 e2).notes
+pub record IsOneMore (now : ℕ) (i : ℕ) (keys : List Key) (l : Ledger) (e : Link) (ns : List Note) (l2 : Ledger) (e2 : Link) (ns2 : List Note) : Type 0 where
+  pub ledger : (let_go now (drop i keys) l e).ledger ≡ (let_go now (drop (i + 1) keys) l2 e2).ledger
+  pub link : (let_go now (drop i keys) l e).link ≡ (let_go now (drop (i + 1) keys) l2 e2).link
+  pub notes : ns ++ (let_go now (drop i keys) l e).notes ≡ ns2 ++ (let_go now (drop (i + 1) keys) l2 e2).notes
 
-head-first : (now : ℕ) (k : Key) (ks : List Key) (c : Core) (e : Link) (ns : List Note) (c2 : Core) (e2 : Link) (ns2 : List Note) → IsReleased now k c e ns c2 e2 ns2
-    → ((ticked now (k ∷ ks) c e).core ≡ (ticked now ks c2 e2).core) × ((ticked now (k ∷ ks) c e).link ≡ (ticked now ks c2 e2).link) × (ns ++ (ticked now (k ∷ ks) c e).notes ≡ ns2 ++ (ticked now ks c2 e2).notes)
-head-first now k ks c e ns c2 e2 ns2 is = rw (is.core, is.link, is.notes) (
+head-first : (now : ℕ) (k : Key) (ks : List Key) (l : Ledger) (e : Link) (ns : List Note) (l2 : Ledger) (e2 : Link) (ns2 : List Note) → IsReleased now k l e ns l2 e2 ns2
+    → ((let_go now (k ∷ ks) l e).ledger ≡ (let_go now ks l2 e2).ledger) × ((let_go now (k ∷ ks) l e).link ≡ (let_go now ks l2 e2).link) × (ns ++ (let_go now (k ∷ ks) l e).notes ≡ ns2 ++ (let_go now ks l2 e2).notes)
+head-first now k ks l e ns l2 e2 ns2 is = rw (is.ledger, is.link, is.notes) (
   refl,
   refl,
-  sym (append_assoc ns (noted_by c.id now (idle_row (book_of c) (may_ask now e) k).what) (ticked now ks (core_after now c (idle_row (book_of c) (may_ask now e) k)) (answered e (idle_row (book_of c) (may_ask now e) k).answer)).notes),
+  sym (append_assoc ns (noted_by l.book.id now (idle_row l.book (may_ask now e) k).what) (let_go now ks (ledger_after now (idle_row l.book (may_ask now e) k).change l) (answered e (idle_row l.book (may_ask now e) k).answer)).notes),
 )
 
-pub one-more : (now : ℕ) (i : ℕ) (keys : List Key) (d : Key) (c : Core) (e : Link) (ns : List Note) (c2 : Core) (e2 : Link) (ns2 : List Note) → i < length keys → IsReleased now (get_or keys i d) c e ns c2 e2 ns2 → IsOneMore now i keys c e ns c2 e2 ns2
-one-more now i keys d c e ns c2 e2 ns2 h is =
-    let parts = head-first now (get_or keys i d) (drop (suc i) keys) c e ns c2 e2 ns2 is in
+one-more : (now : ℕ) (i : ℕ) (keys : List Key) (d : Key) (l : Ledger) (e : Link) (ns : List Note) (l2 : Ledger) (e2 : Link) (ns2 : List Note) → i < length keys → IsReleased now (get_or keys i d) l e ns l2 e2 ns2 → IsOneMore now i keys l e ns l2 e2 ns2
+one-more now i keys d l e ns l2 e2 ns2 h is =
+    let parts = head-first now (get_or keys i d) (drop (suc i) keys) l e ns l2 e2 ns2 is in
     let here : drop i keys ≡ get_or keys i d ∷ drop (suc i) keys = drop-cons keys i d h in
     let next : suc i ≡ i + 1 = omega arith in
     record {
-      core = ap (λ (z : List Key). (ticked now z c e).core) here ∙ parts.0 ∙ ap (λ (n : ℕ). (ticked now (drop n keys) c2 e2).core) next;
-      link = ap (λ (z : List Key). (ticked now z c e).link) here ∙ parts.1 ∙ ap (λ (n : ℕ). (ticked now (drop n keys) c2 e2).link) next;
-      notes = ap (λ (z : List Key). ns ++ (ticked now z c e).notes) here ∙ parts.2 ∙ ap (λ (n : ℕ). ns2 ++ (ticked now (drop n keys) c2 e2).notes) next;
+      ledger = ap (λ (z : List Key). (let_go now z l e).ledger) here ∙ parts.0 ∙ ap (λ (n : ℕ). (let_go now (drop n keys) l2 e2).ledger) next;
+      link = ap (λ (z : List Key). (let_go now z l e).link) here ∙ parts.1 ∙ ap (λ (n : ℕ). (let_go now (drop n keys) l2 e2).link) next;
+      notes = ap (λ (z : List Key). ns ++ (let_go now z l e).notes) here ∙ parts.2 ∙ ap (λ (n : ℕ). ns2 ++ (let_go now (drop n keys) l2 e2).notes) next;
     }
 
 pub all-done : (i : ℕ) (keys : List Key) → length keys ≤ i → drop i keys ≡ []
@@ -77,9 +62,9 @@ all-done (suc i) [] h = refl
 all-done zero (k ∷ ks) h = absurd (omega (arith, h))
 all-done (suc i) (k ∷ ks) h = all-done i ks (omega (arith, h))
 
-pub one-more-at : (now : ℕ) (i : ℕ) (keys : List Key) (k : Key) (c : Core) (e : Link) (ns : List Note) (c2 : Core) (e2 : Link) (ns2 : List Note) → slice_get keys i ≡ Some k → IsReleased now k c e ns c2 e2 ns2 → IsOneMore now i keys c e ns c2 e2 ns2
-one-more-at now i keys k c e ns c2 e2 ns2 h is =
-    one-more now i keys k c e ns c2 e2 ns2 (slice_get_within keys i k h) (subst (λ (z : Key). IsReleased now z c e ns c2 e2 ns2) (sym (get_or_from_slice_get keys i k k h)) is)
+pub one-more-at : (now : ℕ) (i : ℕ) (keys : List Key) (k : Key) (l : Ledger) (e : Link) (ns : List Note) (l2 : Ledger) (e2 : Link) (ns2 : List Note) → slice_get keys i ≡ Some k → IsReleased now k l e ns l2 e2 ns2 → IsOneMore now i keys l e ns l2 e2 ns2
+one-more-at now i keys k l e ns l2 e2 ns2 h is =
+    one-more now i keys k l e ns l2 e2 ns2 (slice_get_within keys i k h) (subst (λ (z : Key). IsReleased now z l e ns l2 e2 ns2) (sym (get_or_from_slice_get keys i k k h)) is)
 
 -- ---- acts
 
@@ -90,14 +75,13 @@ pub record TickLaws : Type 0 where
       → (a : Works now letters words b e n b2 e2 n2 ns h) → Works now letters words b2 e2 n2 b3 e3 n3 ns2 a.history → Works now letters words b e n b3 e3 n3 (ns ++ ns2) h
   pub nothing : (now : ℕ) (letters : List Letter) (words : List ℕ) (b : Book) (e : Link) (n : ℕ) (h : List Record) → Stands b e h → Works now letters words b e n b e n [] h
 
-pub ticked-works : (laws : TickLaws) (now : ℕ) (keys : List Key) (c : Core) (e : Link) (n : ℕ) (h : List Record) → Stands (book_of c) e h
-    → Works now [] [] (book_of c) e n (book_of (ticked now keys c e).core) (ticked now keys c e).link n (ticked now keys c e).notes h
-ticked-works laws now [] c e n h stands = laws.nothing now [] [] (book_of c) e n h stands
-ticked-works laws now (k ∷ ks) c e n h stands =
-    let row = idle_row (book_of c) (may_ask now e) k in
-    let c2 = core_after now c row in
+pub released-works : (laws : TickLaws) (now : ℕ) (keys : List Key) (l : Ledger) (e : Link) (n : ℕ) (h : List Record) → Stands l.book e h
+    → Works now [] [] l.book e n (let_go now keys l e).ledger.book (let_go now keys l e).link n (let_go now keys l e).notes h
+released-works laws now [] l e n h stands = laws.nothing now [] [] l.book e n h stands
+released-works laws now (k ∷ ks) l e n h stands =
+    let row = idle_row l.book (may_ask now e) k in
+    let l2 = ledger_after now row.change l in
     let e2 = answered e row.answer in
-    let first : Works now [] [] (book_of c) e n (book_of c2) e2 n (noted_by c.id now row.what) h =
-    works-as now [] [] (book_of c) e n (after (book_of c) row) (book_of c2) e2 e2 n _ h (book-after now c row) refl (laws.idle now (book_of c) e n h (may_ask now e) k stands) in
-    laws.join now [] [] (book_of c) (book_of c2) (book_of (ticked now ks c2 e2).core) e e2 (ticked now ks c2 e2).link n n n (noted_by c.id now row.what) (ticked now ks c2 e2).notes h first
-    (ticked-works laws now ks c2 e2 n first.history first.agrees)
+    let first : Works now [] [] l.book e n l2.book e2 n (noted_by l.book.id now row.what) h = laws.idle now l.book e n h (may_ask now e) k stands in
+    laws.join now [] [] l.book l2.book (let_go now ks l2 e2).ledger.book e e2 (let_go now ks l2 e2).link n n n (noted_by l.book.id now row.what) (let_go now ks l2 e2).notes h first
+    (released-works laws now ks l2 e2 n first.history first.agrees)

@@ -1,14 +1,9 @@
 -- What a change makes of a table, and of what its pairs carried.
-use Rattle.std.specs.Prelude.{◌≡◌, ℕ, ◌-◌, Bool, true, false, List, [], Some, if◌then◌else◌}
+use Rattle.std.specs.Prelude.{◌≡◌, ℕ, ◌-◌, Bool, true, false, [], Some, if◌then◌else◌}
 use Rattle.nat_types.specs.Same.{same_key}
 use Rattle.nat_types.specs.declared.gateways.GatewayId.TheVariants.{Zero}
-use Rattle.nat_types.specs.declared.pairs.EntryState.{EntryState}
-use Rattle.nat_types.specs.declared.pairs.EntryState.TheVariants.{Pending, Doomed, Live, Closing, Held}
 use Rattle.nat_types.specs.declared.pairs.Key.{Key}
-use Rattle.lives.specs.Lives.{Past, Life, came, renewed, life_begun, life_renewed}
-use Rattle.bindings.specs.Lists.{place_in, with_state}
-use Rattle.bindings.specs.Lives.{lives_with, lives_without}
-use Rattle.std.specs.List.{insert}
+use Rattle.lives.specs.Lives.{Past, came, renewed}
 use Rattle.bindings.specs.Table.{Table, IsPast}
 use Rattle.bindings.specs.declared.entries.Entry.{Entry}
 use Rattle.bindings.specs.Entries.{slot_of}
@@ -17,6 +12,7 @@ use Rattle.binding_step.specs.declared.setups.Stage.TheVariants.{Paired}
 use Rattle.binding_step.specs.declared.changes.Change.{Change}
 use Rattle.binding_step.specs.declared.changes.Change.TheVariants.{Keep, Add, Turn, Renew, Drop, Yield, Want, Give, Gain}
 use Rattle.binding_step.specs.Books.{Book}
+use Rattle.binding_step.specs.Ledgers.{is_held, lives_after}
 use Rattle.binding_step.specs.Rows.{changed}
 use Rattle.bind_core.specs.declared.deeds.Bounds.{Bounds}
 
@@ -66,14 +62,6 @@ adds (Gain g) = false
 
 -- ---- lives
 
--- what comes as the peer's pair came by Install
-abbrev pub is_held : EntryState → Bool
-is_held Pending = false
-is_held Doomed = false
-is_held Live = false
-is_held Closing = false
-is_held Held = true
-
 -- the key's entry leaves
 abbrev pub leaves : Change → Key → Bool
 leaves Keep q = false
@@ -85,18 +73,6 @@ leaves (Yield p2 p) q = false
 leaves Want q = false
 leaves (Give g) q = false
 leaves (Gain g) q = false
-
--- the lives then: each entry that comes has one that begins
-abbrev pub lives_after : ℕ → Change → Table → List Life
-lives_after now Keep t = t.lives
-lives_after now (Add e) t = insert t.lives (place_in e.pair t.entries) (life_begun (is_held e.state) now)
-lives_after now (Turn k s) t = t.lives
-lives_after now (Renew k) t = lives_with (life_renewed now) k t.entries t.lives
-lives_after now (Drop k) t = lives_without k t.entries t.lives
-lives_after now (Yield q p) t = insert t.lives (place_in p (with_state q Doomed t.entries)) (life_begun true now)
-lives_after now Want t = t.lives
-lives_after now (Give g) t = t.lives
-lives_after now (Gain g) t = t.lives
 
 -- for how many more entries the table is ready then
 abbrev pub ready_after : Change → ℕ → ℕ
@@ -114,7 +90,7 @@ ready_after (Gain g) n = n
 abbrev pub table_after : ℕ → Change → Table → Table
 table_after now change t =
     let b = changed change (table_book t) in
-    record t { entries = b.entries; owned = b.owned; lives = lives_after now change t; ready = ready_after change t.ready }
+    record t { entries = b.entries; owned = b.owned; lives = lives_after now change t.entries t.lives; ready = ready_after change t.ready }
 
 -- what becomes of a past that a key's entry agrees with: only a No begins it anew
 abbrev pub past_after : ℕ → Change → Key → Past → Past

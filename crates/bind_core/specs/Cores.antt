@@ -1,5 +1,5 @@
 -- What callers see of a core.
-use Rattle.std.specs.Prelude.{ℕ, Bool, List, Option, Some, None, is_some, true, false, ◌||◌, [], map, if◌then◌else◌}
+use Rattle.std.specs.Prelude.{ℕ, Bool, List, Option, Some, None, true, false, [], map, if◌then◌else◌}
 use Rattle.nat_types.specs.declared.gateways.GatewayId.{GatewayId}
 use Rattle.nat_types.specs.declared.records.Record.{Record}
 use Rattle.nat_types.specs.declared.records.Record.TheVariants.{Install, Accept, Refuse, Ask, Yes, No, Begin, Put, Done, Want, Grant, Owner}
@@ -7,11 +7,8 @@ use Rattle.nat_types.specs.declared.notes.Happening.{Happening}
 use Rattle.nat_types.specs.declared.notes.Happening.TheVariants.{Retaken, Synced}
 use Rattle.nat_types.specs.declared.pairs.Endpoint.{Endpoint}
 use Rattle.nat_types.specs.declared.pairs.Key.{Key}
-use Rattle.lives.specs.declared.packets.Packet.{Packet}
-use Rattle.lives.specs.Lives.{Life, life_carried}
 use Rattle.bindings.specs.declared.entries.Entry.{Entry}
 use Rattle.bindings.specs.Entries.{slot_of, translates}
-use Rattle.bindings.specs.Lives.{lives_with, rests_at, is_unused_at}
 use Rattle.bindings.specs.Runs.{port_at}
 use Rattle.addresses.specs.declared.transport.Port.{Port}
 use Rattle.bindings.specs.Table.{Table}
@@ -22,7 +19,7 @@ use Rattle.binding_step.specs.Resets.{revived}
 use Rattle.binding_step.specs.declared.changes.Row.{Row}
 use Rattle.binding_step.specs.declared.setups.Stage.{Stage}
 use Rattle.binding_step.specs.Books.{Book, is_synced}
-use Rattle.binding_step.specs.Rows.{carry_row}
+use Rattle.binding_step.specs.Ledgers.{Ledger}
 use Rattle.bind_core.specs.Changes.{table_after, wants_after}
 
 -- Who it is, its table, how far it is, whether Begin was taken and not yet Done, the last port that an Owner named,
@@ -52,6 +49,10 @@ book_of c = record {
   coming = c.coming;
 }
 
+-- and what its pairs carried
+abbrev pub ledger_of : Core → Ledger
+ledger_of c = record { book = book_of c; lives = c.table.lives }
+
 -- once a row is carried out
 abbrev pub core_after : ℕ → Core → Row → Core
 core_after now c r = record c { table = table_after now r.change c.table; wants = wants_after r.change c.wants }
@@ -66,28 +67,6 @@ endpoint_in (Some x) = (if translates x.state then Some x.pair.endpoint else Non
 -- where a packet to an outside port goes: a gateway that isn't synced translates nothing
 abbrev pub inbound_of : Book → Key → Option Endpoint
 inbound_of b k = (if is_synced b.stage then endpoint_in (slot_of b.entries k) else None)
-
--- what is kept of the pairs once one carried a packet, where it translates
-abbrev pub lives_carried : Core → Key → Packet → List Life
-lives_carried c k p =
-    if is_some (carry_row (book_of c) k).what
-    then lives_with (life_carried k.protocol p) k c.table.entries c.table.lives
-    else c.table.lives
-
--- an Ask's pair is idle, or came by Install and carried nothing since
-abbrev pub rests_in : Table → Record → ℕ → Bool
-rests_in t (Install p) now = false
-rests_in t (Accept k) now = false
-rests_in t (Refuse k) now = false
-rests_in t (Ask k) now = rests_at t.entries t.lives k now || is_unused_at t.entries t.lives k
-rests_in t (Yes k) now = false
-rests_in t (No k) now = false
-rests_in t Begin now = false
-rests_in t (Put p) now = false
-rests_in t Done now = false
-rests_in t Want now = false
-rests_in t (Grant g) now = false
-rests_in t (Owner first last) now = false
 
 -- ---- loading
 

@@ -1,4 +1,3 @@
 pub mod Changes
 pub mod Cores
-pub mod Ticks
 pub mod View

@@ -5,9 +5,9 @@ ghost use Rattle.link.specs.Grammar.{IsWellFormedRecord};
 ghost use Rattle.link.specs.Link.{free_places, needs_answer};
 ghost use Rattle.binding_step.specs.Books.{is_lone as is_lone_at, is_synced as is_synced_at};
 ghost use Rattle.binding_step.specs.Fits.{IsWellFormedEndpoint};
-ghost use Rattle.binding_step.specs.Rows.{wish_of, row_of, noted_by, after, answered, is_full};
-ghost use Rattle.binding_step.specs.Rows.{taken_book, taken_answer, taken_what, taken_ended};
-ghost use Rattle.binding_step.specs.Resets.{back_in, put_alone, retaken, restarted};
+ghost use Rattle.binding_step.specs.Rows.{answered, idle_row, is_full, noted_by, row_of, wish_of};
+ghost use Rattle.binding_step.specs.Rows.{taken_answer, taken_ended, taken_what};
+ghost use Rattle.binding_step.specs.Resets.{back_in, retaken};
 ghost use Rattle.binding_step.specs.Resets.{restart_batch, restart_link, restart_notes};
 ghost use Rattle.link.specs.Link.{occupied};
 ghost use Rattle.link.specs.Link.{Agrees, Link as End};
@@ -15,8 +15,11 @@ ghost use Rattle.binding_step.specs.Machine.{IsTurn, Stands, Works};
 ghost use Rattle.nat_types.specs.declared.records.Record.{Record as Rec};
 ghost use Rattle.pair_machine.specs.Box.{Letter};
 ghost use Rattle.bind_core.specs.Changes.{LivesOn};
-ghost use Rattle.bind_core.specs.Cores.{book_of, core_after, rests_in};
-ghost use Rattle.bind_core.specs.Ticks.{ticked_core, IsReleased};
+ghost use Rattle.binding_step.specs.Ledgers.{alone_ledger, ledger_after, let_go, rests_for};
+ghost use Rattle.binding_step.specs.Ledgers.{may_ask as may_ask_at};
+ghost use Rattle.binding_step.specs.Ledgers.{restarted_ledger, taken_ledger};
+ghost use Rattle.bindings.specs.Table.{idle_keys_of};
+ghost use Rattle.bind_core.specs.Cores.{book_of, core_after, ledger_of};
 
 use crate::Core;
 use crate::deeds::{is_link_full, may_ask};
@@ -43,12 +46,11 @@ impl Core {
         requires reserved { vec_len notes.old < vec_capacity notes.old }
         ensures answer { result
             ≡ (wish_of (book_of self.old) (is_full link.old) endpoint).answer }
-        ensures book { let row = (wish_of (book_of self.old) (is_full link.old) endpoint).row
-            in book_of self.new ≡ after (book_of self.old) row }
-        ensures core { let row = (wish_of (book_of self.old) (is_full link.old) endpoint).row
-            in self.new ≡ core_after now self.old row }
         ensures link { let row = (wish_of (book_of self.old) (is_full link.old) endpoint).row
             in link.new ≡ answered link.old row.answer }
+        ensures ledger { let row = (wish_of (book_of self.old) (is_full link.old) endpoint).row
+            in ledger_of self.new ≡ ledger_after now row.change (ledger_of self.old) }
+        ensures ready { self.old.table.ready ≤ self.new.table.ready + 1 }
         ensures pasts { let row = (wish_of (book_of self.old) (is_full link.old) endpoint).row
             in LivesOn now row.change self.old.table self.new.table }
         ensures notes { let row = (wish_of (book_of self.old) (is_full link.old) endpoint).row
@@ -74,8 +76,13 @@ impl Core {
 
     fn release(&mut self, key: Key, link: &mut Link, now: u64, notes: &mut Vec<Note>)
         requires reserved { vec_len notes.old < vec_capacity notes.old }
-        ensures step { IsReleased now key self.old link.old notes.old.items self.new link.new
-            notes.new.items }
+        ensures ledger { let row = idle_row (book_of self.old) (may_ask_at now link.old) key
+            in ledger_of self.new ≡ ledger_after now row.change (ledger_of self.old) }
+        ensures link { let row = idle_row (book_of self.old) (may_ask_at now link.old) key
+            in link.new ≡ answered link.old row.answer }
+        ensures notes { let row = idle_row (book_of self.old) (may_ask_at now link.old) key
+            in notes.new.items ≡ notes.old.items ++ noted_by self.old.id now row.what }
+        ensures ready { self.new.table.ready ≡ self.old.table.ready }
         ensures idle { self.new.idle ≡ self.old.idle }
         ensures len { vec_len notes.new ≤ vec_len notes.old + 1 }
         ensures capacity { vec_capacity notes.new ≡ vec_capacity notes.old }
@@ -94,15 +101,19 @@ impl Core {
     pub fn tick(&mut self, link: &mut Link, now: u64, notes: &mut Vec<Note>)
         requires reserved { vec_len notes.old + length self.old.table.entries
             < vec_capacity notes.old }
-        ensures core { self.new ≡ (ticked_core now self.old link.old).core }
-        ensures link { link.new ≡ (ticked_core now self.old link.old).link }
-        ensures notes { notes.new.items ≡ notes.old.items
-            ++ (ticked_core now self.old link.old).notes }
+        ensures ledger { let keys = idle_keys_of self.old.table now
+            in ledger_of self.new ≡ (let_go now keys (ledger_of self.old) link.old).ledger }
+        ensures link { let keys = idle_keys_of self.old.table now
+            in link.new ≡ (let_go now keys (ledger_of self.old) link.old).link }
+        ensures notes { let keys = idle_keys_of self.old.table now
+            in notes.new.items ≡ notes.old.items
+            ++ (let_go now keys (ledger_of self.old) link.old).notes }
+        ensures ready { self.new.table.ready ≡ self.old.table.ready }
         ensures len { vec_len notes.new ≤ vec_len notes.old + length self.old.table.entries }
         ensures capacity { vec_capacity notes.new ≡ vec_capacity notes.old }
         ensures works { (h : List Rec) (n : ℕ) → Stands (book_of self.old) link.old h
             → Works now [] [] (book_of self.old) link.old n (book_of self.new) link.new n
-            (ticked_core now self.old link.old).notes h }
+            (let_go now (idle_keys_of self.old.table now) (ledger_of self.old) link.old).notes h }
     {
         idle_works();
         works_join();
@@ -127,15 +138,20 @@ impl Core {
         requires ready { 0 < self.old.table.ready }
         requires places { needs_answer entry ≡ true → 0 < free_places link.old }
         requires reserved { vec_len notes.old < vec_capacity notes.old }
-        ensures ended { let row = row_of (book_of self.old) (rests_in self.old.table entry now) entry
+        ensures ended { let rests = rests_for now (ledger_of self.old) entry in
+            let row = row_of (book_of self.old) rests entry
             in result ≡ row.ended }
-        ensures core { let row = row_of (book_of self.old) (rests_in self.old.table entry now) entry
+        ensures core { let rests = rests_for now (ledger_of self.old) entry in
+            let row = row_of (book_of self.old) rests entry
             in self.new ≡ core_after now self.old row }
-        ensures link { let row = row_of (book_of self.old) (rests_in self.old.table entry now) entry
+        ensures link { let rests = rests_for now (ledger_of self.old) entry in
+            let row = row_of (book_of self.old) rests entry
             in link.new ≡ answered link.old row.answer }
-        ensures pasts { let row = row_of (book_of self.old) (rests_in self.old.table entry now) entry
+        ensures pasts { let rests = rests_for now (ledger_of self.old) entry in
+            let row = row_of (book_of self.old) rests entry
             in LivesOn now row.change self.old.table self.new.table }
-        ensures notes { let row = row_of (book_of self.old) (rests_in self.old.table entry now) entry
+        ensures notes { let rests = rests_for now (ledger_of self.old) entry in
+            let row = row_of (book_of self.old) rests entry
             in notes.new.items ≡ notes.old.items ++ noted_by self.old.id now row.what }
         ensures len { vec_len notes.new ≤ vec_len notes.old + 1 }
         ensures capacity { vec_capacity notes.new ≡ vec_capacity notes.old }
@@ -163,25 +179,23 @@ impl Core {
         requires places { needs_answer entry ≡ true → 0 < free_places link.old }
         requires reserved { vec_len notes.old < vec_capacity notes.old }
         ensures ended { result
-            ≡ taken_ended (book_of self.old) (rests_in self.old.table entry now) entry }
-        ensures book { book_of self.new
-            ≡ taken_book (book_of self.old) (rests_in self.old.table entry now) entry }
-        ensures link { let rests = rests_in self.old.table entry now
+            ≡ taken_ended (book_of self.old) (rests_for now (ledger_of self.old) entry) entry }
+        ensures ledger { ledger_of self.new ≡ taken_ledger now (ledger_of self.old) entry }
+        ensures ready { self.old.table.ready ≤ self.new.table.ready + 1 }
+        ensures link { let rests = rests_for now (ledger_of self.old) entry
             in link.new ≡ answered link.old (taken_answer (book_of self.old) rests entry) }
-        ensures notes { let rests = rests_in self.old.table entry now
+        ensures notes { let rests = rests_for now (ledger_of self.old) entry
             in notes.new.items ≡ notes.old.items
             ++ noted_by self.old.id now (taken_what (book_of self.old) rests entry) }
         ensures len { vec_len notes.new ≤ vec_len notes.old + 1 }
         ensures capacity { vec_capacity notes.new ≡ vec_capacity notes.old }
-        ensures core { let row = row_of (book_of self.old) (rests_in self.old.table entry now) entry
-            in is_synced_at self.old.stage ≡ true → self.new ≡ core_after now self.old row }
         // Of the letter in which the record stands next; a lone gateway has none to take.
         ensures works { (h : List Rec) (n : ℕ) (l : Letter) (offset : ℕ)
             → is_lone_at self.old.stage ≡ false → Stands (book_of self.old) link.old h
             → IsTurn link.old n l offset entry
-            → Works now (l ∷ []) [] (book_of self.old) link.old n (book_of self.new) link.new (suc n)
-            (noted_by self.old.id now
-            (taken_what (book_of self.old) (rests_in self.old.table entry now) entry)) h }
+            → let rests = rests_for now (ledger_of self.old) entry in
+            Works now (l ∷ []) [] (book_of self.old) link.old n (book_of self.new) link.new
+            (suc n) (noted_by self.old.id now (taken_what (book_of self.old) rests entry)) h }
     {
         self.recall();
         record_works();
@@ -211,7 +225,8 @@ impl Core {
         requires synced { is_synced_at self.old.stage ≡ true }
         requires reserved { vec_len notes.old + length self.old.table.entries
             ≤ vec_capacity notes.old }
-        ensures book { book_of self.new ≡ put_alone (book_of self.old) }
+        ensures ledger { ledger_of self.new ≡ alone_ledger (ledger_of self.old) }
+        ensures ready { self.new.table.ready ≡ self.old.table.ready }
         ensures notes { notes.new.items ≡ notes.old.items ++ retaken self.old.id now
             (back_in self.old.table.entries) }
         ensures len { vec_len notes.new ≤ vec_len notes.old + length self.old.table.entries }
@@ -236,7 +251,8 @@ impl Core {
         requires room { length (restart_batch (book_of self.old)) ≤ free_places link.old }
         requires reserved { vec_len notes.old + length self.old.table.entries
             ≤ vec_capacity notes.old }
-        ensures book { book_of self.new ≡ restarted (book_of self.old) }
+        ensures ledger { ledger_of self.new ≡ restarted_ledger (ledger_of self.old) }
+        ensures ready { self.new.table.ready ≡ self.old.table.ready }
         ensures link { link.new ≡ restart_link (book_of self.old) link.old }
         ensures notes { notes.new.items ≡ notes.old.items ++ restart_notes (book_of self.old) now }
         ensures len { vec_len notes.new ≤ vec_len notes.old + length self.old.table.entries }

@@ -1,5 +1,6 @@
 //! One gateway's table, and how far it is.
-ghost use Rattle.std.specs.Prelude.{◌≡◌, ◌+◌, ◌-◌, ◌<◌, ◌≤◌, ◌++◌, ◌&&◌, not, ℕ, [], true};
+ghost use Rattle.std.specs.Prelude.{◌≡◌, ◌+◌, ◌-◌, ◌*◌, ◌<◌, ◌≤◌, ◌++◌, ◌&&◌, not};
+ghost use Rattle.std.specs.Prelude.{ℕ, [], true};
 ghost use Rattle.std.specs.Prelude.{IsTrue, IfOk, IfSome, is_some, length, vec_len, vec_capacity};
 ghost use Rattle.std.specs.Prelude.{slice_get, Some, false, OnOk, OnErr, drop, take, List};
 ghost use Rattle.nat_types.specs.declared.pairs.Key.{Key as OutsidePort};
@@ -28,21 +29,26 @@ ghost use Rattle.nat_types.specs.declared.gateways.GatewayId.TheVariants.{Zero};
 ghost use Rattle.binding_step.specs.Resets.{back_in, retaken};
 ghost use Rattle.bindings.specs.declared.entries.Entry.{Entry as Known};
 ghost use Rattle.bindings.specs.Entries.{is_pair, slot_of};
-ghost use Rattle.bind_core.specs.Cores.{book_of, core_after, inbound_of, lives_carried, owned_of, rests_in, revived_with};
+ghost use Rattle.bindings.specs.Revivals.{lives_of_pairs};
+ghost use Rattle.resync.specs.Loading.{loaded};
+ghost use Rattle.binding_step.specs.Books.{load_of};
+ghost use Rattle.binding_step.specs.Ledgers.{carried_ledger, lives_loaded, rests_for};
+ghost use Rattle.binding_step.specs.Resets.{restart_batch};
+ghost use Rattle.bind_core.specs.Cores.{book_of, core_after, inbound_of, ledger_of};
+ghost use Rattle.bind_core.specs.Cores.{owned_of, revived_with};
 
 use crate::deeds::{
     Bounds, carry_by, change_table, count_keys, is_link_full, is_wanting, lies_in_either, note,
     own_range, recall_port, tell,
 };
-use crate::grants::{choose_granted, higher, lower};
 use crate::loads::{loading_of, stage_after};
 use crate::resets::note_back;
-use crate::rows::{
-    accept, answering, ask, carry, ending, gives_way, is_lone, is_synced, known, no, quiet, refuse,
-    release, row, wish, yes,
-};
 use addresses::{Port, TcpFlags};
 use arrayvec::ArrayVec;
+use binding_rows::{
+    accept, answering, ask, carry, choose_granted, ending, gives_way, higher, is_lone, is_synced,
+    known, lower, no, quiet, refuse, release, row, wish, yes,
+};
 use binding_step::{
     Change, Row, Stage, Want, Wish, books_begin, books_keep, carry_works, feed_works,
 };
@@ -85,9 +91,14 @@ impl Model for Core {
 impl Core {
     /// Reminds the prover of what each core keeps; it does nothing when it runs.
     pub fn recall(&self)
-        ensures { IsBook (book_of self.now) }
+        ensures book { IsBook (book_of self.now) }
+        ensures capacity { self.now.table.capacity
+            ≡ key_count self.now.table.zero self.now.table.one }
+        // What it would promise a peer that began anew.
+        ensures batch { length (restart_batch (book_of self.now))
+            ≤ 2 * self.now.table.capacity + 2 }
     {
-        let _ = &self.id;
+        self.table.recall();
     }
 
     /// Whether its table is loaded.
@@ -205,7 +216,7 @@ impl Core {
 
     /// Whether an Ask's pair is idle, or came by Install and carried nothing since.
     fn rests(&self, entry: &Record, now: u64) -> bool
-        ensures { result ≡ rests_in self.now.table entry.now now }
+        ensures { result ≡ rests_for now (ledger_of self.now) entry.now }
     {
         match entry {
             Record::Ask(key) => self.table.idle(*key, now) || self.table.unused(*key),
@@ -215,7 +226,8 @@ impl Core {
 
     /// What a record makes of a synced gateway; while its batch is promised, nothing.
     pub(crate) fn row_for(&self, entry: Record, now: u64) -> Row
-        ensures { result ≡ row_of (book_of self.now) (rests_in self.now.table entry now) entry }
+        ensures { let rests = rests_for now (ledger_of self.now) entry
+            in result ≡ row_of (book_of self.now) rests entry }
     {
         if self.cursor.is_over() {
             let rests = self.rests(&entry, now);
@@ -342,13 +354,13 @@ impl Core {
             lives = self.new.table.lives;
           };
         } }
-        ensures lives { let packet : Carried = record {
+        ensures ledger { let packet : Carried = record {
           remote = remote;
           way = way;
           flags = flags;
           at = now;
         }
-            in self.new.table.lives ≡ lives_carried self.old key packet }
+            in ledger_of self.new ≡ carried_ledger key packet (ledger_of self.old) }
         ensures longer { let packet : Carried = record {
           remote = remote;
           way = way;
@@ -437,6 +449,10 @@ impl Core {
         ensures book { book_of self.new ≡ unsynced_after (book_of self.old) entry }
         ensures notes { notes.new.items ≡ notes.old.items ++ noted_by self.old.id now
             (unsynced_what (book_of self.old) entry) }
+        ensures lives { let load = loaded (load_of (book_of self.old)) entry
+            in self.new.table.lives
+            ≡ lives_loaded now entry self.old.table.entries self.old.table.lives load }
+        ensures ready { self.old.table.ready ≤ self.new.table.ready + 1 }
         ensures len { vec_len notes.new ≤ vec_len notes.old + 1 }
         ensures capacity { vec_capacity notes.new ≡ vec_capacity notes.old }
     {
@@ -494,13 +510,9 @@ impl Core {
             (back_in self.old.table.entries) }
         ensures len { vec_len notes.new ≤ vec_len notes.old + length self.old.table.entries }
         ensures capacity { vec_capacity notes.new ≡ vec_capacity notes.old }
-        ensures pasts { (q : OutsidePort) → (entry : Known) → (past : Past)
-            → slot_of self.old.table.entries q ≡ Some entry → is_pair entry.state ≡ true
-            → IsPast self.old.table q past → IsPast self.new.table q past }
-        ensures table { self.new.table ≡ record self.old.table {
-          entries = self.new.table.entries;
-          lives = self.new.table.lives;
-        } }
+        ensures lives { self.new.table.lives
+            ≡ lives_of_pairs self.old.table.entries self.old.table.lives }
+        ensures ready { self.new.table.ready ≡ self.old.table.ready }
     {
         note_back(&self.table, notes, self.id, now);
         self.table.revive();
@@ -514,6 +526,8 @@ impl Core {
         requires kept { IsBook (empty_book self.old.id self.old.table.zero self.old.table.one) }
         ensures book { book_of self.new
             ≡ empty_book self.old.id self.old.table.zero self.old.table.one }
+        ensures lives { self.new.table.lives ≡ [] }
+        ensures ready { self.new.table.ready ≡ self.old.table.ready }
     {
         self.table.clear();
         self.loading = Loading::new(self.bounds.zero, self.bounds.one);
@@ -546,8 +560,8 @@ impl Core {
     ) -> Result<Core, AllocError>
         requires zero { AreBounds zero }
         requires one { AreBounds one }
-        ensures book { IfOk result (λ c. book_of c ≡ empty_book id zero one) }
-        ensures capacity { IfOk result (λ c. c.table.capacity ≡ key_count zero one) }
+        ensures ledger { IfOk result (λ c. ledger_of c
+            ≡ record { book = empty_book id zero one; lives = [] }) }
     {
         books_begin();
         recall_port(zero.highest);
@@ -570,8 +584,8 @@ impl Core {
     pub fn founder(alloc: Global, zero: PortBounds, one: PortBounds) -> Result<Core, AllocError>
         requires zero { AreBounds zero }
         requires one { AreBounds one }
-        ensures book { IfOk result (λ c. book_of c ≡ founded_book zero one) }
-        ensures capacity { IfOk result (λ c. c.table.capacity ≡ key_count zero one) }
+        ensures ledger { IfOk result (λ c. ledger_of c
+            ≡ record { book = founded_book zero one; lives = [] }) }
     {
         let mut core = Core::unsynced(alloc, GatewayId::Zero, zero, one)?;
         core.found(zero, one);
@@ -583,7 +597,7 @@ impl Core {
         requires one { AreBounds one }
         requires empty { book_of self.old ≡ empty_book Zero zero one }
         ensures book { book_of self.new ≡ founded_book zero one }
-        ensures capacity { self.new.table.capacity ≡ self.old.table.capacity }
+        ensures lives { self.new.table.lives ≡ self.old.table.lives }
     {
         books_begin();
         recall_port(zero.highest);

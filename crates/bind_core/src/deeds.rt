@@ -18,9 +18,10 @@ ghost use Rattle.binding_step.specs.Books.{ports_of};
 ghost use Rattle.binding_step.specs.Fits.{Fits, GivesWay, HasPair, MayGive};
 ghost use Rattle.binding_step.specs.Rows.{answered, changed, noted_by, is_gained as is_gained_in};
 ghost use Rattle.binding_step.specs.Rows.{is_full, with_gained, without_ports, numbers_of};
-ghost use Rattle.bind_core.specs.Changes.{table_book, wants_after, adds, is_held};
-ghost use Rattle.bind_core.specs.Changes.{IsBetween, LivesOn, lives_after, table_after};
-ghost use Rattle.bind_core.specs.Ticks.{is_lately, may_ask as may_ask_at};
+ghost use Rattle.binding_step.specs.Ledgers.{is_heard, is_held, lives_after};
+ghost use Rattle.binding_step.specs.Ledgers.{may_ask as may_ask_at};
+ghost use Rattle.bind_core.specs.Changes.{table_book, wants_after, adds};
+ghost use Rattle.bind_core.specs.Changes.{IsBetween, LivesOn, table_after};
 
 use addresses::Port;
 use binding_step::{Change, Row};
@@ -67,7 +68,8 @@ fn renew_entry(table: &mut Table, key: Key, now: u64)
     requires { HasPair (table_book table.old) key }
     ensures entries { table.new.entries ≡ with_state key Live table.old.entries }
     ensures lives { LivesOn now (Renew key) table.old table.new }
-    ensures exact { table.new.lives ≡ lives_after now (Renew key) table.old }
+    ensures exact { table.new.lives
+        ≡ lives_after now (Renew key) table.old.entries table.old.lives }
     ensures same { table.new ≡ record table.old {
       entries = table.new.entries;
       lives = table.new.lives;
@@ -84,7 +86,8 @@ fn yield_entry(table: &mut Table, key: Key, pair: Pair, now: u64)
     ensures entries { table.new.entries ≡ put_in (entry_in Held pair)
         (with_state key Doomed table.old.entries) }
     ensures lives { LivesOn now (Yield key pair) table.old table.new }
-    ensures exact { table.new.lives ≡ lives_after now (Yield key pair) table.old }
+    ensures exact { table.new.lives
+        ≡ lives_after now (Yield key pair) table.old.entries table.old.lives }
     ensures same { table.new ≡ record table.old {
       entries = table.new.entries;
       lives = table.new.lives;
@@ -295,7 +298,7 @@ pub(crate) fn carry_by(table: &mut Table, is_used: bool, key: Key, packet: Packe
 
 /// Whether the peer was heard at most 300 cs ago.
 fn was_heard(heard: Option<u64>, now: u64) -> bool
-    ensures { result ≡ is_lately now heard }
+    ensures { result ≡ is_heard heard now }
 {
     match heard {
         None => false,

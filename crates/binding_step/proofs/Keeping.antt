@@ -128,7 +128,7 @@ set-placed c is es k o slots new q x h =
 abbrev pub IsUnserved : Book → Endpoint → Type 0
 IsUnserved c e = (q : Key) (y : Entry) → slot_of c.entries q ≡ Some y → is_pair y.state ≡ true → y.pair.endpoint ≡ e → ⊥
 
-unserved : (c : Book) (e : Endpoint) → entry_of c.entries e ≡ None → IsUnserved c e
+pub unserved : (c : Book) (e : Endpoint) → entry_of c.entries e ≡ None → IsUnserved c e
 unserved c e none q y found pair same = both_ways _ (fails _ _ c.entries y none found) (serves-of e y pair same)
 
 keeps-add : (c : Book) (s : EntryState) (p : Pair) → IsBook c → (is_synced c.stage ≡ false → c.begun ≡ false → ⊥) → slot_of c.entries p.key ≡ None → IsUnserved c p.endpoint → IsTrue (in_ranges c p.key.port.0) → IsWellFormedPair p → IsBook (record c { entries = put_in (entry_in s p) c.entries })

@@ -13,3 +13,8 @@ pub mod Comes
 pub mod Fitting
 pub mod Keeping
 pub mod Leaving
+pub mod Waiting
+pub mod Knowing
+pub mod Accounting
+pub mod Staying
+pub mod Settling

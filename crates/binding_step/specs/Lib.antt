@@ -4,3 +4,5 @@ pub mod Fits
 pub mod Resets
 pub mod Machine
 pub mod Ledgers
+pub mod Waits
+pub mod Uses

@@ -1,7 +1,7 @@
 //! What holds of each row of the record table, and of what resets a book. Each law is the contract of
 //! a function that does nothing.
 
-ghost use Rattle.std.specs.Prelude.{◌≡◌, ℕ, ◌+◌, ◌<◌, ◌≤◌, ◌∷◌, ◌++◌, ◌&&◌, [], suc, List, Bool, true, false};
+ghost use Rattle.std.specs.Prelude.{◌≡◌, ◌↔◌, ℕ, ◌+◌, ◌<◌, ◌≤◌, ◌∷◌, ◌++◌, ◌&&◌, [], suc, List, Bool, true, false};
 ghost use Rattle.std.specs.Prelude.{IfSome, None, Some, length, reverse, slice_get};
 ghost use Rattle.std.specs.List.{AllByRecursion};
 ghost use Rattle.nat_types.specs.Granted.{IsPort};
@@ -33,7 +33,16 @@ ghost use Rattle.binding_step.specs.Machine.{IsTurn, Stands, Works};
 ghost use Rattle.binding_step.specs.Resets.{back_in, put_alone, restart_batch, restart_link};
 ghost use Rattle.binding_step.specs.Resets.{restart_notes, restarted, retaken};
 ghost use Rattle.binding_step.specs.Rows.{after, answered, carry_row, changed, idle_row, noted_by};
-ghost use Rattle.binding_step.specs.Rows.{row_of, taken_answer, taken_book, taken_what, wish_of};
+ghost use Rattle.binding_step.specs.Rows.{row_of, taken_answer, taken_book, taken_ended, taken_what, wish_of};
+ghost use Rattle.binding_step.specs.Waits.{is_waiting};
+ghost use Rattle.nat_types.specs.declared.pairs.Pair.{Pair};
+ghost use Rattle.nat_types.specs.Same.{same};
+ghost use Rattle.lives.specs.declared.packets.Packet.{Packet};
+ghost use Rattle.bindings.specs.Lives.{idle_keys_in};
+ghost use Rattle.trace_words.specs.Past.{Idle};
+ghost use Rattle.binding_step.specs.Ledgers.{Ledger, alone_ledger, carried_ledger, ledger_after};
+ghost use Rattle.binding_step.specs.Ledgers.{let_go, restarted_ledger, rests_for, taken_ledger};
+ghost use Rattle.binding_step.specs.Uses.{Accounts, uses_of};
 
 /// What each row changes fits the book that it is decided on.
 pub fn rows_fit()
@@ -116,6 +125,16 @@ pub fn books_begin()
     ensures founder { (zero one : PortBounds) (capacity : ℕ) → AreBounds zero
         → let b = founded_book zero one in let r = ranges_of b in
         box_at b (fresh Zero 1 capacity) [] 0 ≡ founder (λ p. r.in_ranges p && r.at_start p) }
+{}
+
+/// A record ends the wait of an endpoint (`ended` of its row) exactly where the endpoint's own proposal waited for the
+/// peer's answer before it, and doesn't after it. At a gateway that isn't synced it ends none.
+pub fn waits_end()
+    ensures synced { (b : Book) (rests : Bool) (r : Record) (e : Endpoint) → IsBook b
+        → IsWellFormedRecord r → is_synced b.stage ≡ true → (taken_ended b rests r ≡ Some e)
+        ↔ ((is_waiting b e ≡ true) × (is_waiting (taken_book b rests r) e ≡ false)) }
+    ensures unsynced { (b : Book) (rests : Bool) (r : Record) → is_synced b.stage ≡ false
+        → taken_ended b rests r ≡ None }
 {}
 
 /// A record that comes in its turn is an act of the machine: at a synced gateway that of its row, or where its batch is
@@ -239,4 +258,43 @@ pub fn records_come()
         → IsTaken bytes e now t e1 d → t.restarted ≡ true
         → Agrees [] [] e1 × (e.boot ≡ e1.boot) × (e.known < e1.known)
         × ((letter_of d).boot ≡ e1.known) }
+{}
+
+/// A ledger that accounts for a trace (`Accounts`, the newest note first) does so whatever becomes of it, with what is
+/// noted of it put in front; so each release comes where its pair is idle: at least 30,000 cs (UDP) or 24,000 cs (TCP)
+/// after each use of it by the gateway in the same life. It begins so at each boot of the gateway (`begun`, `founded`).
+pub fn accounts_kept()
+    ensures begun { (now : ℕ) (id : GatewayId) (zero one : PortBounds) (h : List Note)
+        → ((p : Pair) → uses_of id h p ≡ []) → Idle h
+        → Accounts now (record { book = empty_book id zero one; lives = [] }) h }
+    ensures founded { (now : ℕ) (zero one : PortBounds) (h : List Note)
+        → ((p : Pair) → uses_of Zero h p ≡ []) → Idle h
+        → Accounts now (record { book = founded_book zero one; lives = [] }) h }
+    ensures later { (since now : ℕ) (l : Ledger) (h : List Note) → since ≤ now
+        → Accounts since l h → Accounts now l h }
+    // What the other gateway notes.
+    ensures foreign { (now : ℕ) (l : Ledger) (h ns : List Note)
+        → AllByRecursion (λ n. same l.book.id n.by ≡ false) ns → Idle (ns ++ h)
+        → Accounts now l h → Accounts now l (ns ++ h) }
+    ensures fed { (now : ℕ) (l : Ledger) (h : List Note) (rest : List Record) → Accounts now l h
+        → Accounts now (record l { book = record l.book { coming = rest } }) h }
+    ensures wished { (now : ℕ) (l : Ledger) (h : List Note) (full : Bool) (e : Endpoint)
+        → IsBook l.book → Accounts now l h → let w = (wish_of l.book full e).row in
+        Accounts now (ledger_after now w.change l)
+        (reverse (noted_by l.book.id now w.what) ++ h) }
+    ensures taken { (now : ℕ) (l : Ledger) (h : List Note) (r : Record) → IsBook l.book
+        → Accounts now l h → Accounts now (taken_ledger now l r)
+        (reverse (noted_by l.book.id now (taken_what l.book (rests_for now l r) r)) ++ h) }
+    ensures carried { (l : Ledger) (h : List Note) (k : Key) (p : Packet) → Accounts p.at l h
+        → Accounts p.at (carried_ledger k p l)
+        (reverse (noted_by l.book.id p.at (carry_row l.book k).what) ++ h) }
+    ensures restarted { (now : ℕ) (l : Ledger) (h : List Note) → IsBook l.book → Accounts now l h
+        → Accounts now (restarted_ledger l) (reverse (restart_notes l.book now) ++ h) }
+    ensures alone { (now : ℕ) (l : Ledger) (h : List Note) → IsBook l.book → Accounts now l h
+        → Accounts now (alone_ledger l)
+        (reverse (retaken l.book.id now (back_in l.book.entries)) ++ h) }
+    // The idle pairs of a tick.
+    ensures let_go { (now : ℕ) (l : Ledger) (e : Link) (h : List Note) → IsBook l.book
+        → Accounts now l h → let keys = idle_keys_in now l.book.entries l.lives in
+        Accounts now (let_go now keys l e).ledger (reverse (let_go now keys l e).notes ++ h) }
 {}

@@ -1,2 +1,3 @@
 mod Moving
 mod Places
+mod Singles

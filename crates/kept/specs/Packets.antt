@@ -1,5 +1,5 @@
 -- The packets that wait.
-use Rattle.std.specs.Prelude.{◌≡◌, ℕ, ◌-◌, ◌≤◌, Bool, false, not, ◌&&◌, nat_lt, List}
+use Rattle.std.specs.Prelude.{◌≡◌, ℕ, ◌-◌, ◌≤◌, Bool, false, not, ◌&&◌, nat_lt, Option, None, Some, List, [], ◌∷◌}
 use Rattle.std.specs.List.{filter, count_by, list_any, AllPairs}
 use Rattle.nat_types.specs.declared.gateways.Side.{Side}
 use Rattle.kept.specs.declared.waits.Wait.{Wait}
@@ -41,6 +41,15 @@ ended_by ended kept = filter (λ packet. ends ended packet.wait) kept
 
 abbrev pub left_by : Ended → List Waiting → List Waiting
 left_by ended kept = filter (λ packet. not (ends ended packet.wait)) kept
+
+-- a packet that was taken off, as a list
+abbrev pub listed : Option Waiting → List Waiting
+listed None = []
+listed (Some packet) = packet ∷ []
+
+-- no two wait for the same
+abbrev pub AreApart : List Waiting → Type 0
+AreApart kept = AllPairs (λ a b. same_wait a.wait b.wait ≡ false) kept
 
 -- at most 64 wait for pairs and 64 for next hops, and no two for the same
 pub record IsKept (kept : List Waiting) : Type 0 where

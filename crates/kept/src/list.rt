@@ -1,9 +1,11 @@
 //! The list of the packets that wait.
 ghost use Rattle.std.specs.Prelude.{◌≡◌, ◌≤◌, ◌+◌, ◌++◌, ◌∷◌, [], ◌==◌, length, IfOk, IsTrue, not};
-ghost use Rattle.std.specs.Prelude.{vec_len, vec_capacity};
+ghost use Rattle.std.specs.Prelude.{vec_len, vec_capacity, position};
 ghost use Rattle.std.specs.List.{filter, list_any, AllPass};
 ghost use Rattle.kept.specs.Waits.{same_wait, ends};
+ghost use Rattle.kept.specs.declared.waits.Ended.TheVariants.{One, AllPairs};
 ghost use Rattle.kept.specs.Packets.{is_young, has_place, count_like, ended_by, left_by, IsKept};
+ghost use Rattle.kept.specs.Packets.{AreApart, listed};
 
 use crate::{Ended, Wait};
 use nat_types::Side;
@@ -131,6 +133,13 @@ fn is_awaited(packets: &[Waiting], wait: Wait) -> bool
     packets.iter().any(|packet| packet.wait.is_same(wait))
 }
 
+/// Where the first packet stands that waits for this.
+fn place_for(packets: &[Waiting], wait: Wait) -> Option<usize>
+    ensures { result ≡ position (λ packet. same_wait wait packet.wait) packets.now }
+{
+    packets.iter().position(|packet| wait.is_same(packet.wait))
+}
+
 /// Moves the packets whose wait is over behind another list, which has room for them.
 fn move_ended(packets: &mut Vec<Waiting>, ended: Ended, list: &mut Vec<Waiting>)
     requires room { vec_len list.old + vec_len packets.old ≤ vec_capacity list.old }
@@ -147,6 +156,19 @@ fn move_ended(packets: &mut Vec<Waiting>, ended: Ended, list: &mut Vec<Waiting>)
         } else {
             at += 1;
         }
+    }
+}
+
+/// Takes the packet that waits for this off a list in which no two wait for the same.
+fn remove_one(packets: &mut Vec<Waiting>, wait: Wait) -> Option<Waiting>
+    requires once { AreApart packets.old.items }
+    ensures left { packets.new.items ≡ left_by (One wait) packets.old.items }
+    ensures taken { listed result ≡ ended_by (One wait) packets.old.items }
+    ensures capacity { vec_capacity packets.new ≡ vec_capacity packets.old }
+{
+    match place_for(packets, wait) {
+        Some(place) => Some(packets.remove(place)),
+        None => None,
     }
 }
 
@@ -213,8 +235,18 @@ impl Kept {
         ensures gone { AllPass (λ packet. not (ends ended packet.wait)) self.new }
         ensures count { vec_len list.new + length self.new ≡ vec_len list.old + length self.old }
         ensures capacity { vec_capacity list.new ≡ vec_capacity list.old }
+        // At most 64 wait for pairs.
+        ensures pairs { length (ended_by AllPairs self.old) ≤ 64 }
     {
         move_ended(&mut self.packets, ended, list);
+    }
+
+    /// Takes off the packet that waits for this, if one does.
+    pub fn take_one(&mut self, wait: Wait) -> Option<Waiting>
+        ensures left { self.new ≡ left_by (One wait) self.old }
+        ensures taken { listed result ≡ ended_by (One wait) self.old }
+    {
+        remove_one(&mut self.packets, wait)
     }
 
     /// Drops the packets that were kept 300 centiseconds ago or earlier.

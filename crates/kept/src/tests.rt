@@ -42,6 +42,8 @@ fn sixty_four_wait_for_pairs(rt: HostRuntime) -> Result<(), Fail> {
     kept.take_ended(Ended::One(pair_of(7)), &mut ended);
     assert_eq!(rt; (kept.len(), ended.len()), (64, 1));
     assert!(rt; kept.has_place(pair_of(65)));
+    assert!(rt; kept.take_one(pair_of(8)).is_some());
+    assert!(rt; kept.take_one(pair_of(8)).is_none());
     kept.drop_old(300);
     assert_eq!(rt; kept.len(), 1);
     Ok(())

@@ -65,16 +65,20 @@ few-owned t is =
     subst (λ (n : ℕ). n ≤ key_count t.zero t.one) (length-map t.owned port_entry)
     (few t.zero t.one (map port_entry t.owned) (port-keys 0 t.owned is.rising) (λ k x h. is.owned k.port.0 (slot-listed t.owned k x h)))
 
-pub few-records : (t : Table) → IsTable t → length (batch_of t.owned t.entries) ≤ 2 * t.capacity + 2
-few-records t is =
-    let pairs : length (pairs_in is_settled t.entries) ≡ length (filter (λ (e : Entry). is_settled e.state) t.entries) = length-map (filter (λ (e : Entry). is_settled e.state) t.entries) (λ (e : Entry). e.pair) in
-    let kept : length (filter (λ (e : Entry). is_settled e.state) t.entries) ≤ length t.entries = length-keep (λ (e : Entry). is_settled e.state) t.entries in
-    let puts : length (puts_of t.entries) ≡ length (pairs_in is_settled t.entries) = length-map (pairs_in is_settled t.entries) (λ p. Put p) in
+-- with the owned ports of the table, and any entries for which it has room
+pub few-of : (t : Table) (es : List Entry) → IsTable t → length es ≤ t.capacity → length (batch_of t.owned es) ≤ 2 * t.capacity + 2
+few-of t es is within =
+    let pairs : length (pairs_in is_settled es) ≡ length (filter (λ (e : Entry). is_settled e.state) es) = length-map (filter (λ (e : Entry). is_settled e.state) es) (λ (e : Entry). e.pair) in
+    let kept : length (filter (λ (e : Entry). is_settled e.state) es) ≤ length es = length-keep (λ (e : Entry). is_settled e.state) es in
+    let puts : length (puts_of es) ≡ length (pairs_in is_settled es) = length-map (pairs_in is_settled es) (λ p. Put p) in
     let owners : length (owners_of (runs_of t.owned)) ≡ length (runs_of t.owned) = length-map (runs_of t.owned) (λ run. Owner run.lowest run.highest) in
-    let inner : length (puts_of t.entries ++ Done ∷ []) ≡ length (puts_of t.entries) + 1 = length-append (puts_of t.entries) (Done ∷ []) in
-    let outer : length (owners_of (runs_of t.owned) ++ (puts_of t.entries ++ Done ∷ [])) ≡ length (owners_of (runs_of t.owned)) + length (puts_of t.entries ++ Done ∷ []) = length-append (owners_of (runs_of t.owned)) (puts_of t.entries ++ Done ∷ []) in
-    sizes (length (batch_of t.owned t.entries)) (length (owners_of (runs_of t.owned))) (length (runs_of t.owned)) (length t.owned) (length (puts_of t.entries)) (length t.entries) t.capacity
-    (omega arith) owners (few-runs t.owned) (subst (λ (n : ℕ). length t.owned ≤ n) (sym is.room) (few-owned t is)) (omega arith) is.within
+    let inner : length (puts_of es ++ Done ∷ []) ≡ length (puts_of es) + 1 = length-append (puts_of es) (Done ∷ []) in
+    let outer : length (owners_of (runs_of t.owned) ++ (puts_of es ++ Done ∷ [])) ≡ length (owners_of (runs_of t.owned)) + length (puts_of es ++ Done ∷ []) = length-append (owners_of (runs_of t.owned)) (puts_of es ++ Done ∷ []) in
+    sizes (length (batch_of t.owned es)) (length (owners_of (runs_of t.owned))) (length (runs_of t.owned)) (length t.owned) (length (puts_of es)) (length es) t.capacity
+    (omega arith) owners (few-runs t.owned) (subst (λ (n : ℕ). length t.owned ≤ n) (sym is.room) (few-owned t is)) (omega arith) within
   where
     sizes : (batch owners runs ports puts entries room : ℕ) → batch ≡ owners + puts + 2 → owners ≡ runs → runs ≤ ports → ports ≤ room → puts ≤ entries → entries ≤ room → batch ≤ 2 * room + 2
     sizes batch owners runs ports puts entries room a b c d e f = omega arith
+
+pub few-records : (t : Table) → IsTable t → length (batch_of t.owned t.entries) ≤ 2 * t.capacity + 2
+few-records t is = few-of t t.entries is is.within

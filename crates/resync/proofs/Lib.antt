@@ -7,4 +7,4 @@ mod Drawing
 mod Giving
 mod Holding
 mod Steady
-mod Few
+pub mod Few

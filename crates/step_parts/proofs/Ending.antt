@@ -1,9 +1,7 @@
 -- The datagram at a step's end, as the machine sees it.
-use Rattle.std.proofs.Common.{◌≡◌, ◌⊎◌, inl, inr, ℕ, ◌+◌, ◌-◌, ◌==◌, min, Bool, true, false, cond, List, [], ◌∷◌, ◌++◌, length, drop, map, reverse, take, Option, Some, refl, sym, ap, subst, ◌∙◌, arith}
+use Rattle.std.proofs.Common.{◌≡◌, ◌⊎◌, inl, inr, ℕ, ◌+◌, min, Bool, true, false, cond, List, [], ◌∷◌, ◌++◌, length, drop, reverse, take, Option, Some, refl, sym, ap, subst, ◌∙◌, arith}
 use Rattle.std.proofs.lemmas.List.{append-nil, length-append, length-take, take-append-drop}
-use Rattle.nat_types.specs.declared.notes.Note.{Note}
 use Rattle.nat_types.specs.declared.records.Record.{Record}
-use Rattle.link.specs.declared.datagrams.Datagram.{Datagram}
 use Rattle.link.specs.Grammar.{spelling}
 use Rattle.link.specs.Link.{Link, Agrees, datagram_of, is_due_on_tick, sent_on_answer, sent_on_tick, wanted, with_fed}
 use Rattle.link.proofs.Ends.{within_handed}
@@ -11,13 +9,13 @@ use Rattle.link.proofs.Letters.{is_letter}
 use Rattle.pair_machine.specs.Box.{Letter}
 use Rattle.pair_machine.specs.Step.{IsStep}
 use Rattle.binding_step.specs.Books.{Book, is_synced}
-use Rattle.binding_step.specs.Machine.{Stands, Works, box_at, letter_of, ranges_of}
+use Rattle.binding_step.specs.Machine.{box_at, letter_of, ranges_of}
 use Rattle.binding_step.proofs.Keeping.{fed-keeps}
 use Rattle.binding_step.proofs.Parts.{feed-works, works-sent}
 use Rattle.told.specs.Told.{Told, with_datagram}
-use Rattle.step_parts.specs.Machine.{Goes, IsAlone, box_of}
-use Rattle.step_parts.specs.Parts.{answer_sent, datagram_in, handed_in, link_answered, link_ticked, tick_sent}
-use Rattle.step_parts.specs.Shown.{Scene, Shown, id_of, scene}
+use Rattle.step_parts.specs.Machine.{Goes, IsAlone}
+use Rattle.step_parts.specs.Parts.{datagram_in, handed_in, link_answered, link_ticked}
+use Rattle.step_parts.specs.Shown.{Scene, Shown, scene}
 use Rattle.step_parts.proofs.Hearing.{Arrives}
 use Rattle.step_parts.proofs.Passing.{IsSound, Passes, given, passes-then}
 
@@ -73,6 +71,9 @@ module _ (letters : List Letter) (words : List ℕ) (s : Scene) (h : List Record
         notes_are = x.notes_are;
         sent = d ∷ [];
         datagrams_are = ap (λ (ds : List (List ℕ)). ds ++ spelling d ∷ []) x.datagrams;
+        few = omega arith;
+        own = (refl, tt);
+        house = x.works.house;
         step = subst (λ (m : ℕ). IsStep (ranges_of b) b.id m (box_at b e h e.taken) (box_at b2 (ended e2 ticked) hs e2.taken) letters words [] (reverse x.notes) [] (letter_of d ∷ [])) (sym x.moment) step;
       }
 
@@ -90,6 +91,9 @@ module _ (letters : List Letter) (words : List ℕ) (s : Scene) (h : List Record
         notes_are = x.notes_are;
         sent = [];
         datagrams_are = x.datagrams ∙ sym (append-nil s.told.datagrams);
+        few = omega arith;
+        own = tt;
+        house = x.works.house;
         step = subst (λ (m : ℕ). IsStep (ranges_of b) b.id m (box_at b e h e.taken) (box_at b2 e2 hs e2.taken) letters words [] (reverse x.notes) [] []) (sym x.moment) x.works.step;
       }
 

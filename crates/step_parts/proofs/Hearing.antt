@@ -1,38 +1,36 @@
 -- What a step does with a whole datagram, with the operator's word and with idle pairs, as the machine sees it.
-use Rattle.std.proofs.Common.{◌≡◌, ◌<◌, ◌≤◌, ◌⊎◌, ◌==◌, ℕ, zero, suc, ◌+◌, ◌++◌, Bool, true, false, cond, not, ◌&&◌, ◌||◌, nat_lt, List, [], ◌∷◌, length, Option, Some, None, Result, Ok, Err, inl, inr, refl, sym, ap, subst, ◌∙◌, arith}
+use Rattle.std.proofs.Common.{◌≡◌, ◌<◌, ◌≤◌, ◌⊎◌, ◌==◌, ℕ, suc, ◌+◌, ◌++◌, Bool, true, false, cond, not, ◌||◌, nat_lt, List, [], ◌∷◌, length, Option, Some, None, Result, Ok, Err, inl, inr, refl, sym, ap, subst, ◌∙◌, arith}
 use Rattle.std.specs.List.{AllByRecursion, slice_get}
 use Rattle.std.proofs.lemmas.Bool.{ltb-false}
 use Rattle.nat_types.specs.declared.pairs.Key.{Key}
 use Rattle.nat_types.specs.declared.records.Record.{Record}
 use Rattle.link.specs.declared.datagrams.Datagram.{Datagram}
-use Rattle.link.specs.declared.datagrams.Taken.{Taken}
 use Rattle.link.specs.declared.faults.LinkFault.{LinkFault}
 use Rattle.link.specs.Grammar.{IsWellFormed, IsWellFormedRecord}
-use Rattle.link.specs.Link.{Link, Agrees, IsTaken, acknowledged_to, after_take, closed_at, is_restart, met, records_taken, refusal, restarted as session_of, taken_of}
+use Rattle.link.specs.Link.{Link, IsTaken, after_take, closed_at, is_restart, met, records_taken, refusal, taken_of}
 use Rattle.link.specs.Reading.{reading}
 use Rattle.link.proofs.Ends.{all_taken, begins, boot_of, is_open, known_of, met_restart, met_same, restart_is}
 use Rattle.link.proofs.Wholes.{reading_takes}
 use Rattle.pair_machine.specs.Box.{Letter}
-use Rattle.pair_machine.specs.Step.{WasSent}
-use Rattle.binding_step.specs.Books.{Book, IsBook, is_lone, is_synced}
-use Rattle.binding_step.specs.Ledgers.{alone_ledger, restarted_ledger}
-use Rattle.binding_step.specs.Machine.{IsTurn, Stands, Works, letter_of}
-use Rattle.binding_step.specs.Resets.{back_in, put_alone, restart_link, restart_notes, restarted, retaken, begun_anew}
+use Rattle.binding_step.specs.Books.{Book, is_lone, is_synced}
+use Rattle.binding_step.specs.Ledgers.{alone_ledger, may_ask, restarted_ledger}
+use Rattle.binding_step.specs.Machine.{IsTurn, Stands, letter_of}
+use Rattle.binding_step.specs.Resets.{back_in, restart_link, restart_notes, restarted, retaken, begun_anew}
 use Rattle.binding_step.specs.Books.{empty_book}
-use Rattle.binding_step.specs.Rows.{idle_row, is_full}
+use Rattle.binding_step.specs.Rows.{idle_row}
 use Rattle.binding_step.proofs.Comes.{turn-comes}
 use Rattle.binding_step.proofs.Keeping.{alone-keeps, idle-keeps, restart-keeps}
-use Rattle.binding_step.proofs.Parts.{heard-works, works-more, works-nothing}
+use Rattle.binding_step.proofs.Parts.{heard-works, works-more}
 use Rattle.binding_step.proofs.Restarting.{restart-works, word-works}
 use Rattle.binding_step.proofs.Wishing.{idle-works}
 use Rattle.kept.specs.declared.waits.Ended.TheVariants.{AllPairs}
 use Rattle.packet_rules.specs.declared.reasons.Reason.{Reason}
 use Rattle.packet_rules.specs.declared.reasons.Reason.TheVariants.{NotUp, OldWord}
 use Rattle.step_parts.specs.Machine.{AreBytes, IsAlone, letter_in}
-use Rattle.step_parts.specs.Parts.{all_idle_done, datagram_read, heard_by, heard_unless, idle_done, is_heard, records_done, released, reset, with_link, word_taken}
-use Rattle.step_parts.specs.Shown.{Scene, Shown, id_of, scene, with_notes}
+use Rattle.step_parts.specs.Parts.{all_idle_done, datagram_read, heard_by, heard_unless, idle_done, records_done, reset, with_link, word_taken}
+use Rattle.step_parts.specs.Shown.{Scene, Shown, scene, with_notes}
 use Rattle.step_parts.specs.Steps.{word_by, word_refusal}
-use Rattle.step_parts.proofs.Passing.{Going, Goes-on, IsSound, Passes, Stays, going-then, passes-then, row-goes}
+use Rattle.step_parts.proofs.Passing.{Going, IsSound, Passes, Stays, going-then, passes-then, row-goes}
 use Rattle.step_parts.proofs.Packets.{Reads, here, released-goes}
 use Rattle.step_parts.proofs.Records.{AllCome, counted, counted-is, records-take, not-alone}
 
@@ -63,7 +61,7 @@ module _ (letters : List Letter) (words : List ℕ) where
   idle-goes : (s : Scene) (k : Key) → Going letters words s (idle_done s k)
   idle-goes s k = λ n h stands is.
       let g = s.shown in let b = g.ledger.book in
-      let ask = is_heard g.link.heard g.moment && not (is_full g.link) in
+      let ask = may_ask g.moment g.link in
       row-goes letters words s (idle_row b ask k) n h is (idle-keeps b ask k is.book) (idle-works g.moment b g.link n h ask k stands)
 
   pub all-idle-goes : (s : Scene) (ks : List Key) → Going letters words s (all_idle_done s ks)

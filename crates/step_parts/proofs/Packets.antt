@@ -1,10 +1,9 @@
 -- What a step does with one packet, and with those whose wait is over, as the machine sees it.
-use Rattle.std.proofs.Common.{◌≡◌, ◌<◌, ◌≤◌, ◌^◌, ◌-◌, ℕ, Bool, true, false, cond, not, List, [], ◌∷◌, ◌++◌, get_or, length, drop, take, Option, Some, None, Result, Ok, Err, inl, inr, refl, sym, ap, subst, ◌∙◌, arith}
+use Rattle.std.proofs.Common.{◌≡◌, ◌<◌, ◌-◌, ℕ, Bool, true, false, cond, List, [], ◌∷◌, ◌++◌, drop, Option, Some, None, Result, Ok, Err, inl, inr, refl, sym, subst, arith}
 use Rattle.std.specs.List.{AllByRecursion, filter}
 use Rattle.byteorder.specs.Numbers.{big_from-lt}
 use Rattle.addresses.specs.declared.ethernet.Mac.{Mac}
 use Rattle.addresses.specs.declared.internet.Ip.{Ip}
-use Rattle.addresses.specs.declared.transport.Port.{Port}
 use Rattle.addresses.specs.declared.transport.TcpFlags.{TcpFlags}
 use Rattle.nat_types.specs.declared.gateways.Side.{Side}
 use Rattle.nat_types.specs.declared.pairs.Endpoint.{Endpoint}
@@ -12,7 +11,6 @@ use Rattle.nat_types.specs.declared.pairs.EntryState.{EntryState}
 use Rattle.nat_types.specs.declared.pairs.EntryState.TheVariants as state
 use Rattle.nat_types.specs.declared.pairs.Key.{Key}
 use Rattle.nat_types.specs.declared.pairs.Pair.{Pair}
-use Rattle.nat_types.specs.declared.records.Record.{Record}
 use Rattle.bindings.specs.declared.entries.Entry.{Entry}
 use Rattle.bindings.specs.Entries.{slot_of}
 use Rattle.frames.specs.Frame.{frame_of}
@@ -29,14 +27,13 @@ use Rattle.binding_step.specs.declared.changes.Want.{Want as Wanted}
 use Rattle.binding_step.specs.declared.changes.Want.TheVariants as want
 use Rattle.binding_step.specs.Books.{Book, is_synced}
 use Rattle.binding_step.specs.Fits.{IsWellFormedEndpoint}
-use Rattle.binding_step.specs.Machine.{Stands, Works}
+use Rattle.binding_step.specs.Machine.{Works}
 use Rattle.binding_step.specs.Rows.{after, answered, carry_row, is_full, noted_by, quiet, use_row, used_row, wish_of}
 use Rattle.binding_step.proofs.Keeping.{wish-keeps}
 use Rattle.binding_step.proofs.Wishing.{carry-works, wish-works}
 use Rattle.kept.specs.declared.waits.Ended.{Ended}
 use Rattle.kept.specs.declared.waits.Wait.{Wait}
 use Rattle.kept.specs.Packets.{Waiting, ended_by, left_by}
-use Rattle.kept.specs.Waits.{ends}
 use Rattle.packet_rules.specs.declared.networks.Direction.{Direction}
 use Rattle.packet_rules.specs.declared.networks.Direction.TheVariants as way
 use Rattle.packet_rules.specs.declared.networks.Network.{Network}
@@ -52,11 +49,11 @@ use Rattle.packet_rules.specs.Steps.{Carries, IsForwardable, reading_of, and_the
 use Rattle.sides.specs.Stations.{is_active}
 use Rattle.step_parts.specs.declared.plans.Plan.{Plan}
 use Rattle.step_parts.specs.declared.plans.Plan.TheVariants.{Send, Ask, Wait as WaitFor}
-use Rattle.step_parts.specs.Machine.{AreBytes, KeepsBytes}
+use Rattle.step_parts.specs.Machine.{AreBytes}
 use Rattle.step_parts.specs.Parts.{all_taken, by_plan, by_refusal, by_verdict, carried, carried_all, carried_by, flags_in, flow_taken, framed, keeping, released, remote, retaken_by, taken_again, wanted_by, wanted_for}
 use Rattle.step_parts.specs.Shown.{Scene, Shown, is_up, scene, station_on}
-use Rattle.step_parts.specs.Verdict.{exit_by, look_for, plan_by, plan_from, plan_of, plan_on, plan_to, reading_on, target_pair}
-use Rattle.step_parts.proofs.Passing.{Going, Goes-on, IsSound, Passes, given, going-then, going-unseen, nothing, row-goes, stays-here}
+use Rattle.step_parts.specs.Verdict.{look_for, plan_by, plan_from, plan_of, plan_on, plan_to, reading_on, target_pair}
+use Rattle.step_parts.proofs.Passing.{Going, given, going-then, going-unseen, nothing, row-goes}
 
 -- ---- the endpoint of a packet's source
 
@@ -76,7 +73,7 @@ source-formed bytes are is =
     above body (inr tcp) = tcp.segment.from
 
 -- a plan waits for an endpoint that a pair can have
-abbrev PlanFits : Result Plan Reason → Type 0
+abbrev pub PlanFits : Result Plan Reason → Type 0
 PlanFits (Ok (Send by next)) = Unit {0}
 PlanFits (Ok (Ask by hop)) = Unit {0}
 PlanFits (Ok (WaitFor e)) = IsWellFormedEndpoint e
@@ -116,7 +113,7 @@ on-fits g flow way.Hairpin formed = at (target_pair g flow)
     at (Ok p) = from-fits g flow (λ own. Hairpin own p) (look_for g flow) formed
     at (Err reason) = tt
 
-plan-fits : (g : Shown) (side : Side) (flow : Flow) → IsWellFormedEndpoint (source_of flow) → PlanFits (plan_of g side flow)
+pub plan-fits : (g : Shown) (side : Side) (flow : Flow) → IsWellFormedEndpoint (source_of flow) → PlanFits (plan_of g side flow)
 plan-fits g side flow formed = at (direction_of g.networks side flow.source.0 flow.destination.0)
   where
     at : (r : Result Direction Reason) → PlanFits (and_then r (plan_on g flow))
@@ -153,9 +150,29 @@ kept-filter p (w ∷ ws) all = at (p w) (kept-filter p ws all.1)
     at true rest = (all.0, rest)
     at false rest = rest
 
-kept-more : (ws : List Waiting) (x : Waiting) → AllByRecursion (λ (w : Waiting). AreBytes w.bytes) ws → AreBytes x.bytes → AllByRecursion (λ (w : Waiting). AreBytes w.bytes) (ws ++ x ∷ [])
+pub kept-more : (ws : List Waiting) (x : Waiting) → AllByRecursion (λ (w : Waiting). AreBytes w.bytes) ws → AreBytes x.bytes → AllByRecursion (λ (w : Waiting). AreBytes w.bytes) (ws ++ x ∷ [])
 kept-more [] x all one = (one, tt)
 kept-more (w ∷ ws) x all one = (all.0, kept-more ws x all.1 one)
+
+-- a packet that is refused leaves the scene, or wants a port
+pub refusal-leaves : (P : Scene → Type 0) (s : Scene) (flow : Flow) (reason : Reason) → P s → P (wanted_by s (source_of flow)) → P (by_refusal s flow reason)
+refusal-leaves P s flow NoPort same wanted = wanted
+refusal-leaves P s flow ShortFrame same wanted = same
+refusal-leaves P s flow NotMine same wanted = same
+refusal-leaves P s flow BadHeader same wanted = same
+refusal-leaves P s flow BadLength same wanted = same
+refusal-leaves P s flow BadHeaderSum same wanted = same
+refusal-leaves P s flow Fragment same wanted = same
+refusal-leaves P s flow TtlOver same wanted = same
+refusal-leaves P s flow NotUdpTcp same wanted = same
+refusal-leaves P s flow BadTransport same wanted = same
+refusal-leaves P s flow BadArp same wanted = same
+refusal-leaves P s flow BadAdvert same wanted = same
+refusal-leaves P s flow NotUp same wanted = same
+refusal-leaves P s flow NoBinding same wanted = same
+refusal-leaves P s flow CannotWait same wanted = same
+refusal-leaves P s flow BadDatagram same wanted = same
+refusal-leaves P s flow OldWord same wanted = same
 
 -- what is known of a frame by what it is read as
 abbrev pub Reads : Type 0
@@ -228,23 +245,7 @@ module _ (letters : List Letter) (words : List ℕ) where
       going-then letters words s one _ (wanted-goes s e fits) (keeping-goes one side bytes _ are)
 
   refusal-goes : (s : Scene) (flow : Flow) (reason : Reason) → IsWellFormedEndpoint (source_of flow) → Going letters words s (by_refusal s flow reason)
-  refusal-goes s flow NoPort formed = wanted-goes s (source_of flow) formed
-  refusal-goes s flow ShortFrame formed = here s
-  refusal-goes s flow NotMine formed = here s
-  refusal-goes s flow BadHeader formed = here s
-  refusal-goes s flow BadLength formed = here s
-  refusal-goes s flow BadHeaderSum formed = here s
-  refusal-goes s flow Fragment formed = here s
-  refusal-goes s flow TtlOver formed = here s
-  refusal-goes s flow NotUdpTcp formed = here s
-  refusal-goes s flow BadTransport formed = here s
-  refusal-goes s flow BadArp formed = here s
-  refusal-goes s flow BadAdvert formed = here s
-  refusal-goes s flow NotUp formed = here s
-  refusal-goes s flow NoBinding formed = here s
-  refusal-goes s flow CannotWait formed = here s
-  refusal-goes s flow BadDatagram formed = here s
-  refusal-goes s flow OldWord formed = here s
+  refusal-goes s flow reason formed = refusal-leaves (λ x. Going letters words s x) s flow reason (here s) (wanted-goes s (source_of flow) formed)
 
   verdict-goes : (s : Scene) (side : Side) (bytes : List ℕ) (flow : Flow) (plan : Result Plan Reason) → AreBytes bytes → IsWellFormedEndpoint (source_of flow) → PlanFits plan → Going letters words s (by_verdict s side bytes flow plan)
   verdict-goes s side bytes flow (Ok plan) are formed fits = plan-goes s side bytes flow plan are formed fits

@@ -1,6 +1,5 @@
 -- Parts of a step as parts of a step of the machine: what one is, none, and one behind the other.
-use Rattle.std.proofs.Common.{◌≡◌, ◌<◌, ℕ, Bool, true, false, List, [], ◌∷◌, ◌++◌, get_or, Option, Some, None, refl, sym, ap, subst, ◌∙◌, append_assoc}
-use Rattle.std.specs.List.{AllByRecursion}
+use Rattle.std.proofs.Common.{◌≡◌, ℕ, true, List, [], ◌++◌, Option, Some, None, refl, sym, ap, subst, ◌∙◌, append_assoc}
 use Rattle.std.proofs.lemmas.List.{append-nil}
 use Rattle.nat_types.specs.declared.notes.Note.{Note}
 use Rattle.nat_types.specs.declared.records.Record.{Record}
@@ -12,9 +11,9 @@ use Rattle.binding_step.specs.Machine.{Stands, Works}
 use Rattle.binding_step.specs.Rows.{after, answered, noted_by}
 use Rattle.binding_step.proofs.Leaving.{change-leaves}
 use Rattle.binding_step.proofs.Parts.{works-join, works-more, works-nothing}
-use Rattle.step_parts.specs.Machine.{AreBytes, KeepsBytes}
+use Rattle.step_parts.specs.Machine.{KeepsBytes}
 use Rattle.step_parts.specs.Parts.{by_row}
-use Rattle.step_parts.specs.Shown.{Scene, Shown, id_of}
+use Rattle.step_parts.specs.Shown.{Scene, Shown}
 
 -- what holds of a gateway between the parts
 pub record IsSound (g : Shown) : Type 0 where

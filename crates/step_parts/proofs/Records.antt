@@ -1,15 +1,13 @@
 -- What a step does with the records of a datagram, as the machine sees it.
-use Rattle.std.proofs.Common.{◌≡◌, ℕ, zero, suc, ◌+◌, Bool, true, false, cond, not, ◌&&◌, List, [], ◌∷◌, length, Option, Some, None, refl, sym, ap, subst, ◌∙◌, arith}
-use Rattle.std.specs.List.{AllByRecursion}
-use Rattle.nat_types.specs.declared.notes.Note.{Note}
+use Rattle.std.proofs.Common.{◌≡◌, ℕ, suc, ◌+◌, Bool, true, false, cond, not, ◌&&◌, List, [], ◌∷◌, length, Option, Some, None, refl, sym, subst, ◌∙◌, arith}
 use Rattle.nat_types.specs.declared.pairs.Endpoint.{Endpoint}
 use Rattle.nat_types.specs.declared.records.Record.{Record}
 use Rattle.link.specs.Grammar.{IsWellFormedRecord}
 use Rattle.link.specs.Link.{Link}
 use Rattle.pair_machine.specs.Box.{Letter}
-use Rattle.binding_step.specs.Books.{Book, is_lone}
+use Rattle.binding_step.specs.Books.{is_lone}
 use Rattle.binding_step.specs.Ledgers.{rests_for, taken_ledger}
-use Rattle.binding_step.specs.Machine.{IsTurn, Stands, Works}
+use Rattle.binding_step.specs.Machine.{IsTurn, Stands}
 use Rattle.binding_step.specs.Rows.{answered, noted_by, taken_answer, taken_book, taken_ended, taken_what}
 use Rattle.binding_step.proofs.Keeping.{taken-keeps}
 use Rattle.binding_step.proofs.Leaving.{taken-together}
@@ -18,9 +16,9 @@ use Rattle.binding_step.proofs.Working.{record-works}
 use Rattle.kept.specs.declared.waits.Ended.TheVariants.{One}
 use Rattle.kept.specs.declared.waits.Wait.TheVariants as wait
 use Rattle.told.specs.Told.{Told}
-use Rattle.step_parts.specs.Parts.{has_synced, record_done, record_shown, record_told, records_done, released, started, wait_ended}
+use Rattle.step_parts.specs.Parts.{has_synced, record_done, record_shown, record_told, records_done, started, wait_ended}
 use Rattle.step_parts.specs.Shown.{Scene, Shown, scene}
-use Rattle.step_parts.proofs.Passing.{Going, Goes-on, IsSound, Passes, Stays, goes-then, going-unseen, stays-here}
+use Rattle.step_parts.proofs.Passing.{Going, Goes-on, IsSound, goes-then, going-unseen}
 use Rattle.step_parts.proofs.Packets.{Reads, here, released-goes}
 
 -- the record is the next behind so many at any end that speaks of these boots, and has a spelling

@@ -1,22 +1,19 @@
 -- What a step does with an ARP packet, at a router and with old packets, as the machine sees it: nothing, but for the
 -- packets whose wait an ARP packet ends.
-use Rattle.std.proofs.Common.{◌≡◌, ℕ, Bool, true, false, cond, List, [], ◌∷◌, Option, Some, None, refl, subst, sym}
-use Rattle.std.specs.List.{filter}
+use Rattle.std.proofs.Common.{ℕ, Bool, true, false, cond, List, [], ◌∷◌, Option, Some, None, refl, subst, sym}
 use Rattle.addresses.specs.declared.ethernet.Mac.{Mac}
 use Rattle.nat_types.specs.declared.gateways.Side.{Side}
 use Rattle.nat_types.specs.declared.gateways.Side.TheVariants.{Inside, Outside}
-use Rattle.nat_types.specs.declared.records.Record.{Record}
 use Rattle.arp.specs.declared.packets.ArpPacket.{ArpPacket}
 use Rattle.kept.specs.declared.waits.Ended.TheVariants.{One}
 use Rattle.kept.specs.declared.waits.Wait.TheVariants as wait
-use Rattle.kept.specs.Packets.{is_young}
 use Rattle.pair_machine.specs.Box.{Letter}
 use Rattle.packet_rules.specs.Arping.{answer_to, is_learnable}
 use Rattle.sides.specs.Stations.{Station, after_arp, frames_of, is_active}
 use Rattle.vrrp_states.specs.declared.Action.{Action}
 use Rattle.vrrp_states.specs.Table.{Event as RouterEvent}
 use Rattle.step_parts.specs.Parts.{acted, all_framed, answered_by, arp_taken, framed, old_dropped, released}
-use Rattle.step_parts.specs.Shown.{Scene, Shown, scene, station_on, with_station}
+use Rattle.step_parts.specs.Shown.{Scene, scene, station_on, with_station}
 use Rattle.step_parts.specs.Steps.{BothAct, RouterActs, stopped}
 use Rattle.step_parts.proofs.Passing.{Going, going-then, going-unseen}
 use Rattle.step_parts.proofs.Packets.{Reads, framed-goes, here, kept-filter, released-goes}

@@ -1,9 +1,8 @@
 -- A whole step as a step of the machine.
-use Rattle.std.proofs.Common.{◌≡◌, ℕ, true, List, [], ◌∷◌, Option, Result, Ok, Err, refl, sym, ap, subst, ◌∙◌}
+use Rattle.std.proofs.Common.{◌≡◌, ℕ, List, [], ◌∷◌, Result, Ok, Err, refl, sym, subst}
 use Rattle.nat_types.specs.declared.gateways.Side.{Side}
 use Rattle.nat_types.specs.declared.records.Record.{Record}
 use Rattle.link.specs.Reading.{reading}
-use Rattle.pair_machine.specs.Box.{Letter}
 use Rattle.binding_step.specs.Books.{IsBook}
 use Rattle.bindings.specs.Lives.{idle_keys_in}
 use Rattle.packet_rules.specs.declared.readings.Reading.{Reading}
@@ -12,10 +11,10 @@ use Rattle.packet_rules.specs.declared.reasons.Reason.{Reason}
 use Rattle.vrrp_states.specs.Table as table
 use Rattle.step_parts.specs.declared.events.Event.{Event}
 use Rattle.step_parts.specs.declared.events.Event.TheVariants.{Frame, Datagram as Comes, Tick, Stop, PeerOff}
-use Rattle.step_parts.specs.Machine.{AreBytes, Goes, HasBytes, HasPushed, IsAlone, KeepsBytes, letter_in, letters_in, words_in}
-use Rattle.step_parts.specs.Parts.{arp_taken, datagram_taken, flow_taken, idle_taken, link_answered, link_ticked, old_dropped}
-use Rattle.step_parts.specs.Shown.{Scene, Shown}
-use Rattle.step_parts.specs.Steps.{Does, FrameDoes, IsStepOn, ended_on, stopped, ticked, word_by, word_refusal}
+use Rattle.step_parts.specs.Machine.{AreBytes, Goes, HasBytes, HasPushed, IsAlone, IsStanding, KeepsBytes, letter_in, letters_in, words_in}
+use Rattle.step_parts.specs.Parts.{idle_taken, old_dropped}
+use Rattle.step_parts.specs.Shown.{Scene}
+use Rattle.step_parts.specs.Steps.{Does, FrameDoes, IsStepOn, ended_on, stopped, ticked, word_refusal}
 use Rattle.step_parts.specs.Verdict.{reading_on}
 use Rattle.step_parts.proofs.Ending.{answered-goes, answered-keeps, ticked-goes, ticked-keeps}
 use Rattle.step_parts.proofs.Hearing.{Arrives, all-idle-goes, arrives-by, datagram-arrives, word-arrives}
@@ -70,6 +69,9 @@ ended-goes s (Tick now) done h a =
       notes_are = g.notes_are;
       sent = g.sent;
       datagrams_are = g.datagrams_are;
+      few = g.few;
+      own = g.own;
+      house = g.house;
       step = g.step;
     }
 ended-goes s Stop done h a = answered-goes [] [] s h done a
@@ -92,3 +94,8 @@ step-keeps reads s event s2 h step has book alone kept pushed =
     let a = does-arrives reads s event step.done h step.does has pushed (record { book = book; kept = kept }) alone in
     let k = ended-keeps s event step.done h a in
     subst (λ (x : Scene). IsBook x.shown.ledger.book × (IsAlone x.shown × KeepsBytes x.shown)) (sym step.sends) (k.0.book, (k.1, k.0.kept))
+
+pub parts-stand : Reads → (s : Scene) (event : Event) (done : Scene) (h : List Record) → Does s event done → HasBytes event → IsBook s.shown.ledger.book → IsAlone s.shown → KeepsBytes s.shown → HasPushed s.shown h → (h2 : List Record) × IsStanding done.shown h2
+parts-stand reads s event done h does has book alone kept pushed =
+    let a = does-arrives reads s event done h does has pushed (record { book = book; kept = kept }) alone in
+    (a.passes.works.history, record { book = a.passes.sound.book; alone = a.alone; kept = a.passes.sound.kept; pushed = a.passes.works.agrees })

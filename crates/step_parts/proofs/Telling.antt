@@ -1,5 +1,5 @@
 -- What is told truly: nothing, one part behind the other, frames of other sorts, and packets whose wait is over.
-use Rattle.std.proofs.Common.{◌≡◌, ℕ, Bool, true, false, not, List, [], ◌∷◌, ◌++◌, map, filter, flat_map, IsPermutation, refl, sym, ap, ◌∙◌, subst, append_assoc}
+use Rattle.std.proofs.Common.{◌≡◌, ℕ, false, not, List, [], ◌∷◌, ◌++◌, map, filter, flat_map, IsPermutation, refl, sym, ap, ◌∙◌, subst, append_assoc}
 use Rattle.std.proofs.lemmas.List.{map-append, append-nil}
 use Rattle.std.proofs.lemmas.List.Elements.{filter-append}
 use Rattle.std.proofs.lemmas.Grind.{flat_map-append}
@@ -10,9 +10,9 @@ use Rattle.kept.specs.declared.waits.Ended.{Ended}
 use Rattle.kept.specs.Packets.{Waiting, ended_by, is_young, left_by}
 use Rattle.kept.specs.Waits.{ends}
 use Rattle.packet_rules.specs.Frames.{is_translation, pairs_of}
-use Rattle.told.specs.Told.{Sent, Told}
-use Rattle.step_parts.specs.Parts.{all_taken, framed, old_dropped, released, taken_again}
-use Rattle.step_parts.specs.Shown.{Scene, Shown, scene}
+use Rattle.told.specs.Told.{Sent}
+use Rattle.step_parts.specs.Parts.{framed, old_dropped}
+use Rattle.step_parts.specs.Shown.{Scene}
 use Rattle.step_parts.specs.Truly.{AreSent, AtHand, Known, Sending, Tells, known_of, packets_of, translated_frames, used_in, used_pairs}
 
 swap-front : {X : Type 0} (a b c : List X) → IsPermutation (a ++ (b ++ c)) (b ++ (a ++ c))
@@ -130,44 +130,10 @@ old-tells s =
 abbrev pub at_hand : Side → List ℕ → AtHand
 at_hand side bytes = record { side = side; bytes = bytes }
 
--- a taking of one packet tells truly where this holds, and leaves it
-pub record Truthful (Holds : Known → Type 0) : Type 1 where
-  pub tells : (s : Scene) (w : Waiting) → Holds (known_of s.shown) → Tells (at_hand w.side w.bytes ∷ []) s (taken_again s w)
-  pub known : (s : Scene) (w : Waiting) → known_of (taken_again s w).shown ≡ known_of s.shown
-
--- the takings of kept packets, where each of them does
-pub all-tell : (Holds : Known → Type 0) → Truthful Holds → (s : Scene) (ws : List Waiting) → Holds (known_of s.shown) → Tells (packets_of ws) s (all_taken s ws) × (known_of (all_taken s ws).shown ≡ known_of s.shown)
-all-tell Holds t s [] holds = (tells-nothing s [], refl)
-all-tell Holds t s (w ∷ ws) holds =
-    let mid = taken_again s w in
-    let same = t.known s w in
-    let rest = all-tell Holds t mid ws (subst Holds (sym same) holds) in
-    (tells-then (at_hand w.side w.bytes ∷ []) (packets_of ws) s mid (all_taken mid ws) rest.1 (t.tells s w holds) rest.0, rest.1 ∙ same)
-
 -- the kept packets, those whose wait ends first
-split-kept : (ended : Ended) (kept : List Waiting) → IsPermutation (packets_of (ended_by ended kept) ++ packets_of (left_by ended kept)) (packets_of kept)
+pub split-kept : (ended : Ended) (kept : List Waiting) → IsPermutation (packets_of (ended_by ended kept) ++ packets_of (left_by ended kept)) (packets_of kept)
 split-kept ended kept =
     let view = λ (w : Waiting). at_hand w.side w.bytes in
     let over = λ (w : Waiting). ends ended w.wait in
     let both = IsPermutation-map view _ _ (IsPermutation-filter_both over (λ w. not (over w)) (λ w. refl) kept) in
     IsPermutation-sym _ _ (subst (λ ps. IsPermutation (packets_of kept) ps) (map-append view (ended_by ended kept) (left_by ended kept)) both)
-
--- and so of the packets whose wait is over
-pub released-tell : (Holds : Known → Type 0) → Truthful Holds → (s : Scene) (ended : Ended) → Holds (known_of s.shown) → Tells [] s (released s ended) × (known_of (released s ended).shown ≡ known_of s.shown)
-released-tell Holds t s ended holds =
-    let start = scene (record s.shown { kept = left_by ended s.shown.kept }) s.told in
-    let x = all-tell Holds t start (ended_by ended s.shown.kept) holds in (
-      record {
-        frames = x.0.frames;
-        frames_are = x.0.frames_are;
-        notes = x.0.notes;
-        notes_are = x.0.notes_are;
-        done = x.0.done;
-        translated = x.0.translated;
-        used = x.0.used;
-        each = x.0.each;
-        dropped = x.0.dropped;
-        once = IsPermutation-trans _ _ _ (IsPermutation-sym _ _ (split-kept ended s.shown.kept)) x.0.once;
-      },
-      x.1,
-    )

@@ -3,4 +3,7 @@ pub mod Verdict
 pub mod Parts
 pub mod Steps
 pub mod Truly
+pub mod Others
 pub mod Machine
+pub mod Rests
+pub mod Founding

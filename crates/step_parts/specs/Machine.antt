@@ -1,16 +1,17 @@
 -- A step as the pair machine sees it.
-use Rattle.std.specs.Prelude.{◌≡◌, ◌<◌, ℕ, true, List, [], ◌∷◌, ◌++◌, get_or, map, reverse, Result, Ok, Err, ◌⊎◌}
+use Rattle.std.specs.Prelude.{◌≡◌, ◌<◌, ◌≤◌, ℕ, true, List, [], ◌∷◌, ◌++◌, get_or, length, map, reverse, Result, Ok, Err, ◌⊎◌}
 use Rattle.std.specs.List.{AllByRecursion}
 use Rattle.nat_types.specs.declared.notes.Note.{Note}
 use Rattle.nat_types.specs.declared.records.Record.{Record}
 use Rattle.link.specs.declared.datagrams.Datagram.{Datagram as Letters}
 use Rattle.link.specs.declared.faults.LinkFault.{LinkFault}
 use Rattle.link.specs.Grammar.{spelling}
+use Rattle.link.specs.Link.{datagram_of}
 use Rattle.link.specs.Reading.{reading}
 use Rattle.pair_machine.specs.Box.{Box, Letter}
 use Rattle.pair_machine.specs.Step.{IsStep}
-use Rattle.binding_step.specs.Books.{IsBook, is_lone}
-use Rattle.binding_step.specs.Machine.{box_at, letter_of, ranges_of, Stands}
+use Rattle.binding_step.specs.Books.{IsBook, is_lone, is_synced}
+use Rattle.binding_step.specs.Machine.{IsSameHouse, Stands, box_at, letter_of, ranges_of}
 use Rattle.step_parts.specs.declared.events.Event.{Event}
 use Rattle.step_parts.specs.declared.events.Event.TheVariants.{Frame, Datagram, Tick, Stop, PeerOff}
 use Rattle.step_parts.specs.Shown.{Scene, Shown, id_of}
@@ -35,7 +36,15 @@ AreBytes bytes = (place : ℕ) → get_or bytes place 0 < 256
 abbrev pub KeepsBytes : Shown → Type 0
 KeepsBytes g = AllByRecursion (λ w. AreBytes w.bytes) g.kept
 
--- and so is the frame or the datagram of an event
+-- What holds of a gateway that has pushed or promised h in the session: its book's facts, that it is lone only by right,
+-- that it keeps bytes.
+pub record IsStanding (g : Shown) (h : List Record) : Type 0 where
+  pub book : IsBook g.ledger.book
+  pub alone : IsAlone g
+  pub kept : KeepsBytes g
+  pub pushed : HasPushed g h
+
+-- the frame or the datagram of an event is bytes
 abbrev pub HasBytes : Event → Type 0
 HasBytes (Frame side bytes) = AreBytes bytes.now
 HasBytes (Datagram bytes) = AreBytes bytes.now
@@ -72,6 +81,11 @@ pub record Goes (letters : List Letter) (words : List ℕ) (old new : Scene) (h 
   pub notes_are : new.told.notes ≡ old.told.notes ++ notes
   pub sent : List Letters
   pub datagrams_are : new.told.datagrams ≡ old.told.datagrams ++ map spelling sent
+  -- at most one, which is that of its link as it stands then
+  pub few : length sent ≤ 1
+  pub own : AllByRecursion (λ d. d ≡ datagram_of (is_synced new.shown.ledger.book.stage) new.shown.link) sent
+  -- and it is still who it was
+  pub house : IsSameHouse old.shown.ledger.book new.shown.ledger.book
   pub step : let g = old.shown in
       IsStep (ranges_of g.ledger.book) (id_of g) new.shown.moment (box_of g h) (box_of new.shown history)
       letters words [] (reverse notes) [] (reverse (map letter_of sent))

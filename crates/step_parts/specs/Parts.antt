@@ -1,6 +1,6 @@
 -- The parts of a step: what each does to a gateway and to what it has told, and the takings of the packets whose wait it
 -- ended.
-use Rattle.std.specs.Prelude.{ℕ, ◌+◌, ◌-◌, Bool, true, false, not, ◌&&◌, nat_le, min, Option, Some, None, Result, Ok, Err, List, [], ◌∷◌, ◌++◌, take, drop, if◌then◌else◌}
+use Rattle.std.specs.Prelude.{ℕ, ◌+◌, Bool, not, ◌&&◌, Option, Some, None, Result, Ok, Err, List, [], ◌∷◌, ◌++◌, take, drop, if◌then◌else◌}
 use Rattle.std.specs.List.{filter}
 use Rattle.addresses.specs.declared.ethernet.Mac.{Mac}
 use Rattle.addresses.specs.declared.internet.Ip.{Ip}
@@ -27,7 +27,7 @@ use Rattle.link.specs.Link.{Link, after_take, closed_at, datagram_of, is_due_on_
 use Rattle.link.specs.Reading.{reading}
 use Rattle.binding_step.specs.declared.changes.Row.{Row}
 use Rattle.binding_step.specs.Books.{is_synced}
-use Rattle.binding_step.specs.Ledgers.{alone_ledger, carried_ledger, ledger_after, rests_for, restarted_ledger, taken_ledger}
+use Rattle.binding_step.specs.Ledgers.{alone_ledger, carried_ledger, ledger_after, may_ask, rests_for, restarted_ledger, taken_ledger}
 use Rattle.binding_step.specs.Resets.{back_in, restart_link, restart_notes, retaken}
 use Rattle.binding_step.specs.Rows.{answered, carry_row, idle_row, is_full, noted_by, taken_answer, taken_ended, taken_what, wish_of}
 use Rattle.kept.specs.declared.waits.Ended.{Ended}
@@ -37,7 +37,6 @@ use Rattle.kept.specs.declared.waits.Wait.TheVariants as wait
 use Rattle.kept.specs.Packets.{Waiting, ended_by, is_young, left_by}
 use Rattle.packet_rules.specs.declared.readings.Reading.{Reading}
 use Rattle.packet_rules.specs.declared.readings.Reading.TheVariants.{Arp, Advert, Packet}
-use Rattle.packet_rules.specs.declared.networks.Networks.{Networks}
 use Rattle.packet_rules.specs.declared.reasons.Reason.{Reason}
 use Rattle.packet_rules.specs.declared.reasons.Reason.TheVariants.{ShortFrame, NotMine, BadHeader, BadLength, BadHeaderSum, Fragment, TtlOver, NotUdpTcp, BadTransport, BadArp, BadAdvert, NotUp, NoBinding, NoPort, CannotWait, BadDatagram, OldWord}
 use Rattle.packet_rules.specs.declared.translations.Translation.{Translation}
@@ -53,7 +52,7 @@ use Rattle.vrrp_states.specs.Table.{Router, active_down_interval}
 use Rattle.told.specs.Told.{Told, with_datagram, with_frame}
 use Rattle.step_parts.specs.declared.plans.Plan.{Plan}
 use Rattle.step_parts.specs.declared.plans.Plan.TheVariants.{Send, Ask, Wait as WaitFor}
-use Rattle.step_parts.specs.Shown.{Scene, Shown, id_of, is_up, scene, station_on, with_notes, with_station}
+use Rattle.step_parts.specs.Shown.{Scene, Shown, id_of, scene, station_on, with_notes, with_station}
 use Rattle.step_parts.specs.Verdict.{exit_by, plan_of, reading_on}
 
 -- ---- rows of the binding protocol
@@ -284,15 +283,10 @@ word_taken s n = let g = s.shown in let book = g.ledger.book in
 
 -- ---- a tick's own parts
 
--- the peer was heard at most 300 centiseconds ago
-abbrev pub is_heard : Option ℕ → ℕ → Bool
-is_heard None now = false
-is_heard (Some last) now = nat_le (now - last) 300
-
 -- an idle pair is let go: alone it is dropped, else its owner asks, where the peer was heard lately and the link isn't full
 abbrev pub idle_done : Scene → Key → Scene
 idle_done s k = let g = s.shown in
-    by_row s (idle_row g.ledger.book (is_heard g.link.heard g.moment && not (is_full g.link)) k)
+    by_row s (idle_row g.ledger.book (may_ask g.moment g.link) k)
 
 abbrev pub all_idle_done : Scene → List Key → Scene
 all_idle_done s [] = s

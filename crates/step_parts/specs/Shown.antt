@@ -1,10 +1,9 @@
 -- What a gateway shows, and what it has told.
-use Rattle.std.specs.Prelude.{ℕ, Bool, not, ◌&&◌, List, [], ◌++◌}
+use Rattle.std.specs.Prelude.{ℕ, Bool, not, ◌&&◌, List, ◌++◌}
 use Rattle.nat_types.specs.declared.gateways.GatewayId.{GatewayId}
 use Rattle.nat_types.specs.declared.gateways.Side.{Side}
 use Rattle.nat_types.specs.declared.gateways.Side.TheVariants.{Inside, Outside}
 use Rattle.nat_types.specs.declared.notes.Note.{Note}
-use Rattle.nat_types.specs.declared.notes.Happening.{Happening}
 use Rattle.link.specs.Link.{Link}
 use Rattle.binding_step.specs.Books.{is_synced}
 use Rattle.binding_step.specs.Ledgers.{Ledger}

@@ -1,12 +1,10 @@
 -- A whole step: its parts in their order.
-use Rattle.std.specs.Prelude.{◌≡◌, ℕ, Bool, true, not, ◌||◌, ◌==◌, nat_lt, min, max, Option, Some, None, Result, Ok, Err, List, if◌then◌else◌}
-use Rattle.addresses.specs.declared.internet.Ip.{Ip}
+use Rattle.std.specs.Prelude.{◌≡◌, ℕ, true, not, ◌||◌, ◌==◌, nat_lt, min, max, Option, Some, None, Result, Ok, Err, List, if◌then◌else◌}
 use Rattle.nat_types.specs.declared.gateways.Side.{Side}
 use Rattle.nat_types.specs.declared.gateways.Side.TheVariants.{Inside, Outside}
-use Rattle.link.specs.declared.datagrams.Datagram.{Datagram}
 use Rattle.link.specs.declared.datagrams.Taken.{Taken}
 use Rattle.link.specs.declared.faults.LinkFault.{LinkFault}
-use Rattle.link.specs.Link.{Link, taking}
+use Rattle.link.specs.Link.{taking}
 use Rattle.link.specs.Reading.{reading}
 use Rattle.binding_step.specs.Books.{is_synced}
 use Rattle.packet_rules.specs.declared.readings.Reading.{Reading}
@@ -14,14 +12,13 @@ use Rattle.packet_rules.specs.declared.readings.Reading.TheVariants.{Arp, Advert
 use Rattle.packet_rules.specs.declared.reasons.Reason.{Reason}
 use Rattle.packet_rules.specs.declared.reasons.Reason.TheVariants.{NotUp, BadDatagram, OldWord}
 use Rattle.sides.specs.Stations.{Station, IsRouterStep}
-use Rattle.vrrp_packet.specs.declared.Advert.{Advert as Heard}
 use Rattle.vrrp_states.specs.declared.Action.{Action}
 use Rattle.vrrp_states.specs.Table as table
 use Rattle.vrrp_states.specs.Table.{Event as RouterEvent}
 use Rattle.step_parts.specs.declared.events.Event.{Event}
 use Rattle.step_parts.specs.declared.events.Event.TheVariants.{Frame, Datagram as Comes, Tick, Stop, PeerOff}
 use Rattle.step_parts.specs.declared.events.Outcome.{Outcome}
-use Rattle.step_parts.specs.declared.events.Outcome.TheVariants.{Sent, Waiting, Done, Dropped}
+use Rattle.step_parts.specs.declared.events.Outcome.TheVariants.{Done, Dropped}
 use Rattle.step_parts.specs.Parts.{acted, arp_taken, datagram_taken, flow_taken, idle_taken, link_answered, link_ticked, old_dropped, word_taken}
 use Rattle.step_parts.specs.Shown.{Scene, Shown, scene, station_on}
 use Rattle.step_parts.specs.Verdict.{reading_on, verdict}

@@ -1,6 +1,6 @@
 -- Told truly: the translated frames of a step are, one for one and in order, translations of different packets at hand, by
 -- the pairs that the step's Used notes name.
-use Rattle.std.specs.Prelude.{◌≡◌, ℕ, List, [], ◌∷◌, ◌++◌, map, Option, Some, Ok}
+use Rattle.std.specs.Prelude.{◌≡◌, ℕ, List, [], ◌∷◌, ◌++◌, map, Some, Ok}
 use Rattle.std.specs.List.{filter, flat_map}
 use Rattle.std.specs.List.Sorted.{IsPermutation}
 use Rattle.addresses.specs.declared.ethernet.Mac.{Mac}
@@ -18,8 +18,9 @@ use Rattle.packet_rules.specs.declared.translations.Translation.{Translation}
 use Rattle.packet_rules.specs.declared.translations.Translation.TheVariants.{Outward, Inward, Hairpin}
 use Rattle.packet_rules.specs.Flows.{flow_in, source_of, target_of}
 use Rattle.packet_rules.specs.Frames.{hop_of, is_translation, pairs_of, sent_frame, way_of}
-use Rattle.packet_rules.specs.Networks.{direction_of}
-use Rattle.told.specs.Told.{Sent, Told}
+use Rattle.packet_rules.specs.Networks.{IsWired, direction_of}
+use Rattle.sides.specs.Stations.{IsWired as IsWiredStation}
+use Rattle.told.specs.Told.{Sent}
 use Rattle.step_parts.specs.declared.events.Event.{Event}
 use Rattle.step_parts.specs.declared.events.Event.TheVariants.{Frame, Datagram, Tick, Stop, PeerOff}
 use Rattle.step_parts.specs.Shown.{Scene, Shown}
@@ -120,3 +121,7 @@ pub record Tells (hand : List AtHand) (old new : Scene) : Type 0 where
   pub dropped : List AtHand
   pub once : IsPermutation (hand ++ packets_of old.shown.kept)
       (map (λ d. d.packet) done ++ (dropped ++ packets_of new.shown.kept))
+
+-- all hardware addresses that a gateway knows have six bytes
+abbrev pub AreWired : Shown → Type 0
+AreWired g = IsWired g.networks × (IsWiredStation g.inside × IsWiredStation g.outside)

@@ -6,5 +6,8 @@ mod laws;
 mod plans;
 
 pub use events::{Event, Outcome};
-pub use laws::{steps_go, steps_keep};
+pub use laws::{
+    beginnings, beginnings_account, idle_at_once, other_frames, others_account, parts_stand,
+    steps_account, steps_go, steps_keep, steps_note, steps_tell,
+};
 pub use plans::Plan;

@@ -1,5 +1,5 @@
 -- One more string behind those that lie one behind the other.
-use Rattle.std.proofs.Common.{◌≡◌, ℕ, ◌+◌, ◌≤◌, List, [], ◌∷◌, ◌++◌, length, take, drop, sum, ap, ◌∙◌, arith, length-drop}
+use Rattle.std.proofs.Common.{◌≡◌, ℕ, suc, ◌+◌, ◌≤◌, List, [], ◌∷◌, ◌++◌, length, take, drop, sum, refl, ap, ◌∙◌, arith, length-drop}
 use Rattle.std.proofs.Math.Seq.{take-length}
 use Rattle.std.proofs.lemmas.List.{take-append-le, drop-append-le, nil_from_length}
 use Rattle.std.proofs.lemmas.List.Sums.{sum_by-cons}
@@ -20,3 +20,8 @@ cut-push (s ∷ sizes) bytes more size fills is =
     ap (λ xs. xs ∷ cut (sizes ++ size ∷ []) (drop s (bytes ++ more))) (take-append-le s bytes more within)
     ∙ ap (λ xs. take s bytes ∷ cut (sizes ++ size ∷ []) xs) (drop-append-le s bytes more within)
     ∙ ap (λ xs. take s bytes ∷ xs) rest
+
+-- there are as many strings as sizes
+pub cut-count : (sizes bytes : List ℕ) → length (cut sizes bytes) ≡ length sizes
+cut-count [] bytes = refl
+cut-count (s ∷ sizes) bytes = ap suc (cut-count sizes (drop s bytes))

@@ -1,5 +1,5 @@
 //! What callers of a gateway see.
-ghost use Rattle.std.specs.Prelude.{◌≡◌};
+ghost use Rattle.std.specs.Prelude.{◌≡◌, length};
 ghost use Rattle.told.specs.Told.{none_told};
 
 use crate::pages::Page;
@@ -46,6 +46,13 @@ impl Out {
         ensures { result ≡ self.now.frames }
     {
         self.page.frames()
+    }
+
+    /// How many datagrams there are.
+    pub fn datagram_count(&self) -> usize
+        ensures { result ≡ length self.now.datagrams }
+    {
+        self.page.datagram_count()
     }
 
     /// The datagrams that were sent to the other gateway, in order.

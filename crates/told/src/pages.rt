@@ -210,6 +210,13 @@ impl Page {
         Frames::of(&self.sides, self.frames.strings())
     }
 
+    /// How many datagrams there are.
+    pub fn datagram_count(&self) -> usize
+        ensures { result ≡ length self.now.told.datagrams }
+    {
+        self.datagrams.count()
+    }
+
     /// The datagrams, in order.
     pub fn datagrams(&self) -> ByteStrings<'_>
         ensures { result ≡ self.now.told.datagrams }

@@ -90,6 +90,13 @@ impl Pile {
         self.sizes.push_reserved(self.bytes.len() - start);
     }
 
+    /// How many strings there are.
+    pub(crate) fn count(&self) -> usize
+        ensures { result ≡ length self.now.strings }
+    {
+        self.sizes.len()
+    }
+
     /// The strings, in order.
     pub(crate) fn strings(&self) -> ByteStrings<'_>
         ensures { result ≡ self.now.strings }

@@ -1,4 +1,5 @@
-use Rattle.bind_core.proofs.Changing.{turned-ranges, yielded-free, yielded-new, stays-added, yielded-distinct}
+use Rattle.nat_types.specs.declared.pairs.EntryState.TheVariants.{Doomed}
+use Rattle.bind_core.proofs.Changing.{turned-ranges, yielded-free, yielded-new, stays-added, yielded-distinct, turned-life}
 use Rattle.bind_core.proofs.deeds.yield_entry.Goals as goal
 
 pub add_entry-requires-clause-ranges : goal.add_entry-requires-clause-ranges
@@ -18,3 +19,6 @@ returns-clause-lives c = record {
   stays = λ q past stays has. stays-added c.args.pair.key c.set_state.new.self c.add_entry.new.table (rw c.set_state.ensures.entries (yielded-free c.args.table.now.entries c.args.key c.args.pair.key c.requires.fits.entry c.requires.fits.found c.requires.fits.key)) c.add_entry.ensures.others q past (c.set_state.ensures.pasts q past has);
   begins = c.add_entry.ensures.begins;
 }
+
+pub returns-clause-exact : goal.returns-clause-exact
+returns-clause-exact c = turned-life c.args.pair c.args.key Doomed c.args.table.now c.set_state.new.self c.add_entry.new.table _ c.set_state.ensures.entries c.add_entry.ensures.exact

@@ -24,5 +24,5 @@ invariant_of-self c =
       room = omega (arith, room, places);
     }
 
-pub returns : goal.returns
-returns c = record { book = rw (← c.self.view_is) (forgotten (core_of c.self.inside) c.clear.new.self c.new-self-inside.result _ _ c.clear.ensures c.self.invariant.bounds.zero c.self.invariant.bounds.one c.new-self-inside.ensures) }
+pub returns-clause-book : goal.returns-clause-book
+returns-clause-book c = rw (← c.self.view_is) (forgotten (core_of c.self.inside) c.clear.new.self c.new-self-inside.result _ _ c.clear.ensures c.self.invariant.bounds.zero c.self.invariant.bounds.one c.new-self-inside.ensures)

@@ -27,6 +27,3 @@ invariant_of-self c =
 
 pub returns-clause-book : goal.returns-clause-book
 returns-clause-book c = rw (← c.self.view_is) (revived-book (core_of c.self.inside) c.revive.new.self c.args.stage c.args.cursor c.revive.ensures.same c.revive.ensures.entries)
-
-pub returns-clause-pasts : goal.returns-clause-pasts
-returns-clause-pasts c = rw (← c.self.view_is) c.revive.ensures.pasts

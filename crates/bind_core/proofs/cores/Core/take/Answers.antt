@@ -1,32 +1,35 @@
 use Rattle.std.proofs.Common.{[], ◌∷◌, suc, sym, ap, ◌∙◌}
 use Rattle.binding_step.specs.Rows.{row_of, answered, taken_book, taken_answer}
-use Rattle.bind_core.specs.Cores.{book_of, rests_in}
-use Rattle.bind_core.proofs.Performing.{book-after, works-as, taken-book, taken-answer, loaded-book, loaded-answer}
+use Rattle.binding_step.specs.Ledgers.{rests_for}
+use Rattle.bind_core.specs.Cores.{book_of, ledger_of}
+use Rattle.bind_core.proofs.Performing.{book-after, ready-then, works-as, taken-book, taken-answer, taken-ledger, loaded-book, loaded-answer, loaded-ledger}
 use Rattle.bind_core.proofs.cores.Core.take.Goals as goal
 
-pub returns-then-is_synced-clause-book : goal.returns-then-is_synced-clause-book
-returns-then-is_synced-clause-book c =
-    let b = book_of c.args.self.now in
-    let rests = rests_in c.args.self.now.table c.args.entry c.args.now in
-    ap book_of c.take_synced.ensures.core ∙ book-after c.args.now c.args.self.now (row_of b rests c.args.entry)
-    ∙ sym (taken-book b rests c.args.entry (sym c.is_synced.ensures ∙ c.if-is_synced.true))
+pub returns-then-is_synced-clause-ledger : goal.returns-then-is_synced-clause-ledger
+returns-then-is_synced-clause-ledger c = taken-ledger c.args.now c.args.self.now c.take_synced.new.self c.args.entry (sym c.is_synced.ensures ∙ c.if-is_synced.true) c.take_synced.ensures.core
+
+pub returns-then-is_synced-clause-ready : goal.returns-then-is_synced-clause-ready
+returns-then-is_synced-clause-ready c = ready-then c.args.now c.args.self.now c.take_synced.new.self (row_of (book_of c.args.self.now) (rests_for c.args.now (ledger_of c.args.self.now) c.args.entry) c.args.entry) c.take_synced.ensures.core
+
+pub returns-else-is_synced-clause-ledger : goal.returns-else-is_synced-clause-ledger
+returns-else-is_synced-clause-ledger c = loaded-ledger c.args.now c.args.self.now c.load.new.self c.args.entry (sym c.is_synced.ensures ∙ c.if-is_synced.false) c.load.ensures.book c.load.ensures.lives
 
 pub returns-then-is_synced-clause-works : goal.returns-then-is_synced-clause-works
 returns-then-is_synced-clause-works c = λ h n l offset lone stands turn.
     let b = book_of c.args.self.now in
-    let rests = rests_in c.args.self.now.table c.args.entry c.args.now in
+    let rests = rests_for c.args.now (ledger_of c.args.self.now) c.args.entry in
     let synced = sym c.is_synced.ensures ∙ c.if-is_synced.true in
     let book = ap book_of c.take_synced.ensures.core ∙ book-after c.args.now c.args.self.now (row_of b rests c.args.entry) ∙ sym (taken-book b rests c.args.entry synced) in
     let link = c.take_synced.ensures.link ∙ sym (ap (answered c.args.link.now) (taken-answer b rests c.args.entry synced)) in
     works-as c.args.now (l ∷ []) [] b c.args.link.now n (taken_book b rests c.args.entry) (book_of c.take_synced.new.self) (answered c.args.link.now (taken_answer b rests c.args.entry)) c.take_synced.new.link (suc n) _ h book link
-    (c.record_works.ensures c.args.now b c.args.link.now n h l offset rests c.args.entry c.recall.ensures lone stands turn)
+    (c.record_works.ensures c.args.now b c.args.link.now n h l offset rests c.args.entry c.recall.ensures.book lone stands turn)
 
 pub returns-else-is_synced-clause-works : goal.returns-else-is_synced-clause-works
 returns-else-is_synced-clause-works c = λ h n l offset lone stands turn.
     let b = book_of c.args.self.now in
-    let rests = rests_in c.args.self.now.table c.args.entry c.args.now in
+    let rests = rests_for c.args.now (ledger_of c.args.self.now) c.args.entry in
     let loads = sym c.is_synced.ensures ∙ c.if-is_synced.false in
     let book = c.load.ensures.book ∙ sym (loaded-book b rests c.args.entry loads) in
     let link = sym (ap (answered c.args.link.now) (loaded-answer b rests c.args.entry loads)) in
     works-as c.args.now (l ∷ []) [] b c.args.link.now n (taken_book b rests c.args.entry) (book_of c.load.new.self) (answered c.args.link.now (taken_answer b rests c.args.entry)) c.args.link.now (suc n) _ h book link
-    (c.record_works.ensures c.args.now b c.args.link.now n h l offset rests c.args.entry c.recall.ensures lone stands turn)
+    (c.record_works.ensures c.args.now b c.args.link.now n h l offset rests c.args.entry c.recall.ensures.book lone stands turn)

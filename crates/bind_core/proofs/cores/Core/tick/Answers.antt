@@ -1,9 +1,9 @@
 use Rattle.std.proofs.Common.{◌≡◌, [], Some, slice_get, length, sym, ap, ◌∙◌, arith}
 use Rattle.bindings.specs.Table.{idle_keys_of}
-use Rattle.bind_core.specs.Cores.{Core, book_of}
-use Rattle.bind_core.specs.Ticks.{ticked, ticked_core}
+use Rattle.binding_step.specs.Ledgers.{Ledger, let_go}
+use Rattle.bind_core.specs.Cores.{Core, book_of, ledger_of}
 use Rattle.bind_core.proofs.Performing.{works-as}
-use Rattle.bind_core.proofs.Releasing.{few-idle, one-more-at, all-done, TickLaws, ticked-works}
+use Rattle.bind_core.proofs.Releasing.{few-idle, one-more-at, all-done, TickLaws, released-works}
 use Rattle.bind_core.proofs.cores.Core.tick.Goals as goal
 
 pub returns-clause-len : goal.returns-clause-len
@@ -29,13 +29,15 @@ pub loop-i-preserved : goal.loop-i-preserved
 loop-i-preserved c =
     let keys = idle_keys_of c.args.self.now.table c.args.now in
     let found : slice_get keys c.loop-i.i ≡ Some c.idle_key_at-key.result = sym (ap (λ ks. slice_get ks c.loop-i.i) c.loop-i.invariant.idle) ∙ c.idle_key_at-key.ensures in
-    let more = one-more-at c.args.now c.loop-i.i keys c.idle_key_at-key.result c.loop-i.self c.loop-i.link c.loop-i.notes.items c.release.new.self c.release.new.link c.release.new.notes.items found c.release.ensures.step in
+    let more = one-more-at c.args.now c.loop-i.i keys c.idle_key_at-key.result (ledger_of c.loop-i.self) c.loop-i.link c.loop-i.notes.items (ledger_of c.release.new.self) c.release.new.link c.release.new.notes.items found
+    record { ledger = c.release.ensures.ledger; link = c.release.ensures.link; notes = c.release.ensures.notes } in
     let len = c.loop-i.invariant.len in
     let longer = c.release.ensures.len in
     record {
-      core = sym more.core ∙ c.loop-i.invariant.core;
+      ledger = sym more.ledger ∙ c.loop-i.invariant.ledger;
       link = sym more.link ∙ c.loop-i.invariant.link;
       notes = sym more.notes ∙ c.loop-i.invariant.notes;
+      ready = c.release.ensures.ready ∙ c.loop-i.invariant.ready;
       idle = c.release.ensures.idle ∙ c.loop-i.invariant.idle;
       len = omega (arith, len, longer);
       capacity = c.release.ensures.capacity ∙ c.loop-i.invariant.capacity;
@@ -48,8 +50,7 @@ returns-clause-works c = λ h n stands.
     let end = c.idle_count-i-end.ensures in
     let past = c.loop-i-test.false in
     let none = all-done c.loop-i.i keys (omega (arith, sizes, end, past)) in
-    let begun : Core = record c.args.self.now { idle = keys } in
     let laws : TickLaws = record { idle = c.idle_works.ensures; join = c.works_join.ensures; nothing = c.works_nothing.ensures } in
-    works-as c.args.now [] [] (book_of c.args.self.now) c.args.link.now n (book_of (ticked_core c.args.now c.args.self.now c.args.link.now).core) (book_of c.loop-i.self) (ticked_core c.args.now c.args.self.now c.args.link.now).link c.loop-i.link n _ h
-    (ap book_of (sym (ap (λ ks. (ticked c.args.now ks c.loop-i.self c.loop-i.link).core) none) ∙ c.loop-i.invariant.core)) (sym (ap (λ ks. (ticked c.args.now ks c.loop-i.self c.loop-i.link).link) none) ∙ c.loop-i.invariant.link)
-    (ticked-works laws c.args.now keys begun c.args.link.now n h stands)
+    works-as c.args.now [] [] (book_of c.args.self.now) c.args.link.now n _ (book_of c.loop-i.self) _ c.loop-i.link n _ h
+    (ap (λ (l : Ledger). l.book) (sym (ap (λ ks. (let_go c.args.now ks (ledger_of c.loop-i.self) c.loop-i.link).ledger) none) ∙ c.loop-i.invariant.ledger)) (sym (ap (λ ks. (let_go c.args.now ks (ledger_of c.loop-i.self) c.loop-i.link).link) none) ∙ c.loop-i.invariant.link)
+    (released-works laws c.args.now keys (ledger_of c.args.self.now) c.args.link.now n h stands)

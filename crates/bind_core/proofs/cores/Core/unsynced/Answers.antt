@@ -1,5 +1,7 @@
 use Rattle.std.proofs.Common.{sym, subst, ◌∙◌, arith}
-use Rattle.binding_step.specs.Books.{IsBook}
+use Rattle.bindings.specs.Table.{Table}
+use Rattle.binding_step.specs.Books.{Book, IsBook, empty_book}
+use Rattle.binding_step.specs.Ledgers.{Ledger}
 use Rattle.resync.specs.Loading.{Progress}
 use Rattle.std.proofs.Common.{ap}
 use Rattle.bind_core.proofs.Performing.{empty-is}
@@ -22,7 +24,10 @@ invariant_of-result c =
       room = let a = t.capacity in let b = c.count_keys.ensures in omega (arith, a, b, exact);
     }
 
-pub returns-clause-book : goal.returns-clause-book
-returns-clause-book c =
+pub returns : goal.returns
+returns c =
     let t = c.in_ok-table.ensures in
-    empty-is c.args.id c.args.zero c.args.one c.in_ok-table.table c.new-2.result t.zero t.one t.entries t.owned c.new-2.ensures
+    record {
+      ledger = ap (λ (b : Book). let l : Ledger = record { book = b; lives = c.in_ok-table.table.lives } in l) (empty-is c.args.id c.args.zero c.args.one c.in_ok-table.table c.new-2.result t.zero t.one t.entries t.owned c.new-2.ensures)
+          ∙ ap (λ (u : Table). let l : Ledger = record { book = empty_book c.args.id c.args.zero c.args.one; lives = u.lives } in l) t.empty;
+    }

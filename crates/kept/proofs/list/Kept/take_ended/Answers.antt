@@ -1,6 +1,8 @@
-use Rattle.std.proofs.Common.{◌≡◌, ◌+◌, length, not, refl, ap, sym, ◌∙◌, arith, length-append}
-use Rattle.kept.specs.Waits.{ends}
-use Rattle.kept.specs.Packets.{Waiting, ended_by, left_by}
+use Rattle.std.proofs.Common.{◌≡◌, ◌+◌, ◌≤◌, length, not, refl, ap, sym, ◌∙◌, arith, length-append}
+use Rattle.kept.specs.Waits.{ends, is_for_pair}
+use Rattle.kept.specs.declared.waits.Ended.TheVariants.{AllPairs}
+use Rattle.kept.specs.Packets.{Waiting, ended_by, left_by, pair_count}
+use Rattle.std.proofs.lemmas.List.Sums.{length-filter}
 use Rattle.std.proofs.lemmas.List.Elements.{filter_passes}
 use Rattle.std.proofs.lemmas.List.Filters.{length-filter_both}
 use Rattle.kept.proofs.Places.{kept-filter}
@@ -22,3 +24,10 @@ returns-clause-count c =
     let whole = length-filter_both (λ (w : Waiting). ends c.args.ended w.wait) (λ (w : Waiting). not (ends c.args.ended w.wait)) (λ w. refl) all in
     let seen : length c.args.self.now ≡ length all = ap length (sym c.self.view_is) in
     omega (arith, off, stay, whole, seen, c.move_ended.new.list.ok, c.args.list.now.ok)
+
+pub returns-clause-pairs : goal.returns-clause-pairs
+returns-clause-pairs c =
+    let all = c.self.inside.packets.items in
+    let count : length (ended_by AllPairs all) ≡ pair_count all = length-filter (λ (w : Waiting). is_for_pair w.wait) all in
+    let few : length (ended_by AllPairs all) ≤ 64 = omega (arith, count, c.self.invariant.0.pairs) in
+    rw (← c.self.view_is) few

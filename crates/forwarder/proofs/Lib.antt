@@ -1,0 +1,2 @@
+mod Planning
+mod Taking

@@ -1,0 +1,83 @@
+-- What a plan holds of the gateway that it was made for.
+use Rattle.std.proofs.Common.{◌≡◌, Bool, true, false, cond, Option, Some, None, Result, Ok, Err, refl, sym, ap, subst, ◌∙◌}
+use Rattle.addresses.specs.declared.ethernet.Mac.{Mac}
+use Rattle.addresses.specs.declared.internet.Ip.{Ip}
+use Rattle.nat_types.specs.declared.gateways.Side.{Side}
+use Rattle.nat_types.specs.declared.pairs.Pair.{Pair}
+use Rattle.binding_step.specs.declared.changes.Want.{Want as Wanted}
+use Rattle.binding_step.specs.declared.changes.Want.TheVariants as want
+use Rattle.ipv4.specs.declared.flows.Flow.{Flow}
+use Rattle.kept.specs.declared.waits.Wait.TheVariants as wait
+use Rattle.kept.specs.Packets.{has_place}
+use Rattle.packet_rules.specs.declared.networks.Direction.{Direction}
+use Rattle.packet_rules.specs.declared.networks.Direction.TheVariants as way
+use Rattle.packet_rules.specs.declared.reasons.Reason.{Reason}
+use Rattle.packet_rules.specs.declared.reasons.Reason.TheVariants.{CannotWait}
+use Rattle.packet_rules.specs.declared.translations.Translation.{Translation}
+use Rattle.packet_rules.specs.declared.translations.Translation.TheVariants.{Outward, Inward, Hairpin}
+use Rattle.packet_rules.specs.Flows.{source_of}
+use Rattle.packet_rules.specs.Networks.{direction_of}
+use Rattle.packet_rules.specs.Steps.{and_then}
+use Rattle.step_parts.specs.declared.plans.Plan.{Plan}
+use Rattle.step_parts.specs.declared.plans.Plan.TheVariants.{Send, Ask, Wait as WaitFor}
+use Rattle.step_parts.specs.Shown.{Shown}
+use Rattle.step_parts.specs.Verdict.{exit_by, hop_by, look_for, next_by, plan_by, plan_from, plan_of, plan_on, plan_to, target_pair}
+
+-- a packet whose next hop isn't known waits for it, where there is a place
+pub plan-waits : (g : Shown) (flow : Flow) (by : Translation) (hop : Ip) (place : Bool) → hop ≡ hop_by g by flow → next_by g by flow ≡ None → has_place g.kept (wait.Hop (exit_by by) hop) ≡ place
+    → (let r : Result Plan Reason = cond place (Ok (Ask by hop)) (Err CannotWait) in r) ≡ plan_by g flow by
+plan-waits g flow by hop place is none at =
+    sym (
+    ap (λ (o : Option Mac). plan_to g by (hop_by g by flow) o) none
+    ∙ ap (λ (i : Ip). let r : Result Plan Reason = cond (has_place g.kept (wait.Hop (exit_by by) i)) (Ok (Ask by i)) (Err CannotWait) in r) (sym is)
+    ∙ ap (λ (b : Bool). let r : Result Plan Reason = cond b (Ok (Ask by hop)) (Err CannotWait) in r) at
+    )
+
+-- what is planned to wait has a place, and waits for the packet's own pair, or for its next hop
+abbrev pub Holds : Shown → Flow → Result Plan Reason → Type 0
+Holds g flow (Ok (Send by next)) = Unit {0}
+Holds g flow (Ok (Ask by hop)) = has_place g.kept (wait.Hop (exit_by by) hop) ≡ true
+Holds g flow (Ok (WaitFor e)) = (has_place g.kept (wait.Pair e) ≡ true) × (e ≡ source_of flow)
+Holds g flow (Err reason) = Unit {0}
+
+to-holds : (g : Shown) (flow : Flow) (by : Translation) (hop : Ip) (next : Option Mac) → Holds g flow (plan_to g by hop next)
+to-holds g flow by hop (Some next) = tt
+to-holds g flow by hop None = at (has_place g.kept (wait.Hop (exit_by by) hop)) refl
+  where
+    at : (b : Bool) → has_place g.kept (wait.Hop (exit_by by) hop) ≡ b → Holds g flow (let r : Result Plan Reason = cond b (Ok (Ask by hop)) (Err CannotWait) in r)
+    at true is = is
+    at false is = tt
+
+from-holds : (g : Shown) (flow : Flow) (by : Pair → Translation) (w : Wanted) → Holds g flow (plan_from g flow by w)
+from-holds g flow by (want.Port port) = to-holds g flow _ _ _
+from-holds g flow by want.Wait = at (has_place g.kept (wait.Pair (source_of flow))) refl
+  where
+    at : (b : Bool) → has_place g.kept (wait.Pair (source_of flow)) ≡ b → Holds g flow (let r : Result Plan Reason = cond b (Ok (WaitFor (source_of flow))) (Err CannotWait) in r)
+    at true is = (is, refl)
+    at false is = tt
+from-holds g flow by want.NoPort = tt
+from-holds g flow by want.NotNow = tt
+
+on-holds : (g : Shown) (flow : Flow) (w : Direction) → Holds g flow (plan_on g flow w)
+on-holds g flow way.Outward = from-holds g flow Outward (look_for g flow)
+on-holds g flow way.Inward = at (target_pair g flow)
+  where
+    at : (r : Result Pair Reason) → Holds g flow (and_then r (λ p. plan_by g flow (Inward p)))
+    at (Ok p) = to-holds g flow (Inward p) _ _
+    at (Err reason) = tt
+on-holds g flow way.Hairpin = at (target_pair g flow)
+  where
+    at : (r : Result Pair Reason) → Holds g flow (and_then r (λ p. plan_from g flow (λ own. Hairpin own p) (look_for g flow)))
+    at (Ok p) = from-holds g flow (λ own. Hairpin own p) (look_for g flow)
+    at (Err reason) = tt
+
+holds : (g : Shown) (side : Side) (flow : Flow) → Holds g flow (plan_of g side flow)
+holds g side flow = at (direction_of g.networks side flow.source.0 flow.destination.0)
+  where
+    at : (r : Result Direction Reason) → Holds g flow (and_then r (plan_on g flow))
+    at (Ok w) = on-holds g flow w
+    at (Err reason) = tt
+
+-- of a plan that was made for this gateway
+pub plan-holds : (g : Shown) (side : Side) (flow : Flow) (plan : Result Plan Reason) → plan ≡ plan_of g side flow → Holds g flow plan
+plan-holds g side flow plan is = subst (λ (p : Result Plan Reason). Holds g flow p) (sym is) (holds g side flow)

@@ -1,0 +1,2 @@
+pub mod Forwarder
+pub mod Plans

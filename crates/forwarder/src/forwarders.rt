@@ -1,0 +1,56 @@
+//! A gateway as far as packets need it.
+ghost use Rattle.std.specs.Prelude.{◌≡◌, IfOk};
+ghost use Rattle.packet_rules.specs.Steps.{Carries};
+ghost use Rattle.step_parts.specs.Shown.{is_up, station_on};
+ghost use Rattle.step_parts.specs.Verdict.{reading_on};
+ghost use Rattle.forwarder.specs.Forwarder.{shown_of};
+
+use bind_core::Core;
+use kept::Kept;
+use link::Link;
+use nat_types::Side;
+use packet_rules::{Networks, Reading, Reason};
+use sides::Station;
+
+/// A gateway: its two networks, clock and interfaces, its side of the binding protocol, its end of
+/// the link, and the packets that wait. Moments are in centiseconds.
+#[derive(Drop)]
+pub struct Forwarder {
+    pub networks: Networks,
+    /// The clock's moment.
+    pub moment: u64,
+    /// Whether both routers were stopped for good.
+    pub stopped: bool,
+    pub core: Core,
+    pub link: Link,
+    pub inside: Station,
+    pub outside: Station,
+    pub kept: Kept,
+}
+
+impl Forwarder {
+    /// The interface on a side.
+    pub fn station(&self, side: Side) -> &Station
+        ensures { result.now ≡ station_on (shown_of self.now) side }
+    {
+        match side {
+            Side::Inside => &self.inside,
+            Side::Outside => &self.outside,
+        }
+    }
+
+    /// Whether it takes frames: it is synced, and wasn't stopped.
+    fn is_up(&self) -> bool
+        ensures { result ≡ is_up (shown_of self.now) }
+    {
+        self.core.is_synced() && !self.stopped
+    }
+
+    /// Reads a frame that came in on a side; or gives the reason of the first step that refuses it.
+    pub fn read_frame(&self, side: Side, bytes: &[u8]) -> Result<Reading, Reason>
+        ensures reading { result ≡ reading_on (shown_of self.now) side bytes.now }
+        ensures carries { IfOk result (Carries bytes.now) }
+    {
+        self.station(side).read_frame(self.is_up(), bytes)
+    }
+}

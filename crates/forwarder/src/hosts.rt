@@ -1,0 +1,81 @@
+//! What is done with ARP packets (RFC 826).
+ghost use Rattle.std.specs.Prelude.{◌≡◌, ◌≤◌, ◌+◌, length, min};
+ghost use Rattle.link.specs.Link.{free_places};
+ghost use Rattle.packet_rules.specs.Arping.{is_learnable};
+ghost use Rattle.sides.specs.Stations.{after_arp};
+ghost use Rattle.step_parts.specs.Parts.{answered_by, arp_taken};
+ghost use Rattle.step_parts.specs.Shown.{station_on, with_station};
+ghost use Rattle.forwarder.specs.Forwarder.{scene_on, shown_of};
+
+use crate::Forwarder;
+use crate::outgoing::Answer;
+use addresses::Mac;
+use arp::ArpPacket;
+use kept::Wait;
+use nat_types::Side;
+use told::Page;
+
+impl Forwarder {
+    /// An interface learns the sender of a packet, if it is one that is learnt, and says whether it
+    /// is.
+    fn hear(&mut self, side: Side, packet: &ArpPacket) -> bool
+        ensures learnt { result
+            ≡ is_learnable (station_on (shown_of self.old) side).network packet.now }
+        ensures shown { let station = station_on (shown_of self.old) side in
+            shown_of self.new ≡ with_station (shown_of self.old) side
+            (after_arp station packet.now self.old.moment) }
+        ensures core { self.new.core ≡ self.old.core }
+        ensures link { self.new.link ≡ self.old.link }
+    {
+        match side {
+            Side::Inside => self.inside.learn(packet, self.moment),
+            Side::Outside => self.outside.learn(packet, self.moment),
+        }
+    }
+
+    /// A packet is answered, where there is a hardware address to answer with.
+    fn answer(&self, page: &mut Page, side: Side, packet: &ArpPacket, mac: Option<Mac>)
+        requires frames { 1 ≤ page.old.room.frames }
+        ensures scene { scene_on self.now page.new
+            ≡ answered_by (scene_on self.now page.old) side packet.now mac }
+        ensures frames { page.old.room.frames ≤ page.new.room.frames + 1 }
+        ensures datagrams { page.new.room.datagrams ≡ page.old.room.datagrams }
+        ensures notes { page.new.room.notes ≡ page.old.room.notes }
+    {
+        match mac {
+            Some(mac) => {
+                let network = self.station(side).network();
+                let answer = Answer {
+                    network,
+                    packet,
+                    mac,
+                };
+                page.make_frame(side, &answer);
+            }
+            None => {}
+        }
+    }
+
+    /// Takes an ARP packet: its sender may be learnt, a request is answered, and the packet that
+    /// waited for that host is taken again.
+    pub fn take_arp(&mut self, page: &mut Page, side: Side, packet: &ArpPacket)
+        requires six { length packet.now.sender_mac.0 ≡ 6 }
+        requires frames { 2 ≤ page.old.room.frames }
+        requires notes { 3 ≤ page.old.room.notes }
+        requires ready { 1 ≤ self.old.core.table.ready }
+        ensures scene { scene_on self.new page.new
+            ≡ arp_taken (scene_on self.old page.old) side packet.now }
+        ensures frames { page.old.room.frames ≤ page.new.room.frames + 2 }
+        ensures datagrams { page.new.room.datagrams ≡ page.old.room.datagrams }
+        ensures notes { page.old.room.notes ≤ page.new.room.notes + 3 }
+        ensures ready { self.old.core.table.ready ≤ self.new.core.table.ready + 1 }
+        ensures places { min 64 (free_places self.old.link) ≤ free_places self.new.link }
+    {
+        let mac = self.station(side).answer_to(packet);
+        let learns = self.hear(side, packet);
+        self.answer(page, side, packet, mac);
+        if learns {
+            self.release_one(page, Wait::Hop(side, packet.sender_ip));
+        }
+    }
+}

@@ -1,0 +1,13 @@
+//! What takes packets: a gateway but for its clock, its routers and the other gateway's datagrams.
+#![tactic(auto)]
+
+mod flags;
+mod forwarders;
+mod hosts;
+mod outgoing;
+mod plans;
+mod sending;
+mod takings;
+mod waiting;
+
+pub use forwarders::Forwarder;

@@ -1,0 +1,72 @@
+//! The frames that are made where they are to lie.
+ghost use Rattle.std.specs.Prelude.{length, ⊤};
+ghost use Rattle.packet_rules.specs.Arping.{answer_frame, request_frame};
+ghost use Rattle.packet_rules.specs.Frames.{sent_frame};
+ghost use Rattle.packet_rules.specs.Steps.{IsForwardable};
+
+use addresses::{Ip, Mac};
+use arp::ArpPacket;
+use packet_rules::{Network, Networks, Translation, append_answer, append_request, append_sent};
+use told::WriteBytes;
+
+/// The frame by which a packet is sent on.
+#[derive(Drop)]
+pub(crate) struct SentFrame<'a> {
+    pub networks: &'a Networks,
+    pub by: &'a Translation,
+    pub next: Mac,
+    /// The frame that came.
+    pub bytes: &'a [u8],
+}
+
+impl WriteBytes for SentFrame<'_> {
+    ghost can_write = { λ f. IsForwardable f.bytes.now };
+
+    ghost bytes = { λ f. sent_frame f.networks.now f.by.now f.next f.bytes.now };
+
+    ghost room = { λ f. length f.bytes.now };
+
+    fn write_to(&self, list: &mut Vec<u8>) {
+        append_sent(list, self.networks, self.by, self.next, self.bytes);
+    }
+}
+
+/// The frame that asks everyone for an address.
+#[derive(Drop)]
+pub(crate) struct Request {
+    pub network: Network,
+    pub hop: Ip,
+}
+
+impl WriteBytes for Request {
+    ghost can_write = { λ _. ⊤ };
+
+    ghost bytes = { λ f. request_frame f.network f.hop };
+
+    ghost room = { λ _. 42 };
+
+    fn write_to(&self, list: &mut Vec<u8>) {
+        append_request(list, &self.network, self.hop);
+    }
+}
+
+/// The frame that answers a request.
+#[derive(Drop)]
+pub(crate) struct Answer<'a> {
+    pub network: Network,
+    pub packet: &'a ArpPacket,
+    /// The hardware address that is asked for.
+    pub mac: Mac,
+}
+
+impl WriteBytes for Answer<'_> {
+    ghost can_write = { λ _. ⊤ };
+
+    ghost bytes = { λ f. answer_frame f.network f.packet.now f.mac };
+
+    ghost room = { λ _. 42 };
+
+    fn write_to(&self, list: &mut Vec<u8>) {
+        append_answer(list, &self.network, self.packet, self.mac);
+    }
+}

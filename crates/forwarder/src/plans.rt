@@ -1,0 +1,124 @@
+//! What a packet is to do, before anything changes.
+ghost use Rattle.std.specs.Prelude.{◌≡◌};
+ghost use Rattle.binding_step.specs.Rows.{new_pair};
+ghost use Rattle.packet_rules.specs.Flows.{source_of};
+ghost use Rattle.step_parts.specs.Verdict.{look_for, plan_by, plan_from, plan_of};
+ghost use Rattle.step_parts.specs.Verdict.{plan_on, target_pair};
+ghost use Rattle.forwarder.specs.Forwarder.{shown_of};
+ghost use Rattle.forwarder.specs.Plans.{leaving_by};
+
+use crate::Forwarder;
+use addresses::Port;
+use binding_step::Want;
+use ipv4::Flow;
+use kept::Wait;
+use nat_types::{EntryState, Key, Pair, Side};
+use packet_rules::{Direction, Reason, Translation, direction_taken, source_endpoint, target_key};
+use step_parts::Plan;
+
+/// The pair that a packet's endpoint has, or is to have, with this outside port.
+fn own_pair(flow: Flow, port: Port) -> Pair
+    ensures { result ≡ new_pair (source_of flow) port }
+{
+    let key = Key {
+        protocol: flow.protocol,
+        port,
+    };
+    Pair::new(key, flow.source, flow.source_port)
+}
+
+/// How a packet of the inside leaves: by its own pair, and of a hairpin to the other one's endpoint.
+fn leaving(own: Pair, other: Option<Pair>) -> Translation
+    ensures { result ≡ leaving_by other own }
+{
+    match other {
+        None => Translation::Outward(own),
+        Some(other) => Translation::Hairpin(own, other),
+    }
+}
+
+impl Forwarder {
+    /// What a packet is to do, or why it is dropped; nothing changes.
+    pub fn plan(&self, side: Side, flow: Flow) -> Result<Plan, Reason>
+        ensures { result ≡ plan_of (shown_of self.now) side flow }
+    {
+        match direction_taken(&self.networks, side, flow.source, flow.destination) {
+            Ok(way) => self.plan_on(flow, way),
+            Err(reason) => Err(reason),
+        }
+    }
+
+    fn plan_on(&self, flow: Flow, way: Direction) -> Result<Plan, Reason>
+        ensures { result ≡ plan_on (shown_of self.now) flow way }
+    {
+        match way {
+            Direction::Outward => self.plan_from(flow, None, self.look_for(flow)),
+            Direction::Inward => match self.target_pair(flow) {
+                Ok(pair) => self.plan_by(flow, Translation::Inward(pair)),
+                Err(reason) => Err(reason),
+            },
+            Direction::Hairpin => match self.target_pair(flow) {
+                Ok(pair) => self.plan_from(flow, Some(pair), self.look_for(flow)),
+                Err(reason) => Err(reason),
+            },
+        }
+    }
+
+    /// What the endpoint of a packet's source is given.
+    fn look_for(&self, flow: Flow) -> Want
+        ensures { result ≡ look_for (shown_of self.now) flow }
+    {
+        self.core.look(&self.link, source_endpoint(flow))
+    }
+
+    /// The pair of the outside port to which a packet goes.
+    fn target_pair(&self, flow: Flow) -> Result<Pair, Reason>
+        ensures { result ≡ target_pair (shown_of self.now) flow }
+    {
+        match self.core.table().pair_of_port(target_key(flow)) {
+            None => Err(Reason::NoBinding),
+            Some(entry) => match entry.state {
+                EntryState::Live | EntryState::Held => Ok(entry.pair),
+                EntryState::Pending | EntryState::Closing => Err(Reason::CannotWait),
+                EntryState::Doomed => Err(Reason::NoBinding),
+            },
+        }
+    }
+
+    /// What a packet of the inside is to do, by what its endpoint is given.
+    fn plan_from(&self, flow: Flow, other: Option<Pair>, given: Want) -> Result<Plan, Reason>
+        ensures { result ≡ plan_from (shown_of self.now) flow (leaving_by other) given }
+    {
+        match given {
+            Want::Port(port) => self.plan_by(flow, leaving(own_pair(flow, port), other)),
+            Want::Wait => {
+                let endpoint = source_endpoint(flow);
+                if self.kept.has_place(Wait::Pair(endpoint)) {
+                    Ok(Plan::Wait(endpoint))
+                } else {
+                    Err(Reason::CannotWait)
+                }
+            }
+            Want::NoPort => Err(Reason::NoPort),
+            Want::NotNow => Err(Reason::CannotWait),
+        }
+    }
+
+    /// What a packet whose pairs are known is to do: it goes on, or waits for its next hop.
+    fn plan_by(&self, flow: Flow, by: Translation) -> Result<Plan, Reason>
+        ensures { result ≡ plan_by (shown_of self.now) flow by }
+    {
+        let hop = by.next_hop(&self.networks, flow.destination);
+        let exit = by.direction().exit();
+        match self.station(exit).mac_of(hop, self.moment) {
+            Some(next) => Ok(Plan::Send { by, next }),
+            None => {
+                if self.kept.has_place(Wait::Hop(exit, hop)) {
+                    Ok(Plan::Ask { by, hop })
+                } else {
+                    Err(Reason::CannotWait)
+                }
+            }
+        }
+    }
+}

@@ -1,0 +1,172 @@
+//! What a packet does that goes on at once.
+ghost use Rattle.std.specs.Prelude.{◌≡◌, ◌≤◌, ◌+◌, min};
+ghost use Rattle.link.specs.Link.{free_places};
+ghost use Rattle.lives.specs.declared.packets.Packet.{Packet as Carried};
+ghost use Rattle.binding_step.specs.Fits.{IsWellFormedEndpoint};
+ghost use Rattle.nat_types.specs.declared.gateways.Side.{Side};
+ghost use Rattle.packet_rules.specs.Flows.{source_of};
+ghost use Rattle.packet_rules.specs.Frames.{sent_frame};
+ghost use Rattle.packet_rules.specs.Steps.{IsForwardable};
+ghost use Rattle.step_parts.specs.declared.plans.Plan.TheVariants.{Send};
+ghost use Rattle.step_parts.specs.Parts.{by_plan, carried_all, carried_by, framed};
+ghost use Rattle.step_parts.specs.Parts.{remote, wanted_by, wanted_for};
+ghost use Rattle.step_parts.specs.Verdict.{exit_by};
+ghost use Rattle.forwarder.specs.Forwarder.{scene_on};
+
+use crate::Forwarder;
+use crate::flags::read_flags;
+use crate::outgoing::SentFrame;
+use addresses::{Ip, Mac, Port, TcpFlags};
+use ipv4::Flow;
+use lives::{Remote, Way};
+use nat_types::{Endpoint, Key};
+use packet_rules::{Translation, limits_law, source_endpoint};
+use told::Page;
+
+fn remote_at(address: Ip, port: Port) -> Remote
+    ensures { result ≡ remote address port }
+{
+    Remote { address, port }
+}
+
+impl Forwarder {
+    /// An endpoint wants a port: its pair is made or proposed, or ports are asked for.
+    pub(crate) fn wish(&mut self, page: &mut Page, endpoint: Endpoint)
+        requires formed { IsWellFormedEndpoint endpoint }
+        requires ready { 1 ≤ self.old.core.table.ready }
+        requires notes { 1 ≤ page.old.room.notes }
+        ensures scene { scene_on self.new page.new
+            ≡ wanted_by (scene_on self.old page.old) endpoint }
+        ensures rest { self.new
+            ≡ record self.old { core = self.new.core; link = self.new.link } }
+        ensures room { page.new.room ≡ record page.old.room { notes = page.new.room.notes } }
+        ensures notes { page.old.room.notes ≤ page.new.room.notes + 1 }
+        ensures ready { self.old.core.table.ready ≤ self.new.core.table.ready + 1 }
+        ensures places { min 64 (free_places self.old.link) ≤ free_places self.new.link }
+    {
+        let mut notes = page.take_notes();
+        let _given = self
+            .core
+            .want(endpoint, &mut self.link, self.moment, &mut notes);
+        page.put_notes(notes);
+    }
+
+    /// A packet of the inside has its endpoint's pair made, or proposed, or a port wanted for it.
+    pub(crate) fn wish_for(&mut self, page: &mut Page, flow: Flow, by: &Translation)
+        requires formed { IsWellFormedEndpoint (source_of flow) }
+        requires ready { 1 ≤ self.old.core.table.ready }
+        requires notes { 1 ≤ page.old.room.notes }
+        ensures scene { scene_on self.new page.new
+            ≡ wanted_for (scene_on self.old page.old) flow by.now }
+        ensures rest { self.new
+            ≡ record self.old { core = self.new.core; link = self.new.link } }
+        ensures room { page.new.room ≡ record page.old.room { notes = page.new.room.notes } }
+        ensures notes { page.old.room.notes ≤ page.new.room.notes + 1 }
+        ensures ready { self.old.core.table.ready ≤ self.new.core.table.ready + 1 }
+        ensures places { min 64 (free_places self.old.link) ≤ free_places self.new.link }
+    {
+        match by {
+            Translation::Outward(_) | Translation::Hairpin(_, _) => {
+                self.wish(page, source_endpoint(flow));
+            }
+            Translation::Inward(_) => {}
+        }
+    }
+
+    /// The pair of a key carries a packet.
+    fn carry(&mut self, page: &mut Page, key: Key, remote: Remote, way: Way, flags: TcpFlags)
+        requires notes { 1 ≤ page.old.room.notes }
+        ensures scene { let packet : Carried = record {
+          remote = remote;
+          way = way;
+          flags = flags;
+          at = self.old.moment;
+        }
+            in scene_on self.new page.new ≡ carried_by (scene_on self.old page.old) key packet }
+        ensures rest { self.new ≡ record self.old { core = self.new.core } }
+        ensures ready { self.new.core.table.ready ≡ self.old.core.table.ready }
+        ensures room { page.new.room ≡ record page.old.room { notes = page.new.room.notes } }
+        ensures notes { page.old.room.notes ≤ page.new.room.notes + 1 }
+    {
+        let mut notes = page.take_notes();
+        self.core
+            .carried(key, remote, way, flags, self.moment, &mut notes);
+        page.put_notes(notes);
+    }
+
+    /// The packet as the sessions of its pairs see it: of a hairpin the sender's pair first.
+    fn carry_all(&mut self, page: &mut Page, flow: Flow, flags: TcpFlags, by: &Translation)
+        requires notes { 2 ≤ page.old.room.notes }
+        ensures scene { scene_on self.new page.new
+            ≡ carried_all (scene_on self.old page.old) flow flags by.now }
+        ensures rest { self.new ≡ record self.old { core = self.new.core } }
+        ensures ready { self.new.core.table.ready ≡ self.old.core.table.ready }
+        ensures room { page.new.room ≡ record page.old.room { notes = page.new.room.notes } }
+        ensures notes { page.old.room.notes ≤ page.new.room.notes + 2 }
+    {
+        match by {
+            Translation::Outward(pair) => {
+                let there = remote_at(flow.destination, flow.destination_port);
+                self.carry(page, pair.key, there, Way::Outward, flags);
+            }
+            Translation::Inward(pair) => {
+                let there = remote_at(flow.source, flow.source_port);
+                self.carry(page, pair.key, there, Way::Inward, flags);
+            }
+            Translation::Hairpin(own, other) => {
+                let here = self.networks.outside.interface.virtual_ip;
+                let to = remote_at(here, flow.destination_port);
+                self.carry(page, own.key, to, Way::Outward, flags);
+                let from = remote_at(here, own.key.port);
+                self.carry(page, other.key, from, Way::Inward, flags);
+            }
+        }
+    }
+
+    /// The frame by which a packet is sent on.
+    fn send_frame(&self, page: &mut Page, by: &Translation, next: Mac, bytes: &[u8])
+        requires forwardable { IsForwardable bytes.now }
+        requires frames { 1 ≤ page.old.room.frames }
+        ensures scene { scene_on self.now page.new
+            ≡ framed (scene_on self.now page.old) (exit_by by.now)
+            (sent_frame self.now.networks by.now next bytes.now) }
+        ensures room { page.old.room
+            ≡ record page.new.room { frames = page.new.room.frames + 1 } }
+    {
+        limits_law();
+        let frame = SentFrame {
+            networks: &self.networks,
+            by,
+            next,
+            bytes,
+        };
+        page.make_frame(by.direction().exit(), &frame);
+    }
+
+    /// A packet goes on at once.
+    pub(crate) fn send(
+        &mut self,
+        page: &mut Page,
+        bytes: &[u8],
+        flow: Flow,
+        by: Translation,
+        next: Mac,
+    )
+        requires forwardable { IsForwardable bytes.now }
+        requires formed { IsWellFormedEndpoint (source_of flow) }
+        requires frames { 1 ≤ page.old.room.frames }
+        requires notes { 3 ≤ page.old.room.notes }
+        requires ready { 1 ≤ self.old.core.table.ready }
+        ensures scene { (side : Side) → scene_on self.new page.new
+            ≡ by_plan (scene_on self.old page.old) side bytes.now flow (Send by next) }
+        ensures frames { page.old.room.frames ≤ page.new.room.frames + 1 }
+        ensures datagrams { page.new.room.datagrams ≡ page.old.room.datagrams }
+        ensures notes { page.old.room.notes ≤ page.new.room.notes + 3 }
+        ensures ready { self.old.core.table.ready ≤ self.new.core.table.ready + 1 }
+        ensures places { min 64 (free_places self.old.link) ≤ free_places self.new.link }
+    {
+        self.wish_for(page, flow, &by);
+        self.send_frame(page, &by, next, bytes);
+        self.carry_all(page, flow, read_flags(bytes), &by);
+    }
+}

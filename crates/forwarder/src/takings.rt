@@ -1,0 +1,168 @@
+//! Packets that are taken, and those whose wait is over.
+ghost use Rattle.std.specs.Prelude.{◌≡◌, ◌≤◌, ◌+◌, [], length, min, vec_capacity};
+ghost use Rattle.kept.specs.declared.waits.Ended.TheVariants.{One, AllPairs};
+ghost use Rattle.link.specs.Link.{free_places};
+ghost use Rattle.binding_step.specs.Fits.{IsWellFormedEndpoint};
+ghost use Rattle.packet_rules.specs.Flows.{flow_in, source_of};
+ghost use Rattle.packet_rules.specs.Steps.{IsForwardable};
+ghost use Rattle.step_parts.specs.Parts.{flow_taken, released, taken_again};
+ghost use Rattle.step_parts.specs.Verdict.{plan_of};
+ghost use Rattle.forwarder.specs.Forwarder.{copy_for, scene_on, shown_of, wait_in};
+
+use crate::Forwarder;
+use ipv4::Flow;
+use kept::{Ended, Wait, Waiting};
+use nat_types::Side;
+use packet_rules::{Reading, Reason};
+use step_parts::Plan;
+use told::Page;
+
+/// Reminds the prover that a packet that is translated comes from a port above 0; it does nothing
+/// when it runs.
+fn recall_source(bytes: &[u8], flow: Flow)
+    requires forwardable { IsForwardable bytes.now }
+    requires read { flow ≡ flow_in bytes.now }
+    ensures { IsWellFormedEndpoint (source_of flow) }
+{
+    let _ = flow.source.0;
+    let _ = flow.source_port.0;
+}
+
+impl Forwarder {
+    /// Does what was planned of a packet: it goes on, waits, or is dropped. `copy` is what is kept of
+    /// one that has to wait. It needs room for a frame and three notes, and a core that is ready for a
+    /// pair.
+    pub fn take_packet(
+        &mut self,
+        page: &mut Page,
+        side: Side,
+        bytes: &[u8],
+        flow: Flow,
+        plan: Result<Plan, Reason>,
+        copy: Option<Waiting>,
+    )
+        requires planned { plan ≡ plan_of (shown_of self.old) side flow }
+        requires copied { copy ≡ copy_for side bytes.now self.old.moment (wait_in plan) }
+        requires forwardable { IsForwardable bytes.now }
+        requires read { flow ≡ flow_in bytes.now }
+        requires frames { 1 ≤ page.old.room.frames }
+        requires notes { 3 ≤ page.old.room.notes }
+        requires ready { 1 ≤ self.old.core.table.ready }
+        ensures scene { scene_on self.new page.new
+            ≡ flow_taken (scene_on self.old page.old) side bytes.now flow }
+        ensures frames { page.old.room.frames ≤ page.new.room.frames + 1 }
+        ensures datagrams { page.new.room.datagrams ≡ page.old.room.datagrams }
+        ensures notes { page.old.room.notes ≤ page.new.room.notes + 3 }
+        ensures ready { self.old.core.table.ready ≤ self.new.core.table.ready + 1 }
+        // What is pushed leaves 64 places of the link free, where they were.
+        ensures places { min 64 (free_places self.old.link) ≤ free_places self.new.link }
+    {
+        recall_source(bytes, flow);
+        match plan {
+            Ok(Plan::Send { by, next }) => self.send(page, bytes, flow, by, next),
+            Ok(Plan::Ask { by, hop }) => match copy {
+                Some(copy) => self.ask(page, flow, by, hop, copy),
+                None => unreachable!(),
+            },
+            Ok(Plan::Wait(_)) => match copy {
+                Some(copy) => self.wait(page, flow, copy),
+                None => unreachable!(),
+            },
+            Err(reason) => self.refuse(page, flow, reason),
+        }
+    }
+
+    /// Takes a kept packet, which was read again.
+    fn take_flow_again(&mut self, page: &mut Page, flow: Flow, packet: Waiting)
+        requires forwardable { IsForwardable packet.bytes }
+        requires read { flow ≡ flow_in packet.bytes }
+        requires frames { 1 ≤ page.old.room.frames }
+        requires notes { 3 ≤ page.old.room.notes }
+        requires ready { 1 ≤ self.old.core.table.ready }
+        ensures scene { scene_on self.new page.new
+            ≡ flow_taken (scene_on self.old page.old) packet.side packet.bytes flow }
+        ensures frames { page.old.room.frames ≤ page.new.room.frames + 1 }
+        ensures datagrams { page.new.room.datagrams ≡ page.old.room.datagrams }
+        ensures notes { page.old.room.notes ≤ page.new.room.notes + 3 }
+        ensures ready { self.old.core.table.ready ≤ self.new.core.table.ready + 1 }
+        ensures places { min 64 (free_places self.old.link) ≤ free_places self.new.link }
+    {
+        recall_source(&packet.bytes, flow);
+        match self.plan(packet.side, flow) {
+            Ok(Plan::Send { by, next }) => self.send(page, &packet.bytes, flow, by, next),
+            Ok(Plan::Ask { by, hop }) => {
+                let wait = Wait::Hop(by.direction().exit(), hop);
+                let copy = packet.again(self.moment, wait);
+                self.ask(page, flow, by, hop, copy);
+            }
+            Ok(Plan::Wait(endpoint)) => {
+                let copy = packet.again(self.moment, Wait::Pair(endpoint));
+                self.wait(page, flow, copy);
+            }
+            Err(reason) => self.refuse(page, flow, reason),
+        }
+    }
+
+    /// Takes a kept packet, which is read again from the first step on.
+    fn take_again(&mut self, page: &mut Page, packet: Waiting)
+        requires frames { 1 ≤ page.old.room.frames }
+        requires notes { 3 ≤ page.old.room.notes }
+        requires ready { 1 ≤ self.old.core.table.ready }
+        ensures scene { scene_on self.new page.new
+            ≡ taken_again (scene_on self.old page.old) packet }
+        ensures frames { page.old.room.frames ≤ page.new.room.frames + 1 }
+        ensures datagrams { page.new.room.datagrams ≡ page.old.room.datagrams }
+        ensures notes { page.old.room.notes ≤ page.new.room.notes + 3 }
+        ensures ready { self.old.core.table.ready ≤ self.new.core.table.ready + 1 }
+        ensures places { min 64 (free_places self.old.link) ≤ free_places self.new.link }
+    {
+        match self.read_frame(packet.side, &packet.bytes) {
+            Ok(Reading::Packet(flow)) => self.take_flow_again(page, flow, packet),
+            Ok(Reading::Arp(_)) => {}
+            Ok(Reading::Advert(_, _)) => {}
+            Err(_) => {}
+        }
+    }
+
+    /// The packet that waited for this, if one did, waits no more, and is taken again.
+    pub fn release_one(&mut self, page: &mut Page, wait: Wait)
+        requires frames { 1 ≤ page.old.room.frames }
+        requires notes { 3 ≤ page.old.room.notes }
+        requires ready { 1 ≤ self.old.core.table.ready }
+        ensures scene { scene_on self.new page.new
+            ≡ released (scene_on self.old page.old) (One wait) }
+        ensures frames { page.old.room.frames ≤ page.new.room.frames + 1 }
+        ensures datagrams { page.new.room.datagrams ≡ page.old.room.datagrams }
+        ensures notes { page.old.room.notes ≤ page.new.room.notes + 3 }
+        ensures ready { self.old.core.table.ready ≤ self.new.core.table.ready + 1 }
+        ensures places { min 64 (free_places self.old.link) ≤ free_places self.new.link }
+    {
+        match self.kept.take_one(wait) {
+            Some(packet) => self.take_again(page, packet),
+            None => {}
+        }
+    }
+
+    /// The packets that waited for pairs wait no more, and are taken again in the order of keeping.
+    /// `list` is an empty list with room for all packets that wait.
+    pub fn release_all(&mut self, page: &mut Page, list: Vec<Waiting>)
+        requires empty { list.items ≡ [] }
+        requires room { length self.old.kept ≤ vec_capacity list }
+        requires frames { 64 ≤ page.old.room.frames }
+        requires notes { 192 ≤ page.old.room.notes }
+        requires ready { 64 ≤ self.old.core.table.ready }
+        ensures scene { scene_on self.new page.new
+            ≡ released (scene_on self.old page.old) AllPairs }
+        ensures frames { page.old.room.frames ≤ page.new.room.frames + 64 }
+        ensures datagrams { page.new.room.datagrams ≡ page.old.room.datagrams }
+        ensures notes { page.old.room.notes ≤ page.new.room.notes + 192 }
+        ensures ready { self.old.core.table.ready ≤ self.new.core.table.ready + 64 }
+        ensures places { min 64 (free_places self.old.link) ≤ free_places self.new.link }
+    {
+        let mut ended = list;
+        self.kept.take_ended(Ended::AllPairs, &mut ended);
+        for packet in ended {
+            self.take_again(page, packet);
+        }
+    }
+}
