@@ -166,12 +166,22 @@ fn counted(verb: &str, gateway: &str, number: &str) -> Option<WorldEvent>
 {
     let id = gateway_of(gateway)?;
     let number = number_of(number)?;
-    match verb {
-        "tick" => Some(WorldEvent::Tick(id, number)),
-        "deliver" => Some(WorldEvent::Deliver(id, number)),
-        "boot" => Some(WorldEvent::Boot(id, number)),
-        "peer-off" => Some(WorldEvent::PeerOff(id, number)),
-        _ => None,
+    counted_at(verb, id, number)
+}
+
+fn counted_at(verb: &str, id: GatewayId, number: u64) -> Option<WorldEvent>
+    ensures { option_map said result ≡ counted_named verb.now id number }
+{
+    if verb == "tick" {
+        Some(WorldEvent::Tick(id, number))
+    } else if verb == "deliver" {
+        Some(WorldEvent::Deliver(id, number))
+    } else if verb == "boot" {
+        Some(WorldEvent::Boot(id, number))
+    } else if verb == "peer-off" {
+        Some(WorldEvent::PeerOff(id, number))
+    } else {
+        None
     }
 }
 
@@ -192,12 +202,26 @@ fn frame(
     let Some(side) = side_of(side) else {
         return Ok(None);
     };
+    frame_at(alloc, verb, id, side, text)
+}
+
+fn frame_at(
+    alloc: Global,
+    verb: &str,
+    id: GatewayId,
+    side: Side,
+    text: &str,
+) -> Result<Option<WorldEvent>, AllocError>
+    ensures { IfOk result (λ event. option_map said event
+        ≡ by_word (bytes_named text.now) (λ bytes. frame_named verb.now id side bytes)) }
+{
     let Some(bytes) = bytes_of(alloc, text)? else {
         return Ok(None);
     };
-    match verb {
-        "frame" => Ok(Some(WorldEvent::Frame(id, side, bytes))),
-        _ => Ok(None),
+    if verb == "frame" {
+        Ok(Some(WorldEvent::Frame(id, side, bytes)))
+    } else {
+        Ok(None)
     }
 }
 
