@@ -1,0 +1,93 @@
+//! One gateway's side of the binding protocol by the lines of the files that its words name; it prints what each line
+//! answers, pushes and notes, or why it is refused. A line of a file is empty, begins with `#`, or has a call and what
+//! is given to it.
+#![tactic(auto)]
+
+mod given;
+mod side;
+mod spelled;
+
+use anyhow::{Context, Result, bail};
+use given::Given;
+use side::Side;
+use spelled::{say, say_endpoint};
+use std::alloc::Global;
+use std::{env, fs};
+
+/// As `restart 2 accept udp 20000`: the boot, and at most one record that comes with it.
+fn restart(side: &mut Side, given: &mut Given<'_>, out: &mut String) -> Result<()> {
+    let boot = given.number()?;
+    if given.left().is_empty() {
+        return side.restart(boot, None, out);
+    }
+    side.restart(boot, Some(&given.item()?), out)
+}
+
+fn inbound(side: &Side, given: &mut Given<'_>, out: &mut String) -> Result<()> {
+    match side.inbound(given.key()?) {
+        Some(endpoint) => say_endpoint(out, "to ", endpoint),
+        None => say(out, "none"),
+    }
+}
+
+/// What a call of a core answers.
+fn call(side: &mut Side, word: &str, given: &mut Given<'_>, out: &mut String) -> Result<()> {
+    match word {
+        "at" => side.set_clock(given.number()?)?,
+        "want" => side.want(given.endpoint()?, out)?,
+        "take" => side.take(&given.item()?, out)?,
+        "tick" => {
+            side.set_clock(given.number()?)?;
+            side.tick(out)?;
+        }
+        "carried" => side.carried(given, out)?,
+        "inbound" => inbound(side, given, out)?,
+        "hear" => side.hear_again()?,
+        "restart" => restart(side, given, out)?,
+        "off" => side.peer_off(given.number()?, out)?,
+        "table" => side.list(out)?,
+        word => bail!("no call {word}"),
+    }
+    Ok(())
+}
+
+/// What a line answers.
+fn answer(side: &mut Option<Side>, given: &mut Given<'_>) -> Result<String> {
+    let mut out = String::new(given.alloc);
+    let word = given.word()?;
+    if word == "core" {
+        *side = Some(Side::new(given)?);
+        return Ok(out);
+    }
+    let side = side.as_mut().context("there is no core")?;
+    call(side, word, given, &mut out)?;
+    Ok(out)
+}
+
+/// The lines for the cases of a file.
+fn answers(alloc: Global, text: &str) -> Result<String> {
+    let mut out = String::new(alloc);
+    let mut side = None;
+    for line in text.lines() {
+        if line.is_empty() || line.starts_with("#") {
+            continue;
+        }
+        let words = line.split_whitespace().collect::<Vec<&str>>(alloc)?;
+        let mut given = Given::new(alloc, words.as_slice());
+        match answer(&mut side, &mut given) {
+            Ok(answer) if answer.is_empty() => writeln!(out, "{line}: nothing")?,
+            Ok(answer) => writeln!(out, "{line}: {answer}")?,
+            Err(refusal) => writeln!(out, "{line}: refused, {refusal}")?,
+        }
+    }
+    Ok(out)
+}
+
+fn main(rt: HostRuntime) -> Result<()> {
+    for file in env::args(&rt)?.skip(1).collect::<Vec<String>>(rt.alloc())? {
+        let text = fs::read_to_string(&rt, file.as_str())?;
+        let answers = answers(rt.alloc(), text.as_str())?;
+        print!(rt; "== {file}\n{answers}")?;
+    }
+    Ok(())
+}
