@@ -3,11 +3,15 @@ ghost use Rattle.std.specs.Prelude.{◌≡◌, ◌⊎◌, ◌≤◌, map, string
 ghost use Rattle.runs.specs.Faults.{status_of};
 ghost use Rattle.acts.specs.Words.{AreRefused};
 
-use boot_file::{FileFault, Uncached};
+use crate::boxes::{gate, peer_off};
+use crate::faults::of_file;
+use boot_file::Uncached;
 use command_line::{Task, command};
 use runs::{Fault, simulate, text_of};
 use std::fs::Files;
 use std::io::Write;
+use std::net::Net;
+use std::rt::Clock;
 
 /// All that the program does with its words, its name first. The answer is the exit status.
 ///
@@ -17,7 +21,7 @@ use std::io::Write;
 /// | 1 | a fault, told on `errors` as `natpair: AREA NUMBER NAME` |
 /// | 2 | the words are refused: why stands on `errors` |
 /// | 3 | an event of the script was refused |
-pub fn act<R: Files + AllocGlobal, O: Write, E: Write>(
+pub fn act<R: Files + Net + Clock + AllocGlobal, O: Write, E: Write>(
     rt: &R,
     words: &[String],
     output: &mut O,
@@ -33,6 +37,12 @@ where
         Ok(Task::Sim(settings, script)) => {
             sim(rt, settings.as_str(), script.as_str(), output, errors)
         }
+        Ok(Task::Gate(settings, id, rounds, found)) => {
+            gate(rt, settings.as_str(), id, rounds, found, output, errors)
+        }
+        Ok(Task::PeerOff(settings, id, boot)) => {
+            peer_off(rt, settings.as_str(), id, boot, errors)
+        }
         Err(fault) => fault.tell(errors),
     }
 }
@@ -45,18 +55,7 @@ where
 {
     match boot_file::create(rt, file) {
         Ok(()) => 0,
-        Err(fault) => told(fault).tell(errors),
-    }
-}
-
-/// The fault of a boot file that wasn't made.
-fn told(fault: FileFault) -> Fault
-    ensures status { status_of result ≡ 1 }
-{
-    match fault {
-        FileFault::NoFile => Fault::NoFile,
-        FileFault::Exists => Fault::Exists,
-        FileFault::NotWritten => Fault::NotWritten,
+        Err(fault) => of_file(fault).tell(errors),
     }
 }
 

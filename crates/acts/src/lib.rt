@@ -1,6 +1,8 @@
 //! What `natpair` does for the words of its command line.
 #![tactic(auto)]
 
+mod boxes;
 mod commands;
+mod faults;
 
 pub use commands::act;

@@ -70,7 +70,7 @@ fn gate<'a>(alloc: Global) -> Result<Command<'a>, AllocError>
     ensures local { IfOk result (λ c. (fields_of c).has_globals ≡ false) }
 {
     let command = Command::new(alloc, "gate")
-        .about("Runs one gateway on loopback sockets (not there yet)")
+        .about("Runs one gateway on loopback sockets")
         .after_help("Example: natpair gate S.toml --id 0 --rounds 1000 --found");
     let rounds = options::rounds(alloc);
     let found = options::found(alloc);
@@ -82,7 +82,7 @@ fn peer_off<'a>(alloc: Global) -> Result<Command<'a>, AllocError>
     ensures local { IfOk result (λ c. (fields_of c).has_globals ≡ false) }
 {
     let command = Command::new(alloc, "peer-off")
-        .about("Tells a running gateway that a boot of its peer has ended for good (not there yet)")
+        .about("Tells a running gateway that a boot of its peer has ended for good")
         .after_help("Example: natpair peer-off S.toml --id 0 --boot 7");
     let boot = options::boot(alloc);
     with_gateway(alloc, command)?.arg(boot)

@@ -12,7 +12,7 @@ pub enum LineFault {
     /// `--found` stands beside `--id 1`: only gateway 0 founds the pair.
     #[error("found needs id 0")]
     FoundNeedsIdZero,
-    /// The words are a request for `loop`, `gate` or `peer-off`, which the program can't run.
+    /// The words are a request for `loop`, which the program can't run.
     #[error("this command is not there yet")]
     NotYet,
     #[error("memory 1 NoMemory")]

@@ -1,5 +1,5 @@
 -- What the machine says of slots, as it is said of tables.
-use Rattle.std.proofs.Common.{◌≡◌, true, List, [], Option, Some, None, ◌↔◌, IsTrue, reverse, refl, sym, ap, subst, ◌∙◌}
+use Rattle.std.proofs.Common.{◌≡◌, ℕ, true, List, [], Option, Some, None, ◌↔◌, IsTrue, reverse, refl, sym, ap, subst, ◌∙◌}
 use Rattle.std.specs.List.{Contains}
 use Rattle.nat_types.specs.declared.gateways.GatewayId.{GatewayId}
 use Rattle.nat_types.specs.declared.gateways.GatewayId.TheVariants.{Zero, One}
@@ -9,22 +9,25 @@ use Rattle.nat_types.specs.declared.pairs.EntryState.TheVariants as state
 use Rattle.nat_types.specs.declared.pairs.Endpoint.{Endpoint}
 use Rattle.nat_types.specs.declared.pairs.Key.{Key}
 use Rattle.nat_types.specs.declared.pairs.Pair.{Pair}
-use Rattle.lone_table.specs.declared.entries.Entry.{Entry}
-use Rattle.lone_table.specs.Entries.{slot_of, entry_in, pairs_in, is_pair, translates, HasDistinctKeys}
-use Rattle.lone_table.proofs.Slots.{slot-key}
-use Rattle.lone_table.proofs.Members.{listed-slot, slot-listed}
-use Rattle.settings.specs.Ranges.{of_gateway}
+use Rattle.nat_types.specs.declared.records.Record.{Record}
+use Rattle.bindings.specs.declared.entries.Entry.{Entry}
+use Rattle.bindings.specs.Entries.{slot_of, entry_in, pairs_in, is_pair, translates, HasDistinctKeys}
+use Rattle.bindings.proofs.Slots.{slot-key}
+use Rattle.bindings.proofs.Members.{listed-slot, slot-listed}
 use Rattle.trace_words.specs.Past.{is_synced}
 use Rattle.trace_words.specs.Trace.{Kept, GoesOn}
+use Rattle.pair_machine.specs.Box.{Box}
+use Rattle.pair_machine.specs.Ownership.{Ranges}
 use Rattle.pair_machine.specs.Talk as machine
 use Rattle.pair_machine.specs.World as machine_world
-use Rattle.pair_machine.specs.World.{both, box_in}
+use Rattle.pair_machine.specs.World.{box_in}
 use Rattle.pair_machine.specs.Mapped.{slot_in}
-use Rattle.gateway.specs.Machine.{machine_slot, slots_of}
-use Rattle.gateway.specs.Gateway.{Gateway}
-use Rattle.gateway.proofs.Slots.{in-held, in-translates}
-use Rattle.frame_sim.specs.World.{World, gateway_at, entries_of, synced_at, ShowsSynced, Holds, Translates}
-use Rattle.frame_sim.specs.Scene.{box_at, scene_of, HasTable}
+use Rattle.binding_step.specs.Machine.{machine_slot, slots_of}
+use Rattle.step_parts.specs.Shown.{Shown}
+use Rattle.frame_sim.specs.World.{HasKeys, World, gateway_at, half, entries_of, synced_at, ShowsSynced, Holds, Translates}
+use Rattle.frame_sim.specs.Scene.{IsSound, box_at, ranges_of, scene_of}
+use Rattle.frame_sim.proofs.Stepping.{box-is}
+use Rattle.frame_sim.proofs.Turning.{synced-of}
 
 -- a state in which the machine translates
 translated-state : (s : EntryState) (e x : Endpoint) → machine.translated (slot_in s e) ≡ Some x → (translates s ≡ true) × (e ≡ x)
@@ -33,6 +36,22 @@ translated-state state.Doomed e x h = cc
 translated-state state.Live e x h = (refl, cc)
 translated-state state.Closing e x h = cc
 translated-state state.Held e x h = (refl, cc)
+
+-- a state whose pair translates
+in-translates : (s : EntryState) (e : Endpoint) → translates s ≡ true → machine.translated (slot_in s e) ≡ Some e
+in-translates state.Pending e t = cc
+in-translates state.Doomed e t = cc
+in-translates state.Live e t = refl
+in-translates state.Closing e t = cc
+in-translates state.Held e t = refl
+
+-- a state whose pair is held
+in-held : (s : EntryState) (e x : Endpoint) → machine.held (slot_in s e) ≡ Some x → (is_pair s ≡ true) × (e ≡ x)
+in-held state.Pending e x t = (refl, cc)
+in-held state.Doomed e x t = cc
+in-held state.Live e x t = (refl, cc)
+in-held state.Closing e x t = (refl, cc)
+in-held state.Held e x t = (refl, cc)
 
 -- an entry is its pair in its state
 whole : (es : List Entry) (p : Pair) (x : Entry) → slot_of es p.key ≡ Some x → x.pair.endpoint ≡ p.endpoint → slot_of es p.key ≡ Some (entry_in x.state p)
@@ -65,44 +84,54 @@ listed-translated es p keys h =
     ap (λ (o : Option Entry). machine.translated (machine_slot o)) found.1 ∙ in-translates found.0 p.endpoint found.2
 
 -- of one gateway
-at-held : (g : Option Gateway) (p : Pair) → machine.held ((box_at g).table p.key) ≡ Some p.endpoint → Contains (pairs_in is_pair (entries_of g)) p
-at-held None p h = cc
-at-held (Some g) p h = held-listed g.table.entries p h
+at-held : (g : Option Shown) (boot : ℕ) (h : List Record) (p : Pair) → machine.held ((box_at g boot h).table p.key) ≡ Some p.endpoint → Contains (pairs_in is_pair (entries_of g)) p
+at-held None boot h p is = cc
+at-held (Some g) boot h p is = held-listed g.ledger.book.entries p is
 
-at-translated : (g : Option Gateway) (p : Pair) → HasTable g → (machine.translated ((box_at g).table p.key) ≡ Some p.endpoint) ↔ Contains (pairs_in translates (entries_of g)) p
-at-translated None p table = (λ h. cc, λ h. listed-translated [] p tt h)
-at-translated (Some g) p table = (translated-listed g.table.entries p, listed-translated g.table.entries p table.keys)
+at-translated : (g : Option Shown) (boot : ℕ) (h : List Record) (p : Pair) → HasKeys g → (machine.translated ((box_at g boot h).table p.key) ≡ Some p.endpoint) ↔ Contains (pairs_in translates (entries_of g)) p
+at-translated None boot h p keys = (λ is. cc, λ is. listed-translated [] p tt is)
+at-translated (Some g) boot h p keys = (translated-listed g.ledger.book.entries p, listed-translated g.ledger.book.entries p keys)
 
-pub holds-kept : (w : World) (t : List Note) → Kept (machine_world.TableHolds (machine_world.tables_of (scene_of w))) t → Kept (Holds w) t
-holds-kept w t kept p opened i synced = at i (kept p opened i synced)
+pub holds-kept : (w : World) (pushed : GatewayId → List Record) (t : List Note) → Kept (machine_world.TableHolds (machine_world.tables_of (scene_of w pushed))) t → Kept (Holds w) t
+holds-kept w pushed t kept p opened i synced = at i (kept p opened i synced)
   where
-    at : (i : GatewayId) → machine_world.TableHolds (machine_world.tables_of (scene_of w)) i p → Holds w i p
-    at Zero h = at-held w.zero p h
-    at One h = at-held w.one p h
+    at : (i : GatewayId) → machine_world.TableHolds (machine_world.tables_of (scene_of w pushed)) i p → Holds w i p
+    at Zero h = at-held w.zero.gateway w.zero.boot (pushed Zero) p h
+    at One h = at-held w.one.gateway w.one.boot (pushed One) p h
 
-pub translates-on : (w : World) (t : List Note) → HasTable w.zero → HasTable w.one → GoesOn (machine_world.TableTranslates (machine_world.tables_of (scene_of w))) t → GoesOn (Translates w) t
-translates-on w t zero one goes i synced p = at i (goes i synced p)
+pub translates-on : (w : World) (pushed : GatewayId → List Record) (t : List Note) → HasKeys w.zero.gateway → HasKeys w.one.gateway → GoesOn (machine_world.TableTranslates (machine_world.tables_of (scene_of w pushed))) t → GoesOn (Translates w) t
+translates-on w pushed t zero one goes i synced p = at i (goes i synced p)
   where
     over : {A B C : Type 0} → (A ↔ B) → (B ↔ C) → (A ↔ C)
     over f g = (λ a. g.0 (f.0 a), λ c. f.1 (g.1 c))
 
-    at : {A : Type 0} (j : GatewayId) → (A ↔ machine_world.TableTranslates (machine_world.tables_of (scene_of w)) j p) → (A ↔ Translates w j p)
-    at Zero h = over h (at-translated w.zero p zero)
-    at One h = over h (at-translated w.one p one)
+    at : {A : Type 0} (j : GatewayId) → (A ↔ machine_world.TableTranslates (machine_world.tables_of (scene_of w pushed)) j p) → (A ↔ Translates w j p)
+    at Zero h = over h (at-translated w.zero.gateway w.zero.boot (pushed Zero) p zero)
+    at One h = over h (at-translated w.one.gateway w.one.boot (pushed One) p one)
 
 -- what a box shows as synced is what its gateway shows
-synced-is : (w : World) (i : GatewayId) → (box_in (scene_of w) i).synced ≡ synced_at (gateway_at w i)
-synced-is w i = go w.zero w.one i
-  where
-    one_is : (g : Option Gateway) → (box_at g).synced ≡ synced_at g
-    one_is None = refl
-    one_is (Some g) = refl
-
-    go : (zero one : Option Gateway) (i : GatewayId) → (both (box_at zero) (box_at one) i).synced ≡ synced_at (of_gateway zero one i)
-    go zero one Zero = one_is zero
-    go zero one One = one_is one
-
-pub shows-synced : (w : World) → ((i : GatewayId) → (box_in (scene_of w) i).synced ≡ is_synced i (reverse w.trace)) → ShowsSynced w
-shows-synced w says i =
-    let same : synced_at (gateway_at w i) ≡ is_synced i (reverse w.trace) = sym (synced-is w i) ∙ says i in
+pub shows-synced : (w : World) (pushed : GatewayId → List Record) → ((i : GatewayId) → (box_in (scene_of w pushed) i).synced ≡ is_synced i (reverse w.trace)) → ShowsSynced w
+shows-synced w pushed says i =
+    let same : synced_at (gateway_at w i) ≡ is_synced i (reverse w.trace) =
+    sym (ap (λ (b : Box). b.synced) (box-is w pushed i) ∙ synced-of (gateway_at w i) (half w i).boot (pushed i)) ∙ says i in
     (λ h. subst IsTrue same h, λ h. subst IsTrue (sym same) h)
+
+-- ---- what a sound world keeps
+
+abbrev pub Keeps : Type 0
+Keeps = (r : Ranges) (s : machine_world.Scene) (trace : List Note) → machine_world.IsWorld r s → s.trace ≡ reverse trace → Kept (machine_world.TableHolds (machine_world.tables_of s)) trace
+
+abbrev pub Goes : Type 0
+Goes = (r : Ranges) (s : machine_world.Scene) (trace : List Note) → machine_world.IsWorld r s → s.trace ≡ reverse trace → GoesOn (machine_world.TableTranslates (machine_world.tables_of s)) trace
+
+abbrev pub Says : Type 0
+Says = (r : Ranges) (s : machine_world.Scene) (trace : List Note) (i : GatewayId) → machine_world.IsWorld r s → s.trace ≡ reverse trace → (box_in s i).synced ≡ is_synced i (reverse trace)
+
+pub sound-kept : Keeps → (w : World) → IsSound w → Kept (Holds w) w.trace
+sound-kept law w sound = holds-kept w sound.pushed w.trace (law (ranges_of w.settings.ports) (scene_of w sound.pushed) w.trace sound.scene refl)
+
+pub sound-goes : Goes → (w : World) → HasKeys w.zero.gateway → HasKeys w.one.gateway → IsSound w → GoesOn (Translates w) w.trace
+sound-goes law w zero one sound = translates-on w sound.pushed w.trace zero one (law (ranges_of w.settings.ports) (scene_of w sound.pushed) w.trace sound.scene refl)
+
+pub sound-says : Says → (w : World) → IsSound w → ShowsSynced w
+sound-says law w sound = shows-synced w sound.pushed (λ i. law (ranges_of w.settings.ports) (scene_of w sound.pushed) w.trace i sound.scene refl)

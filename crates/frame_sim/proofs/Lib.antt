@@ -1,4 +1,14 @@
-pub mod Scenes
-pub mod Founding
+pub mod Laws
+pub mod Mails
+pub mod Stepping
+pub mod Turning
+pub mod Handing
 pub mod Keeping
+pub mod Short
+pub mod Sendings
+pub mod Handed
+pub mod Lending
+pub mod Taking
 pub mod Runs
+pub mod Accounting
+pub mod Owning

@@ -1,4 +1,5 @@
 pub mod World
+pub mod Events
+pub mod Halves
 pub mod Scene
-pub mod Truly
 pub mod Runs

@@ -1,53 +1,83 @@
 -- The scene of the pair machine that a world stands for.
-use Rattle.std.specs.Prelude.{◌≡◌, ℕ, Bool, cond, ◌||◌, Option, Some, None, [], reverse}
+use Rattle.std.specs.Prelude.{◌≡◌, ℕ, false, Option, Some, None, List, reverse}
+use Rattle.std.specs.List.{flat_map}
+use Rattle.nat_types.specs.Same.{other}
 use Rattle.nat_types.specs.declared.gateways.GatewayId.{GatewayId}
 use Rattle.nat_types.specs.declared.gateways.GatewayId.TheVariants.{Zero, One}
-use Rattle.settings.specs.declared.ranges.PortRange.{PortRange}
+use Rattle.nat_types.specs.declared.notes.Note.{Note}
+use Rattle.nat_types.specs.declared.records.Record.{Record}
 use Rattle.settings.specs.declared.ranges.PortRanges.{PortRanges}
-use Rattle.lone_table.specs.Entries.{IsTable}
-use Rattle.pair_machine.specs.Box.{Box, never}
-use Rattle.pair_machine.specs.Ownership.{Ranges, fixed, in_run}
-use Rattle.pair_machine.specs.World.{Scene, IsWorld}
-use Rattle.gateway.specs.Gateway.{Gateway}
-use Rattle.gateway.specs.Machine.{box_of}
-use Rattle.frame_sim.specs.World.{World, gateway_at}
+use Rattle.bindings.specs.Ports.{in_bounds, in_either}
+use Rattle.link.specs.Reading.{reading}
+use Rattle.trace_words.specs.Trace.{Idle}
+use Rattle.pair_machine.specs.Box.{Box, Letter, bare}
+use Rattle.pair_machine.specs.Ownership.{Ranges, moving}
+use Rattle.pair_machine.specs.Step.{IsOff, WasSent}
+use Rattle.pair_machine.specs.World.{IsWorld, Scene}
+use Rattle.step_parts.specs.Founding.{bounds_of}
+use Rattle.step_parts.specs.declared.events.Event.{Event}
+use Rattle.step_parts.specs.Machine.{HasPushed, box_of, letter_in, letters_in, words_in}
+use Rattle.step_parts.specs.Rests.{AccountsOn}
+use Rattle.step_parts.specs.Shown.{Shown, id_of}
+use Rattle.frame_sim.specs.World.{World, gateway_at, half}
 
--- a port lies in a range
-abbrev pub is_in : PortRange → ℕ → Bool
-is_in range port = in_run range.lowest.0 range.highest.0 port
-
--- the two ranges, no port of which moves
+-- the two ranges: gateway 0 is founded with range zero, and ports move
 abbrev pub ranges_of : PortRanges → Ranges
 ranges_of ports =
-    fixed
-    (λ p. is_in ports.zero p || is_in ports.one p)
-    (λ p. cond (is_in ports.zero p) Zero One)
+    let zero = bounds_of ports.zero in
+    moving (λ p. in_either zero (bounds_of ports.one) p) (in_bounds zero)
 
-abbrev pub box_at : Option Gateway → Box
-box_at None = never
-box_at (Some g) = box_of g
+-- one that is down has nothing but the number of its last boot; h is what one that is up pushed in its session
+abbrev pub box_at : Option Shown → ℕ → List Record → Box
+box_at None boot h = bare false boot
+box_at (Some g) boot h = box_of g h
 
--- no datagram is sent yet
-abbrev pub scene_of : World → Scene
-scene_of w = record {
-  mine = box_at w.zero;
-  theirs = box_at w.one;
-  my_mail = [];
-  their_mail = [];
+-- its letters, the newest first
+abbrev pub mail_of : List (List ℕ) → List Letter
+mail_of sent = reverse (flat_map (λ bytes. letter_in (reading bytes)) sent)
+
+-- the scene, where the two pushed these
+abbrev pub scene_of : World → (GatewayId → List Record) → Scene
+scene_of w pushed = record {
+  mine = box_at w.zero.gateway w.zero.boot (pushed Zero);
+  theirs = box_at w.one.gateway w.one.boot (pushed One);
+  my_mail = mail_of w.zero.sent;
+  their_mail = mail_of w.one.sent;
   trace = reverse w.trace;
 }
 
--- the table of a gateway that is up is one
-abbrev pub HasTable : Option Gateway → Type 0
-HasTable None = Unit {0}
-HasTable (Some g) = IsTable g.table
+-- it is gateway i of the pair, in the life of this number, and pushed these
+pub record IsThat (ports : PortRanges) (i : GatewayId) (number : ℕ) (g : Shown) (h : List Record) : Type 0 where
+  pub id : id_of g ≡ i
+  pub zero : g.ledger.book.zero ≡ bounds_of ports.zero
+  pub one : g.ledger.book.one ≡ bounds_of ports.one
+  pub boot : g.link.boot ≡ number
+  pub pushed : HasPushed g h
 
--- a gateway that is up is the one with this number
-abbrev pub IsNumbered : GatewayId → Option Gateway → Type 0
-IsNumbered i None = Unit {0}
-IsNumbered i (Some g) = g.id ≡ i
+abbrev pub IsHalf : PortRanges → GatewayId → ℕ → Option Shown → List Record → Type 0
+IsHalf ports i boot None h = Unit {0}
+IsHalf ports i boot (Some g) h = IsThat ports i boot g h
 
--- the world can come about
+-- the ledger of a gateway that is up accounts for the trace, the oldest note first
+abbrev pub AccountsAt : Option Shown → List Note → Type 0
+AccountsAt None trace = Unit {0}
+AccountsAt (Some g) trace = AccountsOn g (reverse trace)
+
+-- each release so far came where its pair was idle, and the two account for the trace
+pub record IsAccounted (w : World) : Type 0 where
+  pub idle : Idle w.trace
+  pub accounts : (i : GatewayId) → AccountsAt (gateway_at w i) w.trace
+
+-- for some lists of pushed records the scene of the world can come about; and the trace is accounted for
 pub record IsSound (w : World) : Type 0 where
-  pub numbered : (i : GatewayId) → IsNumbered i (gateway_at w i)
-  pub scene : IsWorld (ranges_of w.ports) (scene_of w)
+  pub pushed : GatewayId → List Record
+  pub halves : (i : GatewayId) →
+      IsHalf w.settings.ports i (half w i).boot (half w i).gateway (pushed i)
+  pub scene : IsWorld (ranges_of w.settings.ports) (scene_of w pushed)
+  pub accounted : IsAccounted w
+
+-- what gateway i may be handed: a datagram that the other sent, and a true word about it
+pub record IsHanded (w : World) (i : GatewayId) (event : Event) : Type 0 where
+  pub letters : WasSent (letters_in event) (mail_of (half w (other i)).sent)
+  pub words : (h : List Record) →
+      let o = half w (other i) in IsOff (words_in event) (box_at o.gateway o.boot h)

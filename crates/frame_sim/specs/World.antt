@@ -1,92 +1,108 @@
--- What a world shows, and what an event does to it.
-use Rattle.std.specs.Prelude.{Bool, true, false, IsTrue, ◌↔◌, Option, Some, None, List, [], ◌++◌}
+-- What a world shows.
+use Rattle.std.specs.Prelude.{ℕ, Bool, true, false, IsTrue, ◌↔◌, Option, Some, None, List, [], map, if◌then◌else◌}
 use Rattle.std.specs.List.{Contains}
+use Rattle.addresses.specs.declared.transport.Port.{Port}
 use Rattle.nat_types.specs.declared.gateways.GatewayId.{GatewayId}
 use Rattle.nat_types.specs.declared.gateways.GatewayId.TheVariants.{Zero, One}
 use Rattle.nat_types.specs.declared.notes.Note.{Note}
+use Rattle.nat_types.specs.declared.pairs.EntryState.{EntryState}
 use Rattle.nat_types.specs.declared.pairs.Pair.{Pair}
-use Rattle.lone_table.specs.declared.entries.Entry.{Entry}
-use Rattle.lone_table.specs.Entries.{pairs_in, is_pair, translates}
-use Rattle.settings.specs.Ranges.{of_gateway}
-use Rattle.settings.specs.declared.ranges.PortRanges.{PortRanges}
 use Rattle.settings.specs.declared.whole.Settings.{Settings}
+use Rattle.settings.specs.Ranges.{of_gateway}
+use Rattle.bindings.specs.declared.entries.Entry.{Entry}
+use Rattle.bindings.specs.Entries.{HasDistinctKeys, is_pair, pairs_in, translates}
+use Rattle.bindings.specs.Runs.{port_at}
 use Rattle.trace_words.specs.Trace.{IsSynced}
-use Rattle.gateway.specs.declared.outcomes.Outcome.TheVariants.{Done}
-use Rattle.gateway.specs.Effects.{Effect, frame_effect, tick_effect}
-use Rattle.gateway.specs.Gateway.{Gateway, started}
-use Rattle.gateway.specs.Out.{Out, empty_out}
-use Rattle.frame_sim.specs.declared.events.WorldEvent.{WorldEvent}
-use Rattle.frame_sim.specs.declared.events.WorldEvent.TheVariants.{Frame, Tick}
+use Rattle.binding_step.specs.Books.{is_synced}
+use Rattle.step_parts.specs.Founding.{founded}
+use Rattle.step_parts.specs.Shown.{Shown}
 
--- the settings' port ranges, each gateway where it is up, and all notes, the oldest first
+-- One of the two: the gateway where it is up, the number of its last boot (0: it never booted), and all datagrams that it
+-- ever sent, the oldest first.
+pub record Half : Type 0 where
+  pub gateway : Option Shown
+  pub boot : ℕ
+  pub sent : List (List ℕ)
+
+-- what the pair is set up with, the two, and all notes, the oldest first
 pub record World : Type 0 where
-  pub ports : PortRanges
-  pub zero : Option Gateway
-  pub one : Option Gateway
+  pub settings : Settings
+  pub zero : Half
+  pub one : Half
   pub trace : List Note
 
--- one of the two
-abbrev pub gateway_at : World → GatewayId → Option Gateway
-gateway_at w i = of_gateway w.zero w.one i
+abbrev pub half : World → GatewayId → Half
+half w i = of_gateway w.zero w.one i
 
--- the world in which that one is so
-abbrev pub with_gateway : World → GatewayId → Option Gateway → World
-with_gateway w Zero g = record w { zero = g }
-with_gateway w One g = record w { one = g }
+abbrev pub gateway_at : World → GatewayId → Option Shown
+gateway_at w i = (half w i).gateway
 
-abbrev pub entries_of : Option Gateway → List Entry
-entries_of None = []
-entries_of (Some g) = g.table.entries
+-- the world with that one of the two, and these notes
+abbrev pub with_half : World → GatewayId → Half → List Note → World
+with_half w i h trace = record {
+  settings = w.settings;
+  zero = of_gateway h w.zero i;
+  one = of_gateway w.one h i;
+  trace = trace;
+}
 
--- a gateway is up and its table loaded
-abbrev pub synced_at : Option Gateway → Bool
+-- gateway 0 founded with boot 1, gateway 1 down, nothing sent, nothing noted
+abbrev pub founding : Settings → World
+founding settings = record {
+  settings = settings;
+  zero = record { gateway = Some (founded settings 1); boot = 1; sent = [] };
+  one = record { gateway = None; boot = 0; sent = [] };
+  trace = [];
+}
+
+-- ---- a gateway that may be down
+
+abbrev pub is_up : Option Shown → Bool
+is_up None = false
+is_up (Some g) = true
+
+-- it is up and its table loaded
+abbrev pub synced_at : Option Shown → Bool
 synced_at None = false
-synced_at (Some g) = g.synced
+synced_at (Some g) = is_synced g.ledger.book.stage
+
+abbrev pub entries_of : Option Shown → List Entry
+entries_of None = []
+entries_of (Some g) = g.ledger.book.entries
+
+-- the ports that it owns, rising; none where it isn't synced
+abbrev pub owned_by : Option Shown → List Port
+owned_by None = []
+owned_by (Some g) = if is_synced g.ledger.book.stage then map port_at g.ledger.book.owned else []
+
+-- no key has two entries
+abbrev pub HasKeys : Option Shown → Type 0
+HasKeys g = HasDistinctKeys (entries_of g)
+
+-- its pairs in the states that pass a test
+abbrev pub pairs_of : (EntryState → Bool) → Option Shown → List Pair
+pairs_of test g = pairs_in test (entries_of g)
+
+-- its clock's moment
+abbrev pub moment_of : Option Shown → ℕ
+moment_of None = 0
+moment_of (Some g) = g.moment
+
+-- ---- what the words on a trace speak of
 
 -- a gateway holds the pair; a proposal given up is none
 abbrev pub Holds : World → GatewayId → Pair → Type 0
-Holds w i p = Contains (pairs_in is_pair (entries_of (gateway_at w i))) p
+Holds w i p = Contains (pairs_of is_pair (gateway_at w i)) p
 
 -- a gateway translates with the pair
 abbrev pub Translates : World → GatewayId → Pair → Type 0
-Translates w i p = Contains (pairs_in translates (entries_of (gateway_at w i))) p
+Translates w i p = Contains (pairs_of translates (gateway_at w i)) p
 
 -- a gateway is synced exactly where the trace says so
 abbrev pub ShowsSynced : World → Type 0
 ShowsSynced w = (i : GatewayId) → IsTrue (synced_at (gateway_at w i)) ↔ IsSynced i w.trace
 
--- the gateway that an event happens to
-abbrev pub by_of : WorldEvent → GatewayId
-by_of (Frame i side bytes) = i
-by_of (Tick i now) = i
-
--- what an event does to a gateway that is up
-abbrev pub effect_up : Gateway → WorldEvent → Out → Effect Gateway
-effect_up g (Frame i side bytes) out = frame_effect g side bytes.items out
-effect_up g (Tick i now) out = tick_effect g now out
-
--- what it does to one that may be down: that one takes nothing
-abbrev pub effect_at : Option Gateway → WorldEvent → Out → Effect (Option Gateway)
-effect_at None e out = record { outcome = Done; gateway = None; out = out }
-effect_at (Some g) e out =
-    let effect = effect_up g e out in
-    record { outcome = effect.outcome; gateway = Some effect.gateway; out = effect.out }
-
--- what an event does to the gateway that it happens to
-abbrev pub effect_in : World → WorldEvent → Out → Effect (Option Gateway)
-effect_in w e out = effect_at (gateway_at w (by_of e)) e out
-
--- the world after an event: the gateway after it, and its notes at the end of the trace
-abbrev pub world_after : World → WorldEvent → World
-world_after w e =
-    let effect = effect_in w e empty_out in
-    record (with_gateway w (by_of e) effect.gateway) { trace = w.trace ++ effect.out.notes }
-
--- gateway 0 founded with boot 1, gateway 1 down, nothing noted
-abbrev pub founded : Settings → World
-founded settings = record {
-  ports = settings.ports;
-  zero = Some (started settings Zero 1 true);
-  one = None;
-  trace = [];
-}
+-- no port is owned by two synced gateways
+abbrev pub OwnsApart : World → Type 0
+OwnsApart w =
+    (p : Port) → Contains (owned_by (gateway_at w Zero)) p → Contains (owned_by (gateway_at w One)) p → ⊥

@@ -1,6 +1,5 @@
 //! What can happen to the world, and what it gave.
 ghost use Rattle.std.specs.Prelude.{◌≡◌};
-ghost use Rattle.frame_sim.specs.World.{by_of};
 
 use gateway::{NoMemory, Out, Outcome};
 use nat_types::{GatewayId, Side};
@@ -14,18 +13,17 @@ pub enum WorldEvent {
     Frame(GatewayId, Side, Vec<u8>),
     /// The gateway's clock stands at this moment, in centiseconds.
     Tick(GatewayId, u64),
-}
-
-impl WorldEvent {
-    /// The gateway that the event happens to.
-    pub fn gateway(&self) -> GatewayId
-        ensures { result ≡ by_of self.now }
-    {
-        match self {
-            WorldEvent::Frame(id, _, _) => *id,
-            WorldEvent::Tick(id, _) => *id,
-        }
-    }
+    /// The gateway's routers are stopped for good.
+    Stop(GatewayId),
+    /// The gateway receives the datagram of this number, counted from 1, among all that the other
+    /// one ever sent.
+    Deliver(GatewayId, u64),
+    /// The gateway loses its table and goes down.
+    Crash(GatewayId),
+    /// The gateway starts with this boot number.
+    Boot(GatewayId, u64),
+    /// The gateway gets the operator's word that this boot of the other one is off.
+    PeerOff(GatewayId, u64),
 }
 
 /// Why an event was refused; the world is then as before.

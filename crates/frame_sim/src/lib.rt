@@ -2,6 +2,7 @@
 #![tactic(auto)]
 
 mod events;
+mod halves;
 mod worlds;
 
 pub use events::{Step, WorldEvent, WorldFault};

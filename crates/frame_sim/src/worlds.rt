@@ -1,260 +1,130 @@
 //! The world of a script: two gateways, what happens to them, and the trace of their notes.
-ghost use Rattle.std.specs.Prelude.{◌≡◌, ◌+◌, ◌≤◌, ◌++◌, drop, length, vec_len, vec_capacity, is_some, Some, IfOk, IfErr, OnOk, OnErr};
-ghost use Rattle.std.specs.List.Sorted.{IsPermutation, IsNonDecreasingBy};
-ghost use Rattle.lone_table.specs.Entries.{pairs_in, is_pair, translates, place_of};
-ghost use Rattle.settings.specs.Ranges.{of_gateway};
-ghost use Rattle.trace_words.specs.Trace.{Fits, Silent, Kept, GoesOn};
-ghost use Rattle.gateway.specs.Machine.{IsMachineStep};
+ghost use Rattle.std.specs.Prelude.{◌≡◌, ◌<◌, ◌++◌, ◌∷◌, [], true, vec_len, vec_capacity, IfOk, OnOk, OnErr};
+ghost use Rattle.bindings.specs.Entries.{is_pair, translates};
+ghost use Rattle.trace_words.specs.OneBox.{IsOneBox};
+ghost use Rattle.trace_words.specs.Trace.{Fits, GoesOn, Idle, Kept, Silent};
+ghost use Rattle.told.specs.Told.{none_told, with_note};
+ghost use Rattle.frame_sim.specs.declared.events.WorldEvent.TheVariants as events;
 ghost use Rattle.frame_sim.specs.declared.events.WorldFault.TheVariants as faults;
-ghost use Rattle.frame_sim.specs.World.{Holds, Translates, ShowsSynced, by_of, effect_at, effect_in, effect_up, entries_of, founded, gateway_at, synced_at, world_after};
-ghost use Rattle.frame_sim.specs.Scene.{HasTable};
-ghost use Rattle.frame_sim.specs.Truly.{StepsAsMachine, TellsTruly};
-ghost use Rattle.frame_sim.specs.Runs.{AreSteps, AreToldTruly, IsStepOf};
+ghost use Rattle.frame_sim.specs.Events.{TakesAt, may_be_told, may_boot, may_crash};
+ghost use Rattle.frame_sim.specs.Runs.{Answers, AreSteps, fault_of};
+ghost use Rattle.frame_sim.specs.Scene.{IsHanded};
+ghost use Rattle.frame_sim.specs.World.{Holds, OwnsApart, ShowsSynced, Translates, founding, gateway_at, half, is_up, owned_by, pairs_of, synced_at};
 
+use crate::halves::Half;
 use crate::{Step, WorldEvent, WorldFault};
+use addresses::Port;
+use binding_step::books_begin;
 use gateway::{Event, Gateway, NoMemory, Out, Outcome};
-use nat_types::{GatewayId, Note, Pair};
-use pair_machine::laws::{a_step_keeps, begins, promises_in_order, steps_anywhere};
-use settings::{PortRanges, Settings};
+use link::one_spelling;
+use nat_types::{GatewayId, Happening, Note, Pair};
+use pair_machine::laws::{
+    a_step_keeps, begins, goes_to, promises, promises_in_order, steps_anywhere,
+};
+use settings::Settings;
 use std::alloc::Global;
 use std::marker::Model;
+use std::slice;
+use step_parts::{beginnings_account, others_account, steps_account, steps_go};
+use told::Room;
+use trace_words::laws::is_one_box;
 
-/// The most notes that one step makes.
-const NOTES: usize = 2;
-
-/// The two gateways, each where it is up.
+/// Two gateways on one inside and one outside network, all that they sent to each other, and all that
+/// they noted.
 #[derive(Drop)]
-struct Gateways {
-    zero: Option<Gateway>,
-    one: Option<Gateway>,
-}
-
-/// Two gateways on one inside and one outside network, and all that they noted.
-#[derive(Drop)]
-pub struct World {
+pub struct World<'a> {
     alloc: Global,
-    ports: PortRanges,
-    gateways: Gateways,
+    settings: &'a Settings,
+    zero: Half,
+    one: Half,
     trace: Vec<Note>,
 }
 
-impl Model for World {
-    ghost use Rattle.frame_sim.specs.World.{World as Shown};
+impl<'a> Model for World<'a> {
+    ghost use Rattle.frame_sim.specs.World.{World as Seen};
     ghost use Rattle.frame_sim.specs.Scene.{IsSound};
 
-    ghost Value = { Shown };
+    ghost Value = { Seen };
 
     ghost view = { λ w. record {
-      ports = w.ports;
-      zero = w.gateways.zero;
-      one = w.gateways.one;
+      settings = w.settings.now;
+      zero = w.zero;
+      one = w.one;
       trace = w.trace.items;
     } };
 
     ghost invariant = { λ w. IsSound (record {
-      ports = w.ports;
-      zero = w.gateways.zero;
-      one = w.gateways.one;
+      settings = w.settings.now;
+      zero = w.zero;
+      one = w.one;
       trace = w.trace.items;
     }) };
 }
 
-fn append_reserved(list: &mut Vec<Note>, notes: &[Note])
-    requires { vec_len list.old + length notes.now ≤ vec_capacity list.old }
-    ensures { list.new.items ≡ list.old.items ++ notes.now }
+/// Tells a note more.
+fn tell(out: &mut Out, note: &Note) -> Result<(), NoMemory>
+    ensures ok { OnOk result (out.new ≡ with_note out.old note.now) }
+    ensures err { OnErr result (out.new ≡ out.old) }
 {
-    match list.extend_from_slice(notes) {
+    out.page.ready(Room {
+        frames: 0,
+        datagrams: 0,
+        notes: 1,
+    })?;
+    out.page.note(note);
+    Ok(())
+}
+
+/// Notes it on the trace, too.
+fn note_both(trace: &mut Vec<Note>, out: &mut Out, note: &Note) -> Result<(), NoMemory>
+    ensures trace { OnOk result (trace.new.items ≡ trace.old.items ++ note.now ∷ []) }
+    ensures out { OnOk result (out.new ≡ with_note out.old note.now) }
+    ensures unnoted { OnErr result (trace.new.items ≡ trace.old.items) }
+    ensures untold { OnErr result (out.new ≡ out.old) }
+{
+    trace.reserve(1)?;
+    tell(out, note)?;
+    match trace.extend_from_slice(slice::from_ref(note)) {
         Ok(()) => {}
         Err(_full) => unreachable!(),
     }
+    Ok(())
 }
 
-/// The notes behind the first ones.
-fn notes_since(out: &Out, told: usize) -> &[Note]
-    requires { told ≤ length out.now.notes }
-    ensures { result.now ≡ drop told out.now.notes }
-{
-    &out.notes()[told..]
-}
-
-/// The step of a gateway that is up.
-fn step_up(gateway: &mut Gateway, event: &WorldEvent, out: &mut Out) -> Result<Outcome, NoMemory>
-    ensures outcome { IfOk result (λ o. o ≡ (effect_up gateway.old event.now out.old).outcome) }
-    ensures gateway { OnOk result (
-        gateway.new ≡ (effect_up gateway.old event.now out.old).gateway) }
-    ensures out { OnOk result (out.new ≡ (effect_up gateway.old event.now out.old).out) }
-    ensures truly { OnOk result (TellsTruly (Some gateway.old) event.now out.old out.new) }
-    ensures machine { OnOk result (IsMachineStep gateway.old gateway.new out.old out.new) }
-    ensures err { OnErr result (gateway.new ≡ gateway.old) }
-    ensures untold { OnErr result (out.new ≡ out.old) }
-{
-    match event {
-        WorldEvent::Frame(_, side, bytes) => gateway.step(
-            Event::Frame(*side, bytes.as_slice()),
-            out,
-        ),
-        WorldEvent::Tick(_, moment) => gateway.step(Event::Tick(*moment), out),
-    }
-}
-
-/// One gateway's step. A gateway that is down takes nothing and changes nothing.
-fn step_of(
-    gateway: &mut Option<Gateway>,
-    event: &WorldEvent,
-    out: &mut Out,
-) -> Result<Outcome, NoMemory>
-    ensures outcome { IfOk result (λ o. o ≡ (effect_at gateway.old event.now out.old).outcome) }
-    ensures gateway { OnOk result (
-        gateway.new ≡ (effect_at gateway.old event.now out.old).gateway) }
-    ensures out { OnOk result (out.new ≡ (effect_at gateway.old event.now out.old).out) }
-    ensures truly { OnOk result (TellsTruly gateway.old event.now out.old out.new) }
-    ensures machine { OnOk result (StepsAsMachine gateway.old gateway.new out.old out.new) }
-    ensures err { OnErr result (gateway.new ≡ gateway.old) }
-    ensures untold { OnErr result (out.new ≡ out.old) }
-{
-    let Some(gateway) = gateway else {
-        return Ok(Outcome::Done);
-    };
-    step_up(gateway, event, out)
-}
-
-/// Reminds the prover of what a gateway keeps; it does nothing when it runs.
-fn recall_table(gateway: &Option<Gateway>)
-    ensures { HasTable gateway.now }
-{
-    if let Some(gateway) = gateway {
-        gateway.recall();
-    }
-}
-
-fn pairs_of(alloc: Global, gateway: &Option<Gateway>) -> Result<Vec<Pair>, NoMemory>
-    ensures all { IfOk result (λ v.
-        IsPermutation (pairs_in is_pair (entries_of gateway.now)) v.items) }
-    ensures sorted { IfOk result (λ v. IsNonDecreasingBy place_of v.items) }
-{
-    match gateway {
-        Some(gateway) => gateway.pairs(),
-        None => Ok(Vec::new(alloc)),
-    }
-}
-
-fn translating_of(alloc: Global, gateway: &Option<Gateway>) -> Result<Vec<Pair>, NoMemory>
-    ensures all { IfOk result (λ v.
-        IsPermutation (pairs_in translates (entries_of gateway.now)) v.items) }
-    ensures sorted { IfOk result (λ v. IsNonDecreasingBy place_of v.items) }
-{
-    match gateway {
-        Some(gateway) => gateway.translating(),
-        None => Ok(Vec::new(alloc)),
-    }
-}
-
-fn is_synced(gateway: &Option<Gateway>) -> bool
-    ensures { result ≡ synced_at gateway.now }
-{
-    match gateway {
-        Some(gateway) => gateway.synced(),
-        None => false,
-    }
-}
-
-impl Gateways {
-    fn of(&self, id: GatewayId) -> &Option<Gateway>
-        ensures { result.now ≡ of_gateway self.now.zero self.now.one id }
-    {
-        match id {
-            GatewayId::Zero => &self.zero,
-            GatewayId::One => &self.one,
-        }
-    }
-
-    /// The step of the gateway that the event happens to. The other one stays.
-    fn step(&mut self, event: &WorldEvent, out: &mut Out) -> Result<Outcome, NoMemory>
-        ensures outcome { IfOk result (λ o.
-            let g = of_gateway self.old.zero self.old.one (by_of event.now) in
-            o ≡ (effect_at g event.now out.old).outcome) }
-        ensures zero { OnOk result (
-            let new = (effect_at self.old.zero event.now out.old).gateway in
-            self.new.zero ≡ of_gateway new self.old.zero (by_of event.now)) }
-        ensures one { OnOk result (
-            let new = (effect_at self.old.one event.now out.old).gateway in
-            self.new.one ≡ of_gateway self.old.one new (by_of event.now)) }
-        ensures out { OnOk result (
-            let g = of_gateway self.old.zero self.old.one (by_of event.now) in
-            out.new ≡ (effect_at g event.now out.old).out) }
-        ensures truly { OnOk result (
-            let g = of_gateway self.old.zero self.old.one (by_of event.now) in
-            TellsTruly g event.now out.old out.new) }
-        ensures machine { OnOk result (
-            let old = of_gateway self.old.zero self.old.one (by_of event.now) in
-            let new = of_gateway self.new.zero self.new.one (by_of event.now) in
-            StepsAsMachine old new out.old out.new) }
-        ensures err { OnErr result (self.new ≡ self.old) }
-        ensures untold { OnErr result (out.new ≡ out.old) }
-    {
-        match event.gateway() {
-            GatewayId::Zero => step_of(&mut self.zero, event, out),
-            GatewayId::One => step_of(&mut self.one, event, out),
-        }
-    }
-}
-
-impl World {
+impl<'a> World<'a> {
     /// Gateway 0 founded with boot 1, and gateway 1 down.
-    pub fn new(alloc: Global, settings: &Settings) -> Result<World, NoMemory>
-        ensures { IfOk result (λ w. w ≡ founded settings.now) }
+    pub fn new(alloc: Global, settings: &'a Settings) -> Result<World<'a>, NoMemory>
+        ensures { IfOk result (λ w. w ≡ founding settings.now) }
     {
         begins();
-        let zero = Gateway::new(alloc, settings, GatewayId::Zero, 1, true)?;
+        books_begin();
+        beginnings_account();
+        let gateway = Gateway::new(alloc, settings, GatewayId::Zero, 1, true)?;
+        gateway.recall();
         Ok(World {
             alloc,
-            ports: settings.ports,
-            gateways: Gateways {
-                zero: Some(zero),
-                one: None,
+            settings,
+            zero: Half {
+                gateway: Some(gateway),
+                boot: 1,
+                sent: Vec::new(alloc),
+            },
+            one: Half {
+                gateway: None,
+                boot: 0,
+                sent: Vec::new(alloc),
             },
             trace: Vec::new(alloc),
         })
     }
 
-    /// Takes one event. What the gateway sends and notes is appended to `out`.
-    pub fn apply(&mut self, event: &WorldEvent, out: &mut Out) -> Result<Outcome, WorldFault>
-        ensures outcome { IfOk result (λ o. o ≡ (effect_in self.old event.now out.old).outcome) }
-        ensures world { OnOk result (self.new ≡ world_after self.old event.now) }
-        ensures out { OnOk result (out.new ≡ (effect_in self.old event.now out.old).out) }
-        ensures truly { OnOk result (
-            TellsTruly (gateway_at self.old (by_of event.now)) event.now out.old out.new) }
-        ensures synced { ShowsSynced self.new }
-        ensures refused { IfErr result (λ fault. fault ≡ faults.NoMemory) }
-        ensures err { OnErr result (self.new ≡ self.old) }
-        ensures untold { OnErr result (out.new ≡ out.old) }
+    fn half(&self, id: GatewayId) -> &Half
+        ensures { result.now ≡ half self.now id }
     {
-        self.recall();
-        let outcome = self.step_gateway(event, out)?;
-        self.recall();
-        Ok(outcome)
-    }
-
-    /// Takes the events in order, and gives a step for each. An `Err` applies none.
-    pub fn run(&mut self, events: &[WorldEvent]) -> Result<Vec<Step>, NoMemory>
-        ensures fits { Fits self.new.trace }
-        ensures kept { Kept (Holds self.new) self.new.trace }
-        ensures silent { Silent self.new.trace }
-        ensures goes_on { GoesOn (Translates self.new) self.new.trace }
-        ensures synced { ShowsSynced self.new }
-
-        ensures steps { IfOk result (λ ss. AreSteps self.old events.now ss.items self.new) }
-        ensures truly { IfOk result (λ ss. AreToldTruly self.old events.now ss.items) }
-        ensures err { OnErr result (self.new ≡ self.old) }
-    {
-        self.recall();
-        let mut steps = Vec::with_capacity(self.alloc, events.len())?;
-        for event in events {
-            let step = self.step(event);
-            steps.push_reserved(step);
+        match id {
+            GatewayId::Zero => &self.zero,
+            GatewayId::One => &self.one,
         }
-        self.recall();
-        Ok(steps)
     }
 
     /// Reminds the prover of what each world keeps; it does nothing when it runs.
@@ -264,10 +134,15 @@ impl World {
         ensures silent { Silent self.now.trace }
         ensures goes_on { GoesOn (Translates self.now) self.now.trace }
         ensures synced { ShowsSynced self.now }
+        ensures idle { Idle self.now.trace }
+        ensures one_box { IsOneBox self.now.trace }
+        ensures owned_ports { OwnsApart self.now }
     {
         promises_in_order();
-        recall_table(&self.gateways.zero);
-        recall_table(&self.gateways.one);
+        promises();
+        is_one_box();
+        self.zero.recall();
+        self.one.recall();
     }
 
     /// All notes so far, the oldest first.
@@ -280,60 +155,204 @@ impl World {
     /// The pairs of a gateway's table by protocol (tcp first) and port, without proposals given up;
     /// none while it is down.
     pub fn table(&self, id: GatewayId) -> Result<Vec<Pair>, NoMemory>
-        ensures all { IfOk result (λ v.
-            IsPermutation (pairs_in is_pair (entries_of (gateway_at self.now id))) v.items) }
-        ensures sorted { IfOk result (λ v. IsNonDecreasingBy place_of v.items) }
+        ensures { IfOk result (λ v. v.items ≡ pairs_of is_pair (gateway_at self.now id)) }
     {
-        pairs_of(self.alloc, self.gateways.of(id))
+        self.half(id).pairs(self.alloc)
     }
 
     /// The pairs with which a gateway translates, in the same order.
     pub fn translating(&self, id: GatewayId) -> Result<Vec<Pair>, NoMemory>
-        ensures all { IfOk result (λ v.
-            IsPermutation (pairs_in translates (entries_of (gateway_at self.now id))) v.items) }
-        ensures sorted { IfOk result (λ v. IsNonDecreasingBy place_of v.items) }
+        ensures { IfOk result (λ v. v.items ≡ pairs_of translates (gateway_at self.now id)) }
     {
-        translating_of(self.alloc, self.gateways.of(id))
+        self.half(id).translating(self.alloc)
+    }
+
+    /// The ports that a gateway owns, rising; none where it isn't synced.
+    pub fn owned(&self, id: GatewayId) -> Result<Vec<Port>, NoMemory>
+        ensures { IfOk result (λ v. v.items ≡ owned_by (gateway_at self.now id)) }
+    {
+        self.half(id).owned(self.alloc)
     }
 
     /// Whether a gateway is up and its table loaded.
     pub fn synced(&self, id: GatewayId) -> bool
         ensures { result ≡ synced_at (gateway_at self.now id) }
     {
-        is_synced(self.gateways.of(id))
+        self.half(id).synced()
     }
 
     /// Whether a gateway is up.
     pub fn up(&self, id: GatewayId) -> bool
-        ensures { result ≡ is_some (gateway_at self.now id) }
+        ensures { result ≡ is_up (gateway_at self.now id) }
     {
-        self.gateways.of(id).is_some()
+        self.half(id).up()
     }
 
+    /// Takes one event. What the gateway sends and notes is appended to `out`.
+    pub fn apply(&mut self, event: &WorldEvent, out: &mut Out) -> Result<Outcome, WorldFault>
+        ensures { Answers self.old event.now out.old result out.new self.new }
+    {
+        match event {
+            WorldEvent::Frame(id, side, bytes) => {
+                let event = Event::Frame(*side, bytes.as_slice());
+                Ok(self.hand(*id, event, out)?)
+            }
+            WorldEvent::Tick(id, moment) => Ok(self.hand(*id, Event::Tick(*moment), out)?),
+            WorldEvent::Stop(id) => Ok(self.hand(*id, Event::Stop, out)?),
+            WorldEvent::Deliver(id, number) => self.deliver(*id, *number, out),
+            WorldEvent::Crash(id) => self.crash(*id, out),
+            WorldEvent::Boot(id, number) => self.boot(*id, *number, out),
+            WorldEvent::PeerOff(id, number) => self.pass_word(*id, *number, out),
+        }
+    }
+
+    /// Takes the events in order, and gives a step for each. An `Err` applies none.
+    pub fn run(&mut self, events: &[WorldEvent]) -> Result<Vec<Step>, NoMemory>
+        ensures fits { Fits self.new.trace }
+        ensures kept { Kept (Holds self.new) self.new.trace }
+        ensures silent { Silent self.new.trace }
+        ensures goes_on { GoesOn (Translates self.new) self.new.trace }
+        ensures synced { ShowsSynced self.new }
+        ensures idle { Idle self.new.trace }
+        ensures one_box { IsOneBox self.new.trace }
+        ensures owned_ports { OwnsApart self.new }
+        ensures steps { IfOk result (λ ss. AreSteps self.old events.now ss.items self.new) }
+        ensures err { OnErr result (self.new ≡ self.old) }
+    {
+        self.recall();
+        let mut steps = Vec::with_capacity(self.alloc, events.len())?;
+        for event in events {
+            let step = self.step(event);
+            steps.push_reserved(step);
+        }
+        self.recall();
+        Ok(steps)
+    }
+
+    /// What one event gives.
     fn step(&mut self, event: &WorldEvent) -> Step
-        ensures { IsStepOf self.old event.now result self.new }
+        ensures { Answers self.old event.now none_told result.answer result.out self.new }
     {
         let mut out = Out::new(self.alloc);
         let answer = self.apply(event, &mut out);
         Step { answer, out }
     }
 
-    /// The step of the gateway that the event happens to, whose notes come behind the trace.
-    fn step_gateway(&mut self, event: &WorldEvent, out: &mut Out) -> Result<Outcome, NoMemory>
-        ensures outcome { IfOk result (λ o. o ≡ (effect_in self.old event.now out.old).outcome) }
-        ensures world { OnOk result (self.new ≡ world_after self.old event.now) }
-        ensures out { OnOk result (out.new ≡ (effect_in self.old event.now out.old).out) }
-        ensures truly { OnOk result (
-            TellsTruly (gateway_at self.old (by_of event.now)) event.now out.old out.new) }
+    /// One of the two takes what it is handed.
+    fn hand(&mut self, id: GatewayId, event: Event<'_>, out: &mut Out) -> Result<Outcome, NoMemory>
+        requires { IsHanded self.old id event }
+        ensures takes { IfOk result (λ o. TakesAt self.old id (gateway_at self.old id) event.entry
+            out.old o out.new self.new) }
         ensures err { OnErr result (self.new ≡ self.old) }
         ensures untold { OnErr result (out.new ≡ out.old) }
     {
+        steps_go();
+        one_spelling();
         a_step_keeps();
         steps_anywhere();
-        self.trace.reserve(NOTES)?;
-        let told = out.notes().len();
-        let outcome = self.gateways.step(event, out)?;
-        append_reserved(&mut self.trace, notes_since(out, told));
-        Ok(outcome)
+        steps_account();
+        others_account();
+        match id {
+            GatewayId::Zero => self.zero.hand(self.alloc, &mut self.trace, event, out),
+            GatewayId::One => self.one.hand(self.alloc, &mut self.trace, event, out),
+        }
+    }
+
+    /// One of the two takes a datagram that the other sent.
+    fn deliver(&mut self, id: GatewayId, number: u64, out: &mut Out) -> Result<Outcome, WorldFault>
+        ensures { Answers self.old (events.Deliver id number) out.old result out.new self.new }
+    {
+        steps_go();
+        one_spelling();
+        a_step_keeps();
+        steps_anywhere();
+        steps_account();
+        others_account();
+        let trace = &mut self.trace;
+        match id {
+            GatewayId::Zero => self.zero.receive(self.alloc, &self.one, number, trace, out),
+            GatewayId::One => self.one.receive(self.alloc, &self.zero, number, trace, out),
+        }
+    }
+
+    /// The operator's word, if it is true.
+    fn pass_word(
+        &mut self,
+        id: GatewayId,
+        number: u64,
+        out: &mut Out,
+    ) -> Result<Outcome, WorldFault>
+        ensures { Answers self.old (events.PeerOff id number) out.old result out.new self.new }
+    {
+        if !self.may_be_told(id, number) {
+            return Err(WorldFault::PremiseBroken);
+        }
+        Ok(self.hand(id, Event::PeerOff(number), out)?)
+    }
+
+    fn crash(&mut self, id: GatewayId, out: &mut Out) -> Result<Outcome, WorldFault>
+        ensures { Answers self.old (events.Crash id) out.old result out.new self.new }
+    {
+        goes_to();
+        others_account();
+        if !self.may_crash(id) {
+            return Err(WorldFault::PremiseBroken);
+        }
+        let note = Note {
+            by: id,
+            at: self.half(id).moment(),
+            what: Happening::Crashed,
+        };
+        note_both(&mut self.trace, out, &note)?;
+        match id {
+            GatewayId::Zero => self.zero.stop(),
+            GatewayId::One => self.one.stop(),
+        }
+        Ok(Outcome::Done)
+    }
+
+    fn boot(&mut self, id: GatewayId, number: u64, out: &mut Out) -> Result<Outcome, WorldFault>
+        ensures { Answers self.old (events.Boot id number) out.old result out.new self.new }
+    {
+        goes_to();
+        books_begin();
+        beginnings_account();
+        others_account();
+        if !self.may_boot(id, number) {
+            return Err(WorldFault::PremiseBroken);
+        }
+        let gateway = Gateway::new(self.alloc, self.settings, id, number, false)?;
+        let note = Note {
+            by: id,
+            at: 0,
+            what: Happening::Booted(number),
+        };
+        note_both(&mut self.trace, out, &note)?;
+        match id {
+            GatewayId::Zero => self.zero.start(gateway, number),
+            GatewayId::One => self.one.start(gateway, number),
+        }
+        Ok(Outcome::Done)
+    }
+
+    fn may_crash(&self, id: GatewayId) -> bool
+        ensures { result ≡ may_crash self.now id }
+    {
+        let half = self.half(id);
+        half.up() && (!half.synced() || self.half(id.other()).synced())
+    }
+
+    fn may_boot(&self, id: GatewayId, number: u64) -> bool
+        ensures { result ≡ may_boot self.now id number }
+    {
+        let half = self.half(id);
+        !half.up() && half.boot() < number
+    }
+
+    fn may_be_told(&self, id: GatewayId, number: u64) -> bool
+        ensures { result ≡ may_be_told self.now id number }
+    {
+        let other = self.half(id.other());
+        self.half(id).up() && (!other.up() && (0 < number && other.boot() == number))
     }
 }

@@ -1,5 +1,6 @@
-pub mod Passes
-pub mod Rooms
-pub mod Truths
-pub mod Slots
-pub mod Machining
+pub mod Beginning
+pub mod Hearing
+pub mod Lasting
+pub mod Places
+pub mod Staying
+pub mod Taking

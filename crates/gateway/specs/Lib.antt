@@ -1,7 +1,4 @@
-pub mod Choices
-pub mod Effects
+pub mod Cues
+pub mod Ends
 pub mod Gateway
-pub mod Machine
-pub mod Out
-pub mod Truly
-pub mod Verdict
+pub mod Rooms

@@ -1,19 +1,22 @@
-//! One gateway: frames and ticks in; frames, notes and an outcome out.
+//! One gateway of the pair: frames, datagrams and ticks go in; frames and datagrams come out, with
+//! a note of each thing that it does with its pairs.
 #![tactic(auto)]
 
-mod choices;
-mod events;
+mod arrivals;
+mod begins;
+mod datagrams;
+mod ends;
 mod gateways;
 mod memory;
-mod outcomes;
-mod outs;
-mod plans;
+mod records;
+mod rooms;
+mod routers;
+mod steps;
+mod ticks;
+mod words;
 
-pub use choices::Choice;
-pub use events::Event;
-pub use gateways::{Gateway, LAST_MOMENT};
+pub use gateways::Gateway;
 pub use memory::NoMemory;
-pub use outcomes::Outcome;
-pub use outs::{Out, SentFrame};
-pub use packet_path::{Direction, Network, Networks, Reason};
-pub use plans::Plan;
+pub use packet_rules::Reason;
+pub use step_parts::{Event, Outcome};
+pub use told::Out;

@@ -1,7 +1,6 @@
 //! Runs scripts as the lines of `rows.list` say, and prints behind each line what its run prints.
 #![tactic(auto)]
 
-mod alone;
 mod narrow;
 mod rows;
 

@@ -1,25 +1,22 @@
 //! A line of the list: which script is run, and on what.
 
-use crate::alone;
 use crate::narrow::Narrow;
 use anyhow::{Context, Result, bail};
-use frame_sim::{World, WorldEvent, audit};
+use frame_sim::{World, audit};
 use nat_types::GatewayId;
-use runs::{play, read, simulate, text_of};
-use settings::Settings;
+use runs::{read, simulate, text_of};
 use std::alloc::Global;
 use std::io::Write;
 use std::rt::Files;
 
 /// Prints what the run of a line prints, with the settings of S.toml where it names no others.
 ///
-/// - `script NAME` runs the file NAME.script, and audits its trace; `fault NAME` runs one that isn't read
+/// - `script NAME` runs the file NAME.script, and audits its trace; `with NAME` does so with the settings of NAME.toml
+/// - `fault NAME` runs a file that isn't read as a script
 /// - `line TEXT` runs a script of that one line, `times COUNT TEXT` one of so many
 /// - `settings TEXT` runs an empty script with this text for the settings
 /// - `room COUNT TEXT` runs a script of one line, whose output has room for so many bytes
 /// - `file NAME` reads a script's file
-/// - `narrow NAME`, `other NAME`, `unsynced NAME` run a script with one port, at gateway 1 of the world, and on a
-///   gateway alone that isn't synced
 pub fn print<R: Files + AllocGlobal, O: Write>(rt: &R, row: &str, output: &mut O) -> Result<()> {
     let (alloc, (verb, rest)) = (rt.alloc(), row.split_once(' ').context("no verb")?);
     match verb {
@@ -48,14 +45,12 @@ fn scripted<R: Files + AllocGlobal, O: Write>(
     let text = text_of(rt, format!(in alloc; "{name}.script")?.as_str())?;
     let script = text.as_str();
     match verb {
-        "script" => {
-            simulated(alloc, sample(rt)?.as_str(), script, output)?;
-            audited(alloc, script, output)
+        "script" => audited(alloc, sample(rt)?.as_str(), script, output),
+        "with" => {
+            let settings = text_of(rt, format!(in alloc; "{name}.toml")?.as_str())?;
+            audited(alloc, settings.as_str(), script, output)
         }
         "fault" => simulated(alloc, sample(rt)?.as_str(), script, output),
-        "narrow" => alone::narrow(alloc, script, output),
-        "other" => other(alloc, script, output),
-        "unsynced" => alone::unsynced(alloc, script, output),
         _ => bail!("no verb {verb}"),
     }
 }
@@ -69,9 +64,11 @@ fn simulated<O: Write>(alloc: Global, settings: &str, script: &str, output: &mut
     Ok(())
 }
 
-/// Whether the trace and the tables of a script's run are those of a pair that keeps its promises.
-fn audited<O: Write>(alloc: Global, script: &str, output: &mut O) -> Result<()> {
-    let settings = Settings::sample(alloc)?;
+/// Output and status of a script, and whether the trace and the tables of its run are those of a pair that keeps its
+/// promises.
+fn audited<O: Write>(alloc: Global, settings: &str, script: &str, output: &mut O) -> Result<()> {
+    simulated(alloc, settings, script, output)?;
+    let settings = settings_file::read(alloc, settings)?;
     let mut world = World::new(alloc, &settings)?;
     world.run(read(alloc, script)?.as_slice())?;
     let (zero, one) = (world.table(GatewayId::Zero)?, world.table(GatewayId::One)?);
@@ -79,21 +76,6 @@ fn audited<O: Write>(alloc: Global, script: &str, output: &mut O) -> Result<()> 
         Ok(()) => writeln!(output, "audit passed")?,
         Err(fault) => writeln!(output, "audit: {fault}")?,
     }
-    Ok(())
-}
-
-/// A script whose events happen to gateway 1.
-fn other<O: Write>(alloc: Global, script: &str, output: &mut O) -> Result<()> {
-    let mut events = Vec::new(alloc);
-    for event in read(alloc, script)? {
-        events.push(match event {
-            WorldEvent::Frame(_, side, bytes) => WorldEvent::Frame(GatewayId::One, side, bytes),
-            WorldEvent::Tick(_, moment) => WorldEvent::Tick(GatewayId::One, moment),
-        })?;
-    }
-    let settings = Settings::sample(alloc)?;
-    let status = play(alloc, &settings, events.as_slice(), output)?;
-    writeln!(output, "status {status}")?;
     Ok(())
 }
 

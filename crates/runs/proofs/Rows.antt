@@ -1,8 +1,8 @@
 -- Worked lines and scripts, as the grammar reads them.
 use Rattle.std.proofs.Common.{◌≡◌, [], ◌∷◌, ◌++◌, Some, None, codes, true, refl}
-use Rattle.nat_types.specs.declared.gateways.GatewayId.TheVariants.{Zero}
+use Rattle.nat_types.specs.declared.gateways.GatewayId.TheVariants.{Zero, One}
 use Rattle.nat_types.specs.declared.gateways.Side.TheVariants.{Outside}
-use Rattle.runs.specs.Script.{frame, tick, is_silent, line_event, first_bad_line}
+use Rattle.runs.specs.Script.{frame, tick, deliver, boot, peer_off, stop, crash, is_silent, line_event, first_bad_line}
 
 a_tick : line_event (codes "tick 0 0360") ≡ Some (tick Zero 360)
 a_tick = refl
@@ -19,8 +19,32 @@ a_plus = refl
 two_spaces : line_event (codes "tick  0 1") ≡ None
 two_spaces = refl
 
-the_other_gateway : line_event (codes "tick 1 0") ≡ None
+the_other_gateway : line_event (codes "tick 1 0") ≡ Some (tick One 0)
 the_other_gateway = refl
+
+no_third_gateway : line_event (codes "tick 2 0") ≡ None
+no_third_gateway = refl
+
+a_delivery : line_event (codes "deliver 0 18446744073709551615") ≡ Some (deliver Zero 18446744073709551615)
+a_delivery = refl
+
+a_word : line_event (codes "peer-off 1 7") ≡ Some (peer_off One 7)
+a_word = refl
+
+a_boot : line_event (codes "boot 1 0") ≡ Some (boot One 0)
+a_boot = refl
+
+a_crash : line_event (codes "crash 1") ≡ Some (crash One)
+a_crash = refl
+
+a_stop : line_event (codes "stop 0") ≡ Some (stop Zero)
+a_stop = refl
+
+no_number : line_event (codes "boot 1") ≡ None
+no_number = refl
+
+a_number_too_many : line_event (codes "crash 1 2") ≡ None
+a_number_too_many = refl
 
 no_bytes : line_event (codes "frame 0 outside -") ≡ Some (frame Zero Outside [])
 no_bytes = refl

@@ -8,22 +8,32 @@ use Rattle.std.specs.Str.Lines.{lines}
 use Rattle.std.specs.Str.Parse.{digits_value}
 use Rattle.hex.specs.Hex.{decode_of}
 use Rattle.nat_types.specs.declared.gateways.GatewayId.{GatewayId}
-use Rattle.nat_types.specs.declared.gateways.GatewayId.TheVariants.{Zero}
+use Rattle.nat_types.specs.declared.gateways.GatewayId.TheVariants.{Zero, One}
 use Rattle.nat_types.specs.declared.gateways.Side.{Side}
 use Rattle.nat_types.specs.declared.gateways.Side.TheVariants.{Inside, Outside}
 use Rattle.runs.specs.declared.scripts.TheConstants.{EVENTS, FRAME}
 use Rattle.frame_sim.specs.declared.events.WorldEvent.{WorldEvent}
-use Rattle.frame_sim.specs.declared.events.WorldEvent.TheVariants.{Frame, Tick}
+use Rattle.frame_sim.specs.declared.events.WorldEvent.TheVariants.{Frame, Tick, Deliver, Boot, PeerOff, Stop, Crash}
 
--- an event in a script's words: a frame's bytes, or a moment
+-- an event in a script's words: each happens to a gateway
 pub data Said : Type 0 where
   frame : GatewayId → Side → List ℕ → Said
   tick : GatewayId → ℕ → Said
+  deliver : GatewayId → ℕ → Said
+  boot : GatewayId → ℕ → Said
+  peer_off : GatewayId → ℕ → Said
+  stop : GatewayId → Said
+  crash : GatewayId → Said
 
 -- what a script says for an event
 abbrev pub said : WorldEvent → Said
 said (Frame id side bytes) = frame id side bytes.items
 said (Tick id moment) = tick id moment
+said (Deliver id number) = deliver id number
+said (Boot id number) = boot id number
+said (PeerOff id number) = peer_off id number
+said (Stop id) = stop id
+said (Crash id) = crash id
 
 -- the words of a line stand apart by single spaces
 abbrev pub words : List ℕ → List (List ℕ)
@@ -72,30 +82,48 @@ bytes_named word =
     else if fits_frame word then result_ok (decode_of word)
     else None
 
--- `tick 0 M`
-abbrev pub tick_named : List ℕ → List ℕ → List ℕ → Option Said
-tick_named verb gateway moment =
-    if bytes_eq verb (codes "tick") && bytes_eq gateway (codes "0")
-    then option_map (λ n. tick Zero n) (number_named moment)
+-- the gateway that a word is
+abbrev pub gateway_named : List ℕ → Option GatewayId
+gateway_named word =
+    if bytes_eq word (codes "0") then Some Zero
+    else if bytes_eq word (codes "1") then Some One
     else None
 
--- a frame at a side
-abbrev pub frame_at : Option Side → Option (List ℕ) → Option Said
-frame_at (Some side) (Some bytes) = Some (frame Zero side bytes)
-frame_at (Some side) None = None
-frame_at None bytes = None
-
--- `frame 0 inside HEX` or `frame 0 outside HEX`
-abbrev pub frame_named : List ℕ → List ℕ → List ℕ → List ℕ → Option Said
-frame_named verb gateway side text =
-    if bytes_eq verb (codes "frame") && bytes_eq gateway (codes "0")
-    then frame_at (side_named side) (bytes_named text)
+-- `stop I`, `crash I`
+abbrev pub bare_named : List ℕ → GatewayId → Option Said
+bare_named verb id =
+    if bytes_eq verb (codes "stop") then Some (stop id)
+    else if bytes_eq verb (codes "crash") then Some (crash id)
     else None
+
+-- `tick I M`, `deliver I K`, `boot I N`, `peer-off I N`
+abbrev pub counted_named : List ℕ → GatewayId → ℕ → Option Said
+counted_named verb id n =
+    if bytes_eq verb (codes "tick") then Some (tick id n)
+    else if bytes_eq verb (codes "deliver") then Some (deliver id n)
+    else if bytes_eq verb (codes "boot") then Some (boot id n)
+    else if bytes_eq verb (codes "peer-off") then Some (peer_off id n)
+    else None
+
+-- `frame I inside HEX`, `frame I outside HEX`
+abbrev pub frame_named : List ℕ → GatewayId → Side → List ℕ → Option Said
+frame_named verb id side bytes =
+    if bytes_eq verb (codes "frame") then Some (frame id side bytes) else None
+
+-- what is said by a word that may be none
+abbrev pub by_word : {A B : Type 0} → Option A → (A → Option B) → Option B
+by_word None said_by = None
+by_word (Some value) said_by = said_by value
 
 -- the event that these words name, if they name one
 abbrev pub words_event : List (List ℕ) → Option Said
-words_event (verb ∷ gateway ∷ moment ∷ []) = tick_named verb gateway moment
-words_event (verb ∷ gateway ∷ side ∷ text ∷ []) = frame_named verb gateway side text
+words_event (verb ∷ gateway ∷ []) =
+    by_word (gateway_named gateway) (λ id. bare_named verb id)
+words_event (verb ∷ gateway ∷ number ∷ []) =
+    by_word (gateway_named gateway) (λ id. by_word (number_named number) (λ n. counted_named verb id n))
+words_event (verb ∷ gateway ∷ side ∷ text ∷ []) =
+    by_word (gateway_named gateway) (λ id. by_word (side_named side)
+    (λ at. by_word (bytes_named text) (λ bytes. frame_named verb id at bytes)))
 words_event others = None
 
 -- the event that a line names, if it isn't silent and names one

@@ -7,7 +7,7 @@ use Rattle.toml.specs.Parse.{parse_document}
 use Rattle.settings_file.specs.Settings.{IsReadFrom, Tells}
 use Rattle.frame_sim.specs.declared.events.Step.{Step}
 use Rattle.frame_sim.specs.declared.events.WorldEvent.{WorldEvent}
-use Rattle.frame_sim.specs.World.{World, founded}
+use Rattle.frame_sim.specs.World.{World, founding}
 use Rattle.frame_sim.specs.Runs.{AreSteps}
 use Rattle.runs.specs.declared.faults.Fault.{Fault}
 use Rattle.runs.specs.declared.faults.Fault.TheVariants.{Setting, BadLine, NotWritten, NoMemory}
@@ -25,7 +25,7 @@ run_status steps = if has_refusal steps then 3 else 0
 pub record IsRun (settings : Settings) (events : List WorldEvent) (status : ℕ) : Type 0 where
   pub steps : List Step
   pub world : World
-  pub answers : AreSteps (founded settings) events steps world
+  pub answers : AreSteps (founding settings) events steps world
   pub refusals : status ≡ run_status steps
 
 -- the status of a run of a script's events on a new world of the settings that a text holds

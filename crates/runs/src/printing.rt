@@ -1,5 +1,6 @@
 //! Prints a run: a line for each frame, note and event, and the tables at its end.
 
+use addresses::Port;
 use frame_sim::{Step, World, WorldEvent};
 use gateway::{NoMemory, Out, Outcome};
 use nat_types::GatewayId;
@@ -34,31 +35,87 @@ impl From<NoMemory> for PrintFault {
     }
 }
 
-/// What each event gave, in order. Events are counted from 1.
+/// How many bytes are printed at a time.
+const AT_A_TIME: usize = 128;
+
+/// How many datagrams each gateway has sent so far.
+#[derive(Clone, Copy)]
+struct Sent {
+    zero: usize,
+    one: usize,
+}
+
+impl Sent {
+    /// Counts one more, and gives its number, from 1.
+    fn count(&mut self, id: GatewayId) -> usize {
+        let sent = match id {
+            GatewayId::Zero => &mut self.zero,
+            GatewayId::One => &mut self.one,
+        };
+        *sent = sent.saturating_add(1);
+        *sent
+    }
+}
+
+/// What each event gave, in order. Events are counted from 1, and so are the datagrams of a gateway.
 pub fn steps<O: Write>(output: &mut O, events: &[WorldEvent], steps: &[Step]) -> io::Result<()> {
+    let mut sent = Sent { zero: 0, one: 0 };
     for (above, (event, step)) in events.iter().zip(steps).enumerate() {
-        sent(output, event.gateway(), &step.out)?;
+        told(output, gateway_of(event), &step.out, &mut sent)?;
         answer(output, above.saturating_add(1), step)?;
     }
     Ok(())
 }
 
-/// The frames that a gateway sent in a step, and then its notes.
-fn sent<O: Write>(output: &mut O, id: GatewayId, out: &Out) -> io::Result<()> {
+/// The gateway that an event happens to.
+fn gateway_of(event: &WorldEvent) -> GatewayId {
+    match event {
+        WorldEvent::Frame(id, _, _)
+        | WorldEvent::Tick(id, _)
+        | WorldEvent::Stop(id)
+        | WorldEvent::Deliver(id, _)
+        | WorldEvent::Crash(id)
+        | WorldEvent::Boot(id, _)
+        | WorldEvent::PeerOff(id, _) => *id,
+    }
+}
+
+/// The frames that a gateway sent in a step, then its datagrams, and then its notes.
+fn told<O: Write>(output: &mut O, id: GatewayId, out: &Out, sent: &mut Sent) -> io::Result<()> {
     for frame in out.frames() {
         let side = frame.side;
         write!(output, "frame {id} {side} ")?;
-        bytes(output, frame.bytes.as_slice())?;
+        bytes(output, frame.bytes)?;
     }
+    datagrams(output, id, out, sent)?;
     for note in out.notes() {
         writeln!(output, "note {note}")?;
     }
     Ok(())
 }
 
+fn datagrams<O: Write>(
+    output: &mut O,
+    id: GatewayId,
+    out: &Out,
+    sent: &mut Sent,
+) -> io::Result<()> {
+    for datagram in out.datagrams() {
+        let number = sent.count(id);
+        write!(output, "link {id} {number} ")?;
+        bytes(output, datagram)?;
+    }
+    Ok(())
+}
+
 fn bytes<O: Write>(output: &mut O, bytes: &[u8]) -> io::Result<()> {
-    for byte in bytes {
-        write!(output, "{byte:02x}")?;
+    let mut digits = [0; 2 * AT_A_TIME];
+    for part in bytes.chunks(AT_A_TIME) {
+        let digits = &mut digits[..2 * part.len()];
+        match hex::encode_to_slice(part, digits) {
+            Ok(()) => output.write_all(digits)?,
+            Err(_other_length) => unreachable!(),
+        }
     }
     writeln!(output)
 }
@@ -76,16 +133,33 @@ fn answer<O: Write>(output: &mut O, number: usize, step: &Step) -> io::Result<()
     }
 }
 
-/// How both gateways stand, and the pairs that each holds.
+/// How both gateways stand, the ports that each owns, and the pairs that it holds.
 pub fn tables<O: Write>(output: &mut O, world: &World) -> Result<(), PrintFault> {
     for id in [GatewayId::Zero, GatewayId::One] {
         let state = state_of(world, id);
         writeln!(output, "state {id} {state}")?;
+        owned(output, id, world.owned(id)?.as_slice())?;
         for pair in world.table(id)? {
             writeln!(output, "held {id} {pair}")?;
         }
     }
     Ok(())
+}
+
+/// The unbroken runs of rising ports, a line each.
+fn owned<O: Write>(output: &mut O, id: GatewayId, ports: &[Port]) -> io::Result<()> {
+    let Some((first, others)) = ports.split_first() else {
+        return Ok(());
+    };
+    let (mut first, mut last) = (*first, *first);
+    for port in others {
+        if last.0.checked_add(1) != Some(port.0) {
+            writeln!(output, "owned {id} {first} {last}")?;
+            first = *port;
+        }
+        last = *port;
+    }
+    writeln!(output, "owned {id} {first} {last}")
 }
 
 fn state_of(world: &World, id: GatewayId) -> &'static str {

@@ -2,7 +2,10 @@
 
 ghost use Rattle.std.specs.Prelude.{◌≡◌, map, option_map, IfOk, IfErr, OnOk};
 ghost use Rattle.std.specs.Str.Lines.{lines};
-ghost use Rattle.runs.specs.Script.{said, words, is_comment, is_blank, is_silent, is_decimal, number_named, side_named, bytes_named, tick_named, frame_named, words_event, events_of, first_bad_from, first_bad_line};
+ghost use Rattle.runs.specs.Script.{said, words, is_comment, is_blank, is_silent, is_decimal};
+ghost use Rattle.runs.specs.Script.{number_named, side_named, bytes_named, gateway_named};
+ghost use Rattle.runs.specs.Script.{bare_named, counted_named, frame_named, by_word};
+ghost use Rattle.runs.specs.Script.{words_event, events_of, first_bad_from, first_bad_line};
 ghost use Rattle.runs.specs.Faults.{IsTold};
 ghost use Rattle.runs.specs.declared.scripts.TheConstants.{EVENTS};
 
@@ -126,23 +129,63 @@ fn event_named(alloc: Global, words: &[&str]) -> Result<Option<WorldEvent>, Allo
         ≡ words_event (map (λ word. word.now) words.now)) }
 {
     match words {
-        [verb, gateway, moment] => Ok(tick_of(verb, gateway, moment)),
-        [verb, gateway, side, text] => frame_of(alloc, verb, gateway, side, text),
+        [verb, gateway] => Ok(bare(verb, gateway)),
+        [verb, gateway, number] => Ok(counted(verb, gateway, number)),
+        [verb, gateway, side, text] => frame(alloc, verb, gateway, side, text),
         _ => Ok(None),
     }
 }
 
-fn tick_of(verb: &str, gateway: &str, moment: &str) -> Option<WorldEvent>
-    ensures { option_map said result ≡ tick_named verb.now gateway.now moment.now }
+fn gateway_of(word: &str) -> Option<GatewayId>
+    ensures { result ≡ gateway_named word.now }
 {
-    if verb != "tick" || gateway != "0" {
-        return None;
+    match word {
+        "0" => Some(GatewayId::Zero),
+        "1" => Some(GatewayId::One),
+        _ => None,
     }
-    let moment = number_of(moment)?;
-    Some(WorldEvent::Tick(GatewayId::Zero, moment))
 }
 
-fn frame_of(
+/// An event that takes no number.
+fn bare(verb: &str, gateway: &str) -> Option<WorldEvent>
+    ensures { option_map said result
+        ≡ by_word (gateway_named gateway.now) (λ id. bare_named verb.now id) }
+{
+    let id = gateway_of(gateway)?;
+    match verb {
+        "stop" => Some(WorldEvent::Stop(id)),
+        "crash" => Some(WorldEvent::Crash(id)),
+        _ => None,
+    }
+}
+
+/// An event that takes a number.
+fn counted(verb: &str, gateway: &str, number: &str) -> Option<WorldEvent>
+    ensures { option_map said result ≡ by_word (gateway_named gateway.now)
+        (λ id. by_word (number_named number.now) (λ n. counted_named verb.now id n)) }
+{
+    let id = gateway_of(gateway)?;
+    let number = number_of(number)?;
+    counted_at(verb, id, number)
+}
+
+fn counted_at(verb: &str, id: GatewayId, number: u64) -> Option<WorldEvent>
+    ensures { option_map said result ≡ counted_named verb.now id number }
+{
+    if verb == "tick" {
+        Some(WorldEvent::Tick(id, number))
+    } else if verb == "deliver" {
+        Some(WorldEvent::Deliver(id, number))
+    } else if verb == "boot" {
+        Some(WorldEvent::Boot(id, number))
+    } else if verb == "peer-off" {
+        Some(WorldEvent::PeerOff(id, number))
+    } else {
+        None
+    }
+}
+
+fn frame(
     alloc: Global,
     verb: &str,
     gateway: &str,
@@ -150,18 +193,36 @@ fn frame_of(
     text: &str,
 ) -> Result<Option<WorldEvent>, AllocError>
     ensures { IfOk result (λ event. option_map said event
-        ≡ frame_named verb.now gateway.now side.now text.now) }
+        ≡ by_word (gateway_named gateway.now) (λ id. by_word (side_named side.now)
+        (λ at. by_word (bytes_named text.now) (λ bytes. frame_named verb.now id at bytes)))) }
 {
-    if verb != "frame" || gateway != "0" {
+    let Some(id) = gateway_of(gateway) else {
         return Ok(None);
-    }
+    };
     let Some(side) = side_of(side) else {
         return Ok(None);
     };
+    frame_at(alloc, verb, id, side, text)
+}
+
+fn frame_at(
+    alloc: Global,
+    verb: &str,
+    id: GatewayId,
+    side: Side,
+    text: &str,
+) -> Result<Option<WorldEvent>, AllocError>
+    ensures { IfOk result (λ event. option_map said event
+        ≡ by_word (bytes_named text.now) (λ bytes. frame_named verb.now id side bytes)) }
+{
     let Some(bytes) = bytes_of(alloc, text)? else {
         return Ok(None);
     };
-    Ok(Some(WorldEvent::Frame(GatewayId::Zero, side, bytes)))
+    if verb == "frame" {
+        Ok(Some(WorldEvent::Frame(id, side, bytes)))
+    } else {
+        Ok(None)
+    }
 }
 
 fn side_of(word: &str) -> Option<Side>

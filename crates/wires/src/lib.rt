@@ -2,9 +2,11 @@
 #![tactic(auto)]
 
 mod places;
+mod received;
 mod sockets;
 mod wire;
 
 pub use places::{Place, Ports, ports_of};
-pub use sockets::{SocketFault, Sockets};
+pub use received::Received;
+pub use sockets::{SocketFault, Sockets, send_once};
 pub use wire::{Failing, LONGEST, Wire, WireFault};

@@ -2,7 +2,7 @@
 ghost use Rattle.std.specs.Prelude.{◌≤◌, IfOk, IfSome};
 
 use crate::wire::{LONGEST, Wire, WireFault};
-use crate::{Place, Ports};
+use crate::{Place, Ports, Received};
 use mio::net::UdpSocket;
 use mio::{Events, Interest, Poll, Token};
 use nat_types::Side;
@@ -75,9 +75,20 @@ fn loopback(port: u16) -> SocketAddr {
     SocketAddr::V4(SocketAddrV4::new(Ipv4Addr::LOCALHOST, port))
 }
 
-/// The sockets of a box: for the link and for each side.
+/// Sends one datagram to a port of the loopback address, from any port that is free.
+///
+/// # Errors
+///
+/// `NoSocket` where no port can be had, or the system doesn't take the datagram.
+pub fn send_once<R: Net>(net: &R, port: u16, bytes: &[u8]) -> Result<(), SocketFault> {
+    let socket = Socket::bind(net, (0, port))?;
+    socket.inner.send_to(bytes, socket.target)?;
+    Ok(())
+}
+
+/// Three sockets: for the link and for each side.
 #[derive(Drop)]
-pub struct Sockets {
+struct Trio {
     poll: Poll,
     events: Events,
     link: Socket,
@@ -87,14 +98,9 @@ pub struct Sockets {
     first: Place,
 }
 
-impl Sockets {
-    /// Binds the own ports.
-    ///
-    /// # Errors
-    ///
-    /// `NoSocket` where a port can't be had, `NoMemory`.
-    pub fn bind<R: Net>(net: &R, alloc: Global, ports: Ports) -> Result<Sockets, SocketFault> {
-        let mut sockets = Sockets {
+impl Trio {
+    fn bind<R: Net>(net: &R, alloc: Global, ports: Ports) -> Result<Trio, SocketFault> {
+        let mut trio = Trio {
             poll: Poll::new(net)?,
             events: Events::with_capacity(alloc, 3)?,
             link: Socket::bind(net, ports.link)?,
@@ -102,8 +108,8 @@ impl Sockets {
             outside: Socket::bind(net, ports.outside)?,
             first: Place::Link,
         };
-        sockets.register()?;
-        Ok(sockets)
+        trio.register()?;
+        Ok(trio)
     }
 
     fn register(&mut self) -> io::Result<()> {
@@ -119,6 +125,12 @@ impl Sockets {
             Place::Side(Side::Inside) => &mut self.inside,
             Place::Side(Side::Outside) => &mut self.outside,
         }
+    }
+
+    fn send(&mut self, to: Place, bytes: &[u8]) -> io::Result<()> {
+        let socket = self.socket(to);
+        socket.inner.send_to(bytes, socket.target)?;
+        Ok(())
     }
 
     /// The next datagram that is there, of any socket.
@@ -147,6 +159,21 @@ impl Sockets {
         }
         Ok(())
     }
+
+    /// The next datagram of any socket; where none is there, one is waited for.
+    fn receive(
+        &mut self,
+        limit: Duration,
+        room: &mut [u8; LONGEST],
+    ) -> Result<Option<(Place, usize)>, WireFault>
+        ensures { IfOk result (λ found. IfSome found (λ datagram. datagram.1 ≤ 4096)) }
+    {
+        if let Some(found) = self.next(room)? {
+            return Ok(Some(found));
+        }
+        self.wait(limit).map_err(|_| WireFault)?;
+        self.next(room)
+    }
 }
 
 /// The place that is asked next.
@@ -158,13 +185,32 @@ fn after(place: Place) -> Place {
     }
 }
 
+/// The sockets of a box: for the link and for each side.
+#[derive(Drop)]
+pub struct Sockets {
+    trio: Trio,
+    received: Received,
+}
+
+impl Sockets {
+    /// Binds the own ports.
+    ///
+    /// # Errors
+    ///
+    /// `NoSocket` where a port can't be had, `NoMemory`.
+    pub fn bind<R: Net>(net: &R, alloc: Global, ports: Ports) -> Result<Sockets, SocketFault> {
+        Ok(Sockets {
+            trio: Trio::bind(net, alloc, ports)?,
+            received: Received::none(),
+        })
+    }
+}
+
 impl Wire for Sockets {
+    ghost received = { λ s. s.received };
+
     fn send(&mut self, to: Place, bytes: &[u8]) -> Result<(), WireFault> {
-        let socket = self.socket(to);
-        match socket.inner.send_to(bytes, socket.target) {
-            Ok(_) => Ok(()),
-            Err(_) => Err(WireFault),
-        }
+        self.trio.send(to, bytes).map_err(|_| WireFault)
     }
 
     fn receive(
@@ -172,10 +218,10 @@ impl Wire for Sockets {
         limit: Duration,
         room: &mut [u8; LONGEST],
     ) -> Result<Option<(Place, usize)>, WireFault> {
-        if let Some(found) = self.next(room)? {
-            return Ok(Some(found));
+        let found = self.trio.receive(limit, room)?;
+        if let Some((place, count)) = found {
+            self.received.keep(place, count, room);
         }
-        self.wait(limit).map_err(|_| WireFault)?;
-        self.next(room)
+        Ok(found)
     }
 }

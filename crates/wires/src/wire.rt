@@ -1,5 +1,6 @@
 //! What a box sends datagrams to and receives them from.
-ghost use Rattle.std.specs.Prelude.{◌≤◌, IfOk, IfSome};
+ghost use Rattle.std.specs.Prelude.{◌≡◌, ◌≤◌, ◌++◌, List, IfOk, OnErr, IfSome};
+ghost use Rattle.wires.specs.Letters.{Letter, letters_in};
 
 use crate::Place;
 use std::time::Duration;
@@ -14,8 +15,12 @@ pub struct WireFault;
 
 /// What a box sends datagrams to and receives them from.
 pub trait Wire {
+    /// The datagrams that were received, in order.
+    ghost received: { Self → List Letter };
+
     /// Sends a datagram. After an Err it is lost.
-    fn send(&mut self, to: Place, bytes: &[u8]) -> Result<(), WireFault>;
+    fn send(&mut self, to: Place, bytes: &[u8]) -> Result<(), WireFault>
+        ensures received { received self.new ≡ received self.old };
 
     /// The next datagram of any place: where it came from, and how many bytes of `room` it has. Where none is there, one
     /// is waited for until `limit` has passed; a limit of 0 doesn't wait. After an Err nothing was received.
@@ -24,7 +29,10 @@ pub trait Wire {
         limit: Duration,
         room: &mut [u8; LONGEST],
     ) -> Result<Option<(Place, usize)>, WireFault>
-        ensures within { IfOk result (λ found. IfSome found (λ datagram. datagram.1 ≤ 4096)) };
+        ensures within { IfOk result (λ found. IfSome found (λ datagram. datagram.1 ≤ 4096)) }
+        ensures received { IfOk result (λ found. received self.new
+            ≡ received self.old ++ letters_in found room.new) }
+        ensures nothing { OnErr result (received self.new ≡ received self.old) };
 }
 
 /// A wire whose call with a given number, counted from 1 over both its calls, fails; all others are those of the
@@ -42,7 +50,9 @@ impl<'a, W: Wire> Failing<'a, W> {
     }
 
     /// Counts a call, and says whether it is the one that fails.
-    fn fails(&mut self) -> bool {
+    fn fails(&mut self) -> bool
+        ensures { self.new.wire ≡ self.old.wire }
+    {
         let fails = self.left == 1;
         self.left = self.left.saturating_sub(1);
         fails
@@ -50,6 +60,8 @@ impl<'a, W: Wire> Failing<'a, W> {
 }
 
 impl<W: Wire> Wire for Failing<'_, W> {
+    ghost received = { λ f. W.received f.wire.now };
+
     fn send(&mut self, to: Place, bytes: &[u8]) -> Result<(), WireFault> {
         if self.fails() {
             return Err(WireFault);

@@ -1,6 +1,12 @@
-use Rattle.frame_sim.specs.Scene.{ranges_of}
-use Rattle.frame_sim.proofs.Founding.{founded-sound}
+use Rattle.std.proofs.Common.{subst, ◌∙◌, ap}
+use Rattle.bindings.specs.Ports.{AreBounds}
+use Rattle.step_parts.specs.Shown.{Shown}
+use Rattle.frame_sim.proofs.Turning.{founded-zero, founding-sound}
 use Rattle.frame_sim.proofs.worlds.World.new.Goals as goal
 
 pub invariant_of-result : goal.invariant_of-result
-invariant_of-result c = rw (c.in_ok-zero.ensures, c.new-2.ensures.items) (founded-sound c.args.settings.now (c.begins.ensures (ranges_of c.args.settings.now.ports)))
+invariant_of-result c =
+    let settings = c.args.settings.now in
+    let bounds = subst AreBounds (ap (λ (g : Shown). g.ledger.book.zero) c.in_ok-gateway.ensures ∙ founded-zero settings) c.recall.ensures.gateway.book.zero in
+    rw (c.in_ok-gateway.ensures, c.new-2.ensures.items, c.new-3.ensures.items, c.new-4.ensures.items)
+    (founding-sound c.begins.ensures c.books_begin.ensures.founder c.beginnings_account.ensures.founded settings bounds)

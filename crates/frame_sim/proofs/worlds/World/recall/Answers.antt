@@ -1,20 +1,19 @@
-use Rattle.std.proofs.Common.{refl}
-use Rattle.frame_sim.specs.World.{World}
-use Rattle.frame_sim.specs.Scene.{ranges_of, scene_of}
-use Rattle.frame_sim.proofs.Keeping.{holds-kept, translates-on, shows-synced}
+use Rattle.frame_sim.specs.Scene.{IsSound}
+use Rattle.frame_sim.proofs.Owning.{sound-apart}
+use Rattle.frame_sim.proofs.Keeping.{sound-goes, sound-kept, sound-says}
 use Rattle.frame_sim.proofs.worlds.World.recall.Goals as goal
 
 pub returns-clause-kept : goal.returns-clause-kept
-returns-clause-kept c =
-    let w : World = record { ports = c.self.inside.ports; zero = c.self.inside.gateways.zero; one = c.self.inside.gateways.one; trace = c.self.inside.trace.items } in
-    rw (← c.self.view_is) (holds-kept w w.trace (c.promises_in_order.ensures.kept (ranges_of w.ports) (scene_of w) w.trace c.self.invariant.scene refl))
+returns-clause-kept c = rw (← c.self.view_is) (sound-kept c.promises_in_order.ensures.kept _ c.self.invariant)
 
 pub returns-clause-goes_on : goal.returns-clause-goes_on
-returns-clause-goes_on c =
-    let w : World = record { ports = c.self.inside.ports; zero = c.self.inside.gateways.zero; one = c.self.inside.gateways.one; trace = c.self.inside.trace.items } in
-    rw (← c.self.view_is) (translates-on w w.trace c.recall_table.ensures c.recall_table-2.ensures (c.promises_in_order.ensures.goes_on (ranges_of w.ports) (scene_of w) w.trace c.self.invariant.scene refl))
+returns-clause-goes_on c = rw (← c.self.view_is) (sound-goes c.promises_in_order.ensures.goes_on _ c.recall.ensures c.recall-2.ensures c.self.invariant)
 
 pub returns-clause-synced : goal.returns-clause-synced
-returns-clause-synced c =
-    let w : World = record { ports = c.self.inside.ports; zero = c.self.inside.gateways.zero; one = c.self.inside.gateways.one; trace = c.self.inside.trace.items } in
-    rw (← c.self.view_is) (shows-synced w (λ i. c.promises_in_order.ensures.synced (ranges_of w.ports) (scene_of w) w.trace i c.self.invariant.scene refl))
+returns-clause-synced c = rw (← c.self.view_is) (sound-says c.promises_in_order.ensures.synced _ c.self.invariant)
+
+pub returns-clause-idle : goal.returns-clause-idle
+returns-clause-idle c = rw (← c.self.view_is) (let sound : IsSound _ = c.self.invariant in sound.accounted.idle)
+
+pub returns-clause-owned_ports : goal.returns-clause-owned_ports
+returns-clause-owned_ports c = rw (← c.self.view_is) (sound-apart c.promises.ensures.owners _ c.self.invariant)

@@ -1,20 +1,20 @@
 use Rattle.std.proofs.Common.{take, arith, subst}
 use Rattle.std.proofs.lemmas.List.{take_more}
+use Rattle.told.specs.Told.{none_told}
 use Rattle.frame_sim.specs.declared.events.WorldEvent.{WorldEvent}
-use Rattle.frame_sim.specs.Runs.{IsStepOf}
-use Rattle.frame_sim.proofs.Runs.{steps-push, told-push}
+use Rattle.frame_sim.specs.Runs.{Answers}
+use Rattle.frame_sim.proofs.Runs.{steps-push}
 use Rattle.frame_sim.proofs.worlds.World.run.Goals as goal
 
 pub loop-event-preserved : goal.loop-event-preserved
 loop-event-preserved c =
     let e = c.event-item.result in
     let i = c.loop-event.event-index in
-    let step = subst (λ (x : WorldEvent). IsStepOf c.loop-event.self x c.step-step.result c.step-step.new.self) c.event-item.is c.step-step.ensures in
+    let s = c.step-step.result in
+    let step = subst (λ (x : WorldEvent). Answers c.loop-event.self x none_told s.answer s.out c.step-step.new.self) c.event-item.is c.step-step.ensures in
     let more = take_more c.args.events.now i e c.loop-event-test.true in
     record {
       room = omega (arith, c.push_reserved.ensures.len, c.push_reserved.ensures.capacity, c.loop-event.invariant.room, c.loop-event-test.true);
       so_far = rw (more, c.push_reserved.ensures.items)
-          (steps-push c.args.self.now c.loop-event.self c.step-step.new.self (take i c.args.events.now) c.loop-event.steps.items _ c.step-step.result c.loop-event.invariant.so_far step);
-      truly = rw (more, c.push_reserved.ensures.items)
-          (told-push c.args.self.now c.loop-event.self c.step-step.new.self (take i c.args.events.now) c.loop-event.steps.items _ c.step-step.result c.loop-event.invariant.so_far c.loop-event.invariant.truly step);
+          (steps-push c.args.self.now c.loop-event.self c.step-step.new.self (take i c.args.events.now) c.loop-event.steps.items _ s c.loop-event.invariant.so_far step);
     }

@@ -1,0 +1,91 @@
+-- The two account for the trace, whatever happens.
+use Rattle.std.proofs.Common.{◌≡◌, ℕ, false, List, [], ◌∷◌, ◌++◌, reverse, Option, Some, None, refl, sym, ap, subst, ◌∙◌}
+use Rattle.std.proofs.lemmas.List.{reverse-append}
+use Rattle.nat_types.specs.Same.{other, same}
+use Rattle.nat_types.specs.declared.gateways.GatewayId.{GatewayId}
+use Rattle.nat_types.specs.declared.gateways.GatewayId.TheVariants.{Zero, One}
+use Rattle.nat_types.specs.declared.notes.Happening.TheVariants.{Crashed, Booted}
+use Rattle.nat_types.specs.declared.notes.Note.{Note}
+use Rattle.nat_types.specs.declared.records.Record.{Record}
+use Rattle.settings.specs.declared.ranges.PortRanges.{PortRanges}
+use Rattle.settings.specs.declared.whole.Settings.{Settings}
+use Rattle.trace_words.specs.Past as past
+use Rattle.told.specs.Told.{Told}
+use Rattle.step_parts.specs.Founding.{begun}
+use Rattle.step_parts.specs.Rests.{AccountsOn, Rests}
+use Rattle.step_parts.specs.Shown.{Shown, id_of, scene}
+use Rattle.frame_sim.specs.World.{Half, World, founding, gateway_at, half, with_half}
+use Rattle.frame_sim.specs.Events.{noting, since, stepped}
+use Rattle.frame_sim.specs.Scene.{AccountsAt, IsAccounted, IsHalf}
+use Rattle.frame_sim.proofs.Laws.{BegunAccounts, FoundedAccounts, OthersBoot, OthersCrash, OthersStep}
+use Rattle.frame_sim.proofs.Mails.{since-is}
+
+one-more : (t : List Note) (n : Note) → n ∷ reverse t ≡ reverse (t ++ n ∷ [])
+one-more t n = sym (reverse-append t (n ∷ []))
+
+apart : (i a b : GatewayId) → a ≡ other i → b ≡ i → same a b ≡ false
+apart Zero a b x y = ap (λ (k : GatewayId). same k b) x ∙ ap (same One) y
+apart One a b x y = ap (λ (k : GatewayId). same k b) x ∙ ap (same Zero) y
+
+-- the one that something happens to, and the other
+accounts-are : (w : World) (i : GatewayId) (h : Half) (trace : List Note) → AccountsAt h.gateway trace → AccountsAt (gateway_at w (other i)) trace
+    → (j : GatewayId) → AccountsAt (gateway_at (with_half w i h trace) j) trace
+accounts-are w Zero h trace mine theirs Zero = mine
+accounts-are w Zero h trace mine theirs One = theirs
+accounts-are w One h trace mine theirs Zero = theirs
+accounts-are w One h trace mine theirs One = mine
+
+-- what is so of each gateway of this number that accounts for the trace, is so of the other
+beside : (i : GatewayId) (ports : PortRanges) (boot : ℕ) (pushed : List Record) (trace trace2 : List Note) (o : Option Shown) → IsHalf ports (other i) boot o pushed
+    → ((g : Shown) → same (id_of g) i ≡ false → AccountsOn g (reverse trace) → AccountsOn g (reverse trace2)) → AccountsAt o trace → AccountsAt o trace2
+beside i ports boot pushed trace trace2 None is keeps accounts = tt
+beside i ports boot pushed trace trace2 (Some g) is keeps accounts = keeps g (apart i (id_of g) i is.id refl) accounts
+
+pub step-accounted : OthersStep → (w : World) (pushed : GatewayId → List Record) (i : GatewayId) (g new : Shown) (told told2 : Told) → Rests (scene g told) (scene new told2)
+    → ((j : GatewayId) → IsHalf w.settings.ports j (half w j).boot (half w j).gateway (pushed j)) → id_of g ≡ i → gateway_at w i ≡ Some g → IsAccounted w → IsAccounted (stepped w i new told told2)
+step-accounted others w pushed i g new told told2 x halves id up was =
+    let trace2 = w.trace ++ since told.notes told2.notes in
+    let so : reverse trace2 ≡ reverse x.notes ++ reverse w.trace = ap (λ (xs : List Note). reverse (w.trace ++ xs)) (since-is told.notes x.notes told2.notes x.notes_are) ∙ reverse-append w.trace x.notes in
+    let mine : AccountsOn g (reverse w.trace) = subst (λ (o : Option Shown). AccountsAt o w.trace) up (was.accounts i) in
+    let now : AccountsOn new (reverse trace2) = subst (AccountsOn new) (sym so) (x.accounts (reverse w.trace) mine) in
+    let keeps : (o : Shown) → same (id_of o) i ≡ false → AccountsOn o (reverse w.trace) → AccountsOn o (reverse trace2) =
+    λ o apart theirs. subst (AccountsOn o) (sym so) (others (scene g told) (scene new told2) o (reverse w.trace) x (ap (same (id_of o)) id ∙ apart) mine theirs) in
+    record {
+      idle = now.idle;
+      accounts = accounts-are w i (record (half w i) { gateway = Some new; sent = (half w i).sent ++ since told.datagrams told2.datagrams }) trace2 now
+          (beside i w.settings.ports (half w (other i)).boot (pushed (other i)) w.trace trace2 (gateway_at w (other i)) (halves (other i)) keeps (was.accounts (other i)));
+    }
+
+pub crash-accounted : OthersCrash → (w : World) (pushed : GatewayId → List Record) (i : GatewayId) (moment : ℕ) → ((j : GatewayId) → IsHalf w.settings.ports j (half w j).boot (half w j).gateway (pushed j))
+    → IsAccounted w → IsAccounted (with_half w i (record (half w i) { gateway = None }) (w.trace ++ noting i moment Crashed ∷ []))
+crash-accounted others w pushed i moment halves was =
+    let n = noting i moment Crashed in
+    let trace2 = w.trace ++ n ∷ [] in
+    let keeps : (o : Shown) → same (id_of o) i ≡ false → AccountsOn o (reverse w.trace) → AccountsOn o (reverse trace2) =
+    λ o apart theirs. subst (AccountsOn o) (one-more w.trace n) (others o i moment (reverse w.trace) apart theirs) in
+    record {
+      idle = subst past.Idle (one-more w.trace n) (tt, was.idle);
+      accounts = accounts-are w i (record (half w i) { gateway = None }) trace2 tt
+          (beside i w.settings.ports (half w (other i)).boot (pushed (other i)) w.trace trace2 (gateway_at w (other i)) (halves (other i)) keeps (was.accounts (other i)));
+    }
+
+pub boot-accounted : OthersBoot → BegunAccounts → (w : World) (pushed : GatewayId → List Record) (i : GatewayId) (number : ℕ) → ((j : GatewayId) → IsHalf w.settings.ports j (half w j).boot (half w j).gateway (pushed j))
+    → IsAccounted w → IsAccounted (with_half w i (record (half w i) { gateway = Some (begun w.settings i number); boot = number }) (w.trace ++ noting i 0 (Booted number) ∷ []))
+boot-accounted others begins w pushed i number halves was =
+    let n = noting i 0 (Booted number) in
+    let trace2 = w.trace ++ n ∷ [] in
+    let new = begun w.settings i number in
+    let keeps : (o : Shown) → same (id_of o) i ≡ false → AccountsOn o (reverse w.trace) → AccountsOn o (reverse trace2) =
+    λ o apart theirs. subst (AccountsOn o) (one-more w.trace n) (others o i 0 number (reverse w.trace) apart theirs) in
+    record {
+      idle = subst past.Idle (one-more w.trace n) (tt, was.idle);
+      accounts = accounts-are w i (record (half w i) { gateway = Some new; boot = number }) trace2 (subst (AccountsOn new) (one-more w.trace n) (begins w.settings i number 0 (reverse w.trace) was.idle))
+          (beside i w.settings.ports (half w (other i)).boot (pushed (other i)) w.trace trace2 (gateway_at w (other i)) (halves (other i)) keeps (was.accounts (other i)));
+    }
+
+pub founding-accounted : FoundedAccounts → (settings : Settings) → IsAccounted (founding settings)
+founding-accounted founds settings = record { idle = tt; accounts = accounts }
+  where
+    accounts : (i : GatewayId) → AccountsAt (gateway_at (founding settings) i) []
+    accounts Zero = founds settings 1
+    accounts One = tt

@@ -1,0 +1,50 @@
+-- What a gateway is handed in a world.
+use Rattle.std.proofs.Common.{◌≡◌, ℕ, ◌==◌, nat_lt, true, false, not, ◌&&◌, inl, inr, List, Option, Some, None, refl, sym, ◌∙◌, eqb-true}
+use Rattle.std.specs.Borrow.{Bor}
+use Rattle.std.proofs.lemmas.Bool.{and_parts, not-true}
+use Rattle.nat_types.specs.Same.{other}
+use Rattle.nat_types.specs.declared.gateways.GatewayId.{GatewayId}
+use Rattle.nat_types.specs.declared.gateways.Side.{Side}
+use Rattle.nat_types.specs.declared.records.Record.{Record}
+use Rattle.step_parts.specs.declared.events.Event.TheVariants as given
+use Rattle.step_parts.specs.Shown.{Shown}
+use Rattle.frame_sim.specs.World.{World, gateway_at, half, is_up}
+use Rattle.frame_sim.specs.Events.{datagram_for, may_be_told}
+use Rattle.frame_sim.specs.Scene.{IsHanded, box_at}
+use Rattle.frame_sim.proofs.Mails.{in-mail}
+
+pub hands-frame : (w : World) (i : GatewayId) (side : Side) (bytes : Bor (List ℕ)) → IsHanded w i (given.Frame side bytes)
+hands-frame w i side bytes = record { letters = λ l h. absurd h; words = λ h n m. absurd m }
+
+pub hands-tick : (w : World) (i : GatewayId) (moment : ℕ) → IsHanded w i (given.Tick moment)
+hands-tick w i moment = record { letters = λ l h. absurd h; words = λ h n m. absurd m }
+
+pub hands-stop : (w : World) (i : GatewayId) → IsHanded w i given.Stop
+hands-stop w i = record { letters = λ l h. absurd h; words = λ h n m. absurd m }
+
+-- a datagram that was sent
+pub hands-datagram : (w : World) (i : GatewayId) (k : ℕ) (bytes : Bor (List ℕ)) → datagram_for w i k ≡ Some bytes.now → IsHanded w i (given.Datagram bytes)
+hands-datagram w i k bytes at = record {
+  letters = λ l h. in-mail l (half w (other i)).sent k bytes.now at h;
+  words = λ h n m. absurd m;
+}
+
+down-of : (g : Option Shown) (boot : ℕ) (h : List Record) → is_up g ≡ false → ((box_at g boot h).up ≡ false) × ((box_at g boot h).boot ≡ boot)
+down-of None boot h down = (refl, refl)
+down-of (Some g) boot h down = absurd (cc)
+
+-- a true word
+pub hands-word : (w : World) (i : GatewayId) (n : ℕ) → may_be_told w i n ≡ true → IsHanded w i (given.PeerOff n)
+hands-word w i n may =
+    let o = half w (other i) in
+    let one = and_parts (is_up (gateway_at w i)) (not (is_up o.gateway) && (nat_lt 0 n && (o.boot == n))) may in
+    let two = and_parts (not (is_up o.gateway)) (nat_lt 0 n && (o.boot == n)) one.1 in
+    let three = and_parts (nat_lt 0 n) (o.boot == n) two.1 in
+    let boot : o.boot ≡ n = eqb-true o.boot n three.1 in
+    record {
+      letters = λ l h. absurd h;
+      words = λ h m is. elim is [
+        | inl same ↦ (let down = down-of o.gateway o.boot h (not-true (is_up o.gateway) two.0) in (down.0, same ∙ sym boot ∙ sym down.1))
+        | inr none ↦ absurd none
+      ];
+    }

@@ -1,0 +1,85 @@
+-- The laws of the crates below on which a world stands.
+use Rattle.std.proofs.Common.{◌≡◌, ℕ, ◌&&◌, false, List, [], ◌∷◌, ◌++◌, reverse, Ok}
+use Rattle.nat_types.specs.Same.{other, same}
+use Rattle.nat_types.specs.declared.gateways.GatewayId.{GatewayId}
+use Rattle.nat_types.specs.declared.gateways.GatewayId.TheVariants.{Zero}
+use Rattle.nat_types.specs.declared.notes.Happening.TheVariants.{Booted, Crashed}
+use Rattle.nat_types.specs.declared.notes.Note.{Note}
+use Rattle.nat_types.specs.declared.records.Record.{Record}
+use Rattle.bindings.specs.declared.entries.PortBounds.{PortBounds}
+use Rattle.bindings.specs.Ports.{AreBounds}
+use Rattle.link.specs.declared.datagrams.Datagram.{Datagram}
+use Rattle.link.specs.Grammar.{IsWellFormed, spelling}
+use Rattle.link.specs.Link.{fresh}
+use Rattle.link.specs.Reading.{reading}
+use Rattle.settings.specs.declared.whole.Settings.{Settings}
+use Rattle.trace_words.specs.Past.{Idle}
+use Rattle.pair_machine.specs.Box.{Box, Letter, booted, founder}
+use Rattle.pair_machine.specs.Ownership.{Ranges}
+use Rattle.pair_machine.specs.Step.{IsOff, IsStep, WasSent}
+use Rattle.pair_machine.specs.Talk.{note}
+use Rattle.pair_machine.specs.World.{Can, IsWorld, MachineEvent, Scene as Seen, after_event, box_in, founding, mail_in, seen_by, with_step}
+use Rattle.binding_step.specs.Books.{IsBook, empty_book, founded_book}
+use Rattle.binding_step.specs.Machine.{box_at, ranges_of}
+use Rattle.step_parts.specs.declared.events.Event.{Event}
+use Rattle.step_parts.specs.Machine.{Goes, HasBytes, HasPushed, IsAlone, KeepsBytes, letters_in, words_in}
+use Rattle.step_parts.specs.Founding.{begun, founded}
+use Rattle.step_parts.specs.Rests.{AccountsOn, Rests}
+use Rattle.step_parts.specs.Shown.{Scene, Shown, id_of}
+use Rattle.step_parts.specs.Steps.{IsStepOn}
+
+-- a step of a gateway is one of the machine
+abbrev pub StepsGo : Type 0
+StepsGo = (s : Scene) (event : Event) (s2 : Scene) (h : List Record) → IsStepOn s event s2 → HasBytes event
+    → IsBook s.shown.ledger.book → IsAlone s.shown → KeepsBytes s.shown → HasPushed s.shown h → Goes (letters_in event) (words_in event) s s2 h
+
+-- a datagram is read as it is spelled
+abbrev pub AreRead : Type 0
+AreRead = (d : Datagram) → IsWellFormed d → reading (spelling d) ≡ Ok d
+
+-- a step of the machine leads from a scene that can come about to another
+abbrev pub StepsKeep : Type 0
+StepsKeep = (r : Ranges) (i : GatewayId) (moment : ℕ) (s : Seen) (ls : List Letter) (ws : List ℕ) (new : Box) (t : List Note) (mail : List Letter) → IsWorld r s
+    → WasSent ls (mail_in s (other i)) → IsOff ws (box_in s (other i)) → IsStep r i moment (box_in s i) new ls ws s.trace t (mail_in s i) mail → IsWorld r (with_step s i new t mail)
+
+-- and it hangs on nothing that was noted or sent before
+abbrev pub StepsAnywhere : Type 0
+StepsAnywhere = (r : Ranges) (i : GatewayId) (moment : ℕ) (a b : Box) (ls : List Letter) (ws : List ℕ) (ns : List Note) (ms : List Letter) → IsStep r i moment a b ls ws [] ns [] ms
+    → (t : List Note) (mail : List Letter) → IsStep r i moment a b ls ws t (ns ++ t) mail (ms ++ mail)
+
+-- an allowed event leads from a scene that can come about to another
+abbrev pub GoesTo : Type 0
+GoesTo = (r : Ranges) (s : Seen) (e : MachineEvent) → IsWorld r s → Can r e.by (seen_by e.by s) e.act → IsWorld r (after_event r s e)
+
+-- the boxes with which the machine begins
+abbrev pub BoxBooted : Type 0
+BoxBooted = (id : GatewayId) (zero one : PortBounds) (boot capacity : ℕ) → box_at (empty_book id zero one) (fresh id boot capacity) [] 0 ≡ booted boot
+
+abbrev pub BoxFounded : Type 0
+BoxFounded = (zero one : PortBounds) (capacity : ℕ) → AreBounds zero → let r = ranges_of (founded_book zero one) in
+    box_at (founded_book zero one) (fresh Zero 1 capacity) [] 0 ≡ founder (λ p. r.in_ranges p && r.at_start p)
+
+-- the founding can come about
+abbrev pub Begins : Type 0
+Begins = (r : Ranges) → IsWorld r (founding r)
+
+-- a step rests on the ledger's account, and the other gateway's account isn't touched by it
+abbrev pub StepsAccount : Type 0
+StepsAccount = (s : Scene) (event : Event) (s2 : Scene) → IsStepOn s event s2 → HasBytes event → IsBook s.shown.ledger.book → KeepsBytes s.shown → Rests s s2
+
+abbrev pub OthersStep : Type 0
+OthersStep = (s s2 : Scene) (g : Shown) (before : List Note) (x : Rests s s2) → same (id_of g) (id_of s.shown) ≡ false → AccountsOn s.shown before → AccountsOn g before → AccountsOn g (reverse x.notes ++ before)
+
+-- nor by the other's crash or boot
+abbrev pub OthersCrash : Type 0
+OthersCrash = (g : Shown) (by : GatewayId) (at : ℕ) (before : List Note) → same (id_of g) by ≡ false → AccountsOn g before → AccountsOn g (note by at Crashed ∷ before)
+
+abbrev pub OthersBoot : Type 0
+OthersBoot = (g : Shown) (by : GatewayId) (at number : ℕ) (before : List Note) → same (id_of g) by ≡ false → AccountsOn g before → AccountsOn g (note by at (Booted number) ∷ before)
+
+-- a gateway accounts for the trace as it begins
+abbrev pub BegunAccounts : Type 0
+BegunAccounts = (settings : Settings) (id : GatewayId) (boot at : ℕ) (before : List Note) → Idle before → AccountsOn (begun settings id boot) (note id at (Booted boot) ∷ before)
+
+abbrev pub FoundedAccounts : Type 0
+FoundedAccounts = (settings : Settings) (boot : ℕ) → AccountsOn (founded settings boot) []

@@ -1,0 +1,130 @@
+-- A gateway's step leads from a world that can come about to one that can.
+use Rattle.std.proofs.Common.{◌≡◌, ℕ, List, [], ◌∷◌, ◌++◌, map, reverse, Option, Some, refl, sym, ap, subst, ◌∙◌}
+use Rattle.std.proofs.lemmas.List.{reverse-append}
+use Rattle.nat_types.specs.Same.{other}
+use Rattle.nat_types.specs.declared.gateways.GatewayId.{GatewayId}
+use Rattle.nat_types.specs.declared.gateways.GatewayId.TheVariants.{Zero, One}
+use Rattle.nat_types.specs.declared.notes.Note.{Note}
+use Rattle.nat_types.specs.declared.records.Record.{Record}
+use Rattle.settings.specs.Ranges.{of_gateway}
+use Rattle.settings.specs.declared.ranges.PortRanges.{PortRanges}
+use Rattle.bindings.specs.declared.entries.PortBounds.{PortBounds}
+use Rattle.bindings.specs.Ports.{in_bounds, in_either}
+use Rattle.link.specs.Link.{IsLink}
+use Rattle.pair_machine.specs.Acts.{Act, Boot, Crash, box_after}
+use Rattle.pair_machine.specs.Box.{Box, Letter}
+use Rattle.pair_machine.specs.Ownership.{Ranges, moving}
+use Rattle.pair_machine.specs.Step.{Follows, IsGiven, IsOff, IsStep, WasSent, boxes_after}
+use Rattle.pair_machine.specs.World.{IsWorld, box_in, mail_in, with_step}
+use Rattle.binding_step.specs.Books.{Book, IsBook}
+use Rattle.binding_step.specs.Machine as machine
+use Rattle.binding_step.specs.Machine.{letter_of}
+use Rattle.told.specs.Told.{Told}
+use Rattle.step_parts.specs.declared.events.Event.{Event}
+use Rattle.step_parts.specs.Founding.{bounds_of}
+use Rattle.step_parts.specs.Machine.{HasBytes, IsAlone, KeepsBytes, box_of, letters_in, words_in}
+use Rattle.step_parts.specs.Shown.{Shown, id_of, scene}
+use Rattle.step_parts.specs.Steps.{IsStepOn}
+use Rattle.frame_sim.specs.World.{Half, World, gateway_at, half, with_half}
+use Rattle.frame_sim.specs.Events.{since, stepped}
+use Rattle.frame_sim.specs.Scene.{IsHalf, IsHanded, IsSound, IsThat, box_at, mail_of, ranges_of, scene_of}
+use Rattle.frame_sim.proofs.Laws.{AreRead, OthersStep, StepsAccount, StepsAnywhere, StepsGo, StepsKeep}
+use Rattle.frame_sim.proofs.Accounting.{step-accounted}
+use Rattle.frame_sim.proofs.Mails.{are-formed, more-mail, since-is}
+
+-- ---- what a scene shows of gateway i
+
+pub box-is : (w : World) (pushed : GatewayId → List Record) (i : GatewayId) → box_in (scene_of w pushed) i ≡ box_at (gateway_at w i) (half w i).boot (pushed i)
+box-is w pushed Zero = refl
+box-is w pushed One = refl
+
+pub mail-is : (w : World) (pushed : GatewayId → List Record) (i : GatewayId) → mail_in (scene_of w pushed) i ≡ mail_of (half w i).sent
+mail-is w pushed Zero = refl
+mail-is w pushed One = refl
+
+pub ranges-are : (ports : PortRanges) (b : Book) → b.zero ≡ bounds_of ports.zero → b.one ≡ bounds_of ports.one → machine.ranges_of b ≡ ranges_of ports
+ranges-are ports b zero one = ap (λ z. ranges z b.one) zero ∙ ap (ranges (bounds_of ports.zero)) one
+  where
+    ranges : PortBounds → PortBounds → Ranges
+    ranges z o = moving (λ p. in_either z o p) (in_bounds z)
+
+-- ---- a step of the machine keeps the boot number
+
+boot-stays : (r : Ranges) (i : GatewayId) (a : Box) (ws : List ℕ) (x : Act) → IsGiven ws x → (box_after r i a x).boot ≡ a.boot
+boot-stays r i a ws Crash given = absurd given
+boot-stays r i a ws (Boot n) given = absurd given
+boot-stays r i a ws x given = refl
+
+boots-stay : (r : Ranges) (i : GatewayId) (a : Box) (ls : List Letter) (ws : List ℕ) (xs : List Act) → Follows r i a ls ws xs → (boxes_after r i a xs).boot ≡ a.boot
+boots-stay r i a ls ws [] f = refl
+boots-stay r i a ls ws (x ∷ xs) f = boots-stay r i (box_after r i a x) ls ws xs f.2 ∙ boot-stays r i a ws x f.1.1
+
+boot-kept : (r : Ranges) (i : GatewayId) (moment : ℕ) (a b : Box) (ls : List Letter) (ws : List ℕ) (t t2 : List Note) (m m2 : List Letter) → IsStep r i moment a b ls ws t t2 m m2 → b.boot ≡ a.boot
+boot-kept r i moment a b ls ws t t2 m m2 x = ap (λ (c : Box). c.boot) x.box_is ∙ boots-stay r i a ls ws x.acts x.follows
+
+-- ---- the world afterwards
+
+-- what the two pushed, where gateway i pushed these
+abbrev pub with_pushed : (GatewayId → List Record) → GatewayId → List Record → GatewayId → List Record
+with_pushed pushed i h = of_gateway (of_gateway h (pushed Zero) i) (of_gateway (pushed One) h i)
+
+scene-is : (w : World) (pushed : GatewayId → List Record) (i : GatewayId) (new : Shown) (h : List Record) (told told2 : Told) (ns : List Note) (ms : List Letter)
+    → reverse (w.trace ++ since told.notes told2.notes) ≡ ns ++ reverse w.trace → mail_of ((half w i).sent ++ since told.datagrams told2.datagrams) ≡ ms ++ mail_of (half w i).sent
+    → with_step (scene_of w pushed) i (box_of new h) (ns ++ reverse w.trace) (ms ++ mail_of (half w i).sent) ≡ scene_of (stepped w i new told told2) (with_pushed pushed i h)
+scene-is w pushed Zero new h told told2 ns ms t m =
+    ap (λ (mail : List Letter). with_step (scene_of w pushed) Zero (box_of new h) (ns ++ reverse w.trace) mail) (sym m)
+    ∙ ap (λ (trace : List Note). with_step (scene_of w pushed) Zero (box_of new h) trace (mail_of (w.zero.sent ++ since told.datagrams told2.datagrams))) (sym t)
+scene-is w pushed One new h told told2 ns ms t m =
+    ap (λ (mail : List Letter). with_step (scene_of w pushed) One (box_of new h) (ns ++ reverse w.trace) mail) (sym m)
+    ∙ ap (λ (trace : List Note). with_step (scene_of w pushed) One (box_of new h) trace (mail_of (w.one.sent ++ since told.datagrams told2.datagrams))) (sym t)
+
+pub halves-are : (w : World) (pushed : GatewayId → List Record) (i : GatewayId) (h : Half) (records : List Record) (trace : List Note) → let ports = w.settings.ports in let w2 = with_half w i h trace in
+    ((j : GatewayId) → IsHalf ports j (half w j).boot (half w j).gateway (pushed j)) → IsHalf ports i h.boot h.gateway records
+    → (j : GatewayId) → IsHalf ports j (half w2 j).boot (half w2 j).gateway (with_pushed pushed i records j)
+halves-are w pushed Zero h records trace all that Zero = that
+halves-are w pushed Zero h records trace all that One = all One
+halves-are w pushed One h records trace all that Zero = all Zero
+halves-are w pushed One h records trace all that One = that
+
+-- ---- the step
+
+pub step-sound : StepsGo → AreRead → StepsKeep → StepsAnywhere → StepsAccount → OthersStep → (w : World) (i : GatewayId) (g new : Shown) (event : Event) (told told2 : Told)
+    → IsSound w → gateway_at w i ≡ Some g → IsStepOn (scene g told) event (scene new told2) → HasBytes event
+    → IsBook g.ledger.book → IsAlone g → KeepsBytes g → IsLink new.link
+    → IsHanded w i event → IsSound (stepped w i new told told2)
+step-sound go read keep anywhere account others w i g new event told told2 sound up step bytes book alone kept link handed =
+    let ports = w.settings.ports in
+    let r = ranges_of ports in
+    let pushed = sound.pushed in
+    let s = scene_of w pushed in
+    let h = pushed i in
+    let ls = letters_in event in let ws = words_in event in
+    let that : IsThat ports i (half w i).boot g h = subst (λ (x : Option Shown). IsHalf ports i (half w i).boot x h) up (sound.halves i) in
+    let goes = go (scene g told) event (scene new told2) h step bytes book alone kept that.pushed in
+    let h2 = goes.history in
+    let b2 = box_of new h2 in
+    let ns = reverse goes.notes in
+    let ms = reverse (map letter_of goes.sent) in
+    let here : box_in s i ≡ box_of g h = box-is w pushed i ∙ ap (λ (x : Option Shown). box_at x (half w i).boot h) up in
+    let one : IsStep r (id_of g) new.moment (box_of g h) b2 ls ws [] ns [] ms = subst (λ (x : Ranges). IsStep x (id_of g) new.moment (box_of g h) b2 ls ws [] ns [] ms) (ranges-are ports g.ledger.book that.zero that.one) goes.step in
+    let two : IsStep r i new.moment (box_of g h) b2 ls ws [] ns [] ms = subst (λ (x : GatewayId). IsStep r x new.moment (box_of g h) b2 ls ws [] ns [] ms) that.id one in
+    let three : IsStep r i new.moment (box_in s i) b2 ls ws [] ns [] ms = subst (λ (x : Box). IsStep r i new.moment x b2 ls ws [] ns [] ms) (sym here) two in
+    let was_sent = subst (λ (m : List Letter). WasSent ls m) (sym (mail-is w pushed (other i))) handed.letters in
+    let is_off = subst (λ (b : Box). IsOff ws b) (sym (box-is w pushed (other i))) (handed.words (pushed (other i))) in
+    let there = keep r i new.moment s ls ws b2 (ns ++ s.trace) (ms ++ mail_in s i) sound.scene was_sent is_off (anywhere r i new.moment (box_in s i) b2 ls ws ns ms three s.trace (mail_in s i)) in
+    let there2 = subst (λ (m : List Letter). IsWorld r (with_step s i b2 (ns ++ s.trace) (ms ++ m))) (mail-is w pushed i) there in
+    let noted = since-is told.notes goes.notes told2.notes goes.notes_are in
+    let trace : reverse (w.trace ++ since told.notes told2.notes) ≡ ns ++ reverse w.trace = ap (λ (xs : List Note). reverse (w.trace ++ xs)) noted ∙ reverse-append w.trace goes.notes in
+    let mail = more-mail read (half w i).sent (since told.datagrams told2.datagrams) goes.sent (since-is told.datagrams _ told2.datagrams goes.datagrams_are) (are-formed new.link _ goes.sent link goes.own) in
+    record {
+      pushed = with_pushed pushed i h2;
+      halves = halves-are w pushed i (record (half w i) { gateway = Some new; sent = (half w i).sent ++ since told.datagrams told2.datagrams }) h2 (w.trace ++ since told.notes told2.notes) sound.halves (record {
+        id = goes.house.id ∙ that.id;
+        zero = goes.house.zero ∙ that.zero;
+        one = goes.house.one ∙ that.one;
+        boot = boot-kept (machine.ranges_of g.ledger.book) (id_of g) new.moment (box_of g h) b2 ls ws [] ns [] ms goes.step ∙ that.boot;
+        pushed = goes.pushed;
+      });
+      scene = subst (IsWorld r) (scene-is w pushed i new h2 told told2 ns ms trace mail) there2;
+      accounted = step-accounted others w pushed i g new told told2 (account (scene g told) event (scene new told2) step bytes book kept) sound.halves that.id up sound.accounted;
+    }

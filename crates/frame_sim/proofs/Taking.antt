@@ -1,0 +1,86 @@
+-- What is handed to one of the two leads to a world that can come about.
+use Rattle.std.proofs.Common.{◌≡◌, ℕ, Option, Some, None, Result, Ok, Err, List, ◌++◌, refl, sym, ap, subst, ◌∙◌}
+use Rattle.std.specs.Prelude.{IfOk, IfErr, OnErr, is_some}
+use Rattle.nat_types.specs.Same.{other}
+use Rattle.nat_types.specs.declared.gateways.GatewayId.{GatewayId}
+use Rattle.nat_types.specs.declared.gateways.GatewayId.TheVariants.{Zero, One}
+use Rattle.nat_types.specs.declared.notes.Note.{Note}
+use Rattle.told.specs.Told.{Told}
+use Rattle.step_parts.specs.declared.events.Event.{Event}
+use Rattle.step_parts.specs.declared.events.Event.TheVariants as given
+use Rattle.step_parts.specs.declared.events.Outcome.{Outcome}
+use Rattle.step_parts.specs.Shown.{Shown}
+use Rattle.frame_sim.specs.World.{Half, World, gateway_at, half, with_half}
+use Rattle.frame_sim.specs.Events.{Comes, TakesAt, kth, since, unless}
+use Rattle.frame_sim.specs.declared.events.WorldEvent.TheVariants.{Deliver}
+use Rattle.frame_sim.specs.declared.events.WorldFault.{WorldFault}
+use Rattle.frame_sim.specs.declared.events.WorldFault.TheVariants.{NoSuchDatagram}
+use Rattle.frame_sim.specs.Runs.{Answers, fault_of}
+use Rattle.frame_sim.specs.Halves.{Receives, StepsAt}
+use Rattle.frame_sim.specs.Scene.{IsHanded, IsSound}
+use Rattle.frame_sim.proofs.Laws.{AreRead, OthersStep, StepsAccount, StepsAnywhere, StepsGo, StepsKeep}
+use Rattle.frame_sim.proofs.Handing.{hands-datagram}
+use Rattle.frame_sim.proofs.Lending.{datagram-lent}
+use Rattle.frame_sim.proofs.Stepping.{step-sound}
+
+-- the same half and trace
+pub sound-so : (w : World) (i : GatewayId) (h h2 : Half) (trace trace2 : List Note) → h2 ≡ h → trace2 ≡ trace → IsSound (with_half w i h trace) → IsSound (with_half w i h2 trace2)
+sound-so w i h h2 trace trace2 same noted sound =
+    subst (λ (t : List Note). IsSound (with_half w i h2 t)) (sym noted) (subst (λ (x : Half). IsSound (with_half w i x trace)) (sym same) sound)
+
+same-world : (w : World) (i : GatewayId) → IsSound w → IsSound (with_half w i (half w i) w.trace)
+same-world w Zero sound = sound
+same-world w One sound = sound
+
+module _ (go : StepsGo) (read : AreRead) (keep : StepsKeep) (anywhere : StepsAnywhere) (account : StepsAccount) (others : OthersStep) where
+  steps-sound : (w : World) (i : GatewayId) (g : Option Shown) (event : Event) (told : Told) (o : Outcome) (told2 : Told) (h2 : Half) (trace2 : List Note) → IsSound w → IsHanded w i event → gateway_at w i ≡ g
+      → StepsAt (half w i) g w.trace event told o told2 h2 trace2 → IsSound (with_half w i h2 trace2)
+  steps-sound w i None event told o told2 h2 trace2 sound handed up s = sound-so w i (half w i) h2 w.trace trace2 s.2 s.3 (same-world w i sound)
+  steps-sound w i (Some g) event told o told2 h2 trace2 sound handed up s =
+      sound-so w i _ h2 (w.trace ++ since told.notes told2.notes) trace2 s.half_is s.trace_is
+      (step-sound go read keep anywhere account others w i g s.new event told told2 sound up s.step s.bytes s.was.book s.was.alone s.was.bytes s.link handed)
+
+  pub hand-sound : {E : Type 0} (w : World) (i : GatewayId) (result : Result Outcome E) (event : Event) (told told2 : Told) (h2 : Half) (trace2 : List Note) → IsSound w → IsHanded w i event
+      → IfOk result (λ o. StepsAt (half w i) (gateway_at w i) w.trace event told o told2 h2 trace2) → OnErr result (h2 ≡ half w i) → OnErr result (trace2 ≡ w.trace) → IsSound (with_half w i h2 trace2)
+  hand-sound w i (Ok o) event told told2 h2 trace2 sound handed ok same noted = steps-sound w i (gateway_at w i) event told o told2 h2 trace2 sound handed refl ok
+  hand-sound w i (Err e) event told told2 h2 trace2 sound handed ok same noted = sound-so w i (half w i) h2 w.trace trace2 same noted (same-world w i sound)
+
+  pub receive-sound : {E : Type 0} (w : World) (i : GatewayId) (result : Result Outcome E) (number : ℕ) (told told2 : Told) (h2 : Half) (trace2 : List Note) → IsSound w
+      → IfOk result (λ o. Receives (half w i) (half w (other i)) number w.trace told o told2 h2 trace2) → OnErr result (h2 ≡ half w i) → OnErr result (trace2 ≡ w.trace) → IsSound (with_half w i h2 trace2)
+  receive-sound w i (Ok o) number told told2 h2 trace2 sound ok same noted =
+      steps-sound w i (gateway_at w i) (given.Datagram ok.bytes) told o told2 h2 trace2 sound (hands-datagram w i number ok.bytes ok.was_sent) refl ok.steps
+  receive-sound w i (Err e) number told told2 h2 trace2 sound ok same noted = sound-so w i (half w i) h2 w.trace trace2 same noted (same-world w i sound)
+
+unmoved : (w : World) (i : GatewayId) (h2 : Half) (trace2 : List Note) → h2 ≡ half w i → trace2 ≡ w.trace → with_half w i h2 trace2 ≡ w
+unmoved w i h2 trace2 same noted = ap (λ (h : Half). with_half w i h trace2) same ∙ ap (λ (t : List Note). with_half w i (half w i) t) noted ∙ same-so w i
+  where
+    same-so : (w : World) (i : GatewayId) → with_half w i (half w i) w.trace ≡ w
+    same-so w Zero = refl
+    same-so w One = refl
+
+takes-so : (w : World) (i : GatewayId) (g : Option Shown) (event : Event) (told : Told) (o : Outcome) (told2 : Told) (h2 : Half) (trace2 : List Note) → StepsAt (half w i) g w.trace event told o told2 h2 trace2
+    → TakesAt w i g event told o told2 (with_half w i h2 trace2)
+takes-so w i None event told o told2 h2 trace2 s = (s.0, s.1, unmoved w i h2 trace2 s.2 s.3)
+takes-so w i (Some g) event told o told2 h2 trace2 s = record {
+  new = s.new;
+  step = s.step;
+  truly = s.truly;
+  answer = s.answer;
+  world = ap (λ (h : Half). with_half w i h trace2) s.half_is ∙ ap (λ (t : List Note). with_half w i (record (half w i) { gateway = Some s.new; sent = (half w i).sent ++ since told.datagrams told2.datagrams }) t) s.trace_is;
+}
+
+pub hand-takes : {E : Type 0} (w : World) (i : GatewayId) (result : Result Outcome E) (event : Event) (told told2 : Told) (h2 : Half) (trace2 : List Note)
+    → IfOk result (λ o. StepsAt (half w i) (gateway_at w i) w.trace event told o told2 h2 trace2) → IfOk result (λ o. TakesAt w i (gateway_at w i) event told o told2 (with_half w i h2 trace2))
+hand-takes w i (Ok o) event told told2 h2 trace2 s = takes-so w i (gateway_at w i) event told o told2 h2 trace2 s
+hand-takes w i (Err e) event told told2 h2 trace2 s = tt
+
+-- a datagram that the other sent, or none of that number
+pub receive-answers : (w : World) (i : GatewayId) (result : Result Outcome WorldFault) (number : ℕ) (told told2 : Told) (h2 : Half) (trace2 : List Note)
+    → IfOk result (λ o. Receives (half w i) (half w (other i)) number w.trace told o told2 h2 trace2)
+    → IfErr result (λ fault. fault ≡ fault_of (unless (is_some (kth number (half w (other i)).sent)) NoSuchDatagram))
+    → OnErr result (h2 ≡ half w i) → OnErr result (trace2 ≡ w.trace) → OnErr result (told2 ≡ told) → Answers w (Deliver i number) told result told2 (with_half w i h2 trace2)
+receive-answers w i (Ok o) number told told2 h2 trace2 s fault same noted untold =
+    let taken = takes-so w i (gateway_at w i) (given.Datagram s.bytes) told o told2 h2 trace2 s.steps in
+    let comes : Comes w i (Some s.bytes.now) told o told2 (with_half w i h2 trace2) = datagram-lent w i (gateway_at w i) s.bytes told o told2 (with_half w i h2 trace2) taken in
+    (ap (λ (m : Option (List ℕ)). unless (is_some m) NoSuchDatagram) s.was_sent, subst (λ (m : Option (List ℕ)). Comes w i m told o told2 (with_half w i h2 trace2)) (sym s.was_sent) comes)
+receive-answers w i (Err e) number told told2 h2 trace2 s fault same noted untold = (fault, untold, unmoved w i h2 trace2 same noted)

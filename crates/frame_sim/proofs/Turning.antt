@@ -1,0 +1,171 @@
+-- The founding can come about, and a crash and a boot lead from a world that can to one that can.
+use Rattle.std.proofs.Common.{◌≡◌, ◌<◌, ℕ, nat_lt, true, false, not, ◌||◌, inl, inr, List, [], ◌∷◌, ◌++◌, reverse, Option, Some, None, refl, sym, ap, subst, ◌∙◌, ltb-true, arith}
+use Rattle.std.proofs.lemmas.Bool.{and_parts, both_ways, not-true, or_cases}
+use Rattle.std.proofs.lemmas.List.{reverse-append}
+use Rattle.nat_types.specs.Same.{other}
+use Rattle.nat_types.specs.declared.gateways.GatewayId.{GatewayId}
+use Rattle.nat_types.specs.declared.gateways.GatewayId.TheVariants.{Zero, One}
+use Rattle.nat_types.specs.declared.notes.Happening.TheVariants.{Crashed, Booted}
+use Rattle.nat_types.specs.declared.notes.Note.{Note}
+use Rattle.nat_types.specs.declared.records.Record.{Record}
+use Rattle.settings.specs.declared.ranges.PortRanges.{PortRanges}
+use Rattle.settings.specs.declared.whole.Settings.{Settings}
+use Rattle.bindings.specs.Ports.{AreBounds}
+use Rattle.pair_machine.specs.Acts as act
+use Rattle.pair_machine.specs.Box.{Box, bare, booted}
+use Rattle.pair_machine.specs.World as machine
+use Rattle.pair_machine.specs.World.{Can, IsWorld, Scene, after_event, seen_by}
+use Rattle.step_parts.specs.Founding.{begun, bounds_of, founded, link_places}
+use Rattle.step_parts.specs.Machine.{box_of}
+use Rattle.step_parts.specs.Shown.{Shown}
+use Rattle.frame_sim.specs.World.{World, founding, gateway_at, half, is_up, synced_at, with_half}
+use Rattle.frame_sim.specs.Events.{may_boot, may_crash, noting}
+use Rattle.frame_sim.specs.Scene.{IsHalf, IsSound, IsThat, box_at, ranges_of, scene_of}
+use Rattle.frame_sim.proofs.Laws.{Begins, BegunAccounts, BoxBooted, BoxFounded, FoundedAccounts, GoesTo, OthersBoot, OthersCrash}
+use Rattle.frame_sim.proofs.Accounting.{boot-accounted, crash-accounted, founding-accounted}
+use Rattle.frame_sim.proofs.Stepping.{halves-are, with_pushed}
+
+-- ---- what a box shows of a gateway that may be down
+
+up-of : (g : Option Shown) (boot : ℕ) (h : List Record) → (box_at g boot h).up ≡ is_up g
+up-of None boot h = refl
+up-of (Some g) boot h = refl
+
+pub synced-of : (g : Option Shown) (boot : ℕ) (h : List Record) → (box_at g boot h).synced ≡ synced_at g
+synced-of None boot h = refl
+synced-of (Some g) boot h = refl
+
+boot-of : (ports : PortRanges) (i : GatewayId) (g : Option Shown) (boot : ℕ) (h : List Record) → IsHalf ports i boot g h → (box_at g boot h).boot ≡ boot
+boot-of ports i None boot h is = refl
+boot-of ports i (Some g) boot h is = is.boot
+
+one-more : (t : List Note) (n : Note) → n ∷ reverse t ≡ reverse (t ++ n ∷ [])
+one-more t n = sym (reverse-append t (n ∷ []))
+
+-- ---- a crash
+
+abbrev crash : GatewayId → ℕ → machine.MachineEvent
+crash i moment = record { by = i; moment = moment; act = act.Crash }
+
+abbrev pub crashed_world : World → GatewayId → ℕ → World
+crashed_world w i moment = with_half w i (record (half w i) { gateway = None }) (w.trace ++ noting i moment Crashed ∷ [])
+
+crash-parts : (w : World) (i : GatewayId) → may_crash w i ≡ true → (is_up (gateway_at w i) ≡ true) × (synced_at (gateway_at w i) ≡ true → synced_at (gateway_at w (other i)) ≡ true)
+crash-parts w i may =
+    let mine = synced_at (gateway_at w i) in let theirs = synced_at (gateway_at w (other i)) in
+    let parts = and_parts (is_up (gateway_at w i)) (not mine || theirs) may in (
+      parts.0,
+      λ s. elim (or_cases (not mine) theirs parts.1) [
+        | inl unsynced ↦ absurd (both_ways mine (not-true mine unsynced) s)
+        | inr synced ↦ synced
+      ],
+    )
+
+can-crash : (w : World) (pushed : GatewayId → List Record) (i : GatewayId) → may_crash w i ≡ true → Can (ranges_of w.settings.ports) i (seen_by i (scene_of w pushed)) act.Crash
+can-crash w pushed Zero may =
+    let parts = crash-parts w Zero may in
+    (up-of w.zero.gateway w.zero.boot (pushed Zero) ∙ parts.0, (λ l h. absurd h), λ s. synced-of w.one.gateway w.one.boot (pushed One) ∙ parts.1 (sym (synced-of w.zero.gateway w.zero.boot (pushed Zero)) ∙ s))
+can-crash w pushed One may =
+    let parts = crash-parts w One may in
+    (up-of w.one.gateway w.one.boot (pushed One) ∙ parts.0, (λ l h. absurd h), λ s. synced-of w.zero.gateway w.zero.boot (pushed Zero) ∙ parts.1 (sym (synced-of w.one.gateway w.one.boot (pushed One)) ∙ s))
+
+crashed-is : (w : World) (pushed : GatewayId → List Record) (i : GatewayId) (moment : ℕ) → ((j : GatewayId) → IsHalf w.settings.ports j (half w j).boot (half w j).gateway (pushed j))
+    → after_event (ranges_of w.settings.ports) (scene_of w pushed) (crash i moment) ≡ scene_of (crashed_world w i moment) (with_pushed pushed i [])
+crashed-is w pushed Zero moment all =
+    let s = scene_of w pushed in
+    ap (λ (b : ℕ). let x : Scene = record s { mine = bare false b; trace = noting Zero moment Crashed ∷ reverse w.trace } in x) (boot-of w.settings.ports Zero w.zero.gateway w.zero.boot (pushed Zero) (all Zero))
+    ∙ ap (λ (t : List Note). let x : Scene = record s { mine = bare false w.zero.boot; trace = t } in x) (one-more w.trace (noting Zero moment Crashed))
+crashed-is w pushed One moment all =
+    let s = scene_of w pushed in
+    ap (λ (b : ℕ). let x : Scene = record s { theirs = bare false b; trace = noting One moment Crashed ∷ reverse w.trace } in x) (boot-of w.settings.ports One w.one.gateway w.one.boot (pushed One) (all One))
+    ∙ ap (λ (t : List Note). let x : Scene = record s { theirs = bare false w.one.boot; trace = t } in x) (one-more w.trace (noting One moment Crashed))
+
+pub crash-sound : GoesTo → OthersCrash → (w : World) (i : GatewayId) (moment : ℕ) → IsSound w → may_crash w i ≡ true → IsSound (crashed_world w i moment)
+crash-sound goes others w i moment sound may =
+    let r = ranges_of w.settings.ports in
+    record {
+      pushed = with_pushed sound.pushed i [];
+      halves = halves-are w sound.pushed i (record (half w i) { gateway = None }) [] (w.trace ++ noting i moment Crashed ∷ []) sound.halves tt;
+      scene = subst (IsWorld r) (crashed-is w sound.pushed i moment sound.halves)
+          (goes r (scene_of w sound.pushed) (crash i moment) sound.scene (can-crash w sound.pushed i may));
+      accounted = crash-accounted others w sound.pushed i moment sound.halves sound.accounted;
+    }
+
+-- ---- a boot
+
+abbrev boot : GatewayId → ℕ → machine.MachineEvent
+boot i n = record { by = i; moment = 0; act = act.Boot n }
+
+abbrev pub booted_world : World → GatewayId → ℕ → World
+booted_world w i n = with_half w i (record (half w i) { gateway = Some (begun w.settings i n); boot = n }) (w.trace ++ noting i 0 (Booted n) ∷ [])
+
+can-boot : (w : World) (pushed : GatewayId → List Record) (i : GatewayId) (n : ℕ) → ((j : GatewayId) → IsHalf w.settings.ports j (half w j).boot (half w j).gateway (pushed j))
+    → may_boot w i n ≡ true → Can (ranges_of w.settings.ports) i (seen_by i (scene_of w pushed)) (act.Boot n)
+can-boot w pushed Zero n all may =
+    let parts = and_parts (not (is_up w.zero.gateway)) (nat_lt w.zero.boot n) may in
+    let less = subst (λ b. b < n) (sym (boot-of w.settings.ports Zero w.zero.gateway w.zero.boot (pushed Zero) (all Zero))) (ltb-true w.zero.boot n parts.1) in
+    ((up-of w.zero.gateway w.zero.boot (pushed Zero) ∙ not-true (is_up w.zero.gateway) parts.0, less), (λ l h. absurd h), tt)
+can-boot w pushed One n all may =
+    let parts = and_parts (not (is_up w.one.gateway)) (nat_lt w.one.boot n) may in
+    let less = subst (λ b. b < n) (sym (boot-of w.settings.ports One w.one.gateway w.one.boot (pushed One) (all One))) (ltb-true w.one.boot n parts.1) in
+    ((up-of w.one.gateway w.one.boot (pushed One) ∙ not-true (is_up w.one.gateway) parts.0, less), (λ l h. absurd h), tt)
+
+begun-box : BoxBooted → (settings : Settings) (i : GatewayId) (n : ℕ) → booted n ≡ box_of (begun settings i n) []
+unfolding begun
+begun-box law settings i n =
+    let zero = bounds_of settings.ports.zero in let one = bounds_of settings.ports.one in
+    sym (law i zero one n (link_places zero one))
+
+begun-that : (settings : Settings) (i : GatewayId) (n : ℕ) → IsThat settings.ports i n (begun settings i n) []
+unfolding begun
+begun-that settings i n = record { id = refl; zero = refl; one = refl; boot = refl; pushed = record { counted = omega arith; coming = refl; behind = refl } }
+
+booted-is : BoxBooted → (w : World) (pushed : GatewayId → List Record) (i : GatewayId) (n : ℕ)
+    → after_event (ranges_of w.settings.ports) (scene_of w pushed) (boot i n) ≡ scene_of (booted_world w i n) (with_pushed pushed i [])
+booted-is law w pushed Zero n =
+    let s = scene_of w pushed in
+    ap (λ (b : Box). let x : Scene = record s { mine = b; trace = noting Zero 0 (Booted n) ∷ reverse w.trace } in x) (begun-box law w.settings Zero n)
+    ∙ ap (λ (t : List Note). let x : Scene = record s { mine = box_of (begun w.settings Zero n) []; trace = t } in x) (one-more w.trace (noting Zero 0 (Booted n)))
+booted-is law w pushed One n =
+    let s = scene_of w pushed in
+    ap (λ (b : Box). let x : Scene = record s { theirs = b; trace = noting One 0 (Booted n) ∷ reverse w.trace } in x) (begun-box law w.settings One n)
+    ∙ ap (λ (t : List Note). let x : Scene = record s { theirs = box_of (begun w.settings One n) []; trace = t } in x) (one-more w.trace (noting One 0 (Booted n)))
+
+pub boot-sound : GoesTo → BoxBooted → OthersBoot → BegunAccounts → (w : World) (i : GatewayId) (n : ℕ) → IsSound w → may_boot w i n ≡ true → IsSound (booted_world w i n)
+boot-sound goes law others begins w i n sound may =
+    let r = ranges_of w.settings.ports in
+    record {
+      pushed = with_pushed sound.pushed i [];
+      halves = halves-are w sound.pushed i (record (half w i) { gateway = Some (begun w.settings i n); boot = n }) [] (w.trace ++ noting i 0 (Booted n) ∷ []) sound.halves (begun-that w.settings i n);
+      scene = subst (IsWorld r) (booted-is law w sound.pushed i n)
+          (goes r (scene_of w sound.pushed) (boot i n) sound.scene (can-boot w sound.pushed i n sound.halves may));
+      accounted = boot-accounted others begins w sound.pushed i n sound.halves sound.accounted;
+    }
+
+-- ---- the founding
+
+founded-box : BoxFounded → (settings : Settings) → AreBounds (bounds_of settings.ports.zero) → machine.founding (ranges_of settings.ports) ≡ scene_of (founding settings) (λ i. [])
+unfolding founded begun
+founded-box law settings are =
+    let zero = bounds_of settings.ports.zero in let one = bounds_of settings.ports.one in
+    ap (λ (b : Box). let x : Scene = record (machine.founding (ranges_of settings.ports)) { mine = b } in x) (sym (law zero one (link_places zero one) are))
+
+founded-that : (settings : Settings) → IsThat settings.ports Zero 1 (founded settings 1) []
+unfolding founded begun
+founded-that settings = record { id = refl; zero = refl; one = refl; boot = refl; pushed = record { counted = omega arith; coming = refl; behind = refl } }
+
+pub founding-sound : Begins → BoxFounded → FoundedAccounts → (settings : Settings) → AreBounds (bounds_of settings.ports.zero) → IsSound (founding settings)
+founding-sound begins law founds settings are = record {
+  pushed = λ i. [];
+  halves = halves;
+  scene = subst (IsWorld (ranges_of settings.ports)) (founded-box law settings are) (begins (ranges_of settings.ports));
+  accounted = founding-accounted founds settings;
+}
+  where
+    halves : (i : GatewayId) → IsHalf settings.ports i (half (founding settings) i).boot (half (founding settings) i).gateway []
+    halves Zero = founded-that settings
+    halves One = tt
+
+pub founded-zero : (settings : Settings) → (founded settings 1).ledger.book.zero ≡ bounds_of settings.ports.zero
+unfolding founded begun
+founded-zero settings = refl

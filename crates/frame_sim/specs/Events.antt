@@ -1,0 +1,119 @@
+-- What can happen to a world: which events are refused, and what the others do.
+use Rattle.std.specs.Prelude.{◌≡◌, ℕ, ◌-◌, ◌==◌, ◌&&◌, ◌||◌, Bool, not, nat_lt, Option, Some, None, List, [], ◌∷◌, ◌++◌, drop, length, slice_get, is_some, if◌then◌else◌}
+use Rattle.std.specs.Borrow.{Bor}
+use Rattle.nat_types.specs.Same.{other}
+use Rattle.nat_types.specs.declared.gateways.GatewayId.{GatewayId}
+use Rattle.nat_types.specs.declared.notes.Happening.{Happening}
+use Rattle.nat_types.specs.declared.notes.Happening.TheVariants.{Crashed, Booted}
+use Rattle.nat_types.specs.declared.notes.Note.{Note}
+use Rattle.told.specs.Told.{Told, with_note}
+use Rattle.step_parts.specs.declared.events.Event.{Event}
+use Rattle.step_parts.specs.declared.events.Event.TheVariants as given
+use Rattle.step_parts.specs.declared.events.Outcome.{Outcome}
+use Rattle.step_parts.specs.declared.events.Outcome.TheVariants.{Done}
+use Rattle.step_parts.specs.Founding.{begun}
+use Rattle.step_parts.specs.Shown.{Shown, scene}
+use Rattle.step_parts.specs.Steps.{IsStepOn, outcome_on}
+use Rattle.step_parts.specs.Truly.{Tells, hand_of}
+use Rattle.frame_sim.specs.declared.events.WorldEvent.{WorldEvent}
+use Rattle.frame_sim.specs.declared.events.WorldEvent.TheVariants.{Frame, Tick, Stop, Deliver, Crash, Boot, PeerOff}
+use Rattle.frame_sim.specs.declared.events.WorldFault.{WorldFault}
+use Rattle.frame_sim.specs.declared.events.WorldFault.TheVariants.{PremiseBroken, NoSuchDatagram}
+use Rattle.frame_sim.specs.World.{Half, World, gateway_at, half, is_up, moment_of, synced_at, with_half}
+
+-- ---- which events are refused
+
+-- a gateway that is up crashes; where it is synced, the other is synced too
+abbrev pub may_crash : World → GatewayId → Bool
+may_crash w i =
+    let g = gateway_at w i in
+    is_up g && (not (synced_at g) || synced_at (gateway_at w (other i)))
+
+-- one that is down boots, with a number above all that it had
+abbrev pub may_boot : World → GatewayId → ℕ → Bool
+may_boot w i n = not (is_up (gateway_at w i)) && nat_lt (half w i).boot n
+
+-- one that is up is told a true word: the other is down, and this was its last boot
+abbrev pub may_be_told : World → GatewayId → ℕ → Bool
+may_be_told w i n =
+    let h = half w (other i) in
+    is_up (gateway_at w i) && (not (is_up h.gateway) && (nat_lt 0 n && (h.boot == n)))
+
+-- the one at this place, counted from 1
+abbrev pub kth : {A : Type 0} → ℕ → List A → Option A
+kth k xs = if k == 0 then None else slice_get xs (k - 1)
+
+-- the k-th datagram that the other ever sent
+abbrev pub datagram_for : World → GatewayId → ℕ → Option (List ℕ)
+datagram_for w i k = kth k (half w (other i)).sent
+
+abbrev pub unless : Bool → WorldFault → Option WorldFault
+unless allowed fault = if allowed then None else Some fault
+
+-- why an event is refused, if it is
+abbrev pub refusal : World → WorldEvent → Option WorldFault
+refusal w (Frame i side bytes) = None
+refusal w (Tick i moment) = None
+refusal w (Stop i) = None
+refusal w (Deliver i k) = unless (is_some (datagram_for w i k)) NoSuchDatagram
+refusal w (Crash i) = unless (may_crash w i) PremiseBroken
+refusal w (Boot i n) = unless (may_boot w i n) PremiseBroken
+refusal w (PeerOff i n) = unless (may_be_told w i n) PremiseBroken
+
+-- ---- what an event does
+
+-- what a list has behind its beginning
+abbrev pub since : {A : Type 0} → List A → List A → List A
+since old new = drop (length old) new
+
+-- the world after a gateway's step: its notes come behind the trace, its datagrams behind those that it sent
+abbrev pub stepped : World → GatewayId → Shown → Told → Told → World
+stepped w i new told told2 =
+    let h = half w i in
+    with_half w i (record h {
+      gateway = Some new;
+      sent = h.sent ++ since told.datagrams told2.datagrams;
+    }) (w.trace ++ since told.notes told2.notes)
+
+-- a gateway that is up takes a step, and what it tells is told truly
+pub record Takes (w : World) (i : GatewayId) (g : Shown) (event : Event) (told : Told) (outcome : Outcome) (told2 : Told) (w2 : World) : Type 0 where
+  pub new : Shown
+  pub step : IsStepOn (scene g told) event (scene new told2)
+  pub truly : Tells (hand_of event) (scene g told) (scene new told2)
+  pub answer : outcome ≡ outcome_on g event
+  pub world : w2 ≡ stepped w i new told told2
+
+-- one that is down takes nothing
+abbrev pub TakesAt : World → GatewayId → Option Shown → Event → Told → Outcome → Told → World → Type 0
+TakesAt w i None event told outcome told2 w2 = (outcome ≡ Done) × (told2 ≡ told) × (w2 ≡ w)
+TakesAt w i (Some g) event told outcome told2 w2 = Takes w i g event told outcome told2 w2
+
+-- bytes that are lent, wherever they lie
+abbrev pub lent : List ℕ → Bor (List ℕ)
+lent bytes = record { ref_ptr = (0, 0); now = bytes }
+
+-- a datagram comes
+abbrev pub Comes : World → GatewayId → Option (List ℕ) → Told → Outcome → Told → World → Type 0
+Comes w i None told outcome told2 w2 = ⊥
+Comes w i (Some bytes) told outcome told2 w2 =
+    TakesAt w i (gateway_at w i) (given.Datagram (lent bytes)) told outcome told2 w2
+
+-- a crash or a boot: one of the two is so then, which is noted
+abbrev pub Turns : World → GatewayId → Half → Note → Told → Outcome → Told → World → Type 0
+Turns w i h note told outcome told2 w2 =
+    (outcome ≡ Done) × (told2 ≡ with_note told note) × (w2 ≡ with_half w i h (w.trace ++ note ∷ []))
+
+abbrev pub noting : GatewayId → ℕ → Happening → Note
+noting i moment what = record { by = i; at = moment; what = what }
+
+-- what an event that isn't refused does, and what is told more
+abbrev pub Does : World → WorldEvent → Told → Outcome → Told → World → Type 0
+Does w (Frame i side bytes) = TakesAt w i (gateway_at w i) (given.Frame side (lent bytes.items))
+Does w (Tick i moment) = TakesAt w i (gateway_at w i) (given.Tick moment)
+Does w (Stop i) = TakesAt w i (gateway_at w i) given.Stop
+Does w (Deliver i k) = Comes w i (datagram_for w i k)
+Does w (Crash i) = let h = half w i in
+    Turns w i (record h { gateway = None }) (noting i (moment_of h.gateway) Crashed)
+Does w (Boot i n) = let h = half w i in
+    Turns w i (record h { gateway = Some (begun w.settings i n); boot = n }) (noting i 0 (Booted n))
+Does w (PeerOff i n) = TakesAt w i (gateway_at w i) (given.PeerOff n)

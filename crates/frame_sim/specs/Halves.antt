@@ -1,0 +1,55 @@
+-- One of the two gateways, with what it is handed.
+use Rattle.std.specs.Prelude.{◌≡◌, ◌≤◌, ℕ, Option, Some, None, List, [], ◌∷◌, ◌++◌, length, map, Vec}
+use Rattle.std.specs.Borrow.{Bor}
+use Rattle.nat_types.specs.declared.notes.Note.{Note}
+use Rattle.link.specs.Link.{IsLink}
+use Rattle.told.specs.Told.{Told}
+use Rattle.step_parts.specs.declared.events.Event.{Event}
+use Rattle.step_parts.specs.declared.events.Event.TheVariants.{Datagram}
+use Rattle.step_parts.specs.declared.events.Outcome.{Outcome}
+use Rattle.step_parts.specs.declared.events.Outcome.TheVariants.{Done}
+use Rattle.step_parts.specs.Machine.{HasBytes}
+use Rattle.step_parts.specs.Shown.{Shown, scene}
+use Rattle.step_parts.specs.Steps.{IsStepOn, outcome_on}
+use Rattle.step_parts.specs.Truly.{Tells, hand_of}
+use Rattle.gateway.specs.Gateway.{IsGateway}
+use Rattle.frame_sim.specs.World.{Half}
+use Rattle.frame_sim.specs.Events.{kth, since}
+
+-- the bytes of lists
+abbrev pub items_of : {Z : Type 0} → List (Vec ℕ Z) → List (List ℕ)
+items_of vs = map (λ v. v.items) vs
+
+-- at most one datagram, and none longer than 2,214 bytes
+abbrev pub IsShort : List (List ℕ) → Type 0
+IsShort [] = Unit {0}
+IsShort (bytes ∷ []) = length bytes ≤ 2214
+IsShort (bytes ∷ more ∷ rest) = ⊥
+
+-- a gateway that is up steps, beside the trace
+pub record Steps (h : Half) (g : Shown) (trace : List Note) (event : Event) (told : Told) (outcome : Outcome) (told2 : Told) (h2 : Half) (trace2 : List Note) : Type 0 where
+  pub new : Shown
+  pub step : IsStepOn (scene g told) event (scene new told2)
+  pub truly : Tells (hand_of event) (scene g told) (scene new told2)
+  pub bytes : HasBytes event
+  pub was : IsGateway g
+  pub link : IsLink new.link
+  pub answer : outcome ≡ outcome_on g event
+  pub half_is : h2 ≡ record h {
+    gateway = Some new;
+    sent = h.sent ++ since told.datagrams told2.datagrams;
+  }
+  pub trace_is : trace2 ≡ trace ++ since told.notes told2.notes
+
+-- one that is down takes nothing
+abbrev pub StepsAt : Half → Option Shown → List Note → Event → Told → Outcome → Told → Half → List Note → Type 0
+StepsAt h None trace event told outcome told2 h2 trace2 =
+    (outcome ≡ Done) × (told2 ≡ told) × (h2 ≡ h) × (trace2 ≡ trace)
+StepsAt h (Some g) trace event told outcome told2 h2 trace2 =
+    Steps h g trace event told outcome told2 h2 trace2
+
+-- it takes a datagram that the other sent
+pub record Receives (h other : Half) (number : ℕ) (trace : List Note) (told : Told) (outcome : Outcome) (told2 : Told) (h2 : Half) (trace2 : List Note) : Type 0 where
+  pub bytes : Bor (List ℕ)
+  pub was_sent : kth number other.sent ≡ Some bytes.now
+  pub steps : StepsAt h h.gateway trace (Datagram bytes) told outcome told2 h2 trace2

@@ -1,0 +1,285 @@
+//! One of the two gateways, with all that it sent.
+ghost use Rattle.std.specs.Prelude.{◌≡◌, ◌<◌, ◌≤◌, ◌+◌, ◌++◌, ℕ, List, [], Some, None, drop, length, option_map, slice_get, vec_len, vec_capacity, IfOk, IfErr, OnOk, OnErr, is_some};
+ghost use Rattle.bindings.specs.Entries.{is_pair, translates};
+ghost use Rattle.link.specs.Link.{IsLink};
+ghost use Rattle.step_parts.specs.Machine.{HasBytes};
+ghost use Rattle.step_parts.specs.Shown.{scene};
+ghost use Rattle.step_parts.specs.Steps.{IsStepOn, outcome_on};
+ghost use Rattle.step_parts.specs.Truly.{Tells, hand_of};
+ghost use Rattle.gateway.specs.Gateway.{IsGateway};
+ghost use Rattle.frame_sim.specs.World.{is_up, moment_of, owned_by, pairs_of, synced_at};
+ghost use Rattle.frame_sim.specs.declared.events.WorldFault.TheVariants as faults;
+ghost use Rattle.frame_sim.specs.Events.{kth, since, unless};
+ghost use Rattle.frame_sim.specs.Halves.{IsShort, Receives, StepsAt, items_of};
+ghost use Rattle.frame_sim.specs.Runs.{fault_of};
+ghost use Rattle.frame_sim.specs.World.{HasKeys};
+
+use crate::WorldFault;
+use addresses::Port;
+use gateway::{Event, Gateway, NoMemory, Out, Outcome};
+use link::limits_law;
+use nat_types::{Note, Pair};
+use std::alloc::Global;
+use std::marker::Model;
+use step_parts::{steps_go, steps_note, steps_tell};
+
+/// The longest datagram, in bytes.
+const LONGEST_DATAGRAM: usize = 2214;
+
+/// One of the two: the gateway where it is up, the number of its last boot (0: it never booted), and
+/// all datagrams that it ever sent.
+#[derive(Drop)]
+pub(crate) struct Half {
+    pub(crate) gateway: Option<Gateway>,
+    pub(crate) boot: u64,
+    pub(crate) sent: Vec<Vec<u8>>,
+}
+
+impl Model for Half {
+    ghost use Rattle.frame_sim.specs.World.{Half as Seen};
+    ghost use Rattle.frame_sim.specs.Halves.{items_of};
+
+    ghost Value = { Seen };
+
+    ghost view = { λ h. record {
+      gateway = h.gateway;
+      boot = h.boot;
+      sent = items_of h.sent.items;
+    } };
+}
+
+/// Puts the notes that were told since at the end of the trace, which has room for them.
+fn append_notes(trace: &mut Vec<Note>, out: &Out, noted: usize)
+    requires told { noted ≤ length out.now.notes }
+    requires room { vec_len trace.old + length (drop noted out.now.notes)
+        ≤ vec_capacity trace.old }
+    ensures { trace.new.items ≡ trace.old.items ++ drop noted out.now.notes }
+{
+    match trace.extend_from_slice(&out.notes()[noted..]) {
+        Ok(()) => {}
+        Err(_full) => unreachable!(),
+    }
+}
+
+/// Fills a list that has room.
+fn filled(mut letter: Vec<u8>, bytes: &[u8]) -> Vec<u8>
+    requires empty { letter.items ≡ [] }
+    requires room { vec_len letter + length bytes.now ≤ vec_capacity letter }
+    ensures { result.items ≡ bytes.now }
+{
+    match letter.extend_from_slice(bytes) {
+        Ok(()) => {}
+        Err(_full) => unreachable!(),
+    }
+    letter.shrink_to_fit();
+    letter
+}
+
+/// Puts the datagram that was sent since, if one was, behind the others. `letter` is an empty list
+/// with room for it.
+fn append_datagram(sent: &mut Vec<Vec<u8>>, letter: Vec<u8>, out: &Out, told: usize)
+    requires told { told ≤ length out.now.datagrams }
+    requires few { IsShort (drop told out.now.datagrams) }
+    requires place { vec_len sent.old < vec_capacity sent.old }
+    requires empty { letter.items ≡ [] }
+    requires room { vec_len letter + 2214 ≤ vec_capacity letter }
+    ensures { items_of sent.new.items ≡ items_of sent.old.items ++ drop told out.now.datagrams }
+{
+    if let Some(bytes) = out.datagrams().nth(told) {
+        sent.push_reserved(filled(letter, bytes));
+    }
+}
+
+/// The step of a gateway that is up. Its notes come behind the trace, its datagram behind those that
+/// it sent.
+fn step_up(
+    alloc: Global,
+    gateway: &mut Gateway,
+    sent: &mut Vec<Vec<u8>>,
+    trace: &mut Vec<Note>,
+    event: Event<'_>,
+    out: &mut Out,
+) -> Result<Outcome, NoMemory>
+    ensures outcome { IfOk result (λ o. o ≡ outcome_on gateway.old event.entry) }
+    ensures step { OnOk result (IsStepOn (scene gateway.old out.old) event.entry
+        (scene gateway.new out.new)) }
+    ensures truly { OnOk result (Tells (hand_of event.entry) (scene gateway.old out.old)
+        (scene gateway.new out.new)) }
+    ensures bytes { OnOk result (HasBytes event.entry) }
+    ensures was { IsGateway gateway.old }
+    ensures link { OnOk result (IsLink gateway.new.link) }
+    ensures sent { OnOk result (items_of sent.new.items
+        ≡ items_of sent.old.items ++ since out.old.datagrams out.new.datagrams) }
+    ensures trace { OnOk result (trace.new.items
+        ≡ trace.old.items ++ since out.old.notes out.new.notes) }
+    ensures err { OnErr result (gateway.new ≡ gateway.old) }
+    ensures unsent { OnErr result (items_of sent.new.items ≡ items_of sent.old.items) }
+    ensures unnoted { OnErr result (trace.new.items ≡ trace.old.items) }
+    ensures untold { OnErr result (out.new ≡ out.old) }
+{
+    steps_go();
+    steps_tell();
+    steps_note();
+    limits_law();
+    gateway.recall();
+    let letter = Vec::with_capacity(alloc, LONGEST_DATAGRAM)?;
+    sent.reserve(1)?;
+    trace.reserve(gateway.most_notes())?;
+    let noted = out.notes().len();
+    let told = out.datagram_count();
+    let outcome = gateway.step(event, out)?;
+    gateway.recall();
+    append_notes(trace, out, noted);
+    append_datagram(sent, letter, out, told);
+    Ok(outcome)
+}
+
+impl Half {
+    /// It takes what it is handed; one that is down takes nothing.
+    pub(crate) fn hand(
+        &mut self,
+        alloc: Global,
+        trace: &mut Vec<Note>,
+        event: Event<'_>,
+        out: &mut Out,
+    ) -> Result<Outcome, NoMemory>
+        ensures steps { IfOk result (λ o. StepsAt self.old self.old.gateway trace.old.items event.entry
+            out.old o out.new self.new trace.new.items) }
+        ensures err { OnErr result (self.new ≡ self.old) }
+        ensures unnoted { OnErr result (trace.new.items ≡ trace.old.items) }
+        ensures untold { OnErr result (out.new ≡ out.old) }
+    {
+        match &mut self.gateway {
+            Some(gateway) => {
+                let outcome = step_up(alloc, gateway, &mut self.sent, trace, event, out)?;
+                Ok(outcome)
+            }
+            None => Ok(Outcome::Done),
+        }
+    }
+
+    /// It goes down.
+    pub(crate) fn stop(&mut self)
+        ensures { self.new ≡ record self.old { gateway = None } }
+    {
+        self.gateway = None;
+    }
+
+    /// It comes up, in the life of that number.
+    pub(crate) fn start(&mut self, gateway: Gateway, boot: u64)
+        ensures { self.new ≡ record self.old { gateway = Some gateway; boot = boot } }
+    {
+        self.gateway = Some(gateway);
+        self.boot = boot;
+    }
+
+    /// The number of its last boot, or 0.
+    pub(crate) fn boot(&self) -> u64
+        ensures { result ≡ self.now.boot }
+    {
+        self.boot
+    }
+
+    /// It takes the datagram of this number among those that the other one ever sent.
+    pub(crate) fn receive(
+        &mut self,
+        alloc: Global,
+        other: &Half,
+        number: u64,
+        trace: &mut Vec<Note>,
+        out: &mut Out,
+    ) -> Result<Outcome, WorldFault>
+        ensures steps { IfOk result (λ o. Receives self.old other.now number trace.old.items
+            out.old o out.new self.new trace.new.items) }
+        ensures fault { IfErr result (λ fault. fault
+            ≡ fault_of (unless (is_some (kth number other.now.sent)) faults.NoSuchDatagram)) }
+        ensures err { OnErr result (self.new ≡ self.old) }
+        ensures unnoted { OnErr result (trace.new.items ≡ trace.old.items) }
+        ensures untold { OnErr result (out.new ≡ out.old) }
+    {
+        let Some(bytes) = other.datagram(number) else {
+            return Err(WorldFault::NoSuchDatagram);
+        };
+        Ok(self.hand(alloc, trace, Event::Datagram(bytes), out)?)
+    }
+
+    /// The datagram of this number among those that it ever sent, counted from 1.
+    pub(crate) fn datagram(&self, number: u64) -> Option<&[u8]>
+        ensures { option_map (λ b. b.now) result ≡ kth number self.now.sent }
+    {
+        if number == 0 {
+            return None;
+        }
+        match self.sent.get((number - 1) as usize) {
+            Some(bytes) => Some(bytes.as_slice()),
+            None => None,
+        }
+    }
+
+    /// Reminds the prover that the entries of a table have distinct keys; it does nothing when it
+    /// runs.
+    pub(crate) fn recall(&self)
+        ensures { HasKeys self.now.gateway }
+    {
+        if let Some(gateway) = &self.gateway {
+            gateway.recall();
+        }
+    }
+
+    /// The pairs of its table, none while it is down.
+    pub(crate) fn pairs(&self, alloc: Global) -> Result<Vec<Pair>, NoMemory>
+        ensures { IfOk result (λ v. v.items ≡ pairs_of is_pair self.now.gateway) }
+    {
+        match &self.gateway {
+            Some(gateway) => gateway.pairs(),
+            None => Ok(Vec::new(alloc)),
+        }
+    }
+
+    /// The pairs that translate.
+    pub(crate) fn translating(&self, alloc: Global) -> Result<Vec<Pair>, NoMemory>
+        ensures { IfOk result (λ v. v.items ≡ pairs_of translates self.now.gateway) }
+    {
+        match &self.gateway {
+            Some(gateway) => gateway.translating(),
+            None => Ok(Vec::new(alloc)),
+        }
+    }
+
+    /// The ports that it owns.
+    pub(crate) fn owned(&self, alloc: Global) -> Result<Vec<Port>, NoMemory>
+        ensures { IfOk result (λ v. v.items ≡ owned_by self.now.gateway) }
+    {
+        match &self.gateway {
+            Some(gateway) => gateway.owned(),
+            None => Ok(Vec::new(alloc)),
+        }
+    }
+
+    /// Whether it is up and its table loaded.
+    pub(crate) fn synced(&self) -> bool
+        ensures { result ≡ synced_at self.now.gateway }
+    {
+        match &self.gateway {
+            Some(gateway) => gateway.synced(),
+            None => false,
+        }
+    }
+
+    /// Its clock's moment, 0 while it is down.
+    pub(crate) fn moment(&self) -> u64
+        ensures { result ≡ moment_of self.now.gateway }
+    {
+        match &self.gateway {
+            Some(gateway) => gateway.moment(),
+            None => 0,
+        }
+    }
+
+    /// Whether it is up.
+    pub(crate) fn up(&self) -> bool
+        ensures { result ≡ is_up self.now.gateway }
+    {
+        self.gateway.is_some()
+    }
+}

@@ -1,0 +1,39 @@
+-- What holds of a gateway as it begins.
+use Rattle.std.proofs.Common.{◌≡◌, ℕ, Bool, true, false, [], refl, sym, subst, arith}
+use Rattle.std.specs.Prelude.{if◌then◌else◌}
+use Rattle.nat_types.specs.declared.gateways.GatewayId.{GatewayId}
+use Rattle.settings.specs.declared.whole.Settings.{Settings}
+use Rattle.step_parts.specs.Founding.{begun, founded}
+use Rattle.step_parts.specs.Machine.{IsStanding}
+use Rattle.step_parts.specs.Shown.{Shown}
+use Rattle.gateway.specs.Gateway.{IsGateway}
+
+begun-is : (settings : Settings) (id : GatewayId) (boot : ℕ) → IsStanding (begun settings id boot) [] → IsGateway (begun settings id boot)
+unfolding begun
+begun-is settings id boot stands = record {
+  book = stands.book;
+  alone = stands.alone;
+  bytes = stands.kept;
+  moment = omega arith;
+  history = [];
+  pushed = stands.pushed;
+  places = refl;
+}
+
+founded-is : (settings : Settings) (boot : ℕ) → IsStanding (founded settings boot) [] → IsGateway (founded settings boot)
+unfolding founded begun
+founded-is settings boot stands = record {
+  book = stands.book;
+  alone = stands.alone;
+  bytes = stands.kept;
+  moment = omega arith;
+  history = [];
+  pushed = stands.pushed;
+  places = refl;
+}
+
+-- founded or not
+pub beginning-is : (settings : Settings) (id : GatewayId) (boot : ℕ) (found : Bool) (g : Shown) → IsStanding (begun settings id boot) [] → IsStanding (founded settings boot) []
+    → g ≡ (if found then founded settings boot else begun settings id boot) → IsGateway g
+beginning-is settings id boot true g b f is = subst IsGateway (sym is) (founded-is settings boot f)
+beginning-is settings id boot false g b f is = subst IsGateway (sym is) (begun-is settings id boot b)

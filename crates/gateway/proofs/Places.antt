@@ -1,0 +1,19 @@
+-- The places of the link that are free.
+use Rattle.std.proofs.Common.{◌≡◌, ◌≤◌, ◌+◌, ◌∷◌, [], Bool, true, false, Option, Some, None, refl, arith, length-append}
+use Rattle.nat_types.specs.declared.records.Record.{Record}
+use Rattle.link.specs.Link.{Link, free_places, needs_answer, with_pushed}
+use Rattle.binding_step.specs.Rows.{answered}
+use Rattle.gateway.specs.Rooms.{answers_to}
+
+-- a record takes one
+free-pushed : (e : Link) (r : Record) → free_places e ≤ free_places (with_pushed e r) + 1
+free-pushed e r = let longer = length-append e.waiting (r ∷ []) in omega (arith, longer)
+
+free-by : (e : Link) (a : Option Record) (r : Record) (needs : Bool) → needs_answer r ≡ needs → (needs ≡ false → a ≡ None) → free_places e ≤ free_places (answered e a) + answers_to r
+free-by e None r needs is mute = omega arith
+free-by e (Some x) r true is mute = rw is (free-pushed e x)
+free-by e (Some x) r false is mute = let never = mute refl in absurd (cc)
+
+-- an answer takes no more than its record needs
+pub free-answered : (e : Link) (a : Option Record) (r : Record) → (needs_answer r ≡ false → a ≡ None) → free_places e ≤ free_places (answered e a) + answers_to r
+free-answered e a r mute = free-by e a r (needs_answer r) refl mute

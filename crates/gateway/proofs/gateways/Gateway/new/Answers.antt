@@ -1,0 +1,9 @@
+use Rattle.forwarder.specs.Forwarder.{shown_of}
+use Rattle.gateway.proofs.Beginning.{beginning-is}
+use Rattle.gateway.proofs.gateways.Gateway.new.Goals as goal
+
+pub invariant_of-result : goal.invariant_of-result
+invariant_of-result c =
+    let settings = c.args.settings.now in
+    beginning-is settings c.args.id c.args.boot c.args.found (shown_of c.in_ok-forwarder.forwarder)
+    (c.beginnings.ensures.begun settings c.args.id c.args.boot c.begin.ensures.ranges) (c.beginnings.ensures.founded settings c.args.boot c.begin.ensures.ranges) c.in_ok-forwarder.ensures.shown

@@ -1,0 +1,25 @@
+use Rattle.std.proofs.Common.{◌∙◌}
+use Rattle.step_parts.specs.Steps.{IsStepOn}
+use Rattle.forwarder.specs.Forwarder.{scene_on}
+use Rattle.gateway.proofs.Lasting.{step-lasts}
+use Rattle.gateway.proofs.steps.step.Goals as goal
+
+pub returns-clause-gateway : goal.returns-clause-gateway
+returns-clause-gateway c =
+    let g = c.requires.gateway in
+    let s = scene_on c.args.forwarder.now c.args.page.now in
+    let done = scene_on c.take_event.new.forwarder c.take_event.new.page in
+    let s2 = scene_on c.end_event.new.forwarder c.end_event.new.page in
+    let step : IsStepOn s c.args.event s2 = record { done = done; does = c.in_ok-outcome.ensures.does; sends = c.end_event.ensures } in
+    let go = c.steps_go.ensures s c.args.event s2 g.history step c.recall_event.ensures g.book g.alone g.bytes g.pushed in
+    let keep = c.steps_keep.ensures s c.args.event s2 g.history step c.recall_event.ensures g.book g.alone g.bytes g.pushed in
+    let lasts = step-lasts s c.args.event done s2 g.moment c.in_ok-outcome.ensures.does c.end_event.ensures in
+    record {
+      book = keep.0;
+      alone = keep.1.0;
+      bytes = keep.1.1;
+      moment = lasts.moment;
+      history = go.history;
+      pushed = go.pushed;
+      places = rw (lasts.zero, lasts.one) (lasts.capacity ∙ g.places);
+    }

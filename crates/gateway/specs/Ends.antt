@@ -1,0 +1,10 @@
+-- The datagram at the end of a step.
+use Rattle.std.specs.Prelude.{Option, Some, None}
+use Rattle.link.specs.declared.datagrams.Datagram.{Datagram}
+use Rattle.link.specs.Grammar.{spelling}
+use Rattle.told.specs.Told.{Told, with_datagram}
+
+-- with a datagram, where one is due
+abbrev pub with_letter : Told → Option Datagram → Told
+with_letter told None = told
+with_letter told (Some d) = with_datagram told (spelling d)

@@ -1,0 +1,164 @@
+//! A gateway as it begins.
+ghost use Rattle.std.specs.Prelude.{◌≡◌, ◌<◌, ◌≤◌, ◌^◌, IfOk, IsTrue, [], if◌then◌else◌};
+ghost use Rattle.nat_types.specs.declared.gateways.GatewayId.TheVariants.{Zero};
+ghost use Rattle.binding_step.specs.Books.{empty_book, founded_book};
+ghost use Rattle.bindings.specs.Ports.{ports_in};
+ghost use Rattle.link.specs.Link.{fresh};
+ghost use Rattle.bind_core.specs.Cores.{ledger_of};
+ghost use Rattle.step_parts.specs.Founding.{HasRanges, begun, bounds_of as bounds_in, founded};
+ghost use Rattle.step_parts.specs.Founding.{link_places as places_of};
+ghost use Rattle.forwarder.specs.Forwarder.{shown_of};
+
+use crate::NoMemory;
+use crate::routers::start_routers;
+use addresses::Port;
+use bind_core::Core;
+use bindings::PortBounds;
+use forwarder::Forwarder;
+use kept::Kept;
+use link::Link;
+use nat_types::{GatewayId, Side};
+use packet_rules::Networks;
+use settings::{PortRange, Settings};
+use sides::Station;
+use std::alloc::Global;
+
+fn recall_port(port: Port)
+    ensures { port.0 < 2 ^ 16 }
+{
+    let _number = port.0;
+}
+
+/// Reminds the prover that the ranges are ports from 1024, in order; it does nothing when it runs.
+fn recall_ranges(settings: &Settings)
+    ensures { HasRanges settings.now }
+{
+    recall_port(settings.ports.zero.highest);
+    recall_port(settings.ports.one.highest);
+}
+
+fn bounds_of(range: PortRange) -> PortBounds
+    ensures { result ≡ bounds_in range }
+{
+    PortBounds {
+        lowest: range.lowest,
+        highest: range.highest,
+    }
+}
+
+/// For how many records the link has room: a whole table's batch, and 64 answers beside it.
+fn link_places(zero: PortBounds, one: PortBounds) -> usize
+    requires zero { zero.lowest.0 ≤ zero.highest.0 }
+    requires one { one.lowest.0 ≤ one.highest.0 }
+    ensures { result ≡ places_of zero one }
+{
+    let ports = ports_in(zero) + ports_in(one);
+    4 * ports + 66
+}
+
+/// How many ports lie between bounds.
+fn ports_in(bounds: PortBounds) -> usize
+    requires { bounds.lowest.0 ≤ bounds.highest.0 }
+    ensures count { result ≡ ports_in bounds }
+    ensures few { result ≤ 65536 }
+{
+    usize::from(bounds.highest.0) + 1 - usize::from(bounds.lowest.0)
+}
+
+/// The link of a gateway that has just booted.
+fn link_of(alloc: Global, settings: &Settings, id: GatewayId, boot: u64) -> Result<Link, NoMemory>
+    requires { 0 < boot }
+    ensures { IfOk result (λ l. l ≡ fresh id boot (places_of (bounds_in settings.now.ports.zero)
+        (bounds_in settings.now.ports.one))) }
+{
+    recall_ranges(settings);
+    let zero = bounds_of(settings.ports.zero);
+    let one = bounds_of(settings.ports.one);
+    let link = Link::new(alloc, id, boot, link_places(zero, one))?;
+    Ok(link)
+}
+
+/// A gateway whose routers stand in Initialize, with this core.
+#[tactic(auto, unfolding(step_parts::specs::Founding::begun))]
+fn with_core(
+    alloc: Global,
+    settings: &Settings,
+    id: GatewayId,
+    boot: u64,
+    core: Core,
+) -> Result<Forwarder, NoMemory>
+    requires { 0 < boot }
+    ensures shown { IfOk result (λ f. shown_of f
+        ≡ record (begun settings.now id boot) { ledger = ledger_of core }) }
+    ensures moment { IfOk result (λ f. f.moment ≡ 0) }
+{
+    let link = link_of(alloc, settings, id, boot)?;
+    let inside = Station::new(alloc, settings, id, Side::Inside)?;
+    let outside = Station::new(alloc, settings, id, Side::Outside)?;
+    let kept = Kept::new(alloc)?;
+    Ok(Forwarder {
+        networks: Networks::of_gateway(settings, id),
+        moment: 0,
+        stopped: false,
+        core,
+        link,
+        inside,
+        outside,
+        kept,
+    })
+}
+
+/// A gateway without a table.
+#[tactic(auto, unfolding(step_parts::specs::Founding::begun))]
+fn begin_unsynced(
+    alloc: Global,
+    settings: &Settings,
+    id: GatewayId,
+    boot: u64,
+) -> Result<Forwarder, NoMemory>
+    requires { 0 < boot }
+    ensures { IfOk result (λ f. shown_of f ≡ begun settings.now id boot) }
+{
+    recall_ranges(settings);
+    let zero = bounds_of(settings.ports.zero);
+    let one = bounds_of(settings.ports.one);
+    let core = Core::unsynced(alloc, id, zero, one)?;
+    with_core(alloc, settings, id, boot, core)
+}
+
+/// Gateway 0, founded alone: its routers are started.
+#[tactic(auto, unfolding(step_parts::specs::Founding::begun, step_parts::specs::Founding::founded))]
+fn begin_founded(alloc: Global, settings: &Settings, boot: u64) -> Result<Forwarder, NoMemory>
+    requires { 0 < boot }
+    ensures { IfOk result (λ f. shown_of f ≡ founded settings.now boot) }
+{
+    recall_ranges(settings);
+    let zero = bounds_of(settings.ports.zero);
+    let one = bounds_of(settings.ports.one);
+    let core = Core::founder(alloc, zero, one)?;
+    let mut forwarder = with_core(alloc, settings, GatewayId::Zero, boot, core)?;
+    start_routers(&mut forwarder);
+    Ok(forwarder)
+}
+
+/// A gateway in the life of this number: gateway 0 that is founded anew is synced, and its routers
+/// are started; any other isn't.
+pub(crate) fn begin(
+    alloc: Global,
+    settings: &Settings,
+    id: GatewayId,
+    boot: u64,
+    found: bool,
+) -> Result<Forwarder, NoMemory>
+    requires { 0 < boot }
+    ensures ranges { HasRanges settings.now }
+    ensures shown { IfOk result (λ f. shown_of f
+        ≡ (if found then founded settings.now boot else begun settings.now id boot)) }
+{
+    recall_ranges(settings);
+    if found {
+        begin_founded(alloc, settings, boot)
+    } else {
+        begin_unsynced(alloc, settings, id, boot)
+    }
+}

@@ -1,0 +1,109 @@
+//! A datagram of the other gateway.
+ghost use Rattle.std.specs.Prelude.{◌≡◌, ◌≤◌, ◌+◌, ℕ, [], true, length, vec_capacity, if◌then◌else◌};
+ghost use Rattle.link.specs.Link.{free_places, occupied, taking};
+ghost use Rattle.link.specs.Reading.{reading};
+ghost use Rattle.binding_step.specs.Resets.{restart_batch};
+ghost use Rattle.bindings.specs.Ports.{key_count};
+ghost use Rattle.vrrp_states.specs.Table.{IsMoment};
+ghost use Rattle.step_parts.specs.Founding.{link_places};
+ghost use Rattle.step_parts.specs.Parts.{datagram_taken, reset as reset_of};
+ghost use Rattle.step_parts.specs.Steps.{outcome_heard};
+ghost use Rattle.forwarder.specs.Forwarder.{scene_on, shown_of};
+
+use crate::records::take_records;
+use forwarder::Forwarder;
+use kept::Waiting;
+use link::limits_law;
+use packet_rules::Reason;
+use step_parts::Outcome;
+use told::Page;
+
+/// A greater boot of the peer was heard: the core begins anew, and the packets that waited for pairs
+/// are taken again. `list` is an empty list with room for all packets that wait.
+fn reset(forwarder: &mut Forwarder, page: &mut Page, list: Vec<Waiting>)
+    requires empty { list.items ≡ [] }
+    requires room { length forwarder.old.kept ≤ vec_capacity list }
+    requires begins { occupied forwarder.old.link ≡ 0 }
+    requires acknowledged { forwarder.old.link.acknowledged ≡ 0 }
+    requires places { forwarder.old.link.capacity
+        ≡ link_places forwarder.old.core.table.zero forwarder.old.core.table.one }
+    requires frames { 64 ≤ page.old.room.frames }
+    requires notes { length forwarder.old.core.table.entries + 192 ≤ page.old.room.notes }
+    requires ready { 64 ≤ forwarder.old.core.table.ready }
+    ensures scene { scene_on forwarder.new page.new ≡ reset_of (scene_on forwarder.old page.old) }
+    ensures frames { page.old.room.frames ≤ page.new.room.frames + 64 }
+    ensures datagrams { page.new.room.datagrams ≡ page.old.room.datagrams }
+    ensures notes { page.old.room.notes
+        ≤ page.new.room.notes + (length forwarder.old.core.table.entries + 192) }
+    ensures ready { forwarder.old.core.table.ready ≤ forwarder.new.core.table.ready + 64 }
+    ensures places { 64 ≤ free_places forwarder.new.link }
+    ensures moment { forwarder.new.moment ≡ forwarder.old.moment }
+{
+    limits_law();
+    forwarder.core.recall();
+    let mut notes = page.take_notes();
+    let now = forwarder.moment;
+    forwarder
+        .core
+        .peer_restarted(&mut forwarder.link, now, &mut notes);
+    page.put_notes(notes);
+    forwarder.release_all(page, list);
+}
+
+/// The same, where a greater boot was heard.
+fn reset_where(forwarder: &mut Forwarder, page: &mut Page, restarted: bool, list: Vec<Waiting>)
+    requires empty { list.items ≡ [] }
+    requires room { length forwarder.old.kept ≤ vec_capacity list }
+    requires begins { restarted ≡ true → occupied forwarder.old.link ≡ 0 }
+    requires acknowledged { restarted ≡ true → forwarder.old.link.acknowledged ≡ 0 }
+    requires places { forwarder.old.link.capacity
+        ≡ link_places forwarder.old.core.table.zero forwarder.old.core.table.one }
+    requires frames { 64 ≤ page.old.room.frames }
+    requires notes { length forwarder.old.core.table.entries + 192 ≤ page.old.room.notes }
+    requires ready { 64 ≤ forwarder.old.core.table.ready }
+    ensures scene { let s = scene_on forwarder.old page.old
+        in scene_on forwarder.new page.new ≡ (if restarted then reset_of s else s) }
+    ensures frames { page.old.room.frames ≤ page.new.room.frames + 64 }
+    ensures datagrams { page.new.room.datagrams ≡ page.old.room.datagrams }
+    ensures notes { page.old.room.notes
+        ≤ page.new.room.notes + (length forwarder.old.core.table.entries + 192) }
+    ensures ready { forwarder.old.core.table.ready ≤ forwarder.new.core.table.ready + 64 }
+    ensures places { (more : ℕ) → more ≤ 64 → more ≤ free_places forwarder.old.link
+        → more ≤ free_places forwarder.new.link }
+    ensures moment { forwarder.new.moment ≡ forwarder.old.moment }
+{
+    if restarted {
+        reset(forwarder, page, list);
+    }
+}
+
+/// Takes a datagram, or drops it. `list` is an empty list with room for all packets that wait.
+pub(crate) fn take_datagram(
+    forwarder: &mut Forwarder,
+    page: &mut Page,
+    bytes: &[u8],
+    list: Vec<Waiting>,
+) -> Outcome
+    requires empty { list.items ≡ [] }
+    requires room { length forwarder.old.kept ≤ vec_capacity list }
+    requires moment { IsMoment forwarder.old.moment }
+    requires places { forwarder.old.link.capacity
+        ≡ link_places forwarder.old.core.table.zero forwarder.old.core.table.one }
+    requires frames { 128 ≤ page.old.room.frames }
+    requires notes { length forwarder.old.core.table.entries + 448 ≤ page.old.room.notes }
+    requires ready { 192 ≤ forwarder.old.core.table.ready }
+    ensures scene { scene_on forwarder.new page.new
+        ≡ datagram_taken (scene_on forwarder.old page.old) bytes.now }
+    ensures outcome { result ≡ outcome_heard (taking forwarder.old.link (reading bytes.now)) }
+    ensures datagrams { page.new.room.datagrams ≡ page.old.room.datagrams }
+{
+    let now = forwarder.moment;
+    match forwarder.link.take(bytes, now) {
+        Ok(taken) => {
+            reset_where(forwarder, page, taken.restarted, list);
+            take_records(forwarder, page, taken.records.as_slice());
+            Outcome::Done
+        }
+        Err(_fault) => Outcome::Dropped(Reason::BadDatagram),
+    }
+}

@@ -1,0 +1,63 @@
+//! The datagram at the end of a step.
+ghost use Rattle.std.specs.Prelude.{◌≡◌, ◌≤◌, length, ⊤};
+ghost use Rattle.link.specs.Grammar.{spelling};
+ghost use Rattle.step_parts.specs.Parts.{link_answered, link_ticked};
+ghost use Rattle.forwarder.specs.Forwarder.{scene_on};
+ghost use Rattle.gateway.specs.Ends.{with_letter};
+
+use forwarder::Forwarder;
+use link::Datagram;
+use told::{Page, WriteBytes};
+
+/// A datagram as its bytes.
+#[derive(Drop)]
+struct Letter<'a>(&'a Datagram);
+
+impl WriteBytes for Letter<'_> {
+    ghost can_write = { λ _. ⊤ };
+
+    ghost bytes = { λ l. spelling l.0.now };
+
+    ghost room = { λ _. 2214 };
+
+    fn write_to(&self, list: &mut Vec<u8>) {
+        match link::write(self.0, list) {
+            Ok(()) => {}
+            Err(_full) => unreachable!(),
+        }
+    }
+}
+
+/// Sends a datagram, where one is due.
+fn send(page: &mut Page, datagram: Option<Datagram>)
+    requires { 1 ≤ page.old.room.datagrams }
+    ensures { page.new.told ≡ with_letter page.old.told datagram }
+{
+    if let Some(datagram) = datagram {
+        page.make_datagram(&Letter(&datagram));
+    }
+}
+
+/// Sends the datagram that is due at the end of a tick.
+pub(crate) fn end_tick(forwarder: &mut Forwarder, page: &mut Page)
+    requires promised { length forwarder.old.core.coming ≡ forwarder.old.link.promised }
+    requires datagrams { 1 ≤ page.old.room.datagrams }
+    ensures { scene_on forwarder.new page.new ≡ link_ticked (scene_on forwarder.old page.old) }
+{
+    let synced = forwarder.core.is_synced();
+    forwarder.core.hand_in(&mut forwarder.link);
+    let datagram = forwarder.link.tick(forwarder.moment, synced);
+    send(page, datagram);
+}
+
+/// Sends the datagram that is due at the end of any other step.
+pub(crate) fn end_other(forwarder: &mut Forwarder, page: &mut Page)
+    requires promised { length forwarder.old.core.coming ≡ forwarder.old.link.promised }
+    requires datagrams { 1 ≤ page.old.room.datagrams }
+    ensures { scene_on forwarder.new page.new ≡ link_answered (scene_on forwarder.old page.old) }
+{
+    let synced = forwarder.core.is_synced();
+    forwarder.core.hand_in(&mut forwarder.link);
+    let datagram = forwarder.link.answer(synced);
+    send(page, datagram);
+}

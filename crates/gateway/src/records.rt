@@ -1,0 +1,123 @@
+//! The records of a datagram, each taken with what follows from it.
+ghost use Rattle.std.specs.Prelude.{◌≡◌, ◌≤◌, ◌<◌, ◌+◌, ◌*◌, true, ℕ, length};
+ghost use Rattle.std.specs.List.{AllByRecursion};
+ghost use Rattle.link.specs.Grammar.{IsWellFormedRecord};
+ghost use Rattle.link.specs.Link.{answers_count, free_places, needs_answer};
+ghost use Rattle.binding_step.specs.Ledgers.{rests_for, taken_ledger};
+ghost use Rattle.binding_step.specs.Rows.{answered, taken_answer, taken_ended};
+ghost use Rattle.vrrp_states.specs.Table.{IsMoment};
+ghost use Rattle.step_parts.specs.Parts.{record_done, record_shown, record_told, records_done};
+ghost use Rattle.step_parts.specs.Shown.{scene};
+ghost use Rattle.forwarder.specs.Forwarder.{scene_on, shown_of};
+ghost use Rattle.gateway.specs.Rooms.{answers_to};
+
+use crate::routers::start_routers;
+use binding_step::rows_leave;
+use forwarder::Forwarder;
+use kept::Wait;
+use nat_types::{Endpoint, Record};
+use told::Page;
+
+/// Takes a record with the core. The answer is the endpoint whose packets needn't wait any more.
+fn take_alone(forwarder: &mut Forwarder, page: &mut Page, entry: Record) -> Option<Endpoint>
+    requires formed { IsWellFormedRecord entry }
+    requires ready { 1 ≤ forwarder.old.core.table.ready }
+    requires places { needs_answer entry ≡ true → 0 < free_places forwarder.old.link }
+    requires notes { 1 ≤ page.old.room.notes }
+    ensures ended { let g = shown_of forwarder.old in result
+        ≡ taken_ended g.ledger.book (rests_for g.moment g.ledger entry) entry }
+    ensures shown { let g = shown_of forwarder.old in shown_of forwarder.new ≡ record g {
+      ledger = taken_ledger g.moment g.ledger entry;
+      link = answered g.link (taken_answer g.ledger.book (rests_for g.moment g.ledger entry) entry);
+    } }
+    ensures told { page.new.told ≡ record_told (shown_of forwarder.old) entry page.old.told }
+    ensures frames { page.new.room.frames ≡ page.old.room.frames }
+    ensures datagrams { page.new.room.datagrams ≡ page.old.room.datagrams }
+    ensures notes { page.old.room.notes ≤ page.new.room.notes + 1 }
+    ensures ready { forwarder.old.core.table.ready ≤ forwarder.new.core.table.ready + 1 }
+    ensures places { free_places forwarder.old.link
+        ≤ free_places forwarder.new.link + answers_to entry }
+{
+    rows_leave();
+    let mut notes = page.take_notes();
+    let now = forwarder.moment;
+    let ended = forwarder
+        .core
+        .take(entry, &mut forwarder.link, now, &mut notes);
+    page.put_notes(notes);
+    ended
+}
+
+/// Takes a record, and starts the routers of a gateway that became synced by it.
+fn take_and_start(forwarder: &mut Forwarder, page: &mut Page, entry: Record) -> Option<Endpoint>
+    requires formed { IsWellFormedRecord entry }
+    requires moment { IsMoment forwarder.old.moment }
+    requires ready { 1 ≤ forwarder.old.core.table.ready }
+    requires places { needs_answer entry ≡ true → 0 < free_places forwarder.old.link }
+    requires notes { 1 ≤ page.old.room.notes }
+    ensures ended { let g = shown_of forwarder.old in result
+        ≡ taken_ended g.ledger.book (rests_for g.moment g.ledger entry) entry }
+    ensures shown { shown_of forwarder.new ≡ record_shown (shown_of forwarder.old) entry }
+    ensures told { page.new.told ≡ record_told (shown_of forwarder.old) entry page.old.told }
+    ensures frames { page.new.room.frames ≡ page.old.room.frames }
+    ensures datagrams { page.new.room.datagrams ≡ page.old.room.datagrams }
+    ensures notes { page.old.room.notes ≤ page.new.room.notes + 1 }
+    ensures ready { forwarder.old.core.table.ready ≤ forwarder.new.core.table.ready + 1 }
+    ensures places { free_places forwarder.old.link
+        ≤ free_places forwarder.new.link + answers_to entry }
+    ensures moment { forwarder.new.moment ≡ forwarder.old.moment }
+{
+    let was_synced = forwarder.core.is_synced();
+    let ended = take_alone(forwarder, page, entry);
+    let has_synced = !was_synced && forwarder.core.is_synced();
+    if has_synced && !forwarder.stopped {
+        start_routers(forwarder);
+    }
+    ended
+}
+
+/// Takes a record, and the packets again that needn't wait any more. It needs room for a frame and
+/// four notes, and a core that is ready for two pairs.
+pub(crate) fn take_record(forwarder: &mut Forwarder, page: &mut Page, entry: Record)
+    requires formed { IsWellFormedRecord entry }
+    requires moment { IsMoment forwarder.old.moment }
+    requires ready { 2 ≤ forwarder.old.core.table.ready }
+    requires places { needs_answer entry ≡ true → 0 < free_places forwarder.old.link }
+    requires frames { 1 ≤ page.old.room.frames }
+    requires notes { 4 ≤ page.old.room.notes }
+    ensures scene { scene_on forwarder.new page.new
+        ≡ record_done (scene_on forwarder.old page.old) entry }
+    ensures frames { page.old.room.frames ≤ page.new.room.frames + 1 }
+    ensures datagrams { page.new.room.datagrams ≡ page.old.room.datagrams }
+    ensures notes { page.old.room.notes ≤ page.new.room.notes + 4 }
+    ensures ready { forwarder.old.core.table.ready ≤ forwarder.new.core.table.ready + 2 }
+    // What is pushed leaves 64 places of the link free, where they were.
+    ensures places { (more : ℕ) → more ≤ 64
+        → more + answers_to entry ≤ free_places forwarder.old.link
+        → more ≤ free_places forwarder.new.link }
+    ensures moment { forwarder.new.moment ≡ forwarder.old.moment }
+{
+    let ended = take_and_start(forwarder, page, entry);
+    if let Some(endpoint) = ended {
+        forwarder.release_one(page, Wait::Pair(endpoint));
+    }
+}
+
+/// Takes the records of a datagram, one after another.
+pub(crate) fn take_records(forwarder: &mut Forwarder, page: &mut Page, records: &[Record])
+    requires formed { AllByRecursion IsWellFormedRecord records.now }
+    requires few { length records.now ≤ 64 }
+    requires moment { IsMoment forwarder.old.moment }
+    requires ready { 2 * length records.now ≤ forwarder.old.core.table.ready }
+    requires places { answers_count records.now ≤ free_places forwarder.old.link }
+    requires frames { length records.now ≤ page.old.room.frames }
+    requires notes { 4 * length records.now ≤ page.old.room.notes }
+    ensures scene { scene_on forwarder.new page.new
+        ≡ records_done (scene_on forwarder.old page.old) records.now }
+    ensures datagrams { page.new.room.datagrams ≡ page.old.room.datagrams }
+    ensures moment { forwarder.new.moment ≡ forwarder.old.moment }
+{
+    for entry in records {
+        take_record(forwarder, page, *entry);
+    }
+}

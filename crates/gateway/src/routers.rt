@@ -1,0 +1,160 @@
+//! The virtual routers of a gateway: what they are told, and the frames of what they do then.
+ghost use Rattle.std.specs.Prelude.{◌≡◌, ◌≤◌, ◌+◌, ⊤};
+ghost use Rattle.vrrp_states.specs.Table.{IsMoment};
+ghost use Rattle.packet_rules.specs.Adverts.{advert_frame};
+ghost use Rattle.packet_rules.specs.Arping.{gratuitous_frame};
+ghost use Rattle.sides.specs.Stations.{IsRouterStep, frames_of};
+ghost use Rattle.step_parts.specs.Parts.{all_framed, started};
+ghost use Rattle.step_parts.specs.Shown.{Shown, scene, with_station};
+ghost use Rattle.step_parts.specs.Steps.{BothAct, RouterActs};
+ghost use Rattle.forwarder.specs.Forwarder.{scene_on, shown_of};
+ghost use Rattle.gateway.specs.Cues.{event_of};
+
+use addresses::Ip;
+use forwarder::Forwarder;
+use nat_types::Side;
+use sides::Station;
+use told::{Page, WriteBytes};
+use vrrp_packet::Advert;
+use vrrp_states::Action;
+
+/// What a router is told.
+#[derive(Clone, Copy, Debug, PartialEq, Eq)]
+pub(crate) enum Cue {
+    Tick,
+    Stop,
+    /// An advertisement came from this address.
+    Heard(Advert, Ip),
+}
+
+/// The frame of an advertisement.
+#[derive(Drop)]
+struct AdvertFrame<'a> {
+    station: &'a Station,
+    priority: u8,
+}
+
+impl WriteBytes for AdvertFrame<'_> {
+    ghost can_write = { λ _. ⊤ };
+
+    ghost bytes = { λ f. advert_frame f.station.now.network f.priority f.station.now.interval };
+
+    ghost room = { λ _. 46 };
+
+    fn write_to(&self, list: &mut Vec<u8>) {
+        self.station.append_advert(list, self.priority);
+    }
+}
+
+/// The frame that tells everyone where the virtual address is.
+#[derive(Drop)]
+struct GratuitousFrame<'a> {
+    station: &'a Station,
+}
+
+impl WriteBytes for GratuitousFrame<'_> {
+    ghost can_write = { λ _. ⊤ };
+
+    ghost bytes = { λ f. gratuitous_frame f.station.now.network };
+
+    ghost room = { λ _. 42 };
+
+    fn write_to(&self, list: &mut Vec<u8>) {
+        self.station.append_gratuitous(list);
+    }
+}
+
+/// Sends the frames of an action.
+fn send_action(page: &mut Page, side: Side, station: &Station, action: Action)
+    requires { 2 ≤ page.old.room.frames }
+    ensures told { (g : Shown) → scene g page.new.told
+        ≡ all_framed (scene g page.old.told) side (frames_of station.now action) }
+    ensures frames { page.old.room.frames ≤ page.new.room.frames + 2 }
+    ensures datagrams { page.new.room.datagrams ≡ page.old.room.datagrams }
+    ensures notes { page.new.room.notes ≡ page.old.room.notes }
+{
+    match action {
+        Action::Nothing => {}
+        Action::Advertise(priority) => page.make_frame(side, &AdvertFrame { station, priority }),
+        Action::AdvertiseAndArp(priority) => {
+            page.make_frame(side, &AdvertFrame { station, priority });
+            page.make_frame(side, &GratuitousFrame { station });
+        }
+    }
+}
+
+/// Tells a router something, and gives what it does then.
+fn tell(station: &mut Station, cue: Cue, now: u64) -> Action
+    requires { IsMoment now }
+    ensures { IsRouterStep station.old (event_of cue) now result station.new }
+{
+    match cue {
+        Cue::Tick => station.tick(now),
+        Cue::Stop => station.stop(),
+        Cue::Heard(advert, from) => station.heard(&advert, from, now),
+    }
+}
+
+/// Tells the router on a side something, and sends its frames.
+pub(crate) fn cue_router(forwarder: &mut Forwarder, page: &mut Page, side: Side, cue: Cue)
+    requires moment { IsMoment forwarder.old.moment }
+    requires frames { 2 ≤ page.old.room.frames }
+    ensures acts { RouterActs (scene_on forwarder.old page.old) side (event_of cue)
+        (scene_on forwarder.new page.new) }
+    ensures rest { forwarder.new ≡ record forwarder.old {
+      inside = forwarder.new.inside;
+      outside = forwarder.new.outside;
+    } }
+    ensures frames { page.old.room.frames ≤ page.new.room.frames + 2 }
+    ensures datagrams { page.new.room.datagrams ≡ page.old.room.datagrams }
+    ensures notes { page.new.room.notes ≡ page.old.room.notes }
+{
+    let now = forwarder.moment;
+    match side {
+        Side::Inside => {
+            let action = tell(&mut forwarder.inside, cue, now);
+            send_action(page, side, &forwarder.inside, action);
+        }
+        Side::Outside => {
+            let action = tell(&mut forwarder.outside, cue, now);
+            send_action(page, side, &forwarder.outside, action);
+        }
+    }
+}
+
+/// Tells both routers something, that of the inside first.
+pub(crate) fn cue_both(forwarder: &mut Forwarder, page: &mut Page, cue: Cue)
+    requires moment { IsMoment forwarder.old.moment }
+    requires frames { 4 ≤ page.old.room.frames }
+    ensures act { BothAct (scene_on forwarder.old page.old) (event_of cue)
+        (scene_on forwarder.new page.new) }
+    ensures rest { forwarder.new ≡ record forwarder.old {
+      inside = forwarder.new.inside;
+      outside = forwarder.new.outside;
+    } }
+    ensures datagrams { page.new.room.datagrams ≡ page.old.room.datagrams }
+    ensures notes { page.new.room.notes ≡ page.old.room.notes }
+{
+    cue_router(forwarder, page, Side::Inside, cue);
+    cue_router(forwarder, page, Side::Outside, cue);
+}
+
+fn start_station(station: &mut Station, now: u64)
+    requires { IsMoment now }
+    ensures { station.new ≡ started station.old now }
+{
+    station.start(now);
+}
+
+/// Starts both routers, of a gateway that was founded or loaded.
+pub(crate) fn start_routers(forwarder: &mut Forwarder)
+    requires { IsMoment forwarder.old.moment }
+    ensures { forwarder.new ≡ record forwarder.old {
+      inside = started forwarder.old.inside forwarder.old.moment;
+      outside = started forwarder.old.outside forwarder.old.moment;
+    } }
+{
+    let now = forwarder.moment;
+    start_station(&mut forwarder.inside, now);
+    start_station(&mut forwarder.outside, now);
+}

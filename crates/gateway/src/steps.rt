@@ -1,0 +1,248 @@
+//! A whole step: the memory that it takes, its event's own parts, and the datagram at its end.
+ghost use Rattle.std.specs.Prelude.{◌≡◌, ◌≤◌, IfOk, OnErr, OnOk, length};
+ghost use Rattle.link.specs.Link.{taking};
+ghost use Rattle.link.specs.Reading.{reading};
+ghost use Rattle.vrrp_states.specs.Table.{IsMoment};
+ghost use Rattle.step_parts.specs.declared.events.Event.TheVariants.{Stop as StopEvent};
+ghost use Rattle.step_parts.specs.declared.events.Event.TheVariants.{Tick as TickEvent};
+ghost use Rattle.step_parts.specs.declared.events.Outcome.TheVariants.{Done};
+ghost use Rattle.step_parts.specs.Founding.{link_places};
+ghost use Rattle.step_parts.specs.Machine.{AreBytes, HasBytes};
+ghost use Rattle.step_parts.specs.Parts.{datagram_taken};
+ghost use Rattle.step_parts.specs.Steps.{Does, FrameDoes, IsStepOn, ended_on, outcome_heard};
+ghost use Rattle.step_parts.specs.Steps.{outcome_on, outcome_word, word_by, word_refusal};
+ghost use Rattle.step_parts.specs.Verdict.{reading_on, verdict};
+ghost use Rattle.forwarder.specs.Forwarder.{scene_on, shown_of};
+ghost use Rattle.gateway.specs.Gateway.{IsGateway};
+
+use crate::NoMemory;
+use crate::arrivals::take_reading;
+use crate::datagrams::take_datagram;
+use crate::ends::{end_other, end_tick};
+use crate::rooms::{entry_count, list_for, make_ready};
+use crate::ticks::{take_stop, take_tick};
+use crate::words::take_word;
+use forwarder::Forwarder;
+use nat_types::Side;
+use std::alloc::Global;
+use step_parts::{Event, Outcome, parts_stand, steps_go, steps_keep};
+use told::{Page, Room};
+
+/// What a frame asks room for that is taken: an answer and a packet that goes on, three notes, and
+/// the datagram at the end.
+const FRAME_ROOM: Room = Room {
+    frames: 2,
+    datagrams: 1,
+    notes: 3,
+};
+
+/// Room for the datagram at the end alone.
+const END_ROOM: Room = Room {
+    frames: 0,
+    datagrams: 1,
+    notes: 0,
+};
+
+fn frame_came(
+    alloc: Global,
+    forwarder: &mut Forwarder,
+    page: &mut Page,
+    side: Side,
+    bytes: &[u8],
+) -> Result<Outcome, NoMemory>
+    requires moment { IsMoment forwarder.old.moment }
+    ensures outcome { IfOk result (λ o. o ≡ verdict (shown_of forwarder.old) side bytes.now) }
+    ensures does { OnOk result (FrameDoes (scene_on forwarder.old page.old) side bytes.now
+        (reading_on (shown_of forwarder.old) side bytes.now) (scene_on forwarder.new page.new)) }
+    ensures datagrams { OnOk result (1 ≤ page.new.room.datagrams) }
+    ensures err { OnErr result (scene_on forwarder.new page.new
+        ≡ scene_on forwarder.old page.old) }
+{
+    match forwarder.read_frame(side, bytes) {
+        Ok(reading) => {
+            make_ready(forwarder, page, FRAME_ROOM, 1)?;
+            take_reading(alloc, forwarder, page, side, bytes, reading)
+        }
+        Err(reason) => {
+            make_ready(forwarder, page, END_ROOM, 0)?;
+            Ok(Outcome::Dropped(reason))
+        }
+    }
+}
+
+fn datagram_came(
+    alloc: Global,
+    forwarder: &mut Forwarder,
+    page: &mut Page,
+    bytes: &[u8],
+) -> Result<Outcome, NoMemory>
+    requires moment { IsMoment forwarder.old.moment }
+    requires places { forwarder.old.link.capacity
+        ≡ link_places forwarder.old.core.table.zero forwarder.old.core.table.one }
+    ensures outcome { IfOk result (λ o. o
+        ≡ outcome_heard (taking forwarder.old.link (reading bytes.now))) }
+    ensures does { OnOk result (scene_on forwarder.new page.new
+        ≡ datagram_taken (scene_on forwarder.old page.old) bytes.now) }
+    ensures datagrams { OnOk result (1 ≤ page.new.room.datagrams) }
+    ensures err { OnErr result (scene_on forwarder.new page.new
+        ≡ scene_on forwarder.old page.old) }
+{
+    let room = Room {
+        frames: 128,
+        datagrams: 1,
+        notes: entry_count(forwarder) + 448,
+    };
+    match list_for(alloc, forwarder) {
+        Ok(list) => {
+            make_ready(forwarder, page, room, 192)?;
+            Ok(take_datagram(forwarder, page, bytes, list))
+        }
+        Err(fault) => Err(fault),
+    }
+}
+
+fn clock_ticked(forwarder: &mut Forwarder, page: &mut Page, now: u64) -> Result<Outcome, NoMemory>
+    requires moment { IsMoment forwarder.old.moment }
+    ensures outcome { IfOk result (λ o. o ≡ Done) }
+    ensures does { OnOk result (Does (scene_on forwarder.old page.old) (TickEvent now)
+        (scene_on forwarder.new page.new)) }
+    ensures datagrams { OnOk result (1 ≤ page.new.room.datagrams) }
+    ensures err { OnErr result (scene_on forwarder.new page.new
+        ≡ scene_on forwarder.old page.old) }
+{
+    let room = Room {
+        frames: 4,
+        datagrams: 1,
+        notes: entry_count(forwarder) + 1,
+    };
+    make_ready(forwarder, page, room, 0)?;
+    take_tick(forwarder, page, now);
+    Ok(Outcome::Done)
+}
+
+fn stop_came(forwarder: &mut Forwarder, page: &mut Page) -> Result<Outcome, NoMemory>
+    requires moment { IsMoment forwarder.old.moment }
+    ensures outcome { IfOk result (λ o. o ≡ Done) }
+    ensures does { OnOk result (Does (scene_on forwarder.old page.old) StopEvent
+        (scene_on forwarder.new page.new)) }
+    ensures datagrams { OnOk result (1 ≤ page.new.room.datagrams) }
+    ensures err { OnErr result (scene_on forwarder.new page.new
+        ≡ scene_on forwarder.old page.old) }
+{
+    let room = Room {
+        frames: 4,
+        datagrams: 1,
+        notes: 0,
+    };
+    make_ready(forwarder, page, room, 0)?;
+    take_stop(forwarder, page);
+    Ok(Outcome::Done)
+}
+
+fn word_came(
+    alloc: Global,
+    forwarder: &mut Forwarder,
+    page: &mut Page,
+    boot: u64,
+) -> Result<Outcome, NoMemory>
+    ensures outcome { IfOk result (λ o. o
+        ≡ outcome_word (word_refusal (shown_of forwarder.old) boot)) }
+    ensures does { OnOk result (scene_on forwarder.new page.new
+        ≡ word_by (scene_on forwarder.old page.old) boot
+        (word_refusal (shown_of forwarder.old) boot)) }
+    ensures datagrams { OnOk result (1 ≤ page.new.room.datagrams) }
+    ensures err { OnErr result (scene_on forwarder.new page.new
+        ≡ scene_on forwarder.old page.old) }
+{
+    let room = Room {
+        frames: 64,
+        datagrams: 1,
+        notes: entry_count(forwarder) + 193,
+    };
+    match list_for(alloc, forwarder) {
+        Ok(list) => {
+            make_ready(forwarder, page, room, 64)?;
+            Ok(take_word(forwarder, page, boot, list))
+        }
+        Err(fault) => Err(fault),
+    }
+}
+
+/// An event's own parts. An `Err` stands for a refused growth; nothing shows then.
+fn take_event(
+    alloc: Global,
+    forwarder: &mut Forwarder,
+    page: &mut Page,
+    event: Event<'_>,
+) -> Result<Outcome, NoMemory>
+    requires gateway { IsGateway (shown_of forwarder.old) }
+    ensures outcome { IfOk result (λ o. o ≡ outcome_on (shown_of forwarder.old) event.entry) }
+    ensures does { OnOk result (Does (scene_on forwarder.old page.old) event.entry
+        (scene_on forwarder.new page.new)) }
+    ensures datagrams { OnOk result (1 ≤ page.new.room.datagrams) }
+    ensures err { OnErr result (scene_on forwarder.new page.new
+        ≡ scene_on forwarder.old page.old) }
+{
+    match event {
+        Event::Frame(side, bytes) => frame_came(alloc, forwarder, page, side, bytes),
+        Event::Datagram(bytes) => datagram_came(alloc, forwarder, page, bytes),
+        Event::Tick(now) => clock_ticked(forwarder, page, now),
+        Event::Stop => stop_came(forwarder, page),
+        Event::PeerOff(boot) => word_came(alloc, forwarder, page, boot),
+    }
+}
+
+/// Sends the datagram that is due at an event's end.
+fn end_event(forwarder: &mut Forwarder, page: &mut Page, event: Event<'_>)
+    requires promised { length forwarder.old.core.coming ≡ forwarder.old.link.promised }
+    requires datagrams { 1 ≤ page.old.room.datagrams }
+    ensures { scene_on forwarder.new page.new ≡ ended_on event.entry (scene_on forwarder.old page.old) }
+{
+    match event {
+        Event::Tick(_) => end_tick(forwarder, page),
+        Event::Frame(..) | Event::Datagram(_) | Event::Stop | Event::PeerOff(_) => {
+            end_other(forwarder, page);
+        }
+    }
+}
+
+/// Reminds the prover that bytes are below 256; it does nothing when it runs.
+fn recall_bytes(bytes: &[u8])
+    ensures { AreBytes bytes.now }
+{}
+
+/// Reminds the prover that what comes in is bytes; it does nothing when it runs.
+fn recall_event(event: Event<'_>)
+    ensures { HasBytes event.entry }
+{
+    match event {
+        Event::Frame(_, bytes) | Event::Datagram(bytes) => recall_bytes(bytes),
+        Event::Tick(_) | Event::Stop | Event::PeerOff(_) => {}
+    }
+}
+
+/// One step: takes an event, and writes on the page what is sent and noted with it. An `Err` stands
+/// for a refused growth; nothing shows then.
+pub(crate) fn step(
+    alloc: Global,
+    forwarder: &mut Forwarder,
+    page: &mut Page,
+    event: Event<'_>,
+) -> Result<Outcome, NoMemory>
+    requires gateway { IsGateway (shown_of forwarder.old) }
+    ensures outcome { IfOk result (λ o. o ≡ outcome_on (shown_of forwarder.old) event.entry) }
+    ensures step { OnOk result (IsStepOn (scene_on forwarder.old page.old) event.entry
+        (scene_on forwarder.new page.new)) }
+    ensures bytes { HasBytes event.entry }
+    ensures gateway { IsGateway (shown_of forwarder.new) }
+    ensures err { OnErr result (scene_on forwarder.new page.new
+        ≡ scene_on forwarder.old page.old) }
+{
+    steps_go();
+    steps_keep();
+    parts_stand();
+    recall_event(event);
+    let outcome = take_event(alloc, forwarder, page, event)?;
+    end_event(forwarder, page, event);
+    Ok(outcome)
+}

@@ -1,0 +1,63 @@
+//! A tick of the clock, and the stop of both routers.
+ghost use Rattle.std.specs.Prelude.{◌≡◌, ◌≤◌, ◌+◌, length};
+ghost use Rattle.vrrp_states.specs.Table.{IsMoment};
+ghost use Rattle.step_parts.specs.declared.events.Event.TheVariants.{Stop as StopEvent};
+ghost use Rattle.step_parts.specs.declared.events.Event.TheVariants.{Tick as TickEvent};
+ghost use Rattle.step_parts.specs.Parts.{idle_taken};
+ghost use Rattle.step_parts.specs.Steps.{Does, clock_after};
+ghost use Rattle.forwarder.specs.Forwarder.{scene_on};
+
+use crate::routers::{Cue, cue_both};
+use forwarder::Forwarder;
+use step_parts::idle_at_once;
+use told::Page;
+
+/// The greatest moment of a clock, in centiseconds.
+const LAST_MOMENT: u64 = 4_000_000_000_000;
+
+/// The clock after a tick: it never runs back.
+fn clock_after(moment: u64, now: u64) -> u64
+    ensures { result ≡ clock_after moment now }
+{
+    moment.max(now.min(LAST_MOMENT))
+}
+
+/// Lets the idle pairs go.
+fn release_idle(forwarder: &mut Forwarder, page: &mut Page)
+    requires notes { length forwarder.old.core.table.entries + 1 ≤ page.old.room.notes }
+    ensures scene { scene_on forwarder.new page.new ≡ idle_taken (scene_on forwarder.old page.old) }
+    ensures datagrams { page.new.room.datagrams ≡ page.old.room.datagrams }
+{
+    idle_at_once();
+    let mut notes = page.take_notes();
+    let now = forwarder.moment;
+    forwarder.core.tick(&mut forwarder.link, now, &mut notes);
+    page.put_notes(notes);
+}
+
+/// Moves the clock, and does what is due then, but for the datagram at the end.
+pub(crate) fn take_tick(forwarder: &mut Forwarder, page: &mut Page, now: u64)
+    requires moment { IsMoment forwarder.old.moment }
+    requires frames { 4 ≤ page.old.room.frames }
+    requires notes { length forwarder.old.core.table.entries + 1 ≤ page.old.room.notes }
+    ensures does { Does (scene_on forwarder.old page.old) (TickEvent now)
+        (scene_on forwarder.new page.new) }
+    ensures datagrams { page.new.room.datagrams ≡ page.old.room.datagrams }
+{
+    forwarder.moment = clock_after(forwarder.moment, now);
+    cue_both(forwarder, page, Cue::Tick);
+    forwarder.kept.drop_old(forwarder.moment);
+    release_idle(forwarder, page);
+}
+
+/// Stops both routers for good.
+pub(crate) fn take_stop(forwarder: &mut Forwarder, page: &mut Page)
+    requires moment { IsMoment forwarder.old.moment }
+    requires frames { 4 ≤ page.old.room.frames }
+    ensures does { Does (scene_on forwarder.old page.old) StopEvent
+        (scene_on forwarder.new page.new) }
+    ensures datagrams { page.new.room.datagrams ≡ page.old.room.datagrams }
+{
+    cue_both(forwarder, page, Cue::Stop);
+    forwarder.stopped = true;
+}

@@ -1,0 +1,72 @@
+//! The operator's word that the other gateway is off.
+ghost use Rattle.std.specs.Prelude.{◌≡◌, ◌≤◌, ◌+◌, [], None, length, vec_capacity};
+ghost use Rattle.step_parts.specs.Parts.{word_taken};
+ghost use Rattle.step_parts.specs.Steps.{outcome_word, word_by, word_refusal};
+ghost use Rattle.forwarder.specs.Forwarder.{scene_on, shown_of};
+
+use forwarder::Forwarder;
+use kept::Waiting;
+use packet_rules::Reason;
+use step_parts::Outcome;
+use told::Page;
+
+/// Why the word isn't taken.
+fn word_refusal(forwarder: &Forwarder, boot: u64) -> Option<Reason>
+    ensures { result ≡ word_refusal (shown_of forwarder.now) boot }
+{
+    if !forwarder.core.is_synced() {
+        Some(Reason::NotUp)
+    } else if boot == 0 || boot < forwarder.link.known_peer() {
+        Some(Reason::OldWord)
+    } else {
+        None
+    }
+}
+
+/// The session ends, pairs are revived, and the gateway is alone; the packets that waited for pairs
+/// are taken again.
+fn go_alone(forwarder: &mut Forwarder, page: &mut Page, boot: u64, list: Vec<Waiting>)
+    requires heard { word_refusal (shown_of forwarder.old) boot ≡ None }
+    requires empty { list.items ≡ [] }
+    requires room { length forwarder.old.kept ≤ vec_capacity list }
+    requires frames { 64 ≤ page.old.room.frames }
+    requires notes { length forwarder.old.core.table.entries + 192 ≤ page.old.room.notes }
+    requires ready { 64 ≤ forwarder.old.core.table.ready }
+    ensures scene { scene_on forwarder.new page.new
+        ≡ word_taken (scene_on forwarder.old page.old) boot }
+    ensures datagrams { page.new.room.datagrams ≡ page.old.room.datagrams }
+{
+    forwarder.link.close(boot);
+    let mut notes = page.take_notes();
+    let now = forwarder.moment;
+    forwarder.core.peer_off(&forwarder.link, now, &mut notes);
+    page.put_notes(notes);
+    forwarder.release_all(page, list);
+}
+
+/// Takes the word that this boot of the other gateway is off, or refuses it. `list` is an empty list
+/// with room for all packets that wait.
+pub(crate) fn take_word(
+    forwarder: &mut Forwarder,
+    page: &mut Page,
+    boot: u64,
+    list: Vec<Waiting>,
+) -> Outcome
+    requires empty { list.items ≡ [] }
+    requires room { length forwarder.old.kept ≤ vec_capacity list }
+    requires frames { 64 ≤ page.old.room.frames }
+    requires notes { length forwarder.old.core.table.entries + 192 ≤ page.old.room.notes }
+    requires ready { 64 ≤ forwarder.old.core.table.ready }
+    ensures scene { scene_on forwarder.new page.new ≡ word_by (scene_on forwarder.old page.old) boot
+        (word_refusal (shown_of forwarder.old) boot) }
+    ensures outcome { result ≡ outcome_word (word_refusal (shown_of forwarder.old) boot) }
+    ensures datagrams { page.new.room.datagrams ≡ page.old.room.datagrams }
+{
+    match word_refusal(forwarder, boot) {
+        Some(reason) => Outcome::Dropped(reason),
+        None => {
+            go_alone(forwarder, page, boot, list);
+            Outcome::Done
+        }
+    }
+}

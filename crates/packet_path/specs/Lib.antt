@@ -1,6 +1,0 @@
-pub mod Arping
-pub mod Flows
-pub mod Frames
-pub mod Networks
-pub mod Reasons
-pub mod Steps

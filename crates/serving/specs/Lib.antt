@@ -1,0 +1,4 @@
+pub mod Letters
+pub mod Views
+pub mod Rounds
+pub mod LeftOut

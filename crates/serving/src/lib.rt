@@ -1,0 +1,16 @@
+//! The rounds of a box: what comes by its wire is handed to its gateway, then the clock's moment,
+//! and what the gateway tells is sent.
+#![tactic(auto)]
+
+mod clocks;
+mod left;
+mod letters;
+mod logs;
+mod rounds;
+mod views;
+
+pub use clocks::{Clockwork, Stopwatch};
+pub use left::LeftOut;
+pub use letters::{event_of, spelled_word};
+pub use rounds::{MOST, WAIT, serve};
+pub use views::{View, view_of};

@@ -1,0 +1,154 @@
+//! The rounds of a box.
+ghost use Rattle.std.specs.Prelude.{◌≡◌, IfOk};
+ghost use Rattle.serving.specs.Rounds.{AreRounds, IsRound, Takes, TakesNew, box};
+
+use crate::Clockwork;
+use crate::left::LeftOut;
+use crate::letters::event_of;
+use crate::logs::tell;
+use crate::views::view_of;
+use gateway::{Event, Gateway, Out};
+use std::alloc::Global;
+use std::io::{self, Write};
+use std::time::Duration;
+use wires::{LONGEST, Place, Wire};
+
+/// How many datagrams a round receives at most, so that a flood doesn't keep its tick back. What is
+/// left is there for the next round.
+pub const MOST: usize = 256;
+
+/// How long a round waits for its first datagram, in milliseconds.
+pub const WAIT: u64 = 10;
+
+/// What the gateway has told in its last step, and how many events were left out.
+#[derive(Drop)]
+struct Desk {
+    out: Out,
+    left: LeftOut,
+}
+
+/// Runs a box for so many rounds, writes `end`, and is done. A round hands in what comes by the
+/// wire, and then one tick; what the gateway tells is sent at once. On `errors` stands a line for
+/// each event that is dropped, and for each change that an operator watches for.
+///
+/// A send that fails is a lost datagram; where to receive fails, nothing was received. An event for
+/// which memory is refused changes nothing: a frame or a datagram is lost then, and what a tick was
+/// to do the next one does. A line that can't be written on `errors` is left out.
+///
+/// # Errors
+///
+/// Those of writing `end`.
+pub fn serve<W: Wire, C: Clockwork, O: Write, E: Write>(
+    alloc: Global,
+    gateway: &mut Gateway,
+    wire: &mut W,
+    clock: &mut C,
+    rounds: u32,
+    output: &mut O,
+    errors: &mut E,
+) -> io::Result<LeftOut>
+    ensures { IfOk result (λ left. AreRounds rounds (box gateway.old (W.received wire.old) 0)
+        (box gateway.new (W.received wire.new) left)) }
+{
+    let mut desk = Desk {
+        out: Out::new(alloc),
+        left: LeftOut::none(),
+    };
+    for _ in 0..rounds {
+        round(gateway, wire, clock, &mut desk, errors);
+    }
+    writeln!(output, "end")?;
+    output.flush()?;
+    Ok(desk.left)
+}
+
+/// Hands in what comes, and then the clock's moment.
+fn round<W: Wire, C: Clockwork, E: Write>(
+    gateway: &mut Gateway,
+    wire: &mut W,
+    clock: &mut C,
+    desk: &mut Desk,
+    errors: &mut E,
+)
+    ensures { IsRound (box gateway.old (W.received wire.old) desk.old.left)
+        (box gateway.new (W.received wire.new) desk.new.left) }
+{
+    take_what_comes(gateway, wire, desk, errors);
+    let tick = Event::Tick(clock.moment());
+    hand_in(gateway, tick, wire, desk, errors);
+}
+
+/// Waits for a datagram, and hands in what is there.
+fn take_what_comes<W: Wire, E: Write>(
+    gateway: &mut Gateway,
+    wire: &mut W,
+    desk: &mut Desk,
+    errors: &mut E,
+)
+    ensures { TakesNew (box gateway.old (W.received wire.old) desk.old.left)
+        (box gateway.new (W.received wire.new) desk.new.left) }
+{
+    let mut limit = Duration::from_millis(WAIT);
+    for _ in 0..MOST {
+        if !take_next(gateway, wire, limit, desk, errors) {
+            return;
+        }
+        limit = Duration::ZERO;
+    }
+}
+
+/// Hands in the next datagram, and says whether there may be more. Where one is lost, there may.
+fn take_next<W: Wire, E: Write>(
+    gateway: &mut Gateway,
+    wire: &mut W,
+    limit: Duration,
+    desk: &mut Desk,
+    errors: &mut E,
+) -> bool
+    ensures { TakesNew (box gateway.old (W.received wire.old) desk.old.left)
+        (box gateway.new (W.received wire.new) desk.new.left) }
+{
+    let mut room = [0; LONGEST];
+    match wire.receive(limit, &mut room) {
+        Ok(Some((place, count))) => {
+            let event = event_of(place, &room[..count]);
+            hand_in(gateway, event, wire, desk, errors);
+            true
+        }
+        Ok(None) => false,
+        Err(_nothing_received) => true,
+    }
+}
+
+/// Hands an event in, sends what the gateway tells, and writes the lines for the operator.
+fn hand_in<W: Wire, E: Write>(
+    gateway: &mut Gateway,
+    event: Event<'_>,
+    wire: &mut W,
+    desk: &mut Desk,
+    errors: &mut E,
+)
+    ensures taken { Takes gateway.old desk.old.left event.entry gateway.new desk.new.left }
+    ensures received { W.received wire.new ≡ W.received wire.old }
+{
+    let before = view_of(gateway);
+    desk.out.clear();
+    let outcome = gateway.step(event, &mut desk.out);
+    if outcome.is_err() {
+        desk.left.count();
+    }
+    send_all(wire, &desk.out);
+    let _left_out = tell(errors, &event, outcome, &before, &view_of(gateway));
+}
+
+/// Sends what was told: the frames by the wires of their sides, the datagrams by the link.
+fn send_all<W: Wire>(wire: &mut W, out: &Out)
+    ensures { W.received wire.new ≡ W.received wire.old }
+{
+    for frame in out.frames() {
+        let _lost = wire.send(Place::Side(frame.side), frame.bytes);
+    }
+    for datagram in out.datagrams() {
+        let _lost = wire.send(Place::Link, datagram);
+    }
+}
