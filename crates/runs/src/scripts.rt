@@ -165,6 +165,13 @@ fn counted(verb: &str, gateway: &str, number: &str) -> Option<WorldEvent>
         (λ id. by_word (number_named number.now) (λ n. counted_named verb.now id n)) }
 {
     let id = gateway_of(gateway)?;
+    counted_by(verb, id, number)
+}
+
+fn counted_by(verb: &str, id: GatewayId, number: &str) -> Option<WorldEvent>
+    ensures { option_map said result
+        ≡ by_word (number_named number.now) (λ n. counted_named verb.now id n) }
+{
     let number = number_of(number)?;
     counted_at(verb, id, number)
 }
@@ -199,6 +206,19 @@ fn frame(
     let Some(id) = gateway_of(gateway) else {
         return Ok(None);
     };
+    frame_by(alloc, verb, id, side, text)
+}
+
+fn frame_by(
+    alloc: Global,
+    verb: &str,
+    id: GatewayId,
+    side: &str,
+    text: &str,
+) -> Result<Option<WorldEvent>, AllocError>
+    ensures { IfOk result (λ event. option_map said event ≡ by_word (side_named side.now)
+        (λ at. by_word (bytes_named text.now) (λ bytes. frame_named verb.now id at bytes))) }
+{
     let Some(side) = side_of(side) else {
         return Ok(None);
     };
