@@ -1,5 +1,5 @@
 -- What a world shows.
-use Rattle.std.specs.Prelude.{ℕ, Bool, true, false, IsTrue, ◌↔◌, Option, Some, None, List, [], map, if◌then◌else◌}
+use Rattle.std.specs.Prelude.{◌≡◌, ◌⊎◌, ℕ, Bool, true, false, IsTrue, ◌↔◌, Option, Some, None, List, [], map, if◌then◌else◌}
 use Rattle.std.specs.List.{Contains}
 use Rattle.addresses.specs.declared.transport.Port.{Port}
 use Rattle.nat_types.specs.declared.gateways.GatewayId.{GatewayId}
@@ -7,14 +7,17 @@ use Rattle.nat_types.specs.declared.gateways.GatewayId.TheVariants.{Zero, One}
 use Rattle.nat_types.specs.declared.notes.Note.{Note}
 use Rattle.nat_types.specs.declared.pairs.EntryState.{EntryState}
 use Rattle.nat_types.specs.declared.pairs.Pair.{Pair}
+use Rattle.settings.specs.declared.ranges.PortRanges.{PortRanges}
 use Rattle.settings.specs.declared.whole.Settings.{Settings}
 use Rattle.settings.specs.Ranges.{of_gateway}
 use Rattle.bindings.specs.declared.entries.Entry.{Entry}
 use Rattle.bindings.specs.Entries.{HasDistinctKeys, is_pair, pairs_in, translates}
+use Rattle.bindings.specs.Ports.{in_either}
 use Rattle.bindings.specs.Runs.{port_at}
+use Rattle.link.specs.Link.{pushed_count}
 use Rattle.trace_words.specs.Trace.{IsSynced}
 use Rattle.binding_step.specs.Books.{is_synced}
-use Rattle.step_parts.specs.Founding.{founded}
+use Rattle.step_parts.specs.Founding.{bounds_of, founded}
 use Rattle.step_parts.specs.Shown.{Shown}
 
 -- One of the two: the gateway where it is up, the number of its last boot (0: it never booted), and all datagrams that it
@@ -102,7 +105,29 @@ Translates w i p = Contains (pairs_of translates (gateway_at w i)) p
 abbrev pub ShowsSynced : World → Type 0
 ShowsSynced w = (i : GatewayId) → IsTrue (synced_at (gateway_at w i)) ↔ IsSynced i w.trace
 
--- no port is owned by two synced gateways
-abbrev pub OwnsApart : World → Type 0
-OwnsApart w =
-    (p : Port) → Contains (owned_by (gateway_at w Zero)) p → Contains (owned_by (gateway_at w One)) p → ⊥
+-- ---- the ports that the two own
+
+-- the port lies in one of the two ranges of the settings
+abbrev pub is_to_own : PortRanges → Port → Bool
+is_to_own ports p = in_either (bounds_of ports.zero) (bounds_of ports.one) p.0
+
+-- each has taken every record that the other pushed in the session
+abbrev pub HaveTakenAll : Option Shown → Option Shown → Type 0
+HaveTakenAll None b = ⊥
+HaveTakenAll (Some a) None = ⊥
+HaveTakenAll (Some a) (Some b) =
+    (a.link.taken ≡ pushed_count b.link) × (b.link.taken ≡ pushed_count a.link)
+
+-- Owned ports
+pub record IsOwned (w : World) : Type 0 where
+  -- no port is owned by two synced gateways
+  pub apart : (p : Port) → Contains (owned_by (gateway_at w Zero)) p →
+      Contains (owned_by (gateway_at w One)) p → ⊥
+  -- where both are synced and every record pushed was taken, each port of the two ranges has an owner
+  pub whole : IsTrue (synced_at (gateway_at w Zero)) → IsTrue (synced_at (gateway_at w One)) →
+      HaveTakenAll (gateway_at w Zero) (gateway_at w One) →
+      (p : Port) → IsTrue (is_to_own w.settings.ports p) →
+      Contains (owned_by (gateway_at w Zero)) p ⊎ Contains (owned_by (gateway_at w One)) p
+  -- and no other port has one
+  pub within : (i : GatewayId) → (p : Port) → Contains (owned_by (gateway_at w i)) p →
+      IsTrue (is_to_own w.settings.ports p)

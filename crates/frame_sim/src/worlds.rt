@@ -9,7 +9,7 @@ ghost use Rattle.frame_sim.specs.declared.events.WorldFault.TheVariants as fault
 ghost use Rattle.frame_sim.specs.Events.{TakesAt, may_be_told, may_boot, may_crash};
 ghost use Rattle.frame_sim.specs.Runs.{Answers, AreSteps, fault_of};
 ghost use Rattle.frame_sim.specs.Scene.{IsHanded};
-ghost use Rattle.frame_sim.specs.World.{Holds, OwnsApart, ShowsSynced, Translates, founding, gateway_at, half, is_up, owned_by, pairs_of, synced_at};
+ghost use Rattle.frame_sim.specs.World.{Holds, IsOwned, ShowsSynced, Translates, founding, gateway_at, half, is_up, owned_by, pairs_of, synced_at};
 
 use crate::halves::Half;
 use crate::{Step, WorldEvent, WorldFault};
@@ -136,7 +136,7 @@ impl<'a> World<'a> {
         ensures synced { ShowsSynced self.now }
         ensures idle { Idle self.now.trace }
         ensures one_box { IsOneBox self.now.trace }
-        ensures owned_ports { OwnsApart self.now }
+        ensures owned_ports { IsOwned self.now }
     {
         promises_in_order();
         promises();
@@ -215,7 +215,7 @@ impl<'a> World<'a> {
         ensures synced { ShowsSynced self.new }
         ensures idle { Idle self.new.trace }
         ensures one_box { IsOneBox self.new.trace }
-        ensures owned_ports { OwnsApart self.new }
+        ensures owned_ports { IsOwned self.new }
         ensures steps { IfOk result (λ ss. AreSteps self.old events.now ss.items self.new) }
         ensures err { OnErr result (self.new ≡ self.old) }
     {

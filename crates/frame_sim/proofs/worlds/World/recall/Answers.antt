@@ -1,5 +1,5 @@
 use Rattle.frame_sim.specs.Scene.{IsSound}
-use Rattle.frame_sim.proofs.Owning.{sound-apart}
+use Rattle.frame_sim.proofs.Owning.{sound-owned}
 use Rattle.frame_sim.proofs.Keeping.{sound-goes, sound-kept, sound-says}
 use Rattle.frame_sim.proofs.worlds.World.recall.Goals as goal
 
@@ -16,4 +16,4 @@ pub returns-clause-idle : goal.returns-clause-idle
 returns-clause-idle c = rw (← c.self.view_is) (let sound : IsSound _ = c.self.invariant in sound.accounted.idle)
 
 pub returns-clause-owned_ports : goal.returns-clause-owned_ports
-returns-clause-owned_ports c = rw (← c.self.view_is) (sound-apart c.promises.ensures.owners _ c.self.invariant)
+returns-clause-owned_ports c = rw (← c.self.view_is) (sound-owned c.promises.ensures.owners _ c.self.invariant)
