@@ -1,5 +1,5 @@
 //! What is done with ARP packets (RFC 826).
-ghost use Rattle.std.specs.Prelude.{◌≡◌, ◌≤◌, ◌+◌, length, min};
+ghost use Rattle.std.specs.Prelude.{◌≡◌, ◌≤◌, ◌+◌, min};
 ghost use Rattle.link.specs.Link.{free_places};
 ghost use Rattle.packet_rules.specs.Arping.{is_learnable};
 ghost use Rattle.sides.specs.Stations.{after_arp};
@@ -59,7 +59,6 @@ impl Forwarder {
     /// Takes an ARP packet: its sender may be learnt, a request is answered, and the packet that
     /// waited for that host is taken again.
     pub fn take_arp(&mut self, page: &mut Page, side: Side, packet: &ArpPacket)
-        requires six { length packet.now.sender_mac.0 ≡ 6 }
         requires frames { 2 ≤ page.old.room.frames }
         requires notes { 3 ≤ page.old.room.notes }
         requires ready { 1 ≤ self.old.core.table.ready }
