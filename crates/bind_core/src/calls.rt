@@ -184,6 +184,10 @@ impl Core {
         ensures ready { self.old.table.ready ≤ self.new.table.ready + 1 }
         ensures link { let rests = rests_for now (ledger_of self.old) entry
             in link.new ≡ answered link.old (taken_answer (book_of self.old) rests entry) }
+        ensures pasts { is_synced_at self.old.stage ≡ true
+            → let rests = rests_for now (ledger_of self.old) entry in
+            LivesOn now (row_of (book_of self.old) rests entry).change self.old.table
+            self.new.table }
         ensures notes { let rests = rests_for now (ledger_of self.old) entry
             in notes.new.items ≡ notes.old.items
             ++ noted_by self.old.id now (taken_what (book_of self.old) rests entry) }
@@ -223,6 +227,7 @@ impl Core {
     /// translates again, and from then on nobody's consent is needed.
     pub fn peer_off(&mut self, link: &Link, now: u64, notes: &mut Vec<Note>)
         requires synced { is_synced_at self.old.stage ≡ true }
+        requires closed { link.now.closed ≡ true }
         requires reserved { vec_len notes.old + length self.old.table.entries
             ≤ vec_capacity notes.old }
         ensures ledger { ledger_of self.new ≡ alone_ledger (ledger_of self.old) }

@@ -8,4 +8,5 @@ mod deeds;
 mod loads;
 mod resets;
 
+pub use binding_step::Want;
 pub use cores::Core;
