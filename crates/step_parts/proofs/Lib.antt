@@ -1,5 +1,6 @@
 pub mod Accounting
 pub mod Apart
+pub mod Asked
 pub mod Asking
 pub mod Beginning
 pub mod Counting
@@ -9,11 +10,13 @@ pub mod Idle
 pub mod Others
 pub mod Packets
 pub mod Passing
+pub mod Places
 pub mod Records
 pub mod Resting
 pub mod Saying
 pub mod Sending
 pub mod Sends
+pub mod Settling
 pub mod Sides
 pub mod Stepping
 pub mod Takings

@@ -136,7 +136,7 @@ router-gives frames s side event s2 a w =
     subst (λ (x : Scene). Gives own s x) (sym a.is)
     (gives-then [] own s mid (acted s side station a.action) first (all-framed-gives mid side (frames_of station a.action) (action-frames frames station a.action) first.wired))
 
-all-framed-shown : (s : Scene) (side : Side) (fs : List (List ℕ)) → (all_framed s side fs).shown ≡ s.shown
+pub all-framed-shown : (s : Scene) (side : Side) (fs : List (List ℕ)) → (all_framed s side fs).shown ≡ s.shown
 all-framed-shown s side [] = refl
 all-framed-shown s side (f ∷ fs) = all-framed-shown (framed s side f) side fs
 
