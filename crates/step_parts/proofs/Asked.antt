@@ -1,5 +1,5 @@
--- What a plan to keep a packet says: it has a place; and of one that asks for its next hop, its way, its pairs, and that no
--- hardware address is known for that host.
+-- What a plan to keep a packet says: it has a place; of one that waits for a pair, whose; and of one that asks for its next
+-- hop, its way, its pairs, and that no hardware address is known for that host.
 use Rattle.std.proofs.Common.{◌≡◌, Bool, true, false, cond, Option, Some, None, Result, Ok, Err, refl}
 use Rattle.addresses.specs.declared.ethernet.Mac.{Mac}
 use Rattle.addresses.specs.declared.internet.Ip.{Ip}
@@ -38,7 +38,7 @@ pub record IsAsked (g : Shown) (side : Side) (flow : Flow) (by : Translation) (h
 abbrev pub PlanSays : Shown → Side → Flow → Result Plan Reason → Type 0
 PlanSays g side flow (Ok (Send by next)) = Unit {0}
 PlanSays g side flow (Ok (Ask by hop)) = IsAsked g side flow by hop
-PlanSays g side flow (Ok (WaitFor e)) = has_place g.kept (wait.Pair e) ≡ true
+PlanSays g side flow (Ok (WaitFor e)) = (e ≡ source_of flow) × (has_place g.kept (wait.Pair e) ≡ true)
 PlanSays g side flow (Err reason) = Unit {0}
 
 module _ (g : Shown) (side : Side) (flow : Flow) where
@@ -58,7 +58,7 @@ module _ (g : Shown) (side : Side) (flow : Flow) where
   from-says by want.Wait is goes = at (has_place g.kept (wait.Pair (source_of flow))) refl
     where
       at : (b : Bool) → has_place g.kept (wait.Pair (source_of flow)) ≡ b → PlanSays g side flow (let r : Result Plan Reason = cond b (Ok (WaitFor (source_of flow))) (Err CannotWait) in r)
-      at true place = place
+      at true place = (refl, place)
       at false place = tt
   from-says by want.NoPort is goes = tt
   from-says by want.NotNow is goes = tt

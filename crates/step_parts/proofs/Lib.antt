@@ -5,6 +5,7 @@ pub mod Asking
 pub mod Beginning
 pub mod Counting
 pub mod Ending
+pub mod Freeing
 pub mod Hearing
 pub mod Idle
 pub mod Others

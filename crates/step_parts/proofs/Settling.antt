@@ -122,7 +122,7 @@ plan-calms s side bytes flow (Ask by hop) says =
     calming-then s one (by_plan s side bytes flow (Ask by hop)) (wanted-for-calms s flow by) (keeping-calms one side bytes (wait.Hop (exit_by by) hop) place)
 plan-calms s side bytes flow (WaitFor e) says =
     let one = wanted_by s e in
-    calming-then s one (by_plan s side bytes flow (WaitFor e)) (wanted-calms s e) (keeping-calms one side bytes (wait.Pair e) says)
+    calming-then s one (by_plan s side bytes flow (WaitFor e)) (wanted-calms s e) (keeping-calms one side bytes (wait.Pair e) says.1)
 
 flow-calms : (s : Scene) (side : Side) (bytes : List ℕ) (flow : Flow) → Calming s (flow_taken s side bytes flow)
 flow-calms s side bytes flow = at (plan_of s.shown side flow) (plan-says s.shown side flow)
