@@ -1,5 +1,5 @@
 -- The other frames of parts of a step: requests for next hops, one for each packet that comes to wait for one.
-use Rattle.std.proofs.Common.{◌≡◌, ℕ, Bool, true, false, cond, not, ◌||◌, List, [], ◌∷◌, ◌++◌, filter, Result, Ok, Err, refl, sym, ap, subst, ◌∙◌, append_assoc}
+use Rattle.std.proofs.Common.{◌≡◌, ℕ, Bool, true, false, cond, not, inl, inr, ◌||◌, List, [], ◌∷◌, ◌++◌, filter, Result, Ok, Err, refl, sym, ap, subst, ◌∙◌, append_assoc}
 use Rattle.std.specs.List.{AllByRecursion}
 use Rattle.std.proofs.lemmas.List.{append-nil}
 use Rattle.std.proofs.lemmas.List.Elements.{filter-append}
@@ -8,13 +8,17 @@ use Rattle.std.proofs.lemmas.Grind.{flat_map-append}
 use Rattle.addresses.specs.declared.internet.Ip.{Ip}
 use Rattle.nat_types.specs.declared.gateways.Side.{Side}
 use Rattle.nat_types.specs.declared.gateways.Side.TheVariants.{Inside, Outside}
+use Rattle.nat_types.specs.declared.notes.Note.{Note}
 use Rattle.nat_types.specs.declared.pairs.Endpoint.{Endpoint}
 use Rattle.nat_types.specs.declared.pairs.Pair.{Pair}
 use Rattle.arp.specs.Neighbours.{mac_at}
 use Rattle.ipv4.specs.declared.flows.Flow.{Flow}
 use Rattle.binding_step.specs.declared.changes.Row.{Row}
-use Rattle.binding_step.specs.Books.{is_synced}
-use Rattle.binding_step.specs.Rows.{is_full, wish_of}
+use Rattle.bindings.specs.declared.entries.Entry.{Entry}
+use Rattle.binding_step.specs.Books.{Book, is_synced}
+use Rattle.binding_step.specs.Rows.{is_full, noted_by, wish_of}
+use Rattle.binding_step.specs.Uses.{IsTranslated}
+use Rattle.pair_machine.specs.Box.{In}
 use Rattle.kept.specs.declared.waits.Ended.{Ended}
 use Rattle.kept.specs.declared.waits.Ended.TheVariants.{AllPairs, One}
 use Rattle.kept.specs.declared.waits.Wait.{Wait}
@@ -35,18 +39,18 @@ use Rattle.sides.specs.Stations.{is_active}
 use Rattle.told.specs.Told.{Sent}
 use Rattle.step_parts.specs.declared.plans.Plan.{Plan}
 use Rattle.step_parts.specs.declared.plans.Plan.TheVariants.{Send, Ask, Wait as WaitFor}
-use Rattle.step_parts.specs.Others.{IsAskedBy, IsNew, other_frames, request_for, requests}
+use Rattle.step_parts.specs.Others.{HasPair, IsAskedBy, IsItsWait, IsNew, other_frames, request_for, requests, retaken_pairs, targets}
 use Rattle.step_parts.specs.Parts.{all_taken, by_plan, by_row, by_verdict, carried_all, flags_in, flow_taken, framed, released, retaken_by, taken_again, wanted_by, wanted_for}
-use Rattle.step_parts.specs.Shown.{Scene, Shown, is_up, scene, station_on}
+use Rattle.step_parts.specs.Shown.{Scene, Shown, id_of, is_up, scene, station_on}
 use Rattle.step_parts.specs.Truly.{AreItsPairs, AreWired, AtHand, Known, known_of, near_on, packets_of}
-use Rattle.step_parts.specs.Verdict.{exit_by, hop_by, plan_of, reading_on}
+use Rattle.step_parts.specs.Verdict.{exit_by, hop_by, plan_of, reading_on, target_pair}
 use Rattle.step_parts.proofs.Asked.{IsAsked, PlanSays, plan-says}
 use Rattle.step_parts.proofs.Freeing.{Comes-of, comes-beside, comes-off, comes-then, filter-all, filter-left}
 use Rattle.step_parts.proofs.Packets.{refusal-leaves}
+use Rattle.step_parts.proofs.Rooting.{RowRoots, in-left, in-right, retaken-join, same-rooted, wish-roots}
 use Rattle.step_parts.proofs.Saying.{reading-synced}
-use Rattle.step_parts.proofs.Sending.{Frames, carried-leaves, near-is, next-six, own-six}
+use Rattle.step_parts.proofs.Sending.{Frames, all_notes, carried-leaves, near-is, next-six, own-six}
 use Rattle.step_parts.proofs.Sends.{AreFound, plan-sends}
-use Rattle.step_parts.proofs.Takings.{wanted-for-known}
 use Rattle.step_parts.proofs.Telling.{at_hand}
 use Rattle.step_parts.proofs.Translating.{target-translates}
 
@@ -79,11 +83,14 @@ all-append P (w ∷ ws) vs x y = (x.0, all-append P ws vs x.1 y)
 pub record Asks (hand : List AtHand) (over : Waiting → Bool) (s s2 : Scene) : Type 0 where
   pub frames : List Sent
   pub frames_are : s2.told.frames ≡ s.told.frames ++ frames
+  pub notes : List Note
+  pub notes_are : s2.told.notes ≡ s.told.notes ++ notes
+  pub roots : (p : Pair) → IsTranslated s2.shown.ledger.book.entries p → HasPair s.shown notes p
   pub came : List Waiting
   pub kept_are : s2.shown.kept ≡ filter (λ w. not (over w)) s.shown.kept ++ came
   pub gone : List AtHand
   pub of_hand : Comes-of hand (filter over s.shown.kept) came gone
-  pub new : AllByRecursion (IsNew (known_of s2.shown)) came
+  pub new : AllByRecursion (IsNew (known_of s2.shown) (HasPair s.shown notes)) came
   pub known : known_of s2.shown ≡ known_of s.shown
   pub others : other_frames frames ≡ requests s.shown came
   pub nets : NetsStay s.shown s2.shown
@@ -122,6 +129,33 @@ requests-left g f hops (w ∷ ws) = at (f w) refl (requests-left g f hops ws)
     at false is rest =
         rest ∙ ap (λ (fs : List Sent). fs ++ requests g ws) (sym (none w.wait (λ hop. let clash : true ≡ false = sym (hops w hop) ∙ is in absurd (cc))))
 
+-- ---- the pairs that a gateway has
+
+has-more : (g : Shown) (ns ms : List Note) (p : Pair) → HasPair g ns p → HasPair g (ns ++ ms) p
+has-more g ns ms p (inl t) = inl t
+has-more g ns ms p (inr i) = inr (subst (λ (ps : List Pair). In p ps) (sym (retaken-join ns ms)) (in-left p (retaken_pairs ns) (retaken_pairs ms) i))
+
+-- one that it has after a part, with what that part notes
+has-then : (g g2 : Shown) (ns ms : List Note) → ((p : Pair) → IsTranslated g2.ledger.book.entries p → HasPair g ns p) → (p : Pair) → HasPair g2 ms p → HasPair g (ns ++ ms) p
+has-then g g2 ns ms roots p (inl t) = has-more g ns ms p (roots p t)
+has-then g g2 ns ms roots p (inr i) = inr (subst (λ (ps : List Pair). In p ps) (sym (retaken-join ns ms)) (in-right p (retaken_pairs ns) (retaken_pairs ms) i))
+
+module _ (k : Known) (P Q : Pair → Type 0) (more : (p : Pair) → P p → Q p) where
+  targets-more : (by : Translation) → AllByRecursion P (targets by) → AllByRecursion Q (targets by)
+  targets-more (Outward p) all = tt
+  targets-more (Inward p) all = (more p all.0, tt)
+  targets-more (Hairpin own other) all = (more other all.0, tt)
+
+  wait-more : (bytes : List ℕ) (side : Side) (w : Wait) → IsItsWait k P bytes side w → IsItsWait k Q bytes side w
+  wait-more bytes side (wait.Pair e) is = is
+  wait-more bytes side (wait.Hop exit host) is =
+      let a = is.1 in
+      (is.0, record { way = a.way; pairs = a.pairs; target = targets-more is.0 a.target; exit_is = a.exit_is; hop = a.hop; unknown = a.unknown })
+
+  pub new-more : (ws : List Waiting) → AllByRecursion (IsNew k P) ws → AllByRecursion (IsNew k Q) ws
+  new-more [] all = tt
+  new-more (w ∷ ws) all = (record { since = all.0.since; wait = wait-more w.bytes w.side w.wait all.0.wait }, new-more ws all.1)
+
 -- ---- one part behind the other
 
 pub asks-then : (h h2 : List AtHand) (f g : Waiting → Bool) (a b c : Scene) → Asks h f a b → Asking h2 g b c → Asks (h ++ h2) (λ w. f w || g w) a c
@@ -130,9 +164,14 @@ asks-then h h2 f g a b c x y =
     let old = filter (λ (w : Waiting). not (f w)) a.shown.kept in
     let stays = λ (w : Waiting). not (g w) in
     let left = filter stays x.came in
+    let has = HasPair a.shown (x.notes ++ z.notes) in
+    let then_has = has-then a.shown b.shown x.notes z.notes x.roots in
     record {
       frames = x.frames ++ z.frames;
       frames_are = z.frames_are ∙ ap (λ (fs : List Sent). fs ++ z.frames) x.frames_are ∙ append_assoc a.told.frames x.frames z.frames;
+      notes = x.notes ++ z.notes;
+      notes_are = z.notes_are ∙ ap (λ (ns : List Note). ns ++ z.notes) x.notes_are ∙ append_assoc a.told.notes x.notes z.notes;
+      roots = λ p t. then_has p (z.roots p t);
       came = left ++ z.came;
       kept_are = z.kept_are
           ∙ ap (λ (ws : List Waiting). filter stays ws ++ z.came) x.kept_are
@@ -141,8 +180,11 @@ asks-then h h2 f g a b c x y =
       gone = x.gone ++ z.gone;
       of_hand = comes-then f g a.shown.kept x.came z.came h h2 x.gone z.gone x.of_hand
           (subst (λ (ws : List Waiting). Comes-of h2 (filter g ws) z.came z.gone) x.kept_are z.of_hand);
-      new = all-append (IsNew (known_of c.shown)) left z.came
-          (all-filter (IsNew (known_of c.shown)) stays x.came (subst (λ (k : Known). AllByRecursion (IsNew k) x.came) (sym z.known) x.new)) z.new;
+      new = all-append (IsNew (known_of c.shown) has) left z.came
+          (all-filter (IsNew (known_of c.shown) has) stays x.came
+          (new-more (known_of c.shown) (HasPair a.shown x.notes) has (has-more a.shown x.notes z.notes) x.came
+          (subst (λ (k : Known). AllByRecursion (IsNew k (HasPair a.shown x.notes)) x.came) (sym z.known) x.new)))
+          (new-more (known_of c.shown) (HasPair b.shown z.notes) has then_has z.came z.new);
       known = z.known ∙ x.known;
       others = filter-append (λ (f : Sent). not (is_translation f.bytes)) x.frames z.frames
           ∙ ap (λ (fs : List Sent). fs ++ other_frames z.frames) x.others
@@ -163,66 +205,107 @@ asking-then h h2 f g a b c x y = λ w.
     both true c x y = x
     both false c x y = y
 
--- a part that sends no frame and leaves the packets that wait: those at hand are gone
-pub quiet-asks : (hand : List AtHand) (s s2 : Scene) → s2.told.frames ≡ s.told.frames → s2.shown.kept ≡ s.shown.kept → known_of s2.shown ≡ known_of s.shown → NetsStay s.shown s2.shown → (AreWired s.shown → AreWired s2.shown)
-    → Ask-on hand nobody s s2
-quiet-asks hand s s2 frames kept known nets wired = λ w. record {
+-- a part that sends no frame and leaves the packets that wait
+pub record IsQuiet (s s2 : Scene) : Type 0 where
+  pub frames : s2.told.frames ≡ s.told.frames
+  pub notes : List Note
+  pub notes_are : s2.told.notes ≡ s.told.notes ++ notes
+  pub roots : (p : Pair) → IsTranslated s2.shown.ledger.book.entries p → HasPair s.shown notes p
+  pub kept : s2.shown.kept ≡ s.shown.kept
+  pub known : known_of s2.shown ≡ known_of s.shown
+  pub nets : NetsStay s.shown s2.shown
+  pub wired : AreWired s.shown → AreWired s2.shown
+
+-- those at hand are gone
+pub quiet-asks : (hand : List AtHand) (s s2 : Scene) → IsQuiet s s2 → Ask-on hand nobody s s2
+quiet-asks hand s s2 q = λ w. record {
   asks = record {
     frames = [];
-    frames_are = frames ∙ sym (append-nil s.told.frames);
+    frames_are = q.frames ∙ sym (append-nil s.told.frames);
+    notes = q.notes;
+    notes_are = q.notes_are;
+    roots = q.roots;
     came = [];
-    kept_are = kept ∙ (sym (filter-all s.shown.kept) ∙ sym (append-nil (filter (λ (x : Waiting). true) s.shown.kept)));
+    kept_are = q.kept ∙ (sym (filter-all s.shown.kept) ∙ sym (append-nil (filter (λ (x : Waiting). true) s.shown.kept)));
     gone = hand ++ packets_of (filter nobody s.shown.kept);
     of_hand = IsPermutation-refl (hand ++ packets_of (filter nobody s.shown.kept));
     new = tt;
-    known = known;
+    known = q.known;
     others = refl;
-    nets = nets;
-    wired = wired w;
+    nets = q.nets;
+    wired = q.wired w;
   };
   hops = λ x hop. refl;
 }
 
-pub row-asks : (hand : List AtHand) (s : Scene) (row : Row) → Ask-on hand nobody s (by_row s row)
-row-asks hand s row = quiet-asks hand s (by_row s row) refl refl refl (refl, refl) (λ w. w)
+-- and that notes nothing and leaves the table
+pub quiet-by : (s s2 : Scene) → s2.told.frames ≡ s.told.frames → s2.told.notes ≡ s.told.notes → s2.shown.ledger.book.entries ≡ s.shown.ledger.book.entries → s2.shown.kept ≡ s.shown.kept → known_of s2.shown ≡ known_of s.shown
+    → NetsStay s.shown s2.shown → (AreWired s.shown → AreWired s2.shown) → IsQuiet s s2
+quiet-by s s2 frames notes entries kept known nets wired = record {
+  frames = frames;
+  notes = [];
+  notes_are = notes ∙ sym (append-nil s.told.notes);
+  roots = same-rooted s.shown.ledger.book.entries s2.shown.ledger.book.entries [] entries;
+  kept = kept;
+  known = known;
+  nets = nets;
+  wired = wired;
+}
+
+row-quiet : (s : Scene) (row : Row) → RowRoots s.shown.ledger.book row → IsQuiet s (by_row s row)
+row-quiet s row roots = record {
+  frames = refl;
+  notes = noted_by (id_of s.shown) s.shown.moment row.what;
+  notes_are = refl;
+  roots = roots (id_of s.shown) s.shown.moment;
+  kept = refl;
+  known = refl;
+  nets = (refl, refl);
+  wired = λ w. w;
+}
+
+nothing-quiet : (s : Scene) → IsQuiet s s
+nothing-quiet s = quiet-by s s refl refl refl refl refl (refl, refl) (λ w. w)
 
 pub nothing-asks : (hand : List AtHand) (s : Scene) → Ask-on hand nobody s s
-nothing-asks hand s = quiet-asks hand s s refl refl refl (refl, refl) (λ w. w)
+nothing-asks hand s = quiet-asks hand s s (nothing-quiet s)
 
-wanted-asks : (hand : List AtHand) (s : Scene) (e : Endpoint) → Ask-on hand nobody s (wanted_by s e)
-wanted-asks hand s e = row-asks hand s (wish_of s.shown.ledger.book (is_full s.shown.link) e).row
+wanted-quiet : (s : Scene) (e : Endpoint) → IsQuiet s (wanted_by s e)
+wanted-quiet s e =
+    let b = s.shown.ledger.book in
+    let full = is_full s.shown.link in
+    row-quiet s (wish_of b full e).row (wish-roots b full e)
 
-wanted-for-asks : (s : Scene) (flow : Flow) (by : Translation) → Ask-on [] nobody s (wanted_for s flow by)
-wanted-for-asks s flow (Outward p) = wanted-asks [] s (source_of flow)
-wanted-for-asks s flow (Inward p) = nothing-asks [] s
-wanted-for-asks s flow (Hairpin own other) = wanted-asks [] s (source_of flow)
+wanted-for-quiet : (s : Scene) (flow : Flow) (by : Translation) → IsQuiet s (wanted_for s flow by)
+wanted-for-quiet s flow (Outward p) = wanted-quiet s (source_of flow)
+wanted-for-quiet s flow (Inward p) = nothing-quiet s
+wanted-for-quiet s flow (Hairpin own other) = wanted-quiet s (source_of flow)
 
--- a packet is kept, and these frames are sent
-keeping-asks : (s s2 : Scene) (packet : Waiting) (frames : List Sent) → s2.told.frames ≡ s.told.frames ++ frames → s2.shown.kept ≡ s.shown.kept ++ packet ∷ [] → other_frames frames ≡ request_for s.shown packet.wait
-    → IsNew (known_of s2.shown) packet → known_of s2.shown ≡ known_of s.shown → NetsStay s.shown s2.shown → AreWired s2.shown → Asking (at_hand packet.side packet.bytes ∷ []) nobody s s2
-keeping-asks s s2 packet frames frames_are kept others new known nets wired = record {
+-- behind such a part a packet is kept, and these frames are sent
+keeping-asks : (s one s2 : Scene) (packet : Waiting) (frames : List Sent) → (q : IsQuiet s one) → s2.told.frames ≡ one.told.frames ++ frames → s2.told.notes ≡ one.told.notes → s2.shown.ledger.book.entries ≡ one.shown.ledger.book.entries
+    → s2.shown.kept ≡ one.shown.kept ++ packet ∷ [] → other_frames frames ≡ request_for s.shown packet.wait → IsNew (known_of s.shown) (HasPair s.shown q.notes) packet → known_of s2.shown ≡ known_of one.shown → NetsStay one.shown s2.shown
+    → (AreWired one.shown → AreWired s2.shown) → Ask-on (at_hand packet.side packet.bytes ∷ []) nobody s s2
+keeping-asks s one s2 packet frames q frames_are notes entries kept others new known nets wired = λ w. record {
   asks = record {
     frames = frames;
-    frames_are = frames_are;
+    frames_are = frames_are ∙ ap (λ (fs : List Sent). fs ++ frames) q.frames;
+    notes = q.notes;
+    notes_are = notes ∙ q.notes_are;
+    roots = λ p t. q.roots p (subst (λ (es : List Entry). IsTranslated es p) entries t);
     came = packet ∷ [];
-    kept_are = kept ∙ ap (λ (ws : List Waiting). ws ++ packet ∷ []) (sym (filter-all s.shown.kept));
+    kept_are = kept ∙ ap (λ (ws : List Waiting). ws ++ packet ∷ []) (q.kept ∙ sym (filter-all s.shown.kept));
     gone = packets_of (filter nobody s.shown.kept);
     of_hand = IsPermutation-refl (at_hand packet.side packet.bytes ∷ packets_of (filter nobody s.shown.kept));
-    new = (new, tt);
-    known = known;
+    new = (subst (λ (k : Known). IsNew k (HasPair s.shown q.notes) packet) (sym (known ∙ q.known)) new, tt);
+    known = known ∙ q.known;
     others = others ∙ sym (append-nil (request_for s.shown packet.wait));
-    nets = nets;
-    wired = wired;
+    nets = (nets.0 ∙ q.nets.0, nets.1 ∙ q.nets.1);
+    wired = wired (q.wired w);
   };
   hops = λ x hop. refl;
 }
 
 -- ---- one packet
-
-wanted-nets : (s : Scene) (flow : Flow) (by : Translation) → NetsStay s.shown (wanted_for s flow by).shown
-wanted-nets s flow (Outward p) = (refl, refl)
-wanted-nets s flow (Inward p) = (refl, refl)
-wanted-nets s flow (Hairpin own other) = (refl, refl)
 
 -- the frame of a packet that is sent on is a translation
 sent-asks : (s : Scene) (side : Side) (flow : Flow) (bytes : List ℕ) (by : Translation) (frame : List ℕ) → is_translation frame ≡ true
@@ -235,6 +318,9 @@ sent-asks s side flow bytes by frame is = λ w.
       asks = record {
         frames = x ∷ [];
         frames_are = c.frames;
+        notes = all_notes s.shown by;
+        notes_are = c.notes;
+        roots = λ p t. inl (subst (λ (b : Book). IsTranslated b.entries p) c.book t);
         came = [];
         kept_are = c.kept ∙ (sym (filter-all s.shown.kept) ∙ sym (append-nil (filter (λ (p : Waiting). true) s.shown.kept)));
         gone = hand ++ packets_of (filter nobody s.shown.kept);
@@ -260,13 +346,24 @@ record IsRead (g : Shown) (bytes : List ℕ) (flow : Flow) : Type 0 where
   passes : IsForwardable bytes
   flow_is : flow ≡ flow_in bytes
 
-asked-by : (g : Shown) (side : Side) (bytes : List ℕ) (flow : Flow) (by : Translation) (hop : Ip) → IsRead g bytes flow → IsAsked g side flow by hop → IsAskedBy (known_of g) bytes side by (exit_by by) hop
-asked-by g side bytes flow by hop read asked =
+target-there : (g : Shown) (flow : Flow) (p : Pair) (notes : List Note) → is_synced g.ledger.book.stage ≡ true → target_pair g flow ≡ Ok p → HasPair g notes p
+target-there g flow p notes synced is =
+    let t = (target-translates g flow p synced is).0 in
+    inl (record { entry = t.entry; found = t.found; pair = t.pair; translates = t.live })
+
+targets-there : (g : Shown) (flow : Flow) (by : Translation) (notes : List Note) → is_synced g.ledger.book.stage ≡ true → AreFound g flow by → AllByRecursion (HasPair g notes) (targets by)
+targets-there g flow (Outward p) notes synced found = tt
+targets-there g flow (Inward p) notes synced found = (target-there g flow p notes synced found, tt)
+targets-there g flow (Hairpin own other) notes synced found = (target-there g flow other notes synced found.1, tt)
+
+asked-by : (g : Shown) (side : Side) (bytes : List ℕ) (flow : Flow) (by : Translation) (hop : Ip) (notes : List Note) → IsRead g bytes flow → IsAsked g side flow by hop → IsAskedBy (known_of g) (HasPair g notes) bytes side by (exit_by by) hop
+asked-by g side bytes flow by hop notes read asked =
     let a = subst (λ (f : Flow). IsAsked g side f by hop) read.flow_is asked in
     let near = near_on (known_of g) (exit_by by) in
     record {
       way = a.way;
       pairs = its-pairs g (flow_in bytes) by read.synced a.pairs;
+      target = targets-there g (flow_in bytes) by notes read.synced a.pairs;
       exit_is = refl;
       hop = ap (λ (h : Ip). h.0) a.hop_is;
       unknown = ap (λ (h : Ip). mac_at h.0 g.moment near) a.hop_is ∙ ap (mac_at (hop_by g by (flow_in bytes)).0 g.moment) (near-is g (exit_by by)) ∙ a.unknown;
@@ -278,38 +375,34 @@ plan-asks frames s side bytes flow (Send by next) read plan says = λ w.
     let one = wanted_for s flow by in
     let planned = plan-sends s.shown side flow by next plan in
     let is = frames.sent s.shown.networks by next bytes w.0 (next-six s.shown flow by next w planned.next_is) read.passes in
-    asking-then [] (at_hand side bytes ∷ []) nobody nobody s one (by_plan s side bytes flow (Send by next)) (wanted-for-asks s flow by)
+    asking-then [] (at_hand side bytes ∷ []) nobody nobody s one (by_plan s side bytes flow (Send by next)) (quiet-asks [] s one (wanted-for-quiet s flow by))
     (sent-asks one side flow bytes by (sent_frame s.shown.networks by next bytes) is) w
 plan-asks frames s side bytes flow (Ask by hop) read plan says = λ w.
     let one = wanted_for s flow by in
+    let q = wanted-for-quiet s flow by in
     let exit = exit_by by in
     let network = (station_on s.shown exit).network in
-    let nets = wanted-nets s flow by in
-    let known = wanted-for-known s flow by in
-    let is = frames.request network hop (own-six s.shown w exit) in
     let x : Sent = record { side = exit; bytes = request_frame network hop } in
     let packet : Waiting = record { side = side; bytes = bytes; since = one.shown.moment; wait = wait.Hop exit hop } in
-    let others : other_frames (x ∷ []) ≡ request_for one.shown (wait.Hop exit hop) =
-    alone x is ∙ ap (λ (n : Network). let y : Sent = record { side = exit; bytes = request_frame n hop } in y ∷ []) (sym (net-stays s.shown one.shown nets exit)) in
-    let new : IsNew (known_of s.shown) packet = record { since = ap (λ (k : Known). k.moment) known; wait = (by, asked-by s.shown side bytes flow by hop read says) } in
-    asking-then [] (at_hand side bytes ∷ []) nobody nobody s one (by_plan s side bytes flow (Ask by hop)) (wanted-for-asks s flow by)
-    (λ v. keeping-asks one (by_plan s side bytes flow (Ask by hop)) packet (x ∷ []) refl refl others (subst (λ (k : Known). IsNew k packet) (sym known) new) refl (refl, refl) v) w
+    let new : IsNew (known_of s.shown) (HasPair s.shown q.notes) packet =
+    record { since = ap (λ (k : Known). k.moment) q.known; wait = (by, asked-by s.shown side bytes flow by hop q.notes read says) } in
+    keeping-asks s one (by_plan s side bytes flow (Ask by hop)) packet (x ∷ []) q refl refl refl refl (alone x (frames.request network hop (own-six s.shown w exit))) new refl (refl, refl) (λ v. v) w
   where
     alone : (x : Sent) → is_translation x.bytes ≡ false → other_frames (x ∷ []) ≡ x ∷ []
     alone x is = rw is refl
 plan-asks frames s side bytes flow (WaitFor e) read plan says =
     let one = wanted_by s e in
+    let q = wanted-quiet s e in
     let packet : Waiting = record { side = side; bytes = bytes; since = one.shown.moment; wait = wait.Pair e } in
-    let new : IsNew (known_of s.shown) packet = record { since = refl; wait = says.0 ∙ ap source_of read.flow_is } in
-    asking-then [] (at_hand side bytes ∷ []) nobody nobody s one (by_plan s side bytes flow (WaitFor e)) (wanted-asks [] s e)
-    (λ v. keeping-asks one (by_plan s side bytes flow (WaitFor e)) packet [] (sym (append-nil one.told.frames)) refl refl new refl (refl, refl) v)
+    let new : IsNew (known_of s.shown) (HasPair s.shown q.notes) packet = record { since = refl; wait = says.0 ∙ ap source_of read.flow_is } in
+    keeping-asks s one (by_plan s side bytes flow (WaitFor e)) packet [] q (sym (append-nil one.told.frames)) refl refl refl refl new refl (refl, refl) (λ v. v)
 
 flow-asks : Frames → (s : Scene) (side : Side) (bytes : List ℕ) (flow : Flow) → IsRead s.shown bytes flow → Ask-on (at_hand side bytes ∷ []) nobody s (flow_taken s side bytes flow)
 flow-asks frames s side bytes flow read = at (plan_of s.shown side flow) refl (plan-says s.shown side flow)
   where
     at : (r : Result Plan Reason) → plan_of s.shown side flow ≡ r → PlanSays s.shown side flow r → Ask-on (at_hand side bytes ∷ []) nobody s (by_verdict s side bytes flow r)
     at (Ok plan) is says = plan-asks frames s side bytes flow plan read is says
-    at (Err reason) is says = refusal-leaves (λ x. Ask-on (at_hand side bytes ∷ []) nobody s x) s flow reason (nothing-asks (at_hand side bytes ∷ []) s) (wanted-asks (at_hand side bytes ∷ []) s (source_of flow))
+    at (Err reason) is says = refusal-leaves (λ x. Ask-on (at_hand side bytes ∷ []) nobody s x) s flow reason (nothing-asks (at_hand side bytes ∷ []) s) (quiet-asks (at_hand side bytes ∷ []) s (wanted_by s (source_of flow)) (wanted-quiet s (source_of flow)))
 
 pub packet-asks : Frames → (s : Scene) (side : Side) (bytes : List ℕ) (flow : Flow) → reading_on s.shown side bytes ≡ Ok (Packet flow) → Ask-on (at_hand side bytes ∷ []) nobody s (flow_taken s side bytes flow)
 packet-asks frames s side bytes flow is =
@@ -341,6 +434,9 @@ released-asks frames s ended w =
     record {
       frames = x.frames;
       frames_are = x.frames_are;
+      notes = x.notes;
+      notes_are = x.notes_are;
+      roots = x.roots;
       came = x.came;
       kept_are = x.kept_are ∙ ap (λ (ws : List Waiting). ws ++ x.came) (filter-all left);
       gone = x.gone;
@@ -357,6 +453,9 @@ pub asks-beside : (x : AtHand) (h : List AtHand) (over : Waiting → Bool) (s s2
 asks-beside x h over s s2 a = record {
   frames = a.frames;
   frames_are = a.frames_are;
+  notes = a.notes;
+  notes_are = a.notes_are;
+  roots = a.roots;
   came = a.came;
   kept_are = a.kept_are;
   gone = x ∷ a.gone;

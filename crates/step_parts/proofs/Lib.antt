@@ -14,6 +14,7 @@ pub mod Passing
 pub mod Places
 pub mod Records
 pub mod Resting
+pub mod Rooting
 pub mod Saying
 pub mod Sending
 pub mod Sends

@@ -1,13 +1,17 @@
 -- The other frames of a step, whose packet wasn't translated: an answer to an ARP request, requests for next hops, and the
 -- frames of the routers' actions.
-use Rattle.std.specs.Prelude.{◌≡◌, ℕ, Bool, false, not, ◌&&◌, ◌||◌, Option, Some, None, Result, Ok, Err, List, [], ◌∷◌, ◌++◌, map, if◌then◌else◌}
+use Rattle.std.specs.Prelude.{◌≡◌, ◌⊎◌, ℕ, Bool, false, not, ◌&&◌, ◌||◌, Option, Some, None, Result, Ok, Err, List, [], ◌∷◌, ◌++◌, map, if◌then◌else◌}
 use Rattle.std.specs.List.{AllByRecursion, filter, flat_map}
 use Rattle.std.specs.List.Sorted.{IsPermutation}
 use Rattle.addresses.specs.declared.ethernet.Mac.{Mac}
 use Rattle.addresses.specs.declared.internet.Ip.{Ip}
 use Rattle.nat_types.specs.declared.gateways.Side.{Side}
 use Rattle.nat_types.specs.declared.gateways.Side.TheVariants.{Inside, Outside}
+use Rattle.nat_types.specs.declared.notes.Happening.{Happening}
+use Rattle.nat_types.specs.declared.notes.Happening.TheVariants.{Used, Released, Retaken, Synced, Crashed, Booted}
+use Rattle.nat_types.specs.declared.notes.Note.{Note}
 use Rattle.nat_types.specs.declared.pairs.Endpoint.{Endpoint}
+use Rattle.nat_types.specs.declared.pairs.Pair.{Pair}
 use Rattle.nat_types.specs.declared.records.Record.{Record}
 use Rattle.arp.specs.declared.packets.ArpPacket.{ArpPacket}
 use Rattle.arp.specs.Neighbours.{mac_at}
@@ -17,15 +21,18 @@ use Rattle.link.specs.Link.{after_take, is_restart, records_taken, refusal}
 use Rattle.link.specs.Reading.{reading}
 use Rattle.binding_step.specs.Ledgers.{rests_for}
 use Rattle.binding_step.specs.Rows.{taken_ended}
+use Rattle.binding_step.specs.Uses.{IsTranslated}
 use Rattle.kept.specs.declared.waits.Ended.TheVariants.{AllPairs, One}
 use Rattle.kept.specs.declared.waits.Wait.{Wait}
-use Rattle.kept.specs.declared.waits.Wait.TheVariants.{Hop, Pair}
+use Rattle.kept.specs.declared.waits.Wait.TheVariants as wait
 use Rattle.kept.specs.Packets.{Waiting, is_young}
 use Rattle.kept.specs.Waits.{ends}
 use Rattle.packet_rules.specs.declared.readings.Reading.{Reading}
 use Rattle.packet_rules.specs.declared.readings.Reading.TheVariants.{Arp, Advert, Packet}
 use Rattle.packet_rules.specs.declared.reasons.Reason.{Reason}
 use Rattle.packet_rules.specs.declared.translations.Translation.{Translation}
+use Rattle.packet_rules.specs.declared.translations.Translation.TheVariants.{Outward, Inward, Hairpin}
+use Rattle.pair_machine.specs.Box.{In}
 use Rattle.packet_rules.specs.Arping.{answer_frame, answer_to, is_learnable, request_frame}
 use Rattle.packet_rules.specs.Flows.{flow_in, source_of}
 use Rattle.packet_rules.specs.Frames.{hop_of, is_translation, way_of}
@@ -88,8 +95,8 @@ Owes g (PeerOff n) own = own ≡ []
 
 -- the request for a next hop
 abbrev pub request_for : Shown → Wait → List Sent
-request_for g (Hop side host) = record { side = side; bytes = request_frame (station_on g side).network host } ∷ []
-request_for g (Pair endpoint) = []
+request_for g (wait.Hop side host) = record { side = side; bytes = request_frame (station_on g side).network host } ∷ []
+request_for g (wait.Pair endpoint) = []
 
 abbrev pub requests : Shown → List Waiting → List Sent
 requests g waiting = flat_map (λ w. request_for g w.wait) waiting
@@ -98,7 +105,7 @@ requests g waiting = flat_map (λ w. request_for g w.wait) waiting
 
 -- an ARP packet: those that wait for its sender, where that may be learnt
 abbrev pub frees_as : Shown → Side → Result Reading Reason → Waiting → Bool
-frees_as g side (Ok (Arp p)) w = is_learnable (station_on g side).network p && ends (One (Hop side p.sender_ip)) w.wait
+frees_as g side (Ok (Arp p)) w = is_learnable (station_on g side).network p && ends (One (wait.Hop side p.sender_ip)) w.wait
 frees_as g side (Ok (Advert a from)) w = false
 frees_as g side (Ok (Packet flow)) w = false
 frees_as g side (Err reason) w = false
@@ -106,7 +113,7 @@ frees_as g side (Err reason) w = false
 -- a record: those that wait for the pair of the endpoint that it answers
 abbrev pub frees_for : Option Endpoint → Waiting → Bool
 frees_for None w = false
-frees_for (Some e) w = ends (One (Pair e)) w.wait
+frees_for (Some e) w = ends (One (wait.Pair e)) w.wait
 
 -- records, one after another
 abbrev pub free_by : Scene → List Record → Waiting → Bool
@@ -148,25 +155,48 @@ is_old g (PeerOff n) w = false
 
 -- ---- the packets that come to wait
 
--- The host is the packet's next hop at this side: the packet goes the way that the rules say, by its pairs, and no hardware
--- address is known for that host.
-pub record IsAskedBy (k : Known) (bytes : List ℕ) (side : Side) (by : Translation) (exit : Side) (host : Ip) : Type 0 where
+-- the pair that was taken up, if the note says so
+abbrev pub retaken_in : Happening → List Pair
+retaken_in (Used pair) = []
+retaken_in (Released pair) = []
+retaken_in (Retaken pair) = pair ∷ []
+retaken_in Synced = []
+retaken_in Crashed = []
+retaken_in (Booted number) = []
+
+abbrev pub retaken_pairs : List Note → List Pair
+retaken_pairs notes = flat_map (λ note. retaken_in note.what) notes
+
+-- the gateway translated by the pair, or has taken it up since, as these notes say
+abbrev pub HasPair : Shown → List Note → Pair → Type 0
+HasPair g notes pair = IsTranslated g.ledger.book.entries pair ⊎ In pair (retaken_pairs notes)
+
+-- the pair of the port that a packet goes to
+abbrev pub targets : Translation → List Pair
+targets (Outward pair) = []
+targets (Inward pair) = pair ∷ []
+targets (Hairpin own other) = other ∷ []
+
+-- The host is the packet's next hop at this side: the packet goes the way that the rules say, by its pairs, of which the
+-- gateway has that of the port that it goes to; and no hardware address is known for that host.
+pub record IsAskedBy (k : Known) (has : Pair → Type 0) (bytes : List ℕ) (side : Side) (by : Translation) (exit : Side) (host : Ip) : Type 0 where
   pub way : let flow = flow_in bytes in
       direction_of k.networks side flow.source.0 flow.destination.0 ≡ Ok (way_of by)
   pub pairs : AreItsPairs (flow_in bytes) by
+  pub target : AllByRecursion has (targets by)
   pub exit_is : exit ≡ exit_by by
   pub hop : host.0 ≡ hop_of k.networks by (flow_in bytes).destination.0
   pub unknown : mac_at host.0 k.moment (near_on k exit) ≡ None
 
 -- a packet waits for the pair of its own endpoint, or for its own next hop
-abbrev pub IsItsWait : Known → List ℕ → Side → Wait → Type 0
-IsItsWait k bytes side (Pair e) = e ≡ source_of (flow_in bytes)
-IsItsWait k bytes side (Hop exit host) = (by : Translation) × IsAskedBy k bytes side by exit host
+abbrev pub IsItsWait : Known → (Pair → Type 0) → List ℕ → Side → Wait → Type 0
+IsItsWait k has bytes side (wait.Pair e) = e ≡ source_of (flow_in bytes)
+IsItsWait k has bytes side (wait.Hop exit host) = (by : Translation) × IsAskedBy k has bytes side by exit host
 
 -- it does so since now
-pub record IsNew (k : Known) (w : Waiting) : Type 0 where
+pub record IsNew (k : Known) (has : Pair → Type 0) (w : Waiting) : Type 0 where
   pub since : w.since ≡ k.moment
-  pub wait : IsItsWait k w.bytes w.side w.wait
+  pub wait : IsItsWait k has w.bytes w.side w.wait
 
 -- The other frames in their order: what the event has the gateway send by itself, then a request for each packet that comes
 -- to wait for its next hop. The packets that waited before still do, but for those whose wait the event ends and for old
@@ -175,11 +205,13 @@ pub record IsNew (k : Known) (w : Waiting) : Type 0 where
 pub record AreOthers (s : Scene) (event : Event) (s2 : Scene) : Type 0 where
   pub frames : List Sent
   pub frames_are : s2.told.frames ≡ s.told.frames ++ frames
+  pub notes : List Note
+  pub notes_are : s2.told.notes ≡ s.told.notes ++ notes
   pub own : List Sent
   pub owed : Owes s.shown event own
   pub came : List Waiting
   pub kept_are : s2.shown.kept ≡ filter (λ w. not (is_old s.shown event w || is_freed s event w)) s.shown.kept ++ came
   pub gone : List AtHand
   pub of_hand : IsPermutation (hand_of event ++ packets_of (filter (is_freed s event) s.shown.kept)) (packets_of came ++ gone)
-  pub new : AllByRecursion (IsNew (known_of s2.shown)) came
+  pub new : AllByRecursion (IsNew (known_of s2.shown) (HasPair s.shown notes)) came
   pub others : other_frames frames ≡ own ++ requests s.shown came

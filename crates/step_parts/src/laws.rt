@@ -64,10 +64,10 @@ pub fn steps_tell()
 
 /// All other frames of a step are, in their order: an answer to the ARP request that came in, or the
 /// frames of the routers' actions; then a request for each packet that comes to wait for its next
-/// hop.
+/// hop. It says which packets wait on, which may come to wait, and for which host each asks.
 pub fn other_frames()
-    ensures { (s : Scene) (event : Event) (s2 : Scene) → IsStepOn s event s2 → AreWired s.shown
-        → AreOthers s event s2 }
+    ensures { (s : Scene) (event : Event) (s2 : Scene) → IsStepOn s event s2
+        → IsBook s.shown.ledger.book → AreWired s.shown → AreOthers s event s2 }
 {
     readings_law();
     frames_law();
