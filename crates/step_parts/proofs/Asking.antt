@@ -13,12 +13,12 @@ use Rattle.nat_types.specs.declared.pairs.Endpoint.{Endpoint}
 use Rattle.nat_types.specs.declared.pairs.Pair.{Pair}
 use Rattle.arp.specs.Neighbours.{mac_at}
 use Rattle.ipv4.specs.declared.flows.Flow.{Flow}
-use Rattle.binding_step.specs.declared.changes.Row.{Row}
 use Rattle.bindings.specs.declared.entries.Entry.{Entry}
+use Rattle.pair_machine.specs.Box.{In}
+use Rattle.binding_step.specs.declared.changes.Row.{Row}
 use Rattle.binding_step.specs.Books.{Book, is_synced}
 use Rattle.binding_step.specs.Rows.{is_full, noted_by, wish_of}
 use Rattle.binding_step.specs.Uses.{IsTranslated}
-use Rattle.pair_machine.specs.Box.{In}
 use Rattle.kept.specs.declared.waits.Ended.{Ended}
 use Rattle.kept.specs.declared.waits.Ended.TheVariants.{AllPairs, One}
 use Rattle.kept.specs.declared.waits.Wait.{Wait}
@@ -39,13 +39,13 @@ use Rattle.sides.specs.Stations.{is_active}
 use Rattle.told.specs.Told.{Sent}
 use Rattle.step_parts.specs.declared.plans.Plan.{Plan}
 use Rattle.step_parts.specs.declared.plans.Plan.TheVariants.{Send, Ask, Wait as WaitFor}
-use Rattle.step_parts.specs.Others.{HasPair, IsAskedBy, IsItsWait, IsNew, other_frames, request_for, requests, retaken_pairs, targets}
+use Rattle.step_parts.specs.Others.{MayGoBy, IsAskedBy, IsItsWait, IsNew, other_frames, request_for, requests, retaken_pairs, targets}
 use Rattle.step_parts.specs.Parts.{all_taken, by_plan, by_row, by_verdict, carried_all, flags_in, flow_taken, framed, released, retaken_by, taken_again, wanted_by, wanted_for}
 use Rattle.step_parts.specs.Shown.{Scene, Shown, id_of, is_up, scene, station_on}
 use Rattle.step_parts.specs.Truly.{AreItsPairs, AreWired, AtHand, Known, known_of, near_on, packets_of}
 use Rattle.step_parts.specs.Verdict.{exit_by, hop_by, plan_of, reading_on, target_pair}
 use Rattle.step_parts.proofs.Asked.{IsAsked, PlanSays, plan-says}
-use Rattle.step_parts.proofs.Freeing.{Comes-of, comes-beside, comes-off, comes-then, filter-all, filter-left}
+use Rattle.step_parts.proofs.Freeing.{Comes-of, comes-off, comes-then, filter-all, filter-left}
 use Rattle.step_parts.proofs.Packets.{refusal-leaves}
 use Rattle.step_parts.proofs.Rooting.{RowRoots, in-left, in-right, retaken-join, same-rooted, wish-roots}
 use Rattle.step_parts.proofs.Saying.{reading-synced}
@@ -85,12 +85,12 @@ pub record Asks (hand : List AtHand) (over : Waiting → Bool) (s s2 : Scene) : 
   pub frames_are : s2.told.frames ≡ s.told.frames ++ frames
   pub notes : List Note
   pub notes_are : s2.told.notes ≡ s.told.notes ++ notes
-  pub roots : (p : Pair) → IsTranslated s2.shown.ledger.book.entries p → HasPair s.shown notes p
+  pub roots : (p : Pair) → IsTranslated s2.shown.ledger.book.entries p → MayGoBy s.shown notes p
   pub came : List Waiting
   pub kept_are : s2.shown.kept ≡ filter (λ w. not (over w)) s.shown.kept ++ came
   pub gone : List AtHand
   pub of_hand : Comes-of hand (filter over s.shown.kept) came gone
-  pub new : AllByRecursion (IsNew (known_of s2.shown) (HasPair s.shown notes)) came
+  pub new : AllByRecursion (IsNew (known_of s2.shown) (MayGoBy s.shown notes)) came
   pub known : known_of s2.shown ≡ known_of s.shown
   pub others : other_frames frames ≡ requests s.shown came
   pub nets : NetsStay s.shown s2.shown
@@ -131,12 +131,12 @@ requests-left g f hops (w ∷ ws) = at (f w) refl (requests-left g f hops ws)
 
 -- ---- the pairs that a gateway has
 
-has-more : (g : Shown) (ns ms : List Note) (p : Pair) → HasPair g ns p → HasPair g (ns ++ ms) p
+has-more : (g : Shown) (ns ms : List Note) (p : Pair) → MayGoBy g ns p → MayGoBy g (ns ++ ms) p
 has-more g ns ms p (inl t) = inl t
 has-more g ns ms p (inr i) = inr (subst (λ (ps : List Pair). In p ps) (sym (retaken-join ns ms)) (in-left p (retaken_pairs ns) (retaken_pairs ms) i))
 
 -- one that it has after a part, with what that part notes
-has-then : (g g2 : Shown) (ns ms : List Note) → ((p : Pair) → IsTranslated g2.ledger.book.entries p → HasPair g ns p) → (p : Pair) → HasPair g2 ms p → HasPair g (ns ++ ms) p
+has-then : (g g2 : Shown) (ns ms : List Note) → ((p : Pair) → IsTranslated g2.ledger.book.entries p → MayGoBy g ns p) → (p : Pair) → MayGoBy g2 ms p → MayGoBy g (ns ++ ms) p
 has-then g g2 ns ms roots p (inl t) = has-more g ns ms p (roots p t)
 has-then g g2 ns ms roots p (inr i) = inr (subst (λ (ps : List Pair). In p ps) (sym (retaken-join ns ms)) (in-right p (retaken_pairs ns) (retaken_pairs ms) i))
 
@@ -146,15 +146,15 @@ module _ (k : Known) (P Q : Pair → Type 0) (more : (p : Pair) → P p → Q p)
   targets-more (Inward p) all = (more p all.0, tt)
   targets-more (Hairpin own other) all = (more other all.0, tt)
 
-  wait-more : (bytes : List ℕ) (side : Side) (w : Wait) → IsItsWait k P bytes side w → IsItsWait k Q bytes side w
-  wait-more bytes side (wait.Pair e) is = is
-  wait-more bytes side (wait.Hop exit host) is =
+  wait-more : (packet : AtHand) (w : Wait) → IsItsWait k P packet w → IsItsWait k Q packet w
+  wait-more packet (wait.Pair e) is = is
+  wait-more packet (wait.Hop exit host) is =
       let a = is.1 in
       (is.0, record { way = a.way; pairs = a.pairs; target = targets-more is.0 a.target; exit_is = a.exit_is; hop = a.hop; unknown = a.unknown })
 
   pub new-more : (ws : List Waiting) → AllByRecursion (IsNew k P) ws → AllByRecursion (IsNew k Q) ws
   new-more [] all = tt
-  new-more (w ∷ ws) all = (record { since = all.0.since; wait = wait-more w.bytes w.side w.wait all.0.wait }, new-more ws all.1)
+  new-more (w ∷ ws) all = (record { since = all.0.since; wait = wait-more (at_hand w.side w.bytes) w.wait all.0.wait }, new-more ws all.1)
 
 -- ---- one part behind the other
 
@@ -164,7 +164,7 @@ asks-then h h2 f g a b c x y =
     let old = filter (λ (w : Waiting). not (f w)) a.shown.kept in
     let stays = λ (w : Waiting). not (g w) in
     let left = filter stays x.came in
-    let has = HasPair a.shown (x.notes ++ z.notes) in
+    let has = MayGoBy a.shown (x.notes ++ z.notes) in
     let then_has = has-then a.shown b.shown x.notes z.notes x.roots in
     record {
       frames = x.frames ++ z.frames;
@@ -182,9 +182,9 @@ asks-then h h2 f g a b c x y =
           (subst (λ (ws : List Waiting). Comes-of h2 (filter g ws) z.came z.gone) x.kept_are z.of_hand);
       new = all-append (IsNew (known_of c.shown) has) left z.came
           (all-filter (IsNew (known_of c.shown) has) stays x.came
-          (new-more (known_of c.shown) (HasPair a.shown x.notes) has (has-more a.shown x.notes z.notes) x.came
-          (subst (λ (k : Known). AllByRecursion (IsNew k (HasPair a.shown x.notes)) x.came) (sym z.known) x.new)))
-          (new-more (known_of c.shown) (HasPair b.shown z.notes) has then_has z.came z.new);
+          (new-more (known_of c.shown) (MayGoBy a.shown x.notes) has (has-more a.shown x.notes z.notes) x.came
+          (subst (λ (k : Known). AllByRecursion (IsNew k (MayGoBy a.shown x.notes)) x.came) (sym z.known) x.new)))
+          (new-more (known_of c.shown) (MayGoBy b.shown z.notes) has then_has z.came z.new);
       known = z.known ∙ x.known;
       others = filter-append (λ (f : Sent). not (is_translation f.bytes)) x.frames z.frames
           ∙ ap (λ (fs : List Sent). fs ++ other_frames z.frames) x.others
@@ -210,7 +210,7 @@ pub record IsQuiet (s s2 : Scene) : Type 0 where
   pub frames : s2.told.frames ≡ s.told.frames
   pub notes : List Note
   pub notes_are : s2.told.notes ≡ s.told.notes ++ notes
-  pub roots : (p : Pair) → IsTranslated s2.shown.ledger.book.entries p → HasPair s.shown notes p
+  pub roots : (p : Pair) → IsTranslated s2.shown.ledger.book.entries p → MayGoBy s.shown notes p
   pub kept : s2.shown.kept ≡ s.shown.kept
   pub known : known_of s2.shown ≡ known_of s.shown
   pub nets : NetsStay s.shown s2.shown
@@ -283,7 +283,7 @@ wanted-for-quiet s flow (Hairpin own other) = wanted-quiet s (source_of flow)
 
 -- behind such a part a packet is kept, and these frames are sent
 keeping-asks : (s one s2 : Scene) (packet : Waiting) (frames : List Sent) → (q : IsQuiet s one) → s2.told.frames ≡ one.told.frames ++ frames → s2.told.notes ≡ one.told.notes → s2.shown.ledger.book.entries ≡ one.shown.ledger.book.entries
-    → s2.shown.kept ≡ one.shown.kept ++ packet ∷ [] → other_frames frames ≡ request_for s.shown packet.wait → IsNew (known_of s.shown) (HasPair s.shown q.notes) packet → known_of s2.shown ≡ known_of one.shown → NetsStay one.shown s2.shown
+    → s2.shown.kept ≡ one.shown.kept ++ packet ∷ [] → other_frames frames ≡ request_for s.shown packet.wait → IsNew (known_of s.shown) (MayGoBy s.shown q.notes) packet → known_of s2.shown ≡ known_of one.shown → NetsStay one.shown s2.shown
     → (AreWired one.shown → AreWired s2.shown) → Ask-on (at_hand packet.side packet.bytes ∷ []) nobody s s2
 keeping-asks s one s2 packet frames q frames_are notes entries kept others new known nets wired = λ w. record {
   asks = record {
@@ -296,7 +296,7 @@ keeping-asks s one s2 packet frames q frames_are notes entries kept others new k
     kept_are = kept ∙ ap (λ (ws : List Waiting). ws ++ packet ∷ []) (q.kept ∙ sym (filter-all s.shown.kept));
     gone = packets_of (filter nobody s.shown.kept);
     of_hand = IsPermutation-refl (at_hand packet.side packet.bytes ∷ packets_of (filter nobody s.shown.kept));
-    new = (subst (λ (k : Known). IsNew k (HasPair s.shown q.notes) packet) (sym (known ∙ q.known)) new, tt);
+    new = (subst (λ (k : Known). IsNew k (MayGoBy s.shown q.notes) packet) (sym (known ∙ q.known)) new, tt);
     known = known ∙ q.known;
     others = others ∙ sym (append-nil (request_for s.shown packet.wait));
     nets = (nets.0 ∙ q.nets.0, nets.1 ∙ q.nets.1);
@@ -346,17 +346,17 @@ record IsRead (g : Shown) (bytes : List ℕ) (flow : Flow) : Type 0 where
   passes : IsForwardable bytes
   flow_is : flow ≡ flow_in bytes
 
-target-there : (g : Shown) (flow : Flow) (p : Pair) (notes : List Note) → is_synced g.ledger.book.stage ≡ true → target_pair g flow ≡ Ok p → HasPair g notes p
+target-there : (g : Shown) (flow : Flow) (p : Pair) (notes : List Note) → is_synced g.ledger.book.stage ≡ true → target_pair g flow ≡ Ok p → MayGoBy g notes p
 target-there g flow p notes synced is =
     let t = (target-translates g flow p synced is).0 in
     inl (record { entry = t.entry; found = t.found; pair = t.pair; translates = t.live })
 
-targets-there : (g : Shown) (flow : Flow) (by : Translation) (notes : List Note) → is_synced g.ledger.book.stage ≡ true → AreFound g flow by → AllByRecursion (HasPair g notes) (targets by)
+targets-there : (g : Shown) (flow : Flow) (by : Translation) (notes : List Note) → is_synced g.ledger.book.stage ≡ true → AreFound g flow by → AllByRecursion (MayGoBy g notes) (targets by)
 targets-there g flow (Outward p) notes synced found = tt
 targets-there g flow (Inward p) notes synced found = (target-there g flow p notes synced found, tt)
 targets-there g flow (Hairpin own other) notes synced found = (target-there g flow other notes synced found.1, tt)
 
-asked-by : (g : Shown) (side : Side) (bytes : List ℕ) (flow : Flow) (by : Translation) (hop : Ip) (notes : List Note) → IsRead g bytes flow → IsAsked g side flow by hop → IsAskedBy (known_of g) (HasPair g notes) bytes side by (exit_by by) hop
+asked-by : (g : Shown) (side : Side) (bytes : List ℕ) (flow : Flow) (by : Translation) (hop : Ip) (notes : List Note) → IsRead g bytes flow → IsAsked g side flow by hop → IsAskedBy (known_of g) (MayGoBy g notes) (at_hand side bytes) by (exit_by by) hop
 asked-by g side bytes flow by hop notes read asked =
     let a = subst (λ (f : Flow). IsAsked g side f by hop) read.flow_is asked in
     let near = near_on (known_of g) (exit_by by) in
@@ -384,7 +384,7 @@ plan-asks frames s side bytes flow (Ask by hop) read plan says = λ w.
     let network = (station_on s.shown exit).network in
     let x : Sent = record { side = exit; bytes = request_frame network hop } in
     let packet : Waiting = record { side = side; bytes = bytes; since = one.shown.moment; wait = wait.Hop exit hop } in
-    let new : IsNew (known_of s.shown) (HasPair s.shown q.notes) packet =
+    let new : IsNew (known_of s.shown) (MayGoBy s.shown q.notes) packet =
     record { since = ap (λ (k : Known). k.moment) q.known; wait = (by, asked-by s.shown side bytes flow by hop q.notes read says) } in
     keeping-asks s one (by_plan s side bytes flow (Ask by hop)) packet (x ∷ []) q refl refl refl refl (alone x (frames.request network hop (own-six s.shown w exit))) new refl (refl, refl) (λ v. v) w
   where
@@ -394,7 +394,7 @@ plan-asks frames s side bytes flow (WaitFor e) read plan says =
     let one = wanted_by s e in
     let q = wanted-quiet s e in
     let packet : Waiting = record { side = side; bytes = bytes; since = one.shown.moment; wait = wait.Pair e } in
-    let new : IsNew (known_of s.shown) (HasPair s.shown q.notes) packet = record { since = refl; wait = says.0 ∙ ap source_of read.flow_is } in
+    let new : IsNew (known_of s.shown) (MayGoBy s.shown q.notes) packet = record { since = refl; wait = says.0 ∙ ap source_of read.flow_is } in
     keeping-asks s one (by_plan s side bytes flow (WaitFor e)) packet [] q (sym (append-nil one.told.frames)) refl refl refl refl new refl (refl, refl) (λ v. v)
 
 flow-asks : Frames → (s : Scene) (side : Side) (bytes : List ℕ) (flow : Flow) → IsRead s.shown bytes flow → Ask-on (at_hand side bytes ∷ []) nobody s (flow_taken s side bytes flow)
@@ -447,25 +447,6 @@ released-asks frames s ended w =
       nets = x.nets;
       wired = x.wired;
     }
-
--- one more at hand is gone
-pub asks-beside : (x : AtHand) (h : List AtHand) (over : Waiting → Bool) (s s2 : Scene) → Asks h over s s2 → Asks (x ∷ h) over s s2
-asks-beside x h over s s2 a = record {
-  frames = a.frames;
-  frames_are = a.frames_are;
-  notes = a.notes;
-  notes_are = a.notes_are;
-  roots = a.roots;
-  came = a.came;
-  kept_are = a.kept_are;
-  gone = x ∷ a.gone;
-  of_hand = comes-beside x h (filter over s.shown.kept) a.came a.gone a.of_hand;
-  new = a.new;
-  known = a.known;
-  others = a.others;
-  nets = a.nets;
-  wired = a.wired;
-}
 
 -- a wait for a pair is over
 pub pairs-ask : Frames → (s : Scene) (ended : Ended) → ((x : Wait) → is_for_pair x ≡ false → ends ended x ≡ false) → Ask-on [] (λ w. ends ended w.wait) s (released s ended)

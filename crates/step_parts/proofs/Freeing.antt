@@ -2,7 +2,7 @@
 use Rattle.std.proofs.Common.{◌≡◌, Bool, true, false, cond, not, ◌&&◌, ◌||◌, List, [], ◌∷◌, ◌++◌, filter, IsPermutation, refl, sym, ap, subst, ◌∙◌, append_assoc}
 use Rattle.std.proofs.lemmas.List.{append-nil, map-append}
 use Rattle.std.proofs.lemmas.List.Elements.{filter-append}
-use Rattle.std.proofs.lemmas.List.Sorted.{IsPermutation-append_comm, IsPermutation-append_left, IsPermutation-append_right, IsPermutation-filter_both, IsPermutation-map, IsPermutation-middle, IsPermutation-sym, IsPermutation-trans}
+use Rattle.std.proofs.lemmas.List.Sorted.{IsPermutation-append_comm, IsPermutation-append_left, IsPermutation-append_right, IsPermutation-filter_both, IsPermutation-map, IsPermutation-trans}
 use Rattle.kept.specs.Packets.{Waiting}
 use Rattle.step_parts.specs.Truly.{AtHand, packets_of}
 use Rattle.step_parts.proofs.Telling.{at_hand, swap-front}
@@ -115,11 +115,6 @@ comes-then f g old came came2 h h2 gone gone2 one two =
     let s6 = shuffled l gone (packets_of came2) gone2 in
     let all = IsPermutation-trans _ _ _ s1 (IsPermutation-trans _ _ _ s2 (IsPermutation-trans _ _ _ s3 (IsPermutation-trans _ _ _ s4 (IsPermutation-trans _ _ _ s5 s6)))) in
     subst (λ ps. IsPermutation ((h ++ h2) ++ packets_of (filter (λ w. f w || g w) old)) (ps ++ (gone ++ gone2))) (sym (map-append view (filter (λ w. not (g w)) came) came2)) all
-
--- one more at hand is gone
-pub comes-beside : (x : AtHand) (h : List AtHand) (freed came : List Waiting) (gone : List AtHand) → Comes-of h freed came gone → Comes-of (x ∷ h) freed came (x ∷ gone)
-comes-beside x h freed came gone is =
-    IsPermutation-trans _ _ _ (IsPermutation-append_right (x ∷ []) _ _ is) (IsPermutation-sym _ _ (IsPermutation-middle (packets_of came) x gone))
 
 -- those that were taken off a list first, and are at hand then
 pub comes-off : (freed old came : List Waiting) (gone : List AtHand) → Comes-of (packets_of freed) (filter (λ w. false) old) came gone → Comes-of [] freed came gone

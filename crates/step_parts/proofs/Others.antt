@@ -41,13 +41,13 @@ use Rattle.vrrp_states.specs.Table as table
 use Rattle.vrrp_states.specs.Table.{Event as RouterEvent}
 use Rattle.step_parts.specs.declared.events.Event.{Event}
 use Rattle.step_parts.specs.declared.events.Event.TheVariants.{Frame, Datagram as Comes, Tick, Stop, PeerOff}
-use Rattle.step_parts.specs.Others.{AreOfBoth, AreOthers, FrameOwes, HasPair, IsNew, Owes, answers_by, free_by, frees_as, frees_for, frees_heard, frees_read, frees_unless, is_freed, is_old, other_frames, requests, retaken_pairs, sent_on}
+use Rattle.step_parts.specs.Others.{AreOfBoth, AreOthers, FrameOwes, MayGoBy, IsNew, Owes, answers_by, free_by, frees_as, frees_for, frees_heard, frees_read, frees_unless, is_freed, is_old, other_frames, packet_as, packet_in, requests, retaken_pairs, sent_on}
 use Rattle.step_parts.specs.Parts.{acted, all_framed, all_idle_done, answered_by, arp_taken, datagram_in, datagram_read, datagram_taken, flow_taken, framed, handed_in, has_synced, heard_by, heard_unless, idle_done, idle_taken, link_answered, link_ticked, old_dropped, record_done, record_shown, record_told, records_done, released, reset, started, wait_ended, with_link, word_taken}
 use Rattle.step_parts.specs.Shown.{Scene, Shown, id_of, scene, station_on, with_notes, with_station}
 use Rattle.step_parts.specs.Steps.{BothAct, Does, FrameDoes, IsStepOn, RouterActs, clock_after, ended_on, stopped, ticked, word_by, word_refusal}
-use Rattle.step_parts.specs.Truly.{AreWired, AtHand, Known, hand_of, known_of, packets_of}
+use Rattle.step_parts.specs.Truly.{AreWired, AtHand, Known, known_of, packets_of}
 use Rattle.step_parts.specs.Verdict.{reading_on}
-use Rattle.step_parts.proofs.Asking.{Ask-on, Asks, NetsStay, all-apart, asking-then, IsQuiet, asks-beside, net-stays, nobody, nothing-asks, one-apart, packet-asks, pairs-ask, quiet-asks, quiet-by, released-asks, requests-same}
+use Rattle.step_parts.proofs.Asking.{Ask-on, Asks, NetsStay, all-apart, asking-then, IsQuiet, net-stays, nobody, nothing-asks, one-apart, packet-asks, pairs-ask, quiet-asks, quiet-by, released-asks, requests-same}
 use Rattle.step_parts.proofs.Freeing.{Comes-of, filter-same}
 use Rattle.step_parts.proofs.Rooting.{Rooted, alone-rooted, restart-rooted, taken-roots}
 use Rattle.step_parts.proofs.Sending.{Frames, own-six}
@@ -105,7 +105,7 @@ pub record Sends-others (owes : List Sent → Type 0) (hand : List AtHand) (over
   pub kept_are : s2.shown.kept ≡ filter (λ w. not (over w)) s.shown.kept ++ came
   pub gone : List AtHand
   pub of_hand : Comes-of hand (filter over s.shown.kept) came gone
-  pub new : AllByRecursion (IsNew (known_of s2.shown) (HasPair s.shown notes)) came
+  pub new : AllByRecursion (IsNew (known_of s2.shown) (MayGoBy s.shown notes)) came
   pub others : other_frames frames ≡ own ++ requests s.shown came
 
 others-then : (owes : List Sent → Type 0) (hand : List AtHand) (over : Waiting → Bool) (own : List Sent) (a b c : Scene) → owes own → Gives own a b → Asks hand over b c → Sends-others owes hand over a c
@@ -147,9 +147,9 @@ answered-gives frames s station side p (Some mac) six same w =
     (gives-one s side (answer_frame (station_on s.shown side).network p mac) (frames.answer (station_on s.shown side).network p mac (own-six s.shown w side) six) w)
 answered-gives frames s station side p None six same w = gives-nothing s s refl refl refl refl (refl, refl) w
 
-arp-others : Frames → (s : Scene) (hand : AtHand) (side : Side) (p : ArpPacket) → length p.sender_mac.0 ≡ 6 → AreWired s.shown
-    → Sends-others (FrameOwes s.shown side (Ok (Arp p))) (hand ∷ []) (frees_as s.shown side (Ok (Arp p))) s (arp_taken s side p)
-arp-others frames s hand side p six w =
+arp-others : Frames → (s : Scene) (side : Side) (p : ArpPacket) → length p.sender_mac.0 ≡ 6 → AreWired s.shown
+    → Sends-others (FrameOwes s.shown side (Ok (Arp p))) [] (frees_as s.shown side (Ok (Arp p))) s (arp_taken s side p)
+arp-others frames s side p six w =
     let station = station_on s.shown side in
     let after = after_arp station p s.shown.moment in
     let heard = scene (with_station s.shown side after) s.told in
@@ -158,12 +158,12 @@ arp-others frames s hand side p six w =
     let own = sent_on side (answers_by station p o) in
     let first = station-gives s side after (after-net station p s.shown.moment) (after-wired station p s.shown.moment six (wired-on s.shown w side)) w in
     let second = answered-gives frames heard station side p o six (net-stays s.shown heard.shown first.nets side) first.wired in
-    others-then (FrameOwes s.shown side (Ok (Arp p))) (hand ∷ []) (frees_as s.shown side (Ok (Arp p))) own s told (arp_taken s side p) refl
+    others-then (FrameOwes s.shown side (Ok (Arp p))) [] (frees_as s.shown side (Ok (Arp p))) own s told (arp_taken s side p) refl
     (gives-then [] own s heard told first second) (at (is_learnable station.network p) told second.wired)
   where
-    at : (b : Bool) (told : Scene) → AreWired told.shown → Asks (hand ∷ []) (λ w. b && ends (One (wait.Hop side p.sender_ip)) w.wait) told (let x : Scene = cond b (released told (One (wait.Hop side p.sender_ip))) told in x)
-    at true told v = asks-beside hand [] (λ w. ends (One (wait.Hop side p.sender_ip)) w.wait) told (released told (One (wait.Hop side p.sender_ip))) (released-asks frames told (One (wait.Hop side p.sender_ip)) v)
-    at false told v = (nothing-asks (hand ∷ []) told v).asks
+    at : (b : Bool) (told : Scene) → AreWired told.shown → Asks [] (λ w. b && ends (One (wait.Hop side p.sender_ip)) w.wait) told (let x : Scene = cond b (released told (One (wait.Hop side p.sender_ip))) told in x)
+    at true told v = released-asks frames told (One (wait.Hop side p.sender_ip)) v
+    at false told v = (nothing-asks [] told v).asks
 
 -- ---- routers
 
@@ -218,25 +218,25 @@ both-give frames s event s2 both w =
 -- ---- a frame
 
 frame-others : Frames → (s : Scene) (side : Side) (bytes : List ℕ) (r : Result Reading Reason) (s2 : Scene) → reading_on s.shown side bytes ≡ r → AreWired s.shown → FrameDoes s side bytes r s2
-    → Sends-others (FrameOwes s.shown side r) (at_hand side bytes ∷ []) (frees_as s.shown side r) s s2
+    → Sends-others (FrameOwes s.shown side r) (packet_as side bytes r) (frees_as s.shown side r) s s2
 frame-others frames s side bytes (Ok (Arp p)) s2 read w does =
     let at = station_on s.shown side in
     let six = frames.reads at.network (is_active at) _ bytes (Arp p) read in
-    subst (λ (x : Scene). Sends-others (FrameOwes s.shown side (Ok (Arp p))) (at_hand side bytes ∷ []) (frees_as s.shown side (Ok (Arp p))) s x) (sym does)
-    (arp-others frames s (at_hand side bytes) side p six w)
+    subst (λ (x : Scene). Sends-others (FrameOwes s.shown side (Ok (Arp p))) [] (frees_as s.shown side (Ok (Arp p))) s x) (sym does)
+    (arp-others frames s side p six w)
 frame-others frames s side bytes (Ok (Advert a from)) s2 read w does =
     let own = sent_on side (frames_of does.station does.action) in
     let gives = router-gives frames s side (table.Heard a.priority a.interval from.0) s2 does w in
-    others-then (FrameOwes s.shown side (Ok (Advert a from))) (at_hand side bytes ∷ []) (frees_as s.shown side (Ok (Advert a from))) own s s2 s2
-    (record { station = does.station; action = does.action; step = does.step; are = refl }) gives (nothing-asks (at_hand side bytes ∷ []) s2 gives.wired).asks
+    others-then (FrameOwes s.shown side (Ok (Advert a from))) [] (frees_as s.shown side (Ok (Advert a from))) own s s2 s2
+    (record { station = does.station; action = does.action; step = does.step; are = refl }) gives (nothing-asks [] s2 gives.wired).asks
 frame-others frames s side bytes (Ok (Packet flow)) s2 read w does =
     subst (λ (x : Scene). Sends-others (FrameOwes s.shown side (Ok (Packet flow))) (at_hand side bytes ∷ []) (frees_as s.shown side (Ok (Packet flow))) s x) (sym does)
     (others-then (FrameOwes s.shown side (Ok (Packet flow))) (at_hand side bytes ∷ []) (frees_as s.shown side (Ok (Packet flow))) [] s s (flow_taken s side bytes flow) refl
     (gives-nothing s s refl refl refl refl (refl, refl) w) (packet-asks frames s side bytes flow read w).asks)
 frame-others frames s side bytes (Err reason) s2 read w does =
-    subst (λ (x : Scene). Sends-others (FrameOwes s.shown side (Err reason)) (at_hand side bytes ∷ []) (frees_as s.shown side (Err reason)) s x) (sym does)
-    (others-then (FrameOwes s.shown side (Err reason)) (at_hand side bytes ∷ []) (frees_as s.shown side (Err reason)) [] s s s refl
-    (gives-nothing s s refl refl refl refl (refl, refl) w) (nothing-asks (at_hand side bytes ∷ []) s w).asks)
+    subst (λ (x : Scene). Sends-others (FrameOwes s.shown side (Err reason)) [] (frees_as s.shown side (Err reason)) s x) (sym does)
+    (others-then (FrameOwes s.shown side (Err reason)) [] (frees_as s.shown side (Err reason)) [] s s s refl
+    (gives-nothing s s refl refl refl refl (refl, refl) w) (nothing-asks [] s w).asks)
 
 -- ---- records
 
@@ -383,7 +383,7 @@ tick-others frames s now middle acts w =
 -- ---- an event's own parts
 
 -- an event at which packets don't become old
-others-at : (s : Scene) (event : Event) (done : Scene) → ((w : Waiting) → is_old s.shown event w ≡ false) → Sends-others (Owes s.shown event) (hand_of event) (is_freed s event) s done → AreOthers s event done
+others-at : (s : Scene) (event : Event) (done : Scene) → ((w : Waiting) → is_old s.shown event w ≡ false) → Sends-others (Owes s.shown event) (packet_in s.shown event) (is_freed s event) s done → AreOthers s event done
 others-at s event done young x = record {
   frames = x.frames;
   frames_are = x.frames_are;
@@ -402,8 +402,8 @@ others-at s event done young x = record {
 }
 
 -- one that has the gateway send nothing by itself
-asks-alone : (s : Scene) (event : Event) (done : Scene) → Owes s.shown event [] → AreWired s.shown → Asks (hand_of event) (is_freed s event) s done → Sends-others (Owes s.shown event) (hand_of event) (is_freed s event) s done
-asks-alone s event done owed w asks = others-then (Owes s.shown event) (hand_of event) (is_freed s event) [] s s done owed (gives-nothing s s refl refl refl refl (refl, refl) w) asks
+asks-alone : (s : Scene) (event : Event) (done : Scene) → Owes s.shown event [] → AreWired s.shown → Asks (packet_in s.shown event) (is_freed s event) s done → Sends-others (Owes s.shown event) (packet_in s.shown event) (is_freed s event) s done
+asks-alone s event done owed w asks = others-then (Owes s.shown event) (packet_in s.shown event) (is_freed s event) [] s s done owed (gives-nothing s s refl refl refl refl (refl, refl) w) asks
 
 does-others : Frames → (s : Scene) (event : Event) (done : Scene) → Does s event done → IsBook s.shown.ledger.book → AreWired s.shown → AreOthers s event done
 does-others frames s (Frame side bytes) done does is w =
@@ -443,7 +443,7 @@ others-end s event done end e x = record {
   kept_are = e.kept ∙ x.kept_are;
   gone = x.gone;
   of_hand = x.of_hand;
-  new = subst (λ (k : Known). AllByRecursion (IsNew k (HasPair s.shown x.notes)) x.came) (sym e.known) x.new;
+  new = subst (λ (k : Known). AllByRecursion (IsNew k (MayGoBy s.shown x.notes)) x.came) (sym e.known) x.new;
   others = x.others;
 }
 

@@ -23,9 +23,9 @@ use Rattle.bindings.specs.Revivals.{comes_back, revived_entries, woken}
 use Rattle.bindings.proofs.Edits.{slot-with_state, slot-without}
 use Rattle.bindings.proofs.Found.{none_from_is_none}
 use Rattle.bindings.proofs.Slots.{none-map, slot-put}
-use Rattle.pair_machine.specs.Box.{In}
 use Rattle.bindings.specs.Ports.{in_either}
 use Rattle.resync.specs.Loading.{Load, is_new, loaded, loaded_state, none_yet, names_run, where_, with_pair, with_run}
+use Rattle.pair_machine.specs.Box.{In}
 use Rattle.binding_step.specs.declared.changes.Change.TheVariants as change_of
 use Rattle.binding_step.specs.declared.changes.Change.TheVariants.{Add, Drop, Gain, Renew, Turn, Yield}
 use Rattle.binding_step.specs.declared.changes.Row.{Row}

@@ -11,8 +11,8 @@ use Rattle.nat_types.specs.declared.pairs.Key.{Key}
 use Rattle.nat_types.specs.declared.records.Record.{Record}
 use Rattle.settings.specs.declared.whole.Settings.{Settings}
 use Rattle.arp.specs.declared.packets.ArpPacket.{ArpPacket}
-use Rattle.bindings.specs.Lives.{idle_keys_in}
 use Rattle.ipv4.specs.declared.flows.Flow.{Flow}
+use Rattle.bindings.specs.Lives.{idle_keys_in}
 use Rattle.link.specs.declared.datagrams.Datagram.{Datagram}
 use Rattle.link.specs.declared.faults.LinkFault.{LinkFault}
 use Rattle.link.specs.Link.{after_take, is_due_on_tick, is_restart, is_time, records_taken, refusal, sent_on_tick}

@@ -19,6 +19,7 @@ use Rattle.link.specs.declared.datagrams.Datagram.{Datagram as Letters}
 use Rattle.link.specs.declared.faults.LinkFault.{LinkFault}
 use Rattle.link.specs.Link.{after_take, is_restart, records_taken, refusal}
 use Rattle.link.specs.Reading.{reading}
+use Rattle.pair_machine.specs.Box.{In}
 use Rattle.binding_step.specs.Ledgers.{rests_for}
 use Rattle.binding_step.specs.Rows.{taken_ended}
 use Rattle.binding_step.specs.Uses.{IsTranslated}
@@ -32,7 +33,6 @@ use Rattle.packet_rules.specs.declared.readings.Reading.TheVariants.{Arp, Advert
 use Rattle.packet_rules.specs.declared.reasons.Reason.{Reason}
 use Rattle.packet_rules.specs.declared.translations.Translation.{Translation}
 use Rattle.packet_rules.specs.declared.translations.Translation.TheVariants.{Outward, Inward, Hairpin}
-use Rattle.pair_machine.specs.Box.{In}
 use Rattle.packet_rules.specs.Arping.{answer_frame, answer_to, is_learnable, request_frame}
 use Rattle.packet_rules.specs.Flows.{flow_in, source_of}
 use Rattle.packet_rules.specs.Frames.{hop_of, is_translation, way_of}
@@ -47,7 +47,7 @@ use Rattle.step_parts.specs.declared.events.Event.TheVariants.{Frame, Datagram, 
 use Rattle.step_parts.specs.Parts.{record_done, reset, with_link}
 use Rattle.step_parts.specs.Shown.{Scene, Shown, station_on}
 use Rattle.step_parts.specs.Steps.{clock_after, word_refusal}
-use Rattle.step_parts.specs.Truly.{AreItsPairs, AtHand, Known, hand_of, known_of, near_on, packets_of}
+use Rattle.step_parts.specs.Truly.{AreItsPairs, AtHand, Known, known_of, near_on, packets_of}
 use Rattle.step_parts.specs.Verdict.{exit_by, reading_on}
 
 abbrev pub other_frames : List Sent → List Sent
@@ -155,6 +155,20 @@ is_old g (PeerOff n) w = false
 
 -- ---- the packets that come to wait
 
+-- the packet of an event, where the frame is read as one
+abbrev pub packet_as : Side → List ℕ → Result Reading Reason → List AtHand
+packet_as side bytes (Ok (Arp p)) = []
+packet_as side bytes (Ok (Advert a from)) = []
+packet_as side bytes (Ok (Packet flow)) = record { side = side; bytes = bytes } ∷ []
+packet_as side bytes (Err reason) = []
+
+abbrev pub packet_in : Shown → Event → List AtHand
+packet_in g (Frame side bytes) = packet_as side bytes.now (reading_on g side bytes.now)
+packet_in g (Datagram bytes) = []
+packet_in g (Tick now) = []
+packet_in g Stop = []
+packet_in g (PeerOff n) = []
+
 -- the pair that was taken up, if the note says so
 abbrev pub retaken_in : Happening → List Pair
 retaken_in (Used pair) = []
@@ -167,9 +181,9 @@ retaken_in (Booted number) = []
 abbrev pub retaken_pairs : List Note → List Pair
 retaken_pairs notes = flat_map (λ note. retaken_in note.what) notes
 
--- the gateway translated by the pair, or has taken it up since, as these notes say
-abbrev pub HasPair : Shown → List Note → Pair → Type 0
-HasPair g notes pair = IsTranslated g.ledger.book.entries pair ⊎ In pair (retaken_pairs notes)
+-- packets may go by the pair: the gateway translated by it, or has taken it up since, as these notes say
+abbrev pub MayGoBy : Shown → List Note → Pair → Type 0
+MayGoBy g notes pair = IsTranslated g.ledger.book.entries pair ⊎ In pair (retaken_pairs notes)
 
 -- the pair of the port that a packet goes to
 abbrev pub targets : Translation → List Pair
@@ -177,26 +191,27 @@ targets (Outward pair) = []
 targets (Inward pair) = pair ∷ []
 targets (Hairpin own other) = other ∷ []
 
--- The host is the packet's next hop at this side: the packet goes the way that the rules say, by its pairs, of which the
--- gateway has that of the port that it goes to; and no hardware address is known for that host.
-pub record IsAskedBy (k : Known) (has : Pair → Type 0) (bytes : List ℕ) (side : Side) (by : Translation) (exit : Side) (host : Ip) : Type 0 where
-  pub way : let flow = flow_in bytes in
-      direction_of k.networks side flow.source.0 flow.destination.0 ≡ Ok (way_of by)
-  pub pairs : AreItsPairs (flow_in bytes) by
-  pub target : AllByRecursion has (targets by)
+-- The host is the next hop of a packet, at the side at which it leaves: it goes the way that the rules say, by its pairs, and
+-- it may go by that of the port that it goes to; and no hardware address is known for that host.
+pub record IsAskedBy (k : Known) (may : Pair → Type 0) (packet : AtHand) (by : Translation) (exit : Side) (host : Ip)
+    : Type 0 where
+  pub way : let flow = flow_in packet.bytes in
+      direction_of k.networks packet.side flow.source.0 flow.destination.0 ≡ Ok (way_of by)
+  pub pairs : AreItsPairs (flow_in packet.bytes) by
+  pub target : AllByRecursion may (targets by)
   pub exit_is : exit ≡ exit_by by
-  pub hop : host.0 ≡ hop_of k.networks by (flow_in bytes).destination.0
+  pub hop : host.0 ≡ hop_of k.networks by (flow_in packet.bytes).destination.0
   pub unknown : mac_at host.0 k.moment (near_on k exit) ≡ None
 
 -- a packet waits for the pair of its own endpoint, or for its own next hop
-abbrev pub IsItsWait : Known → (Pair → Type 0) → List ℕ → Side → Wait → Type 0
-IsItsWait k has bytes side (wait.Pair e) = e ≡ source_of (flow_in bytes)
-IsItsWait k has bytes side (wait.Hop exit host) = (by : Translation) × IsAskedBy k has bytes side by exit host
+abbrev pub IsItsWait : Known → (Pair → Type 0) → AtHand → Wait → Type 0
+IsItsWait k may packet (wait.Pair e) = e ≡ source_of (flow_in packet.bytes)
+IsItsWait k may packet (wait.Hop exit host) = (by : Translation) × IsAskedBy k may packet by exit host
 
 -- it does so since now
-pub record IsNew (k : Known) (has : Pair → Type 0) (w : Waiting) : Type 0 where
+pub record IsNew (k : Known) (may : Pair → Type 0) (w : Waiting) : Type 0 where
   pub since : w.since ≡ k.moment
-  pub wait : IsItsWait k has w.bytes w.side w.wait
+  pub wait : IsItsWait k may (record { side = w.side; bytes = w.bytes }) w.wait
 
 -- The other frames in their order: what the event has the gateway send by itself, then a request for each packet that comes
 -- to wait for its next hop. The packets that waited before still do, but for those whose wait the event ends and for old
@@ -212,6 +227,7 @@ pub record AreOthers (s : Scene) (event : Event) (s2 : Scene) : Type 0 where
   pub came : List Waiting
   pub kept_are : s2.shown.kept ≡ filter (λ w. not (is_old s.shown event w || is_freed s event w)) s.shown.kept ++ came
   pub gone : List AtHand
-  pub of_hand : IsPermutation (hand_of event ++ packets_of (filter (is_freed s event) s.shown.kept)) (packets_of came ++ gone)
-  pub new : AllByRecursion (IsNew (known_of s2.shown) (HasPair s.shown notes)) came
+  pub of_hand : let freed = filter (is_freed s event) s.shown.kept in
+      IsPermutation (packet_in s.shown event ++ packets_of freed) (packets_of came ++ gone)
+  pub new : AllByRecursion (IsNew (known_of s2.shown) (MayGoBy s.shown notes)) came
   pub others : other_frames frames ≡ own ++ requests s.shown came
