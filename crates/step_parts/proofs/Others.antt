@@ -1,25 +1,34 @@
 -- The other frames of each part of a step, and so of a whole step.
-use Rattle.std.proofs.Common.{◌≡◌, ℕ, Bool, true, false, cond, not, ◌&&◌, List, [], ◌∷◌, ◌++◌, filter, length, Option, Some, None, Result, Ok, Err, refl, sym, ap, subst, ◌∙◌, append_assoc}
+use Rattle.std.proofs.Common.{◌≡◌, ℕ, Bool, true, false, cond, not, ◌⊎◌, ◌&&◌, ◌||◌, List, [], ◌∷◌, ◌++◌, filter, length, Option, Some, None, Result, Ok, Err, refl, sym, ap, subst, ◌∙◌, append_assoc}
+use Rattle.std.specs.List.{AllByRecursion}
 use Rattle.std.proofs.lemmas.List.{append-nil}
 use Rattle.std.proofs.lemmas.List.Elements.{filter-append}
+use Rattle.std.proofs.lemmas.List.Sorted.{IsPermutation-refl}
 use Rattle.addresses.specs.declared.ethernet.Mac.{Mac}
 use Rattle.nat_types.specs.declared.gateways.Side.{Side}
 use Rattle.nat_types.specs.declared.gateways.Side.TheVariants.{Inside, Outside}
+use Rattle.nat_types.specs.declared.notes.Note.{Note}
 use Rattle.nat_types.specs.declared.pairs.Endpoint.{Endpoint}
 use Rattle.nat_types.specs.declared.pairs.Key.{Key}
+use Rattle.nat_types.specs.declared.pairs.Pair.{Pair}
 use Rattle.nat_types.specs.declared.records.Record.{Record}
 use Rattle.arp.specs.declared.packets.ArpPacket.{ArpPacket}
+use Rattle.bindings.specs.declared.entries.Entry.{Entry}
 use Rattle.bindings.specs.Lives.{idle_keys_in}
 use Rattle.link.specs.declared.datagrams.Datagram.{Datagram}
 use Rattle.link.specs.declared.faults.LinkFault.{LinkFault}
-use Rattle.link.specs.Link.{after_take, closed_at, is_due_on_tick, is_restart, records_taken, refusal, sent_on_tick}
+use Rattle.link.specs.Link.{Link, sent_on_answer, after_take, closed_at, is_due_on_tick, is_restart, records_taken, refusal, sent_on_tick}
 use Rattle.link.specs.Reading.{reading}
-use Rattle.binding_step.specs.Ledgers.{alone_ledger, may_ask, restarted_ledger, rests_for, taken_ledger}
+use Rattle.pair_machine.specs.Box.{In}
+use Rattle.binding_step.specs.Books.{IsBook}
+use Rattle.binding_step.specs.Uses.{IsTranslated}
+use Rattle.binding_step.specs.Ledgers.{Ledger, alone_ledger, may_ask, restarted_ledger, rests_for, taken_ledger}
 use Rattle.binding_step.specs.Resets.{back_in, restart_link, restart_notes, retaken}
-use Rattle.binding_step.specs.Rows.{answered, idle_row, taken_answer, taken_ended}
+use Rattle.binding_step.specs.Rows.{answered, idle_row, noted_by, taken_answer, taken_ended, taken_what}
 use Rattle.kept.specs.declared.waits.Ended.TheVariants.{AllPairs, One}
 use Rattle.kept.specs.declared.waits.Wait.TheVariants as wait
 use Rattle.kept.specs.Packets.{Waiting, is_young}
+use Rattle.kept.specs.Waits.{ends}
 use Rattle.packet_rules.specs.declared.networks.Network.{Network}
 use Rattle.packet_rules.specs.declared.readings.Reading.{Reading}
 use Rattle.packet_rules.specs.declared.readings.Reading.TheVariants.{Arp, Advert, Packet}
@@ -32,21 +41,28 @@ use Rattle.vrrp_states.specs.Table as table
 use Rattle.vrrp_states.specs.Table.{Event as RouterEvent}
 use Rattle.step_parts.specs.declared.events.Event.{Event}
 use Rattle.step_parts.specs.declared.events.Event.TheVariants.{Frame, Datagram as Comes, Tick, Stop, PeerOff}
-use Rattle.step_parts.specs.Others.{AreOfBoth, AreOthers, FrameOwes, Owes, answers_by, other_frames, sent_on}
-use Rattle.step_parts.specs.Parts.{acted, all_framed, all_idle_done, answered_by, arp_taken, datagram_in, datagram_read, datagram_taken, framed, handed_in, has_synced, heard_by, heard_unless, idle_done, idle_taken, link_answered, link_ticked, old_dropped, record_done, record_shown, record_told, records_done, released, reset, started, wait_ended, with_link, word_taken}
+use Rattle.step_parts.specs.Others.{AreOfBoth, AreOthers, FrameOwes, MayGoBy, IsNew, Owes, answers_by, free_by, frees_as, frees_for, frees_heard, frees_read, frees_unless, is_freed, is_old, other_frames, packet_as, packet_in, requests, retaken_pairs, sent_on}
+use Rattle.step_parts.specs.Parts.{acted, all_framed, all_idle_done, answered_by, arp_taken, datagram_in, datagram_read, datagram_taken, flow_taken, framed, handed_in, has_synced, heard_by, heard_unless, idle_done, idle_taken, link_answered, link_ticked, old_dropped, record_done, record_shown, record_told, records_done, released, reset, started, wait_ended, with_link, word_taken}
 use Rattle.step_parts.specs.Shown.{Scene, Shown, id_of, scene, station_on, with_notes, with_station}
-use Rattle.step_parts.specs.Steps.{BothAct, Does, FrameDoes, IsStepOn, RouterActs, ended_on, stopped, ticked, word_by, word_refusal}
-use Rattle.step_parts.specs.Truly.{AreWired}
+use Rattle.step_parts.specs.Steps.{BothAct, Does, FrameDoes, IsStepOn, RouterActs, clock_after, ended_on, stopped, ticked, word_by, word_refusal}
+use Rattle.step_parts.specs.Truly.{AreWired, AtHand, Known, known_of, packets_of}
 use Rattle.step_parts.specs.Verdict.{reading_on}
-use Rattle.step_parts.proofs.Asking.{AreFresh, Ask-on, Asks, NetsStay, all-apart, asking-then, asks-then, dropped-ask, net-stays, nothing-asks, one-apart, packet-asks, pairs-ask, quiet-asks, released-asks, requests-same, row-asks}
+use Rattle.step_parts.proofs.Asking.{Ask-on, Asks, NetsStay, all-apart, asking-then, IsQuiet, net-stays, nobody, nothing-asks, one-apart, packet-asks, pairs-ask, quiet-asks, quiet-by, released-asks, requests-same}
+use Rattle.step_parts.proofs.Freeing.{Comes-of, filter-same}
+use Rattle.step_parts.proofs.Rooting.{Rooted, alone-rooted, restart-rooted, taken-roots}
 use Rattle.step_parts.proofs.Sending.{Frames, own-six}
+use Rattle.step_parts.proofs.Telling.{at_hand}
 use Rattle.step_parts.proofs.Truths.{AllOther, action-frames, after-wired, routed-wired, wired-on}
 
--- From a scene to a later one: these frames were sent, none of which is a translation, and nobody came to wait.
+-- From a scene to a later one: these frames were sent, none of which is a translation, nothing was noted, and nobody came to
+-- wait.
 pub record Gives (own : List Sent) (s s2 : Scene) : Type 0 where
   pub frames_are : s2.told.frames ≡ s.told.frames ++ own
+  pub notes : s2.told.notes ≡ s.told.notes
+  pub entries : s2.shown.ledger.book.entries ≡ s.shown.ledger.book.entries
   pub apart : other_frames own ≡ own
   pub kept : s2.shown.kept ≡ s.shown.kept
+  pub moment : s2.shown.moment ≡ s.shown.moment
   pub nets : NetsStay s.shown s2.shown
   pub wired : AreWired s2.shown
 
@@ -54,28 +70,57 @@ gives-then : (f h : List Sent) (a b c : Scene) → Gives f a b → Gives h b c �
 gives-then f h a b c x y = record {
   frames_are = y.frames_are ∙ ap (λ (fs : List Sent). fs ++ h) x.frames_are ∙ append_assoc a.told.frames f h;
   apart = filter-append (λ (z : Sent). not (is_translation z.bytes)) f h ∙ ap (λ (fs : List Sent). fs ++ other_frames h) x.apart ∙ ap (λ (fs : List Sent). f ++ fs) y.apart;
+  notes = y.notes ∙ x.notes;
+  entries = y.entries ∙ x.entries;
   kept = y.kept ∙ x.kept;
+  moment = y.moment ∙ x.moment;
   nets = (y.nets.0 ∙ x.nets.0, y.nets.1 ∙ x.nets.1);
   wired = y.wired;
 }
 
-gives-nothing : (s s2 : Scene) → s2.told.frames ≡ s.told.frames → s2.shown.kept ≡ s.shown.kept → NetsStay s.shown s2.shown → AreWired s2.shown → Gives [] s s2
-gives-nothing s s2 frames kept nets wired = record { frames_are = frames ∙ sym (append-nil s.told.frames); apart = refl; kept = kept; nets = nets; wired = wired }
+gives-nothing : (s s2 : Scene) → s2.told ≡ s.told → s2.shown.ledger ≡ s.shown.ledger → s2.shown.kept ≡ s.shown.kept → s2.shown.moment ≡ s.shown.moment → NetsStay s.shown s2.shown → AreWired s2.shown → Gives [] s s2
+gives-nothing s s2 told ledger kept moment nets wired = record {
+  frames_are = ap (λ (x : Told). x.frames) told ∙ sym (append-nil s.told.frames);
+  notes = ap (λ (x : Told). x.notes) told;
+  entries = ap (λ (l : Ledger). l.book.entries) ledger;
+  apart = refl;
+  kept = kept;
+  moment = moment;
+  nets = nets;
+  wired = wired;
+}
 
 gives-one : (s : Scene) (side : Side) (bytes : List ℕ) → is_translation bytes ≡ false → AreWired s.shown → Gives (let x : Sent = record { side = side; bytes = bytes } in x ∷ []) s (framed s side bytes)
-gives-one s side bytes none w = record { frames_are = refl; apart = rw none refl; kept = refl; nets = (refl, refl); wired = w }
+gives-one s side bytes none w = record { frames_are = refl; notes = refl; entries = refl; apart = rw none refl; kept = refl; moment = refl; nets = (refl, refl); wired = w }
 
--- what a step sends by itself, and the requests behind
-others-then : (event : Event) (own : List Sent) (a b c : Scene) → Owes a.shown event own → Gives own a b → Asks b c → AreOthers a event c
-others-then event own a b c owed x y = record {
+-- what is sent by itself, and the requests behind
+pub record Sends-others (owes : List Sent → Type 0) (hand : List AtHand) (over : Waiting → Bool) (s s2 : Scene) : Type 0 where
+  pub frames : List Sent
+  pub frames_are : s2.told.frames ≡ s.told.frames ++ frames
+  pub notes : List Note
+  pub notes_are : s2.told.notes ≡ s.told.notes ++ notes
+  pub own : List Sent
+  pub owed : owes own
+  pub came : List Waiting
+  pub kept_are : s2.shown.kept ≡ filter (λ w. not (over w)) s.shown.kept ++ came
+  pub gone : List AtHand
+  pub of_hand : Comes-of hand (filter over s.shown.kept) came gone
+  pub new : AllByRecursion (IsNew (known_of s2.shown) (MayGoBy s.shown notes)) came
+  pub others : other_frames frames ≡ own ++ requests s.shown came
+
+others-then : (owes : List Sent → Type 0) (hand : List AtHand) (over : Waiting → Bool) (own : List Sent) (a b c : Scene) → owes own → Gives own a b → Asks hand over b c → Sends-others owes hand over a c
+others-then owes hand over own a b c owed x y = record {
   frames = own ++ y.frames;
   frames_are = y.frames_are ∙ ap (λ (fs : List Sent). fs ++ y.frames) x.frames_are ∙ append_assoc a.told.frames own y.frames;
+  notes = y.notes;
+  notes_are = y.notes_are ∙ ap (λ (ns : List Note). ns ++ y.notes) x.notes;
   own = own;
   owed = owed;
-  stays = y.stays;
   came = y.came;
-  kept_are = y.kept_are ∙ ap (λ (ws : List Waiting). filter y.stays ws ++ y.came) x.kept;
-  fresh = y.fresh;
+  kept_are = y.kept_are ∙ ap (λ (ws : List Waiting). filter (λ w. not (over w)) ws ++ y.came) x.kept;
+  gone = y.gone;
+  of_hand = subst (λ (ws : List Waiting). Comes-of hand (filter over ws) y.came y.gone) x.kept y.of_hand;
+  new = subst (λ (es : List Entry). AllByRecursion (IsNew (known_of c.shown) (λ (p : Pair). IsTranslated es p ⊎ In p (retaken_pairs y.notes))) y.came) x.entries y.new;
   others = filter-append (λ (z : Sent). not (is_translation z.bytes)) own y.frames
       ∙ ap (λ (fs : List Sent). fs ++ other_frames y.frames) x.apart
       ∙ ap (λ (fs : List Sent). own ++ fs) (y.others ∙ requests-same a.shown b.shown x.nets y.came);
@@ -92,19 +137,19 @@ after-net station p now = at (is_learnable station.network p)
     at false = refl
 
 station-gives : (s : Scene) (side : Side) (station : Station) → station.network ≡ (station_on s.shown side).network → IsWired station → AreWired s.shown → Gives [] s (scene (with_station s.shown side station) s.told)
-station-gives s Inside station same wired w = gives-nothing s (scene (with_station s.shown Inside station) s.told) refl refl (same, refl) (w.0, (wired, w.1.1))
-station-gives s Outside station same wired w = gives-nothing s (scene (with_station s.shown Outside station) s.told) refl refl (refl, same) (w.0, (w.1.0, wired))
+station-gives s Inside station same wired w = gives-nothing s (scene (with_station s.shown Inside station) s.told) refl refl refl refl (same, refl) (w.0, (wired, w.1.1))
+station-gives s Outside station same wired w = gives-nothing s (scene (with_station s.shown Outside station) s.told) refl refl refl refl (refl, same) (w.0, (w.1.0, wired))
 
 answered-gives : Frames → (s : Scene) (station : Station) (side : Side) (p : ArpPacket) (o : Option Mac) → length p.sender_mac.0 ≡ 6 → (station_on s.shown side).network ≡ station.network → AreWired s.shown
     → Gives (sent_on side (answers_by station p o)) s (answered_by s side p o)
 answered-gives frames s station side p (Some mac) six same w =
     subst (λ (n : Network). Gives (sent_on side (answer_frame n p mac ∷ [])) s (answered_by s side p (Some mac))) same
     (gives-one s side (answer_frame (station_on s.shown side).network p mac) (frames.answer (station_on s.shown side).network p mac (own-six s.shown w side) six) w)
-answered-gives frames s station side p None six same w = gives-nothing s s refl refl (refl, refl) w
+answered-gives frames s station side p None six same w = gives-nothing s s refl refl refl refl (refl, refl) w
 
-arp-others : Frames → (s : Scene) (event : Event) (side : Side) (p : ArpPacket) → length p.sender_mac.0 ≡ 6 → AreWired s.shown
-    → Owes s.shown event (sent_on side (answers_by (station_on s.shown side) p (answer_to (station_on s.shown side).network (is_active (station_on s.shown side)) p))) → AreOthers s event (arp_taken s side p)
-arp-others frames s event side p six w owed =
+arp-others : Frames → (s : Scene) (side : Side) (p : ArpPacket) → length p.sender_mac.0 ≡ 6 → AreWired s.shown
+    → Sends-others (FrameOwes s.shown side (Ok (Arp p))) [] (frees_as s.shown side (Ok (Arp p))) s (arp_taken s side p)
+arp-others frames s side p six w =
     let station = station_on s.shown side in
     let after = after_arp station p s.shown.moment in
     let heard = scene (with_station s.shown side after) s.told in
@@ -113,16 +158,17 @@ arp-others frames s event side p six w owed =
     let own = sent_on side (answers_by station p o) in
     let first = station-gives s side after (after-net station p s.shown.moment) (after-wired station p s.shown.moment six (wired-on s.shown w side)) w in
     let second = answered-gives frames heard station side p o six (net-stays s.shown heard.shown first.nets side) first.wired in
-    others-then event own s told (arp_taken s side p) owed (gives-then [] own s heard told first second) (at (is_learnable station.network p) told second.wired)
+    others-then (FrameOwes s.shown side (Ok (Arp p))) [] (frees_as s.shown side (Ok (Arp p))) own s told (arp_taken s side p) refl
+    (gives-then [] own s heard told first second) (at (is_learnable station.network p) told second.wired)
   where
-    at : (b : Bool) (told : Scene) → AreWired told.shown → Asks told (let x : Scene = cond b (released told (One (wait.Hop side p.sender_ip))) told in x)
+    at : (b : Bool) (told : Scene) → AreWired told.shown → Asks [] (λ w. b && ends (One (wait.Hop side p.sender_ip)) w.wait) told (let x : Scene = cond b (released told (One (wait.Hop side p.sender_ip))) told in x)
     at true told v = released-asks frames told (One (wait.Hop side p.sender_ip)) v
-    at false told v = (nothing-asks told v).asks
+    at false told v = (nothing-asks [] told v).asks
 
 -- ---- routers
 
 all-framed-gives : (s : Scene) (side : Side) (fs : List (List ℕ)) → AllOther fs → AreWired s.shown → Gives (sent_on side fs) s (all_framed s side fs)
-all-framed-gives s side [] all w = gives-nothing s s refl refl (refl, refl) w
+all-framed-gives s side [] all w = gives-nothing s s refl refl refl refl (refl, refl) w
 all-framed-gives s side (f ∷ fs) all w =
     gives-then (let x : Sent = record { side = side; bytes = f } in x ∷ []) (sent_on side fs) s (framed s side f) (all_framed s side (f ∷ fs)) (gives-one s side f all.0 w) (all-framed-gives (framed s side f) side fs all.1 w)
 
@@ -136,7 +182,7 @@ router-gives frames s side event s2 a w =
     subst (λ (x : Scene). Gives own s x) (sym a.is)
     (gives-then [] own s mid (acted s side station a.action) first (all-framed-gives mid side (frames_of station a.action) (action-frames frames station a.action) first.wired))
 
-all-framed-shown : (s : Scene) (side : Side) (fs : List (List ℕ)) → (all_framed s side fs).shown ≡ s.shown
+pub all-framed-shown : (s : Scene) (side : Side) (fs : List (List ℕ)) → (all_framed s side fs).shown ≡ s.shown
 all-framed-shown s side [] = refl
 all-framed-shown s side (f ∷ fs) = all-framed-shown (framed s side f) side fs
 
@@ -171,36 +217,45 @@ both-give frames s event s2 both w =
 
 -- ---- a frame
 
-frame-others : Frames → (s : Scene) (event : Event) (side : Side) (bytes : List ℕ) (r : Result Reading Reason) (s2 : Scene) → reading_on s.shown side bytes ≡ r → ((own : List Sent) → FrameOwes s.shown side r own → Owes s.shown event own) → AreWired s.shown
-    → FrameDoes s side bytes r s2 → AreOthers s event s2
-frame-others frames s event side bytes (Ok (Arp p)) s2 read owes w does =
+frame-others : Frames → (s : Scene) (side : Side) (bytes : List ℕ) (r : Result Reading Reason) (s2 : Scene) → reading_on s.shown side bytes ≡ r → AreWired s.shown → FrameDoes s side bytes r s2
+    → Sends-others (FrameOwes s.shown side r) (packet_as side bytes r) (frees_as s.shown side r) s s2
+frame-others frames s side bytes (Ok (Arp p)) s2 read w does =
     let at = station_on s.shown side in
     let six = frames.reads at.network (is_active at) _ bytes (Arp p) read in
-    subst (λ (x : Scene). AreOthers s event x) (sym does) (arp-others frames s event side p six w (owes _ refl))
-frame-others frames s event side bytes (Ok (Advert a from)) s2 read owes w does =
+    subst (λ (x : Scene). Sends-others (FrameOwes s.shown side (Ok (Arp p))) [] (frees_as s.shown side (Ok (Arp p))) s x) (sym does)
+    (arp-others frames s side p six w)
+frame-others frames s side bytes (Ok (Advert a from)) s2 read w does =
     let own = sent_on side (frames_of does.station does.action) in
     let gives = router-gives frames s side (table.Heard a.priority a.interval from.0) s2 does w in
-    others-then event own s s2 s2 (owes own (record { station = does.station; action = does.action; step = does.step; are = refl })) gives (nothing-asks s2 gives.wired).asks
-frame-others frames s event side bytes (Ok (Packet flow)) s2 read owes w does =
-    subst (λ (x : Scene). AreOthers s event x) (sym does)
-    (others-then event [] s s _ (owes [] refl) (gives-nothing s s refl refl (refl, refl) w) (packet-asks frames s side bytes flow read w).asks)
-frame-others frames s event side bytes (Err reason) s2 read owes w does =
-    subst (λ (x : Scene). AreOthers s event x) (sym does)
-    (others-then event [] s s s (owes [] refl) (gives-nothing s s refl refl (refl, refl) w) (nothing-asks s w).asks)
+    others-then (FrameOwes s.shown side (Ok (Advert a from))) [] (frees_as s.shown side (Ok (Advert a from))) own s s2 s2
+    (record { station = does.station; action = does.action; step = does.step; are = refl }) gives (nothing-asks [] s2 gives.wired).asks
+frame-others frames s side bytes (Ok (Packet flow)) s2 read w does =
+    subst (λ (x : Scene). Sends-others (FrameOwes s.shown side (Ok (Packet flow))) (at_hand side bytes ∷ []) (frees_as s.shown side (Ok (Packet flow))) s x) (sym does)
+    (others-then (FrameOwes s.shown side (Ok (Packet flow))) (at_hand side bytes ∷ []) (frees_as s.shown side (Ok (Packet flow))) [] s s (flow_taken s side bytes flow) refl
+    (gives-nothing s s refl refl refl refl (refl, refl) w) (packet-asks frames s side bytes flow read w).asks)
+frame-others frames s side bytes (Err reason) s2 read w does =
+    subst (λ (x : Scene). Sends-others (FrameOwes s.shown side (Err reason)) [] (frees_as s.shown side (Err reason)) s x) (sym does)
+    (others-then (FrameOwes s.shown side (Err reason)) [] (frees_as s.shown side (Err reason)) [] s s s refl
+    (gives-nothing s s refl refl refl refl (refl, refl) w) (nothing-asks [] s w).asks)
 
 -- ---- records
 
-routed-asks : (now : ℕ) (g : Shown) (told : Told) (b : Bool) → Ask-on (scene g told) (scene (let x : Shown = cond b (record g { inside = started g.inside now; outside = started g.outside now }) g in x) told)
+routed-asks : (now : ℕ) (g : Shown) (told : Told) (b : Bool) → Ask-on [] nobody (scene g told) (scene (let x : Shown = cond b (record g { inside = started g.inside now; outside = started g.outside now }) g in x) told)
 routed-asks now g told true =
-    quiet-asks (scene g told) (scene (record g { inside = started g.inside now; outside = started g.outside now }) told) refl refl refl (refl, refl)
-    (λ w. (w.0, (record { own = w.1.0.own; known = w.1.0.known }, record { own = w.1.1.own; known = w.1.1.known })))
-routed-asks now g told false = nothing-asks (scene g told)
+    let s2 = scene (record g { inside = started g.inside now; outside = started g.outside now }) told in
+    quiet-asks [] (scene g told) s2
+    (quiet-by (scene g told) s2 refl refl refl refl refl (refl, refl) (λ w. (w.0, (record { own = w.1.0.own; known = w.1.0.known }, record { own = w.1.1.own; known = w.1.1.known }))))
+routed-asks now g told false = nothing-asks [] (scene g told)
 
-ended-asks : Frames → (s : Scene) (o : Option Endpoint) → Ask-on s (wait_ended o s)
-ended-asks frames s None = nothing-asks s
+ended-asks : Frames → (s : Scene) (o : Option Endpoint) → Ask-on [] (frees_for o) s (wait_ended o s)
+ended-asks frames s None = nothing-asks [] s
 ended-asks frames s (Some e) = pairs-ask frames s (One (wait.Pair e)) (one-apart e)
 
-record-asks : Frames → (s : Scene) (r : Record) → Ask-on s (record_done s r)
+-- the table is another, and this is noted
+table-quiet : (s : Scene) (l : Ledger) (e : Link) (notes : List Note) → Rooted s.shown.ledger.book.entries l.book.entries (retaken_pairs notes) → IsQuiet s (scene (record s.shown { ledger = l; link = e }) (with_notes s.told notes))
+table-quiet s l e notes roots = record { frames = refl; notes = notes; notes_are = refl; roots = roots; kept = refl; known = refl; nets = (refl, refl); wired = λ w. w }
+
+record-asks : Frames → (s : Scene) (r : Record) → Ask-on [] (frees_for (taken_ended s.shown.ledger.book (rests_for s.shown.moment s.shown.ledger r) r)) s (record_done s r)
 record-asks frames s r =
     let g = s.shown in let b = g.ledger.book in
     let rests = rests_for g.moment g.ledger r in
@@ -208,134 +263,212 @@ record-asks frames s r =
     let told = record_told g r s.told in
     let s2 = scene g2 told in
     let s3 = scene (record_shown g r) told in
-    asking-then s s3 (record_done s r)
-    (asking-then s s2 s3 (quiet-asks s s2 refl refl refl (refl, refl) (λ w. w)) (routed-asks g2.moment g2 told (has_synced g g2 && not g2.stopped)))
-    (ended-asks frames s3 (taken_ended b rests r))
+    let o = taken_ended b rests r in
+    let notes = noted_by b.id g.moment (taken_what b rests r) in
+    asking-then [] [] nobody (frees_for o) s s3 (record_done s r)
+    (asking-then [] [] nobody nobody s s2 s3 (quiet-asks [] s s2 (table-quiet s (taken_ledger g.moment g.ledger r) (answered g.link (taken_answer b rests r)) notes (taken-roots b rests r b.id g.moment))) (routed-asks g2.moment g2 told (has_synced g g2 && not g2.stopped)))
+    (ended-asks frames s3 o)
 
-records-ask : Frames → (s : Scene) (rs : List Record) → Ask-on s (records_done s rs)
-records-ask frames s [] = nothing-asks s
-records-ask frames s (r ∷ rs) = asking-then s (record_done s r) (records_done s (r ∷ rs)) (record-asks frames s r) (records-ask frames (record_done s r) rs)
+records-ask : Frames → (s : Scene) (rs : List Record) → Ask-on [] (free_by s rs) s (records_done s rs)
+records-ask frames s [] = nothing-asks [] s
+records-ask frames s (r ∷ rs) =
+    let g = s.shown in
+    asking-then [] [] (frees_for (taken_ended g.ledger.book (rests_for g.moment g.ledger r) r)) (free_by (record_done s r) rs) s (record_done s r) (records_done s (r ∷ rs))
+    (record-asks frames s r) (records-ask frames (record_done s r) rs)
 
 -- ---- datagrams, and the operator's word
 
-reset-asks : Frames → (s : Scene) → Ask-on s (reset s)
-reset-asks frames s =
+abbrev of_pairs : Waiting → Bool
+of_pairs w = ends AllPairs w.wait
+
+reset-asks : Frames → (s : Scene) → IsBook s.shown.ledger.book → Ask-on [] of_pairs s (reset s)
+reset-asks frames s is =
     let g = s.shown in let b = g.ledger.book in
     let mid = scene (record g { ledger = restarted_ledger g.ledger; link = restart_link b g.link }) (with_notes s.told (restart_notes b g.moment)) in
-    asking-then s mid (reset s) (quiet-asks s mid refl refl refl (refl, refl) (λ w. w)) (pairs-ask frames mid AllPairs all-apart)
+    asking-then [] [] nobody of_pairs s mid (reset s)
+    (quiet-asks [] s mid (table-quiet s (restarted_ledger g.ledger) (restart_link b g.link) (restart_notes b g.moment) (restart-rooted b g.moment is.keys))) (pairs-ask frames mid AllPairs all-apart)
 
-heard-asks : Frames → (s : Scene) (d : Datagram) → Ask-on s (heard_by s d)
-heard-asks frames s d = at (is_restart s.shown.link d)
+heard-asks : Frames → (s : Scene) (d : Datagram) → IsBook s.shown.ledger.book → Ask-on [] (frees_heard s d None) s (heard_by s d)
+heard-asks frames s d is = at (is_restart s.shown.link d)
   where
-    after : Ask-on s (with_link s (after_take s.shown.link d s.shown.moment))
-    after = quiet-asks s (with_link s (after_take s.shown.link d s.shown.moment)) refl refl refl (refl, refl) (λ w. w)
+    after : Ask-on [] nobody s (with_link s (after_take s.shown.link d s.shown.moment))
+    after =
+        let x = with_link s (after_take s.shown.link d s.shown.moment) in
+        quiet-asks [] s x (quiet-by s x refl refl refl refl refl (refl, refl) (λ w. w))
 
-    at : (b : Bool) → Ask-on s (let e = s.shown.link in let x = with_link s (after_take e d s.shown.moment) in records_done (let y : Scene = cond b (reset x) x in y) (records_taken e d))
+    at : (b : Bool)
+        → (let x = with_link s (after_take s.shown.link d s.shown.moment) in let rs = records_taken s.shown.link d in
+        Ask-on [] (λ w. cond b (ends AllPairs w.wait || free_by (reset x) rs w) (free_by x rs w)) s (records_done (let y : Scene = cond b (reset x) x in y) rs))
     at true =
         let x = with_link s (after_take s.shown.link d s.shown.moment) in
         let rs = records_taken s.shown.link d in
-        asking-then s (reset x) (records_done (reset x) rs) (asking-then s x (reset x) after (reset-asks frames x)) (records-ask frames (reset x) rs)
+        asking-then [] [] of_pairs (free_by (reset x) rs) s (reset x) (records_done (reset x) rs)
+        (asking-then [] [] nobody of_pairs s x (reset x) after (reset-asks frames x is)) (records-ask frames (reset x) rs)
     at false =
         let x = with_link s (after_take s.shown.link d s.shown.moment) in
         let rs = records_taken s.shown.link d in
-        asking-then s x (records_done x rs) after (records-ask frames x rs)
+        asking-then [] [] nobody (free_by x rs) s x (records_done x rs) after (records-ask frames x rs)
 
-datagram-asks : Frames → (s : Scene) (r : Result Datagram LinkFault) → Ask-on s (datagram_read s r)
-datagram-asks frames s (Ok d) = at (refusal s.shown.link d)
+datagram-asks : Frames → (s : Scene) (r : Result Datagram LinkFault) → IsBook s.shown.ledger.book → Ask-on [] (frees_read s r) s (datagram_read s r)
+datagram-asks frames s (Ok d) is = at (refusal s.shown.link d)
   where
-    at : (o : Option LinkFault) → Ask-on s (heard_unless s d o)
-    at None = heard-asks frames s d
-    at (Some fault) = nothing-asks s
-datagram-asks frames s (Err fault) = nothing-asks s
+    at : (o : Option LinkFault) → Ask-on [] (frees_heard s d o) s (heard_unless s d o)
+    at None = heard-asks frames s d is
+    at (Some fault) = nothing-asks [] s
+datagram-asks frames s (Err fault) is = nothing-asks [] s
 
-word-asks : Frames → (s : Scene) (n : ℕ) (o : Option Reason) → Ask-on s (word_by s n o)
-word-asks frames s n None =
+word-asks : Frames → (s : Scene) (n : ℕ) (o : Option Reason) → IsBook s.shown.ledger.book → Ask-on [] (frees_unless o) s (word_by s n o)
+word-asks frames s n None is =
     let g = s.shown in let b = g.ledger.book in
     let mid = scene (record g { ledger = alone_ledger g.ledger; link = closed_at g.link n }) (with_notes s.told (retaken (id_of g) g.moment (back_in b.entries))) in
-    asking-then s mid (word_taken s n) (quiet-asks s mid refl refl refl (refl, refl) (λ w. w)) (pairs-ask frames mid AllPairs all-apart)
-word-asks frames s n (Some reason) = nothing-asks s
+    asking-then [] [] nobody of_pairs s mid (word_taken s n)
+    (quiet-asks [] s mid (table-quiet s (alone_ledger g.ledger) (closed_at g.link n) (retaken (id_of g) g.moment (back_in b.entries)) (alone-rooted b (id_of g) g.moment is.keys))) (pairs-ask frames mid AllPairs all-apart)
+word-asks frames s n (Some reason) is = nothing-asks [] s
 
 -- ---- ticks
 
-all-idle-ask : (s : Scene) (ks : List Key) → Ask-on s (all_idle_done s ks)
-all-idle-ask s [] = nothing-asks s
-all-idle-ask s (k ∷ ks) =
-    asking-then s (idle_done s k) (all_idle_done s (k ∷ ks)) (row-asks s (idle_row s.shown.ledger.book (may_ask s.shown.moment s.shown.link) k)) (all-idle-ask (idle_done s k) ks)
+-- idle pairs that are let go leave the frames and the packets that wait
+pub record Leaves (s s2 : Scene) : Type 0 where
+  pub frames : s2.told.frames ≡ s.told.frames
+  pub notes : List Note
+  pub notes_are : s2.told.notes ≡ s.told.notes ++ notes
+  pub kept : s2.shown.kept ≡ s.shown.kept
 
-old-asks : (s : Scene) → AreWired s.shown → Asks s (old_dropped s)
-old-asks s w = dropped-ask s (is_young s.shown.moment) w
+all-idle-leave : (s : Scene) (ks : List Key) → Leaves s (all_idle_done s ks)
+all-idle-leave s [] = record { frames = refl; notes = []; notes_are = sym (append-nil s.told.notes); kept = refl }
+all-idle-leave s (k ∷ ks) =
+    let g = s.shown in
+    let noted = noted_by (id_of g) g.moment (idle_row g.ledger.book (may_ask g.moment g.link) k).what in
+    let rest = all-idle-leave (idle_done s k) ks in
+    record { frames = rest.frames; notes = noted ++ rest.notes; notes_are = rest.notes_are ∙ append_assoc s.told.notes noted rest.notes; kept = rest.kept }
+
+-- nobody comes to wait, and the old ones leave
+tick-others : Frames → (s : Scene) (now : ℕ) (middle : Scene) → BothAct (ticked s now) table.Tick middle → AreWired s.shown → AreOthers s (Tick now) (idle_taken (old_dropped middle))
+tick-others frames s now middle acts w =
+    let both = both-give frames (ticked s now) table.Tick middle acts w in
+    let o = both.owed in
+    let x = both.gives in
+    let young = old_dropped middle in
+    let l = young.shown.ledger in
+    let idle = all-idle-leave young (idle_keys_in young.shown.moment l.book.entries l.lives) in
+    let keeps : filter (is_young middle.shown.moment) middle.shown.kept ≡ filter (λ w. not (is_old s.shown (Tick now) w || false)) s.shown.kept =
+    ap (λ (m : ℕ). filter (is_young m) middle.shown.kept) x.moment
+    ∙ ap (filter (is_young (clock_after s.shown.moment now))) x.kept
+    ∙ filter-same (is_young (clock_after s.shown.moment now)) (λ w. not (is_old s.shown (Tick now) w || false)) (λ w. twice (is_young (clock_after s.shown.moment now) w)) s.shown.kept in
+    record {
+      frames = both.own;
+      frames_are = idle.frames ∙ x.frames_are;
+      notes = idle.notes;
+      notes_are = idle.notes_are ∙ ap (λ (ns : List Note). ns ++ idle.notes) x.notes;
+      own = both.own;
+      owed = record {
+        one = o.one;
+        two = o.two;
+        inside = record { station = o.inside.station; action = o.inside.action; step = o.inside.step; are = o.inside.are };
+        outside = record { station = o.outside.station; action = o.outside.action; step = o.outside.step; are = o.outside.are };
+        are = o.are;
+      };
+      came = [];
+      kept_are = idle.kept ∙ keeps ∙ sym (append-nil (filter (λ w. not (is_old s.shown (Tick now) w || false)) s.shown.kept));
+      gone = packets_of (filter (is_freed s (Tick now)) s.shown.kept);
+      of_hand = IsPermutation-refl (packets_of (filter (is_freed s (Tick now)) s.shown.kept));
+      new = tt;
+      others = x.apart ∙ sym (append-nil both.own);
+    }
+  where
+    twice : (b : Bool) → b ≡ not (not b || false)
+    twice true = refl
+    twice false = refl
 
 -- ---- an event's own parts
 
-asks-alone : (s : Scene) (event : Event) (done : Scene) → Owes s.shown event [] → AreWired s.shown → Ask-on s done → AreOthers s event done
-asks-alone s event done owed w asks = others-then event [] s s done owed (gives-nothing s s refl refl (refl, refl) w) (asks w).asks
-
-does-others : Frames → (s : Scene) (event : Event) (done : Scene) → Does s event done → AreWired s.shown → AreOthers s event done
-does-others frames s (Frame side bytes) done does w = frame-others frames s (Frame side bytes) side bytes.now (reading_on s.shown side bytes.now) done refl (λ own owed. owed) w does
-does-others frames s (Comes bytes) done does w =
-    subst (λ (x : Scene). AreOthers s (Comes bytes) x) (sym does) (asks-alone s (Comes bytes) (datagram_taken s bytes.now) refl w (datagram-asks frames s (reading bytes.now)))
-does-others frames s (Tick now) done does w =
-    let start = ticked s now in
-    let middle = does.0 in
-    let young = old_dropped middle in
-    let l = young.shown.ledger in
-    let both = both-give frames start table.Tick middle does.1 w in
-    let o = both.owed in
-    let gives = gives-then [] both.own s start middle (gives-nothing s start refl refl (refl, refl) w) both.gives in
-    let owed : Owes s.shown (Tick now) both.own = record {
-      one = o.one;
-      two = o.two;
-      inside = record { station = o.inside.station; action = o.inside.action; step = o.inside.step; are = o.inside.are };
-      outside = record { station = o.outside.station; action = o.outside.action; step = o.outside.step; are = o.outside.are };
-      are = o.are;
-    } in
-    let asks = asks-then middle young (idle_taken young) (old-asks middle gives.wired) (all-idle-ask young (idle_keys_in young.shown.moment l.book.entries l.lives) gives.wired) in
-    subst (λ (x : Scene). AreOthers s (Tick now) x) (sym does.2) (others-then (Tick now) both.own s middle (idle_taken young) owed gives asks)
-does-others frames s Stop done does w =
-    let middle = does.0 in
-    let both = both-give frames s table.Stop middle does.1 w in
-    let asks = (quiet-asks middle (stopped middle) refl refl refl (refl, refl) (λ v. v) both.gives.wired).asks in
-    subst (λ (x : Scene). AreOthers s Stop x) (sym does.2) (others-then Stop both.own s middle (stopped middle) both.owed both.gives asks)
-does-others frames s (PeerOff n) done does w =
-    subst (λ (x : Scene). AreOthers s (PeerOff n) x) (sym does) (asks-alone s (PeerOff n) _ refl w (word-asks frames s n (word_refusal s.shown n)))
-
--- ---- the datagram at the end
-
-others-end : (s : Scene) (event : Event) (done end : Scene) → end.told.frames ≡ done.told.frames → end.shown.kept ≡ done.shown.kept → end.shown.moment ≡ done.shown.moment → AreOthers s event done → AreOthers s event end
-others-end s event done end frames kept moment x = record {
+-- an event at which packets don't become old
+others-at : (s : Scene) (event : Event) (done : Scene) → ((w : Waiting) → is_old s.shown event w ≡ false) → Sends-others (Owes s.shown event) (packet_in s.shown event) (is_freed s event) s done → AreOthers s event done
+others-at s event done young x = record {
   frames = x.frames;
-  frames_are = frames ∙ x.frames_are;
+  frames_are = x.frames_are;
+  notes = x.notes;
+  notes_are = x.notes_are;
   own = x.own;
   owed = x.owed;
-  stays = x.stays;
   came = x.came;
-  kept_are = kept ∙ x.kept_are;
-  fresh = subst (λ (n : ℕ). AreFresh n x.came) (sym moment) x.fresh;
+  kept_are = x.kept_are
+      ∙ ap (λ (ws : List Waiting). ws ++ x.came)
+      (filter-same (λ w. not (is_freed s event w)) (λ w. not (is_old s.shown event w || is_freed s event w)) (λ w. ap (λ b. not (b || is_freed s event w)) (sym (young w))) s.shown.kept);
+  gone = x.gone;
+  of_hand = x.of_hand;
+  new = x.new;
   others = x.others;
 }
 
-answered-frames : (s : Scene) → (link_answered s).told.frames ≡ s.told.frames
-answered-frames s = at (handed_in s.shown).link.due
-  where
-    at : (b : Bool) → (let t : Told = cond b (with_datagram s.told (datagram_in (handed_in s.shown))) s.told in t.frames) ≡ s.told.frames
-    at true = refl
-    at false = refl
+-- one that has the gateway send nothing by itself
+asks-alone : (s : Scene) (event : Event) (done : Scene) → Owes s.shown event [] → AreWired s.shown → Asks (packet_in s.shown event) (is_freed s event) s done → Sends-others (Owes s.shown event) (packet_in s.shown event) (is_freed s event) s done
+asks-alone s event done owed w asks = others-then (Owes s.shown event) (packet_in s.shown event) (is_freed s event) [] s s done owed (gives-nothing s s refl refl refl refl (refl, refl) w) asks
 
-ticked-same : (s : Scene) → ((link_ticked s).told.frames ≡ s.told.frames) × (((link_ticked s).shown.kept ≡ s.shown.kept) × ((link_ticked s).shown.moment ≡ s.shown.moment))
-ticked-same s = at (is_due_on_tick (handed_in s.shown).link s.shown.moment)
+does-others : Frames → (s : Scene) (event : Event) (done : Scene) → Does s event done → IsBook s.shown.ledger.book → AreWired s.shown → AreOthers s event done
+does-others frames s (Frame side bytes) done does is w =
+    others-at s (Frame side bytes) done (λ p. refl) (frame-others frames s side bytes.now (reading_on s.shown side bytes.now) done refl w does)
+does-others frames s (Comes bytes) done does is w =
+    subst (λ (x : Scene). AreOthers s (Comes bytes) x) (sym does)
+    (others-at s (Comes bytes) (datagram_taken s bytes.now) (λ p. refl) (asks-alone s (Comes bytes) (datagram_taken s bytes.now) refl w (datagram-asks frames s (reading bytes.now) is w).asks))
+does-others frames s (Tick now) done does is w = subst (λ (x : Scene). AreOthers s (Tick now) x) (sym does.2) (tick-others frames s now does.0 does.1 w)
+does-others frames s Stop done does is w =
+    let middle = does.0 in
+    let both = both-give frames s table.Stop middle does.1 w in
+    let asks = (quiet-asks [] middle (stopped middle) (quiet-by middle (stopped middle) refl refl refl refl refl (refl, refl) (λ v. v)) both.gives.wired).asks in
+    subst (λ (x : Scene). AreOthers s Stop x) (sym does.2)
+    (others-at s Stop (stopped middle) (λ p. refl) (others-then (Owes s.shown Stop) [] nobody both.own s middle (stopped middle) both.owed both.gives asks))
+does-others frames s (PeerOff n) done does is w =
+    subst (λ (x : Scene). AreOthers s (PeerOff n) x) (sym does)
+    (others-at s (PeerOff n) (word_by s n (word_refusal s.shown n)) (λ p. refl) (asks-alone s (PeerOff n) (word_by s n (word_refusal s.shown n)) refl w (word-asks frames s n (word_refusal s.shown n) is w).asks))
+
+-- ---- the datagram at the end
+
+-- what it leaves
+pub record Ends (done end : Scene) : Type 0 where
+  pub frames : end.told.frames ≡ done.told.frames
+  pub notes : end.told.notes ≡ done.told.notes
+  pub kept : end.shown.kept ≡ done.shown.kept
+  pub known : known_of end.shown ≡ known_of done.shown
+
+others-end : (s : Scene) (event : Event) (done end : Scene) → Ends done end → AreOthers s event done → AreOthers s event end
+others-end s event done end e x = record {
+  frames = x.frames;
+  frames_are = e.frames ∙ x.frames_are;
+  notes = x.notes;
+  notes_are = e.notes ∙ x.notes_are;
+  own = x.own;
+  owed = x.owed;
+  came = x.came;
+  kept_are = e.kept ∙ x.kept_are;
+  gone = x.gone;
+  of_hand = x.of_hand;
+  new = subst (λ (k : Known). AllByRecursion (IsNew k (MayGoBy s.shown x.notes)) x.came) (sym e.known) x.new;
+  others = x.others;
+}
+
+answered-ends : (s : Scene) → Ends s (link_answered s)
+answered-ends s = at (handed_in s.shown).link.due
   where
-    at : (b : Bool) → (let x : Scene = (let g = handed_in s.shown in cond b (scene (record g { link = sent_on_tick g.link g.moment }) (with_datagram s.told (datagram_in g))) (scene g s.told)) in (x.told.frames ≡ s.told.frames) × ((x.shown.kept ≡ s.shown.kept) × (x.shown.moment ≡ s.shown.moment)))
-    at true = (refl, (refl, refl))
-    at false = (refl, (refl, refl))
+    at : (b : Bool) → Ends s (let g = handed_in s.shown in scene (record g { link = sent_on_answer g.link }) (let t : Told = cond b (with_datagram s.told (datagram_in g)) s.told in t))
+    at true = record { frames = refl; notes = refl; kept = refl; known = refl }
+    at false = record { frames = refl; notes = refl; kept = refl; known = refl }
+
+ticked-ends : (s : Scene) → Ends s (link_ticked s)
+ticked-ends s = at (is_due_on_tick (handed_in s.shown).link s.shown.moment)
+  where
+    at : (b : Bool) → Ends s (let x : Scene = (let g = handed_in s.shown in cond b (scene (record g { link = sent_on_tick g.link g.moment }) (with_datagram s.told (datagram_in g))) (scene g s.told)) in x)
+    at true = record { frames = refl; notes = refl; kept = refl; known = refl }
+    at false = record { frames = refl; notes = refl; kept = refl; known = refl }
 
 end-others : (s : Scene) (event : Event) (done : Scene) → AreOthers s event done → AreOthers s event (ended_on event done)
-end-others s (Frame side bytes) done x = others-end s (Frame side bytes) done (link_answered done) (answered-frames done) refl refl x
-end-others s (Comes bytes) done x = others-end s (Comes bytes) done (link_answered done) (answered-frames done) refl refl x
-end-others s (Tick now) done x = let t = ticked-same done in others-end s (Tick now) done (link_ticked done) t.0 t.1.0 t.1.1 x
-end-others s Stop done x = others-end s Stop done (link_answered done) (answered-frames done) refl refl x
-end-others s (PeerOff n) done x = others-end s (PeerOff n) done (link_answered done) (answered-frames done) refl refl x
+end-others s (Frame side bytes) done x = others-end s (Frame side bytes) done (link_answered done) (answered-ends done) x
+end-others s (Comes bytes) done x = others-end s (Comes bytes) done (link_answered done) (answered-ends done) x
+end-others s (Tick now) done x = others-end s (Tick now) done (link_ticked done) (ticked-ends done) x
+end-others s Stop done x = others-end s Stop done (link_answered done) (answered-ends done) x
+end-others s (PeerOff n) done x = others-end s (PeerOff n) done (link_answered done) (answered-ends done) x
 
 -- a whole step
-pub step-others : Frames → (s : Scene) (event : Event) (s2 : Scene) → IsStepOn s event s2 → AreWired s.shown → AreOthers s event s2
-step-others frames s event s2 step w =
-    subst (λ (x : Scene). AreOthers s event x) (sym step.sends) (end-others s event step.done (does-others frames s event step.done step.does w))
+pub step-others : Frames → (s : Scene) (event : Event) (s2 : Scene) → IsStepOn s event s2 → IsBook s.shown.ledger.book → AreWired s.shown → AreOthers s event s2
+step-others frames s event s2 step is w =
+    subst (λ (x : Scene). AreOthers s event x) (sym step.sends) (end-others s event step.done (does-others frames s event step.done step.does is w))

@@ -206,7 +206,7 @@ and-first true b is = refl
 and-first false b is = absurd (cc)
 
 -- a gateway that reads a frame is up
-reading-synced : (g : Shown) (side : Side) (bytes : List ℕ) (x : Reading) → reading_on g side bytes ≡ Ok x → is_synced g.ledger.book.stage ≡ true
+pub reading-synced : (g : Shown) (side : Side) (bytes : List ℕ) (x : Reading) → reading_on g side bytes ≡ Ok x → is_synced g.ledger.book.stage ≡ true
 reading-synced g side bytes x is =
     let one = unless-none _ _ x is in
     let two = unless-none (up_refusal (is_up g)) _ x one.1 in

@@ -88,10 +88,10 @@ found-translate s flow (Hairpin own other) is synced found =
 
 -- ---- their notes
 
-abbrev carry_notes : Shown → Pair → List Note
+abbrev pub carry_notes : Shown → Pair → List Note
 carry_notes g p = noted_by (id_of g) g.moment (carry_row g.ledger.book p.key).what
 
-abbrev all_notes : Shown → Translation → List Note
+abbrev pub all_notes : Shown → Translation → List Note
 all_notes g (Outward p) = carry_notes g p
 all_notes g (Inward p) = carry_notes g p
 all_notes g (Hairpin own other) = carry_notes g own ++ carry_notes g other

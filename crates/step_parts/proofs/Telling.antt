@@ -15,7 +15,7 @@ use Rattle.step_parts.specs.Parts.{framed, old_dropped}
 use Rattle.step_parts.specs.Shown.{Scene}
 use Rattle.step_parts.specs.Truly.{AreSent, AtHand, Known, Sending, Tells, known_of, packets_of, translated_frames, used_in, used_pairs}
 
-swap-front : {X : Type 0} (a b c : List X) → IsPermutation (a ++ (b ++ c)) (b ++ (a ++ c))
+pub swap-front : {X : Type 0} (a b c : List X) → IsPermutation (a ++ (b ++ c)) (b ++ (a ++ c))
 swap-front a b c =
     let base = IsPermutation-append_left c (a ++ b) (b ++ a) (IsPermutation-append_comm a b) in
     subst (λ xs. IsPermutation xs (b ++ (a ++ c))) (append_assoc a b c) (subst (λ ys. IsPermutation ((a ++ b) ++ c) ys) (append_assoc b a c) base)

@@ -6,4 +6,5 @@ pub mod Truly
 pub mod Others
 pub mod Machine
 pub mod Rests
+pub mod Settled
 pub mod Founding

@@ -1,19 +1,42 @@
 -- The other frames of a step, whose packet wasn't translated: an answer to an ARP request, requests for next hops, and the
 -- frames of the routers' actions.
-use Rattle.std.specs.Prelude.{◌≡◌, ℕ, Bool, not, Option, Some, None, Result, Ok, Err, List, [], ◌∷◌, ◌++◌, map}
+use Rattle.std.specs.Prelude.{◌≡◌, ◌⊎◌, ℕ, Bool, false, not, ◌&&◌, ◌||◌, Option, Some, None, Result, Ok, Err, List, [], ◌∷◌, ◌++◌, map, if◌then◌else◌}
 use Rattle.std.specs.List.{AllByRecursion, filter, flat_map}
+use Rattle.std.specs.List.Sorted.{IsPermutation}
 use Rattle.addresses.specs.declared.ethernet.Mac.{Mac}
+use Rattle.addresses.specs.declared.internet.Ip.{Ip}
 use Rattle.nat_types.specs.declared.gateways.Side.{Side}
 use Rattle.nat_types.specs.declared.gateways.Side.TheVariants.{Inside, Outside}
+use Rattle.nat_types.specs.declared.notes.Happening.{Happening}
+use Rattle.nat_types.specs.declared.notes.Happening.TheVariants.{Used, Released, Retaken, Synced, Crashed, Booted}
+use Rattle.nat_types.specs.declared.notes.Note.{Note}
+use Rattle.nat_types.specs.declared.pairs.Endpoint.{Endpoint}
+use Rattle.nat_types.specs.declared.pairs.Pair.{Pair}
+use Rattle.nat_types.specs.declared.records.Record.{Record}
 use Rattle.arp.specs.declared.packets.ArpPacket.{ArpPacket}
+use Rattle.arp.specs.Neighbours.{mac_at}
+use Rattle.link.specs.declared.datagrams.Datagram.{Datagram as Letters}
+use Rattle.link.specs.declared.faults.LinkFault.{LinkFault}
+use Rattle.link.specs.Link.{after_take, is_restart, records_taken, refusal}
+use Rattle.link.specs.Reading.{reading}
+use Rattle.pair_machine.specs.Box.{In}
+use Rattle.binding_step.specs.Ledgers.{rests_for}
+use Rattle.binding_step.specs.Rows.{taken_ended}
+use Rattle.binding_step.specs.Uses.{IsTranslated}
+use Rattle.kept.specs.declared.waits.Ended.TheVariants.{AllPairs, One}
 use Rattle.kept.specs.declared.waits.Wait.{Wait}
-use Rattle.kept.specs.declared.waits.Wait.TheVariants.{Hop, Pair}
-use Rattle.kept.specs.Packets.{Waiting}
+use Rattle.kept.specs.declared.waits.Wait.TheVariants as wait
+use Rattle.kept.specs.Packets.{Waiting, is_young}
+use Rattle.kept.specs.Waits.{ends}
 use Rattle.packet_rules.specs.declared.readings.Reading.{Reading}
 use Rattle.packet_rules.specs.declared.readings.Reading.TheVariants.{Arp, Advert, Packet}
 use Rattle.packet_rules.specs.declared.reasons.Reason.{Reason}
-use Rattle.packet_rules.specs.Arping.{answer_frame, answer_to, request_frame}
-use Rattle.packet_rules.specs.Frames.{is_translation}
+use Rattle.packet_rules.specs.declared.translations.Translation.{Translation}
+use Rattle.packet_rules.specs.declared.translations.Translation.TheVariants.{Outward, Inward, Hairpin}
+use Rattle.packet_rules.specs.Arping.{answer_frame, answer_to, is_learnable, request_frame}
+use Rattle.packet_rules.specs.Flows.{flow_in, source_of}
+use Rattle.packet_rules.specs.Frames.{hop_of, is_translation, way_of}
+use Rattle.packet_rules.specs.Networks.{direction_of}
 use Rattle.sides.specs.Stations.{IsRouterStep, Station, frames_of, is_active}
 use Rattle.told.specs.Told.{Sent}
 use Rattle.vrrp_states.specs.declared.Action.{Action}
@@ -21,9 +44,11 @@ use Rattle.vrrp_states.specs.Table as table
 use Rattle.vrrp_states.specs.Table.{Event as RouterEvent}
 use Rattle.step_parts.specs.declared.events.Event.{Event}
 use Rattle.step_parts.specs.declared.events.Event.TheVariants.{Frame, Datagram, Tick, Stop, PeerOff}
+use Rattle.step_parts.specs.Parts.{record_done, reset, with_link}
 use Rattle.step_parts.specs.Shown.{Scene, Shown, station_on}
-use Rattle.step_parts.specs.Steps.{clock_after}
-use Rattle.step_parts.specs.Verdict.{reading_on}
+use Rattle.step_parts.specs.Steps.{clock_after, word_refusal}
+use Rattle.step_parts.specs.Truly.{AreItsPairs, AtHand, Known, known_of, near_on, packets_of}
+use Rattle.step_parts.specs.Verdict.{exit_by, reading_on}
 
 abbrev pub other_frames : List Sent → List Sent
 other_frames frames = filter (λ f. not (is_translation f.bytes)) frames
@@ -70,22 +95,139 @@ Owes g (PeerOff n) own = own ≡ []
 
 -- the request for a next hop
 abbrev pub request_for : Shown → Wait → List Sent
-request_for g (Hop side host) = record { side = side; bytes = request_frame (station_on g side).network host } ∷ []
-request_for g (Pair endpoint) = []
+request_for g (wait.Hop side host) = record { side = side; bytes = request_frame (station_on g side).network host } ∷ []
+request_for g (wait.Pair endpoint) = []
 
 abbrev pub requests : Shown → List Waiting → List Sent
 requests g waiting = flat_map (λ w. request_for g w.wait) waiting
 
+-- ---- the packets whose wait an event ends
+
+-- an ARP packet: those that wait for its sender, where that may be learnt
+abbrev pub frees_as : Shown → Side → Result Reading Reason → Waiting → Bool
+frees_as g side (Ok (Arp p)) w = is_learnable (station_on g side).network p && ends (One (wait.Hop side p.sender_ip)) w.wait
+frees_as g side (Ok (Advert a from)) w = false
+frees_as g side (Ok (Packet flow)) w = false
+frees_as g side (Err reason) w = false
+
+-- a record: those that wait for the pair of the endpoint that it answers
+abbrev pub frees_for : Option Endpoint → Waiting → Bool
+frees_for None w = false
+frees_for (Some e) w = ends (One (wait.Pair e)) w.wait
+
+-- records, one after another
+abbrev pub free_by : Scene → List Record → Waiting → Bool
+free_by s [] w = false
+free_by s (r ∷ rs) w = let g = s.shown in
+    frees_for (taken_ended g.ledger.book (rests_for g.moment g.ledger r) r) w || free_by (record_done s r) rs w
+
+-- a datagram that is let through: of a greater boot all that wait for pairs, then by its records
+abbrev pub frees_heard : Scene → Letters → Option LinkFault → Waiting → Bool
+frees_heard s d None w = let e = s.shown.link in
+    let after = with_link s (after_take e d s.shown.moment) in
+    if is_restart e d then ends AllPairs w.wait || free_by (reset after) (records_taken e d) w
+    else free_by after (records_taken e d) w
+frees_heard s d (Some fault) w = false
+
+abbrev pub frees_read : Scene → Result Letters LinkFault → Waiting → Bool
+frees_read s (Ok d) w = frees_heard s d (refusal s.shown.link d) w
+frees_read s (Err fault) w = false
+
+-- the operator's word, where it is taken: all that wait for pairs
+abbrev pub frees_unless : Option Reason → Waiting → Bool
+frees_unless None w = ends AllPairs w.wait
+frees_unless (Some reason) w = false
+
+abbrev pub is_freed : Scene → Event → Waiting → Bool
+is_freed s (Frame side bytes) w = frees_as s.shown side (reading_on s.shown side bytes.now) w
+is_freed s (Datagram bytes) w = frees_read s (reading bytes.now) w
+is_freed s (Tick now) w = false
+is_freed s Stop w = false
+is_freed s (PeerOff n) w = frees_unless (word_refusal s.shown n) w
+
+-- one that a tick finds too old
+abbrev pub is_old : Shown → Event → Waiting → Bool
+is_old g (Frame side bytes) w = false
+is_old g (Datagram bytes) w = false
+is_old g (Tick now) w = not (is_young (clock_after g.moment now) w)
+is_old g Stop w = false
+is_old g (PeerOff n) w = false
+
+-- ---- the packets that come to wait
+
+-- the packet of an event, where the frame is read as one
+abbrev pub packet_as : Side → List ℕ → Result Reading Reason → List AtHand
+packet_as side bytes (Ok (Arp p)) = []
+packet_as side bytes (Ok (Advert a from)) = []
+packet_as side bytes (Ok (Packet flow)) = record { side = side; bytes = bytes } ∷ []
+packet_as side bytes (Err reason) = []
+
+abbrev pub packet_in : Shown → Event → List AtHand
+packet_in g (Frame side bytes) = packet_as side bytes.now (reading_on g side bytes.now)
+packet_in g (Datagram bytes) = []
+packet_in g (Tick now) = []
+packet_in g Stop = []
+packet_in g (PeerOff n) = []
+
+-- the pair that was taken up, if the note says so
+abbrev pub retaken_in : Happening → List Pair
+retaken_in (Used pair) = []
+retaken_in (Released pair) = []
+retaken_in (Retaken pair) = pair ∷ []
+retaken_in Synced = []
+retaken_in Crashed = []
+retaken_in (Booted number) = []
+
+abbrev pub retaken_pairs : List Note → List Pair
+retaken_pairs notes = flat_map (λ note. retaken_in note.what) notes
+
+-- packets may go by the pair: the gateway translated by it, or has taken it up since, as these notes say
+abbrev pub MayGoBy : Shown → List Note → Pair → Type 0
+MayGoBy g notes pair = IsTranslated g.ledger.book.entries pair ⊎ In pair (retaken_pairs notes)
+
+-- the pair of the port that a packet goes to
+abbrev pub targets : Translation → List Pair
+targets (Outward pair) = []
+targets (Inward pair) = pair ∷ []
+targets (Hairpin own other) = other ∷ []
+
+-- The host is the next hop of a packet, at the side at which it leaves: it goes the way that the rules say, by its pairs, and
+-- it may go by that of the port that it goes to; and no hardware address is known for that host.
+pub record IsAskedBy (k : Known) (may : Pair → Type 0) (packet : AtHand) (by : Translation) (exit : Side) (host : Ip)
+    : Type 0 where
+  pub way : let flow = flow_in packet.bytes in
+      direction_of k.networks packet.side flow.source.0 flow.destination.0 ≡ Ok (way_of by)
+  pub pairs : AreItsPairs (flow_in packet.bytes) by
+  pub target : AllByRecursion may (targets by)
+  pub exit_is : exit ≡ exit_by by
+  pub hop : host.0 ≡ hop_of k.networks by (flow_in packet.bytes).destination.0
+  pub unknown : mac_at host.0 k.moment (near_on k exit) ≡ None
+
+-- a packet waits for the pair of its own endpoint, or for its own next hop
+abbrev pub IsItsWait : Known → (Pair → Type 0) → AtHand → Wait → Type 0
+IsItsWait k may packet (wait.Pair e) = e ≡ source_of (flow_in packet.bytes)
+IsItsWait k may packet (wait.Hop exit host) = (by : Translation) × IsAskedBy k may packet by exit host
+
+-- it does so since now
+pub record IsNew (k : Known) (may : Pair → Type 0) (w : Waiting) : Type 0 where
+  pub since : w.since ≡ k.moment
+  pub wait : IsItsWait k may (record { side = w.side; bytes = w.bytes }) w.wait
+
 -- The other frames in their order: what the event has the gateway send by itself, then a request for each packet that comes
--- to wait for its next hop. Of the packets that waited before, those that this test passes still do, in front of those that
--- came.
+-- to wait for its next hop. The packets that waited before still do, but for those whose wait the event ends and for old
+-- ones; behind them wait those that came. These are, each once at most, of the event's own packet and of those whose wait
+-- it ended.
 pub record AreOthers (s : Scene) (event : Event) (s2 : Scene) : Type 0 where
   pub frames : List Sent
   pub frames_are : s2.told.frames ≡ s.told.frames ++ frames
+  pub notes : List Note
+  pub notes_are : s2.told.notes ≡ s.told.notes ++ notes
   pub own : List Sent
   pub owed : Owes s.shown event own
-  pub stays : Waiting → Bool
   pub came : List Waiting
-  pub kept_are : s2.shown.kept ≡ filter stays s.shown.kept ++ came
-  pub fresh : AllByRecursion (λ w. w.since ≡ s2.shown.moment) came
+  pub kept_are : s2.shown.kept ≡ filter (λ w. not (is_old s.shown event w || is_freed s event w)) s.shown.kept ++ came
+  pub gone : List AtHand
+  pub of_hand : let freed = filter (is_freed s event) s.shown.kept in
+      IsPermutation (packet_in s.shown event ++ packets_of freed) (packets_of came ++ gone)
+  pub new : AllByRecursion (IsNew (known_of s2.shown) (MayGoBy s.shown notes)) came
   pub others : other_frames frames ≡ own ++ requests s.shown came

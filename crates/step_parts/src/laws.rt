@@ -19,6 +19,7 @@ ghost use Rattle.step_parts.specs.Machine.{letters_in, words_in};
 ghost use Rattle.step_parts.specs.Others.{AreOthers};
 ghost use Rattle.step_parts.specs.Parts.{all_idle_done};
 ghost use Rattle.step_parts.specs.Rests.{AccountsOn, Rests, most_notes};
+ghost use Rattle.step_parts.specs.Settled.{IsSettled};
 ghost use Rattle.step_parts.specs.Shown.{Scene, Shown, id_of, scene, with_notes};
 ghost use Rattle.step_parts.specs.Steps.{Does, IsStepOn};
 ghost use Rattle.step_parts.specs.Truly.{AreWired, Tells, hand_of};
@@ -63,10 +64,10 @@ pub fn steps_tell()
 
 /// All other frames of a step are, in their order: an answer to the ARP request that came in, or the
 /// frames of the routers' actions; then a request for each packet that comes to wait for its next
-/// hop.
+/// hop. It says which packets wait on, which may come to wait, and for which host each asks.
 pub fn other_frames()
-    ensures { (s : Scene) (event : Event) (s2 : Scene) → IsStepOn s event s2 → AreWired s.shown
-        → AreOthers s event s2 }
+    ensures { (s : Scene) (event : Event) (s2 : Scene) → IsStepOn s event s2
+        → IsBook s.shown.ledger.book → AreWired s.shown → AreOthers s event s2 }
 {
     readings_law();
     frames_law();
@@ -129,6 +130,20 @@ pub fn beginnings()
     ensures founded_room { (settings : Settings) (boot : ℕ)
         → (founded settings boot).link.capacity
         ≡ link_places (bounds_of settings.ports.zero) (bounds_of settings.ports.one) }
+{}
+
+/// What holds of a gateway between steps holds after each step again: its routers are in Initialize
+/// where it isn't up, its link owes no datagram, and the packets that it keeps have their places.
+pub fn steps_settle()
+    ensures { (s : Scene) (event : Event) (s2 : Scene) → IsStepOn s event s2
+        → IsSettled s.shown → IsSettled s2.shown }
+{}
+
+/// It holds of a gateway as it begins, and of the founded one.
+pub fn beginnings_settle()
+    ensures begun { (settings : Settings) (id : GatewayId) (boot : ℕ)
+        → IsSettled (begun settings id boot) }
+    ensures founded { (settings : Settings) (boot : ℕ) → IsSettled (founded settings boot) }
 {}
 
 /// Idle pairs let go one after another change the book, its lives, the link and the notes as one fold

@@ -7,7 +7,7 @@ mod plans;
 
 pub use events::{Event, Outcome};
 pub use laws::{
-    beginnings, beginnings_account, idle_at_once, other_frames, others_account, parts_stand,
-    steps_account, steps_go, steps_keep, steps_note, steps_tell,
+    beginnings, beginnings_account, beginnings_settle, idle_at_once, other_frames, others_account,
+    parts_stand, steps_account, steps_go, steps_keep, steps_note, steps_settle, steps_tell,
 };
 pub use plans::Plan;
