@@ -1,12 +1,14 @@
 -- Which ports of a range are listed by their marks.
-use Rattle.std.proofs.Common.{◌≡◌, ℕ, zero, suc, ◌+◌, ◌-◌, ◌<◌, ◌≤◌, ◌==◌, nat_le, Bool, true, false, cond, ◌&&◌, ◌||◌, Option, Some, None, IfSome, IfNone, inl, inr, List, [], ◌∷◌, refl, ap, ◌∙◌, sym, arith}
+use Rattle.std.proofs.Common.{◌≡◌, ℕ, zero, suc, ◌+◌, ◌-◌, ◌/◌, ◌<◌, ◌≤◌, ◌==◌, nat_le, Bool, true, false, cond, ◌&&◌, ◌||◌, Option, Some, None, IfSome, IfNone, inl, inr, List, [], ◌∷◌, refl, ap, ◌∙◌, sym, arith}
 use Rattle.std.proofs.lemmas.Bool.{both_ways, cases_eq, cases_lt, eq-eqb, ne_eqb, or_left, and_left, and_right, lt-leb, cond-true, cond-false, leb-true, and_parts, false_from_ne_true}
 use Rattle.addresses.specs.declared.transport.Port.{Port}
-use Rattle.port_range.specs.Ports.{is_listed, is_within, is_available, IsRange, RiseAbove, chosen_open, chosen_port}
+use Rattle.port_range.specs.Ports.{is_listed, is_within, is_available, IsRange, RiseAbove, chosen_open, chosen_port, same_parity}
 use Rattle.addresses.specs.declared.transport.Parity.{Parity}
+use Rattle.addresses.specs.declared.transport.Parity.TheVariants.{Even, Odd}
+use Rattle.addresses.specs.Transport.{parity_of}
 use Rattle.port_range.specs.Words.{has_bit}
-use Rattle.port_range.specs.Marks.{Marked, has_both, other_parity, ports_where, ranged, HasMarks, IsLowestOf}
-use Rattle.port_range.proofs.Choice.{Between, NonePass, chosen-same, chosen-like, chosen-other, chosen-nothing}
+use Rattle.port_range.specs.Marks.{Marked, has_both, other_parity, words_looked_at, ports_where, ranged, HasMarks, IsLowestOf}
+use Rattle.port_range.proofs.Choice.{Between, NonePass, chosen-same, chosen-like, chosen-other, chosen-nothing, parity-true}
 
 -- ---- lists by a test
 
@@ -146,3 +148,27 @@ found-other lowest highest marks parity None h none some others =
     sym (choice lowest highest marks parity h ∙ chosen-nothing (has_both marks.free marks.owned) lowest highest parity none others)
 found-other lowest highest marks parity (Some port) h none some others =
     sym (choice lowest highest marks parity h ∙ chosen-other (has_both marks.free marks.owned) lowest highest parity port (between lowest highest marks h) none some)
+
+-- ---- how many words are looked at
+
+-- the port found is none past the highest
+found-port : (lowest highest : ℕ) (marks : Marked) (parity : Parity) (port : Port) → HasMarks lowest highest marks → IsLowestOf (has_both marks.free marks.owned) parity port → port.0 ≤ 65535
+found-port lowest highest marks parity port h is = omega (arith, (between lowest highest marks h port.0 is.passes).1, h.high)
+
+pub looked-like : (lowest highest : ℕ) (marks : Marked) (parity : Parity) (port : Port) (looked : ℕ) → HasMarks lowest highest marks → IsLowestOf (has_both marks.free marks.owned) parity port
+    → looked ≡ port.0 / 4096 + 3 → (looked ≡ words_looked_at parity (Some port)) × (looked ≤ 34)
+looked-like lowest highest marks parity port looked h is many =
+    let same = cond-true {A = ℕ} (same_parity (parity_of port.0) parity) 0 16 (parity-true (parity_of port.0) parity is.kind) in
+    (omega (arith, same, many), omega (arith, many, found-port lowest highest marks parity port h is))
+
+other-parity : (parity : Parity) → same_parity (other_parity parity) parity ≡ false
+other-parity Even = refl
+other-parity Odd = refl
+
+pub looked-other : (lowest highest : ℕ) (marks : Marked) (parity : Parity) (answer : Option Port) (looked more : ℕ) → HasMarks lowest highest marks → looked ≡ 16
+    → IfSome answer (IsLowestOf (has_both marks.free marks.owned) (other_parity parity)) → IfSome answer (λ port. more ≡ port.0 / 4096 + 3) → IfNone answer (more ≡ 16)
+    → (looked + more ≡ words_looked_at parity answer) × (looked + more ≤ 34)
+looked-other lowest highest marks parity None looked more h whole is some none = (omega (arith, whole, none), omega (arith, whole, none))
+looked-other lowest highest marks parity (Some port) looked more h whole is some none =
+    let apart = cond-false {A = ℕ} (same_parity (parity_of port.0) parity) 0 16 (ap (λ (p : Parity). same_parity p parity) is.kind ∙ other-parity parity) in
+    (omega (arith, apart, whole, some), omega (arith, whole, some, found-port lowest highest marks (other_parity parity) port h is))

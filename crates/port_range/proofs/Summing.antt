@@ -108,6 +108,13 @@ open-port parity free owned summary index word is holds named =
     let bit = bit_at-trailing_zeros w64 word (omega (arith, named, open-some parity free owned summary index is holds)) (omega (arith, named, open-fits parity free owned index)) in
     omega (arith, within, bit.0)
 
+-- and lies in the word of the summary
+pub open-looked : (parity : Parity) (free owned summary : List ℕ) (index word : ℕ) → IsSummary parity free owned summary → has_bit summary index ≡ true
+    → word ≡ open_word parity free owned index → index / 64 + 1 + 2 ≡ (index * 64 + trailing_zeros w64 word) / 4096 + 3
+open-looked parity free owned summary index word is holds named =
+    let bit = bit_at-trailing_zeros w64 word (omega (arith, named, open-some parity free owned summary index is holds)) (omega (arith, named, open-fits parity free owned index)) in
+    omega (arith, bit.0)
+
 pub lowest-found : (parity : Parity) (free owned summary : List ℕ) (index : ℕ) (port : Port) → IsSummary parity free owned summary
     → IsLowestBit summary index → port.0 ≡ index * 64 + trailing_zeros w64 (open_word parity free owned index) → IsLowestOf (has_both free owned) parity port
 unfolding is_set

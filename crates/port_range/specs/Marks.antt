@@ -1,11 +1,11 @@
 -- Free and owned ports as bits by number, and a summary for each parity: the words that have a port to give.
-use Rattle.std.specs.Prelude.{◌≡◌, ℕ, ◌+◌, ◌-◌, ◌≤◌, ◌<◌, zero, suc, nat_lt, Bool, true, false, ◌&&◌, List, [], ◌∷◌, length, slice_index, bit_and, if◌then◌else◌}
+use Rattle.std.specs.Prelude.{◌≡◌, ℕ, ◌+◌, ◌-◌, ◌/◌, ◌≤◌, ◌<◌, zero, suc, nat_lt, Bool, true, false, ◌&&◌, Option, Some, None, List, [], ◌∷◌, length, slice_index, bit_and, if◌then◌else◌}
 use Rattle.addresses.specs.declared.transport.Parity.{Parity}
 use Rattle.addresses.specs.declared.transport.Parity.TheVariants.{Even, Odd}
 use Rattle.addresses.specs.declared.transport.Port.{Port}
 use Rattle.addresses.specs.Transport.{parity_of}
 use Rattle.port_range.specs.declared.TheConstants.{FIRST_PORT}
-use Rattle.port_range.specs.Ports.{Range, is_within}
+use Rattle.port_range.specs.Ports.{Range, is_within, same_parity}
 use Rattle.port_range.specs.Words.{has_bit}
 
 -- the words of the free ports, and those of the owned ones
@@ -47,6 +47,12 @@ pub record IsLowestOf (test : ℕ → Bool) (parity : Parity) (port : Port) : Ty
   pub passes : test port.0 ≡ true
   pub kind : parity_of port.0 ≡ parity
   pub lowest : (q : ℕ) → q < port.0 → parity_of q ≡ parity → test q ≡ false
+
+-- The words that the search for a port looks at: those of a summary up to the one that has the port, each for 4,096 ports, and the port's
+-- free and owned word. The summary of its own parity comes first, and is looked at whole where the port is of the other.
+abbrev pub words_looked_at : Parity → Option Port → ℕ
+words_looked_at parity None = 32
+words_looked_at parity (Some port) = (if same_parity (parity_of port.0) parity then 0 else 16) + (port.0 / 4096 + 3)
 
 -- ---- a range by its marks
 

@@ -3,6 +3,7 @@
 
 ghost use Rattle.std.specs.Prelude.{◌≡◌, ℕ, [], true, false, OnOk, IfOk, IfErr, IfSome, IfNone, ◌≤◌, ◌==◌, ◌&&◌, if◌then◌else◌};
 ghost use Rattle.port_range.specs.Ports.{is_free, is_owned, is_available, is_within, is_bad, IsReason, IsRange, IsChosen, chosen_port};
+ghost use Rattle.port_range.specs.Marks.{words_looked_at};
 
 mod laws;
 mod marks;
@@ -123,11 +124,12 @@ impl Range {
         self.free_like_counted(parity).0
     }
 
-    /// The port that `free_like` gives, and how many words it looks at.
+    /// The port that `free_like` gives, and how many words the search looks at.
     pub fn free_like_counted(&self, parity: Parity) -> (Option<Port>, u32)
         ensures port { result.0 ≡ chosen_port self.now parity }
         ensures like { IfSome result.0 (IsChosen (is_available self.now) parity) }
         ensures none { IfNone result.0 ((port : ℕ) → is_available self.now port ≡ false) }
+        ensures looked { result.1 ≡ words_looked_at parity result.0 }
         ensures few { result.1 ≤ 34 }
     {
         let (like, looked) = self.marks.lowest(parity);

@@ -1,4 +1,4 @@
-//! Free and owned ports as bits by number, and the search for one to give through a summary for each parity.
+//! Free and owned ports as bits by number, and the search through a summary for each parity.
 ghost use Rattle.std.specs.Prelude.{◌≡◌, ℕ, ◌+◌, ◌*◌, ◌/◌, ◌<◌, ◌≤◌, ◌==◌, ◌&&◌, false, length, slice_index, nat_lt, bit_and, IfOk, IfSome, IfNone, if◌then◌else◌};
 ghost use Rattle.addresses.specs.Transport.{parity_of};
 ghost use Rattle.port_range.specs.Ports.{is_within};
@@ -77,8 +77,8 @@ fn lowest_open(summary: &[u64], free: &[u64], owned: &[u64], parity: Parity) -> 
     ensures some { IfSome result.0 (IsLowestOf (has_both free.now owned.now) parity) }
     ensures none { IfNone result.0 ((port : ℕ) → parity_of port ≡ parity
         → has_both free.now owned.now port ≡ false) }
-    ensures few { result.1 ≤ 18 }
-    ensures few_none { IfNone result.0 (result.1 ≤ 16) }
+    ensures looked_some { IfSome result.0 (λ port. result.1 ≡ port.0 / 4096 + 3) }
+    ensures looked_none { IfNone result.0 (result.1 ≡ 16) }
 {
     let (index, looked) = lowest_bit(summary);
     match index {
@@ -96,7 +96,9 @@ fn lowest_open(summary: &[u64], free: &[u64], owned: &[u64], parity: Parity) -> 
 pub(crate) struct Marks {
     free: Vec<u64>,
     owned: Vec<u64>,
+    /// The words that have an even port which is both.
     even: Vec<u64>,
+    /// The words that have an odd one.
     odd: Vec<u64>,
 }
 
@@ -205,8 +207,8 @@ impl Marks {
         ensures some { IfSome result.0 (IsLowestOf (has_both self.now.free self.now.owned) parity) }
         ensures none { IfNone result.0 ((port : ℕ) → parity_of port ≡ parity
             → has_both self.now.free self.now.owned port ≡ false) }
-        ensures few { result.1 ≤ 18 }
-        ensures few_none { IfNone result.0 (result.1 ≤ 16) }
+        ensures looked_some { IfSome result.0 (λ port. result.1 ≡ port.0 / 4096 + 3) }
+        ensures looked_none { IfNone result.0 (result.1 ≡ 16) }
     {
         let summary = match parity {
             Parity::Even => &self.even,

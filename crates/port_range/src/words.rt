@@ -45,7 +45,8 @@ pub(crate) fn lowest_bit(words: &[u64]) -> (Option<usize>, u32)
     requires { length words.now ≤ 1024 }
     ensures some { IfSome result.0 (IsLowestBit words.now) }
     ensures none { IfNone result.0 ((number : ℕ) → has_bit words.now number ≡ false) }
-    ensures few { result.1 ≤ length words.now }
+    ensures looked_some { IfSome result.0 (λ number. result.1 ≡ number / 64 + 1) }
+    ensures looked_none { IfNone result.0 (result.1 ≡ length words.now) }
 {
     for (index, word) in words.iter().enumerate() {
         if *word != 0 {

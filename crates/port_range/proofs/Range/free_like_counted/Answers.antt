@@ -1,7 +1,7 @@
 use Rattle.std.proofs.Common.{Some}
 use Rattle.port_range.specs.Marks.{ranged}
 use Rattle.port_range.proofs.Choice.{answer-like, answer-none}
-use Rattle.port_range.proofs.Listed.{kept-marks, found-like, found-other}
+use Rattle.port_range.proofs.Listed.{kept-marks, found-like, found-other, looked-like, looked-other}
 use Rattle.port_range.proofs.Range.free_like_counted.Goals as goal
 
 pub returns-in-Some-clause-port : goal.returns-in-Some-clause-port
@@ -45,3 +45,31 @@ returns-in-None-clause-none c =
     let others = rw c.other_parity.ensures at c.lowest-other.ensures.none in
     rw (← c.self.view_is) (answer-none range c.args.parity c.lowest-other.result.0 (kept-marks i.lowest.0 i.highest.0 i.marks c.self.invariant)
     (found-other i.lowest.0 i.highest.0 i.marks c.args.parity c.lowest-other.result.0 c.self.invariant none some others))
+
+pub returns-in-Some-clause-looked : goal.returns-in-Some-clause-looked
+returns-in-Some-clause-looked c =
+    let i = c.self.inside in
+    let is = rw c.in-Some.is at c.lowest-like.ensures.some in
+    let many = rw c.in-Some.is at c.lowest-like.ensures.looked_some in
+    (looked-like i.lowest.0 i.highest.0 i.marks c.args.parity c.in-Some.port _ c.self.invariant is many).0
+
+pub returns-in-Some-clause-few : goal.returns-in-Some-clause-few
+returns-in-Some-clause-few c =
+    let i = c.self.inside in
+    let is = rw c.in-Some.is at c.lowest-like.ensures.some in
+    let many = rw c.in-Some.is at c.lowest-like.ensures.looked_some in
+    (looked-like i.lowest.0 i.highest.0 i.marks c.args.parity c.in-Some.port _ c.self.invariant is many).1
+
+pub returns-in-None-clause-looked : goal.returns-in-None-clause-looked
+returns-in-None-clause-looked c =
+    let i = c.self.inside in
+    let whole = rw c.in-None.is at c.lowest-like.ensures.looked_none in
+    let some = rw c.other_parity.ensures at c.lowest-other.ensures.some in
+    (looked-other i.lowest.0 i.highest.0 i.marks c.args.parity c.lowest-other.result.0 _ _ c.self.invariant whole some c.lowest-other.ensures.looked_some c.lowest-other.ensures.looked_none).0
+
+pub returns-in-None-clause-few : goal.returns-in-None-clause-few
+returns-in-None-clause-few c =
+    let i = c.self.inside in
+    let whole = rw c.in-None.is at c.lowest-like.ensures.looked_none in
+    let some = rw c.other_parity.ensures at c.lowest-other.ensures.some in
+    (looked-other i.lowest.0 i.highest.0 i.marks c.args.parity c.lowest-other.result.0 _ _ c.self.invariant whole some c.lowest-other.ensures.looked_some c.lowest-other.ensures.looked_none).1
