@@ -48,20 +48,31 @@ pub is_set-zero : (i : ℕ) → is_set 0 i ≡ false
 unfolding is_set
 is_set-zero i = ap (λ b. b == 1) (bit_at-zero i)
 
-min-test : (x y : ℕ) → x < 2 → y < 2 → (min x (1 - y) == 1) ≡ ((x == 1) && not (y == 1))
-min-test zero zero p q = refl
-min-test zero (suc zero) p q = refl
-min-test (suc zero) zero p q = refl
-min-test (suc zero) (suc zero) p q = refl
-min-test (suc (suc x)) y p q = absurd (omega arith)
-min-test x (suc (suc y)) p q = absurd (omega arith)
+min-both : (x y : ℕ) → x < 2 → y < 2 → (min x y == 1) ≡ ((x == 1) && (y == 1))
+min-both zero zero p q = refl
+min-both zero (suc zero) p q = refl
+min-both (suc zero) zero p q = refl
+min-both (suc zero) (suc zero) p q = refl
+min-both (suc (suc x)) y p q = absurd (omega arith)
+min-both x (suc (suc y)) p q = absurd (omega arith)
+
+pub is_set-and : (a b i : ℕ) → is_set (bit_and a b) i ≡ (is_set a i && is_set b i)
+unfolding is_set
+is_set-and a b i =
+    ap (λ x. x == 1) (bit_at_and a b i) ∙ min-both (bit_at a i) (bit_at b i) (bit_at-lt a i) (bit_at-lt b i)
+
+one-less : (x : ℕ) → x < 2 → (1 - x == 1) ≡ not (x == 1)
+one-less zero p = refl
+one-less (suc zero) p = refl
+one-less (suc (suc x)) p = absurd (omega arith)
+
+is_set-not : (b i : ℕ) → b < 2 ^ 64 → i < 64 → is_set (18446744073709551615 - b) i ≡ not (is_set b i)
+unfolding is_set
+is_set-not b i fits low = ap (λ x. x == 1) (bit_at_not w64 b i fits low) ∙ one-less (bit_at b i) (bit_at-lt b i)
 
 -- the bits of one word that another doesn't have
 pub is_set-without : (a b i : ℕ) → b < 2 ^ 64 → i < 64 → is_set (bit_and a (18446744073709551615 - b)) i ≡ (is_set a i && not (is_set b i))
-unfolding is_set
-is_set-without a b i fits low =
-    ap (λ x. x == 1) (bit_at_and a (18446744073709551615 - b) i ∙ ap (min (bit_at a i)) (bit_at_not w64 b i fits low))
-    ∙ min-test (bit_at a i) (bit_at b i) (bit_at-lt a i) (bit_at-lt b i)
+is_set-without a b i fits low = is_set-and a (18446744073709551615 - b) i ∙ ap (λ x. is_set a i && x) (is_set-not b i fits low)
 
 -- ---- numbers
 

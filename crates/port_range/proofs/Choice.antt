@@ -47,22 +47,6 @@ first_where-none test start (suc count) h q low high =
     let parts = cond_none {X = Port} (test start) (record { 0 = start }) (first_where test (start + 1) count) h in
     fails_from test start (start + suc count) parts.0 (λ r from below. first_where-none test (start + 1) count parts.1 r from (omega arith)) q low high
 
--- a search over so many ports goes on past one that fails
-pub first_where-more : (test : ℕ → Bool) (low offset count : ℕ) → offset < count → test (low + offset) ≡ false → first_where test (low + offset) (count - offset) ≡ first_where test (low + (offset + 1)) (count - (offset + 1))
-first_where-more test low offset count left fails =
-    let one : count - offset ≡ suc (count - (offset + 1)) = omega arith in
-    let next : low + offset + 1 ≡ low + (offset + 1) = omega arith in
-    ap (first_where test (low + offset)) one
-    ∙ cond-false (test (low + offset)) (Some (record { 0 = low + offset })) (first_where test (low + offset + 1) (count - (offset + 1))) fails
-    ∙ ap (λ (start : ℕ). first_where test start (count - (offset + 1))) next
-
--- a search over so many ports stops at one that passes
-pub first_where-stop : (test : ℕ → Bool) (low offset count : ℕ) → offset < count → test (low + offset) ≡ true → first_where test (low + offset) (count - offset) ≡ Some (record { 0 = low + offset })
-first_where-stop test low offset count left passes =
-    let one : count - offset ≡ suc (count - (offset + 1)) = omega arith in
-    ap (first_where test (low + offset)) one
-    ∙ cond-true (test (low + offset)) (Some (record { 0 = low + offset })) (first_where test (low + offset + 1) (count - (offset + 1))) passes
-
 -- the port passes, is of the wanted parity, lies between the two, and is the lowest such
 pub record IsLowest (test : ℕ → Bool) (lowest highest : ℕ) (wanted : Option Parity) (port : Port) : Type 0 where
   pub passes : test port.0 ≡ true

@@ -1,10 +1,11 @@
 -- The summaries: which words have a port of a parity to give, and the lowest such port.
-use Rattle.std.proofs.Common.{◌≡◌, ℕ, zero, suc, ◌+◌, ◌*◌, ◌/◌, ◌%◌, ◌^◌, ◌<◌, ◌==◌, nat_lt, Bool, true, false, cond, ◌&&◌, inl, inr, List, length, replicate, get_or, bit_and, min, w64, refl, sym, ap, ◌∙◌, arith}
-use Rattle.std.specs.Int.{bit_at, trailing_zeros}
+use Rattle.std.proofs.Common.{◌≡◌, ℕ, zero, ◌+◌, ◌*◌, ◌/◌, ◌%◌, ◌^◌, ◌<◌, ◌==◌, nat_lt, Bool, true, false, cond, ◌&&◌, inl, inr, List, ◌++◌, length, take, drop, replicate, get_or, bit_and, w64, refl, sym, ap, ◌∙◌, arith}
+use Rattle.std.specs.Int.{trailing_zeros}
 use Rattle.std.proofs.lemmas.Bool.{cases_eq, cases_lt, both_ways, cond-true, cond-false, eq-eqb, ne_eqb, ltb-true, ltb-false, and_parts, and_from, and_left, false_from_ne_true, agree_below_at}
 use Rattle.std.proofs.lemmas.List.{get_or_past, get_or-replicate, length-replicate}
+use Rattle.std.proofs.Math.Seq.{take-append_seam}
 use Rattle.std.proofs.lemmas.Nat.{and_le_r}
-use Rattle.std.proofs.lemmas.Nat.Bits.{bit_at-lt, bit_at_and, bit_at-trailing_zeros}
+use Rattle.std.proofs.lemmas.Nat.Bits.{bit_at-trailing_zeros}
 use Rattle.addresses.specs.declared.transport.Parity.{Parity}
 use Rattle.addresses.specs.declared.transport.Parity.TheVariants.{Even, Odd}
 use Rattle.addresses.specs.declared.transport.Port.{Port}
@@ -12,7 +13,7 @@ use Rattle.addresses.specs.Transport.{parity_of}
 use Rattle.port_range.specs.Ports.{same_parity}
 use Rattle.port_range.specs.Words.{is_set, has_bit, IsLowestBit, AreOthers}
 use Rattle.port_range.specs.Marks.{has_both, mask_of, open_word, IsSummary, AreMarks, IsLowestOf}
-use Rattle.port_range.proofs.Bits.{is_set-zero, has_bit-in, has_bit-of, has_bit-past}
+use Rattle.port_range.proofs.Bits.{is_set-zero, is_set-and, has_bit-in, has_bit-of, has_bit-past}
 use Rattle.port_range.proofs.Choice.{parity-eq, parity-true}
 
 -- ---- the bits of a word that are of a parity
@@ -21,19 +22,6 @@ pub mask-bits : (parity : Parity) (i : ℕ) → i < 64 → is_set (mask_of parit
 unfolding is_set
 mask-bits Even i low = agree_below_at (λ j. is_set (mask_of Even) j) (λ j. same_parity (parity_of j) Even) 64 i refl low
 mask-bits Odd i low = agree_below_at (λ j. is_set (mask_of Odd) j) (λ j. same_parity (parity_of j) Odd) 64 i refl low
-
-min-both : (x y : ℕ) → x < 2 → y < 2 → (min x y == 1) ≡ ((x == 1) && (y == 1))
-min-both zero zero p q = refl
-min-both zero (suc zero) p q = refl
-min-both (suc zero) zero p q = refl
-min-both (suc zero) (suc zero) p q = refl
-min-both (suc (suc x)) y p q = absurd (omega arith)
-min-both x (suc (suc y)) p q = absurd (omega arith)
-
-is_set-and : (a b i : ℕ) → is_set (bit_and a b) i ≡ (is_set a i && is_set b i)
-unfolding is_set
-is_set-and a b i =
-    ap (λ x. x == 1) (bit_at_and a b i) ∙ min-both (bit_at a i) (bit_at b i) (bit_at-lt a i) (bit_at-lt b i)
 
 same-parity_of : (a b : ℕ) → a % 2 ≡ b % 2 → parity_of a ≡ parity_of b
 same-parity_of a b same = ap (λ (x : ℕ). cond (x == 0) Even Odd) same
@@ -159,18 +147,20 @@ summary-put parity free owned summary free' owned' summary' index is same-free s
   ];
 }
 
--- a summary that is right of the words so far is so of one more
-pub summary-more : (parity : Parity) (free owned summary summary' : List ℕ) (index : ℕ)
-    → ((n : ℕ) → n < index → has_bit summary n ≡ nat_lt 0 (open_word parity free owned n))
-    → ((n : ℕ) → has_bit summary' n ≡ cond (n == index) (nat_lt 0 (open_word parity free owned index)) (has_bit summary n))
-    → (n : ℕ) → n < index + 1 → has_bit summary' n ≡ nat_lt 0 (open_word parity free owned n)
-summary-more parity free owned summary summary' index so-far put n low =
-    elim (cases_eq n index) [
-      | inl same ↦ (put n ∙ cond-true (n == index) (nat_lt 0 (open_word parity free owned index)) (has_bit summary n) (eq-eqb n index same)
-          ∙ ap (λ (j : ℕ). nat_lt 0 (open_word parity free owned j)) (sym same))
-      | inr other ↦ (put n ∙ cond-false (n == index) (nat_lt 0 (open_word parity free owned index)) (has_bit summary n) (ne_eqb n index other)
-          ∙ so-far n (omega arith))
-    ]
+-- the same where the words come by other names
+pub summary-said : (parity : Parity) (free owned summary free' owned' summary' : List ℕ) (index : ℕ) (f o s : List ℕ) → f ≡ free' → o ≡ owned' → s ≡ summary
+    → IsSummary parity free owned summary → AreOthers index free free' → AreOthers index owned owned' → length summary' ≡ length s
+    → ((n : ℕ) → has_bit summary' n ≡ cond (n == index) (nat_lt 0 (open_word parity f o index)) (has_bit s n)) → IsSummary parity free' owned' summary'
+summary-said parity free owned summary free' owned' summary' index f o s is-f is-o is-s is same-free same-owned size put =
+    summary-put parity free owned summary free' owned' summary' index is same-free same-owned (size ∙ ap length is-s) (λ n. put n
+    ∙ ap (λ l. cond (n == index) (nat_lt 0 (open_word parity l o index)) (has_bit s n)) is-f
+    ∙ ap (λ l. cond (n == index) (nat_lt 0 (open_word parity free' l index)) (has_bit s n)) is-o
+    ∙ ap (λ l. cond (n == index) (nat_lt 0 (open_word parity free' owned' index)) (has_bit l n)) is-s)
+
+-- words that a slice's words are written back into
+pub written : (count : ℕ) (new old : List ℕ) → length new ≡ count → take count (new ++ drop (length new) old) ≡ new
+written count new old all =
+    ap (λ (n : ℕ). take n (new ++ drop (length new) old)) (sym all) ∙ take-append_seam new (drop (length new) old)
 
 -- words that are all zero
 

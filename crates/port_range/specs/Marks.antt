@@ -23,8 +23,8 @@ other_parity Odd = Even
 
 -- the bits of a word at numbers of a parity
 abbrev pub mask_of : Parity → ℕ
-mask_of Even = 6148914691236517205
-mask_of Odd = 12297829382473034410
+mask_of Even = 0x5555555555555555
+mask_of Odd = 0xAAAAAAAAAAAAAAAA
 
 -- the ports of a parity that a word has to give
 abbrev pub open_word : Parity → List ℕ → List ℕ → ℕ → ℕ

@@ -162,21 +162,10 @@ impl Marks {
         ensures owned { self.new.owned ≡ self.old.owned }
     {
         let number = usize::from(port.0);
+        let index = number / 64;
         put_bit(&mut self.free, number, flag);
-        sum_up(
-            &mut self.even,
-            &self.free,
-            &self.owned,
-            Parity::Even,
-            number / 64,
-        );
-        sum_up(
-            &mut self.odd,
-            &self.free,
-            &self.owned,
-            Parity::Odd,
-            number / 64,
-        );
+        sum_up(&mut self.even, &self.free, &self.owned, Parity::Even, index);
+        sum_up(&mut self.odd, &self.free, &self.owned, Parity::Odd, index);
     }
 
     pub(crate) fn put_owned(&mut self, port: Port, flag: bool)
@@ -185,21 +174,10 @@ impl Marks {
         ensures free { self.new.free ≡ self.old.free }
     {
         let number = usize::from(port.0);
+        let index = number / 64;
         put_bit(&mut self.owned, number, flag);
-        sum_up(
-            &mut self.even,
-            &self.free,
-            &self.owned,
-            Parity::Even,
-            number / 64,
-        );
-        sum_up(
-            &mut self.odd,
-            &self.free,
-            &self.owned,
-            Parity::Odd,
-            number / 64,
-        );
+        sum_up(&mut self.even, &self.free, &self.owned, Parity::Even, index);
+        sum_up(&mut self.odd, &self.free, &self.owned, Parity::Odd, index);
     }
 
     /// The lowest port of a parity that is free and owned, and how many words were looked at.
