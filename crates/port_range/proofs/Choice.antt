@@ -1,11 +1,12 @@
 -- The port that is chosen.
 use Rattle.std.proofs.Common.{◌≡◌, ℕ, zero, suc, ◌+◌, ◌-◌, ◌<◌, ◌≤◌, Bool, true, false, cond, ◌&&◌, Option, Some, None, ◌⊎◌, inl, inr, nat_le, IfSome, IfNone, refl, ap, ◌∙◌, sym, arith}
-use Rattle.std.proofs.lemmas.Bool.{and_parts, and_from, both_ways, cases_eq, cases_lt, cond-true, cond-false, false_from_ne_true, leb-true}
+use Rattle.std.proofs.lemmas.Bool.{and_parts, and_from, and_left, both_ways, cases_eq, cases_lt, cond-true, cond-false, false_from_ne_true, leb-true}
 use Rattle.addresses.specs.declared.transport.Parity.{Parity}
 use Rattle.addresses.specs.declared.transport.Parity.TheVariants.{Even, Odd}
 use Rattle.addresses.specs.declared.transport.Port.{Port}
 use Rattle.addresses.specs.Transport.{parity_of}
 use Rattle.port_range.specs.Ports.{Range, same_parity, fits, is_available, is_open, first_where, lowest_open, or_else, chosen_open, chosen_port, is_free, is_owned, IsRange, IsChosen}
+use Rattle.port_range.specs.Marks.{other_parity, IsLowestOf}
 
 -- a choice of something is nothing only where the other is chosen
 pub cond_none : {X : Type 0} (b : Bool) (x : X) (o : Option X) → cond b (Some x) o ≡ None → (b ≡ false) × (o ≡ None)
@@ -45,22 +46,6 @@ first_where-none test start zero h q low high = absurd (omega arith)
 first_where-none test start (suc count) h q low high =
     let parts = cond_none {X = Port} (test start) (record { 0 = start }) (first_where test (start + 1) count) h in
     fails_from test start (start + suc count) parts.0 (λ r from below. first_where-none test (start + 1) count parts.1 r from (omega arith)) q low high
-
--- a search over so many ports goes on past one that fails
-pub first_where-more : (test : ℕ → Bool) (low offset count : ℕ) → offset < count → test (low + offset) ≡ false → first_where test (low + offset) (count - offset) ≡ first_where test (low + (offset + 1)) (count - (offset + 1))
-first_where-more test low offset count left fails =
-    let one : count - offset ≡ suc (count - (offset + 1)) = omega arith in
-    let next : low + offset + 1 ≡ low + (offset + 1) = omega arith in
-    ap (first_where test (low + offset)) one
-    ∙ cond-false (test (low + offset)) (Some (record { 0 = low + offset })) (first_where test (low + offset + 1) (count - (offset + 1))) fails
-    ∙ ap (λ (start : ℕ). first_where test start (count - (offset + 1))) next
-
--- a search over so many ports stops at one that passes
-pub first_where-stop : (test : ℕ → Bool) (low offset count : ℕ) → offset < count → test (low + offset) ≡ true → first_where test (low + offset) (count - offset) ≡ Some (record { 0 = low + offset })
-first_where-stop test low offset count left passes =
-    let one : count - offset ≡ suc (count - (offset + 1)) = omega arith in
-    ap (first_where test (low + offset)) one
-    ∙ cond-true (test (low + offset)) (Some (record { 0 = low + offset })) (first_where test (low + offset + 1) (count - (offset + 1))) passes
 
 -- the port passes, is of the wanted parity, lies between the two, and is the lowest such
 pub record IsLowest (test : ℕ → Bool) (lowest highest : ℕ) (wanted : Option Parity) (port : Port) : Type 0 where
@@ -176,3 +161,73 @@ answer-like range parity (Some port) is e = chosen-is (is_available range) range
 pub answer-none : (range : Range) (parity : Parity) (answer : Option Port) → IsRange range → answer ≡ chosen_port range parity → IfNone answer ((port : ℕ) → is_available range port ≡ false)
 answer-none range parity None is e = chosen-none (is_available range) range.lowest range.highest parity (available-between range is) (sym e)
 answer-none range parity (Some port) is e = tt
+
+-- ---- what a search by parity finds is the choice
+
+-- the first of some numbers that passes is what the search gives
+first_where-is : (test : ℕ → Bool) (start count : ℕ) (port : Port) → test port.0 ≡ true → start ≤ port.0 → port.0 < start + count → ((q : ℕ) → q < port.0 → test q ≡ false) → first_where test start count ≡ Some port
+first_where-is test start zero port passes from below none = absurd (omega arith)
+first_where-is test start (suc count) port passes from below none =
+    elim (cases_eq port.0 start) [
+      | inl same ↦ (cond-true (test start) (Some (record { 0 = start })) (first_where test (start + 1) count) (ap test (sym same) ∙ passes)
+          ∙ ap (λ (n : ℕ). Some (record { 0 = n })) (sym same))
+      | inr other ↦ (cond-false (test start) (Some (record { 0 = start })) (first_where test (start + 1) count) (none start (omega arith))
+          ∙ first_where-is test (start + 1) count port passes (omega arith) (omega arith) none)
+    ]
+
+first_where-nothing : (test : ℕ → Bool) (start count : ℕ) → ((q : ℕ) → test q ≡ false) → first_where test start count ≡ None
+first_where-nothing test start zero none = refl
+first_where-nothing test start (suc count) none =
+    cond-false (test start) (Some (record { 0 = start })) (first_where test (start + 1) count) (none start) ∙ first_where-nothing test (start + 1) count none
+
+-- no port of the parity passes
+abbrev pub NonePass : (ℕ → Bool) → Parity → Type 0
+NonePass test parity = (q : ℕ) → parity_of q ≡ parity → test q ≡ false
+
+-- a test of a kind fails where the number is of another, or fails itself
+not-of : (test : ℕ → Bool) (parity : Parity) (q : ℕ) → (parity_of q ≡ parity → test q ≡ false) → is_open test (Some parity) q ≡ false
+not-of test parity q fails = false_from_ne_true (is_open test (Some parity) q) (λ holds.
+    let parts = and_parts (test q) (same_parity (parity_of q) parity) holds in
+    both_ways (test q) (fails (parity-eq (parity_of q) parity parts.1)) parts.0)
+
+-- a number is of a parity, or of the other
+parity-cases : (a b : Parity) → (a ≡ b) ⊎ (a ≡ other_parity b)
+parity-cases Even Even = inl refl
+parity-cases Even Odd = inr refl
+parity-cases Odd Even = inr refl
+parity-cases Odd Odd = inl refl
+
+-- the lowest of the parity is chosen, where there is one
+pub chosen-like : (test : ℕ → Bool) (lowest highest : ℕ) (parity : Parity) (port : Port) → Between test lowest highest → IsLowestOf test parity port → chosen_open test lowest highest parity ≡ Some port
+chosen-like test lowest highest parity port between is =
+    ap (λ o. or_else o (lowest_open test lowest highest None))
+    (first_where-is (is_open test (Some parity)) lowest (highest + 1 - lowest) port
+    (and_from (test port.0) (same_parity (parity_of port.0) parity) is.passes (parity-true (parity_of port.0) parity is.kind))
+    (between port.0 is.passes).0 (omega (arith, (between port.0 is.passes).1, (between port.0 is.passes).0))
+    (λ q low. not-of test parity q (is.lowest q low)))
+
+none-like : (test : ℕ → Bool) (lowest highest : ℕ) (parity : Parity) → NonePass test parity → chosen_open test lowest highest parity ≡ lowest_open test lowest highest None
+none-like test lowest highest parity none =
+    ap (λ o. or_else o (lowest_open test lowest highest None))
+    (first_where-nothing (is_open test (Some parity)) lowest (highest + 1 - lowest) (λ q. not-of test parity q (none q)))
+
+-- else the lowest of the other one
+pub chosen-other : (test : ℕ → Bool) (lowest highest : ℕ) (parity : Parity) (port : Port) → Between test lowest highest → NonePass test parity → IsLowestOf test (other_parity parity) port → chosen_open test lowest highest parity ≡ Some port
+chosen-other test lowest highest parity port between none is =
+    none-like test lowest highest parity none
+    ∙ first_where-is (is_open test None) lowest (highest + 1 - lowest) port
+    (and_from (test port.0) true is.passes refl)
+    (between port.0 is.passes).0 (omega (arith, (between port.0 is.passes).1, (between port.0 is.passes).0))
+    (λ q low. and_left (test q) true (elim (parity-cases (parity_of q) parity) [
+      | inl same ↦ none q same
+      | inr other ↦ is.lowest q low other
+    ]))
+
+-- else none
+pub chosen-nothing : (test : ℕ → Bool) (lowest highest : ℕ) (parity : Parity) → NonePass test parity → NonePass test (other_parity parity) → chosen_open test lowest highest parity ≡ None
+chosen-nothing test lowest highest parity none others =
+    none-like test lowest highest parity none
+    ∙ first_where-nothing (is_open test None) lowest (highest + 1 - lowest) (λ q. and_left (test q) true (elim (parity-cases (parity_of q) parity) [
+      | inl same ↦ none q same
+      | inr other ↦ others q other
+    ]))

@@ -1,2 +1,4 @@
-pub mod Listed
+pub mod Bits
 pub mod Choice
+pub mod Listed
+pub mod Summing

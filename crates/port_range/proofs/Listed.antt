@@ -1,132 +1,174 @@
--- Which ports are listed by their flags.
-use Rattle.std.proofs.Common.{◌≡◌, ℕ, zero, suc, ◌+◌, ◌-◌, ◌<◌, ◌≤◌, ◌==◌, nat_le, Bool, true, false, cond, Option, ◌&&◌, ◌||◌, inl, inr, List, [], ◌∷◌, length, set, get_or, replicate, refl, ap, ◌∙◌, sym, arith}
-use Rattle.std.proofs.lemmas.Bool.{both_ways, cases_eq, cases_lt, eq-eqb, ne_eqb, or_left, or_from, and_from, and_left, and_right, le-leb, lt-leb, cond-true, cond-false, leb-true, and_parts}
-use Rattle.std.proofs.lemmas.List.{get_or-set_same, get_or-set_other, get_or_past, get_or-replicate, length-replicate}
+-- Which ports of a range are listed by their marks.
+use Rattle.std.proofs.Common.{◌≡◌, ℕ, zero, suc, ◌+◌, ◌-◌, ◌/◌, ◌<◌, ◌≤◌, ◌==◌, nat_le, Bool, true, false, cond, ◌&&◌, ◌||◌, Option, Some, None, IfSome, IfNone, inl, inr, List, [], ◌∷◌, refl, ap, ◌∙◌, sym, arith}
+use Rattle.std.proofs.lemmas.Bool.{both_ways, cases_eq, cases_lt, eq-eqb, ne_eqb, or_left, and_left, and_right, lt-leb, cond-true, cond-false, leb-true, and_parts, false_from_ne_true}
+use Rattle.addresses.specs.declared.transport.Port.{Port}
+use Rattle.port_range.specs.Ports.{is_listed, is_within, is_available, IsRange, RiseAbove, chosen_open, chosen_port, same_parity}
 use Rattle.addresses.specs.declared.transport.Parity.{Parity}
-use Rattle.port_range.specs.Ports.{is_listed, is_within, is_available, is_open, fits, IsRange, RiseAbove}
-use Rattle.port_range.specs.Flags.{ports_from, flagged, HasFlags}
+use Rattle.addresses.specs.declared.transport.Parity.TheVariants.{Even, Odd}
+use Rattle.addresses.specs.Transport.{parity_of}
+use Rattle.port_range.specs.Words.{has_bit}
+use Rattle.port_range.specs.Marks.{Marked, has_both, other_parity, words_looked_at, ports_where, ranged, HasMarks, IsLowestOf}
+use Rattle.port_range.proofs.Choice.{Between, NonePass, chosen-same, chosen-like, chosen-other, chosen-nothing, parity-true}
 
--- no port before the first flag's is listed
-pub listed-below : (start : ℕ) (flags : List Bool) (q : ℕ) → q < start → is_listed q (ports_from start flags) ≡ false
-listed-below start [] q low = refl
-listed-below start (true ∷ flags) q low =
-    or_from (start == q) (is_listed q (ports_from (start + 1) flags)) (ne_eqb start q (λ e. absurd (omega arith))) (listed-below (start + 1) flags q (omega arith))
-listed-below start (false ∷ flags) q low = listed-below (start + 1) flags q (omega arith)
+-- ---- lists by a test
 
--- a port is listed where its flag is set
-pub listed-at : (start : ℕ) (flags : List Bool) (i : ℕ) → is_listed (start + i) (ports_from start flags) ≡ get_or flags i false
-listed-at start [] i = refl
-listed-at start (true ∷ flags) zero = or_left (start == start + zero) (is_listed (start + zero) (ports_from (start + 1) flags)) (eq-eqb start (start + zero) (omega arith))
-listed-at start (true ∷ flags) (suc i) =
-    let differs : (start == start + suc i) ≡ false = ne_eqb start (start + suc i) (λ e. absurd (omega arith)) in
-    let moved : start + suc i ≡ start + 1 + i = omega arith in
-    ap (λ b. b || is_listed (start + suc i) (ports_from (start + 1) flags)) differs
-    ∙ ap (λ (q : ℕ). is_listed q (ports_from (start + 1) flags)) moved ∙ listed-at (start + 1) flags i
-listed-at start (false ∷ flags) zero = listed-below (start + 1) flags (start + zero) (omega arith)
-listed-at start (false ∷ flags) (suc i) =
-    let moved : start + suc i ≡ start + 1 + i = omega arith in
-    ap (λ (q : ℕ). is_listed q (ports_from (start + 1) flags)) moved ∙ listed-at (start + 1) flags i
+-- a port is listed where it is the first and passes, or among the rest
+first-listed : (passes : Bool) (first q : ℕ) (rest : List ℕ) → is_listed q (cond passes (first ∷ rest) rest) ≡ ((passes && (first == q)) || is_listed q rest)
+first-listed true first q rest = refl
+first-listed false first q rest = refl
 
--- a port is open where both its flags are set and its parity fits
-pub open-at : (lowest highest : ℕ) (free owned : List Bool) (i : ℕ) (wanted : Option Parity) → is_open (is_available (flagged lowest highest free owned)) wanted (lowest + i) ≡ ((get_or free i false && get_or owned i false) && fits wanted (lowest + i))
-open-at lowest highest free owned i wanted =
-    ap (λ b. (b && is_listed (lowest + i) (ports_from lowest owned)) && fits wanted (lowest + i)) (listed-at lowest free i)
-    ∙ ap (λ b. (get_or free i false && b) && fits wanted (lowest + i)) (listed-at lowest owned i)
+not-first : (passes same rest : Bool) → same ≡ false → ((passes && same) || rest) ≡ rest
+not-first passes same rest is = ap (λ b. b || rest) (and_right passes same is)
 
--- the same by the port
-pub listed-from : (start : ℕ) (flags : List Bool) (q : ℕ) → start ≤ q → is_listed q (ports_from start flags) ≡ get_or flags (q - start) false
-listed-from start flags q low =
-    let moved : q ≡ start + (q - start) = omega arith in
-    ap (λ (p : ℕ). is_listed p (ports_from start flags)) moved ∙ listed-at start flags (q - start)
+is-first : (passes same rest : Bool) → same ≡ true → rest ≡ false → ((passes && same) || rest) ≡ passes
+is-first true same rest is none = or_left same rest is
+is-first false same rest is none = none
 
--- the same by its offset
-pub listed-at_offset : (start : ℕ) (flags : List Bool) (q offset : ℕ) → start ≤ q → offset ≡ q - start → is_listed q (ports_from start flags) ≡ get_or flags offset false
-listed-at_offset start flags q offset low is = listed-from start flags q low ∙ ap (λ (i : ℕ). get_or flags i false) (sym is)
+-- a port below the start, or past the last, isn't listed
+where-outside : (test : ℕ → Bool) (start count q : ℕ) → (start ≤ q → start + count ≤ q) → is_listed q (ports_where test start count) ≡ false
+where-outside test start zero q out = refl
+where-outside test start (suc count) q out =
+    first-listed (test start) start q (ports_where test (start + 1) count)
+    ∙ not-first (test start) (start == q) (is_listed q (ports_where test (start + 1) count)) (ne_eqb start q (λ e. absurd (omega (arith, out (omega arith)))))
+    ∙ where-outside test (start + 1) count q (λ low. omega (arith, out (omega arith)))
 
--- a listed port has a flag
-pub listed-within : (start : ℕ) (flags : List Bool) (q : ℕ) → is_listed q (ports_from start flags) ≡ true → (start ≤ q) × (q < start + length flags)
-listed-within start flags q h =
-    elim (cases_lt q start) [
-      | inl below ↦ absurd (both_ways (is_listed q (ports_from start flags)) (listed-below start flags q below) h)
-      | inr low ↦ elim (cases_lt q (start + length flags)) [
-        | inl high ↦ (low, high)
-        | inr past ↦ absurd (both_ways (is_listed q (ports_from start flags)) (listed-from start flags q low ∙ get_or_past flags (q - start) false (omega arith)) h)
-      ]
+-- one between is listed where it passes
+where-within : (test : ℕ → Bool) (start count q : ℕ) → start ≤ q → q < start + count → is_listed q (ports_where test start count) ≡ test q
+where-within test start zero q low high = absurd (omega arith)
+where-within test start (suc count) q low high =
+    first-listed (test start) start q (ports_where test (start + 1) count)
+    ∙ elim (cases_eq q start) [
+      | inl same ↦ (is-first (test start) (start == q) (is_listed q (ports_where test (start + 1) count)) (eq-eqb start q (sym same)) (where-outside test (start + 1) count q (λ more. absurd (omega arith)))
+          ∙ ap test (sym same))
+      | inr other ↦ (not-first (test start) (start == q) (is_listed q (ports_where test (start + 1) count)) (ne_eqb start q (λ e. other (sym e)))
+          ∙ where-within test (start + 1) count q (omega arith) (omega arith))
     ]
 
--- a port whose flag is written is listed as the flag says, and any other as before
-pub listed-set : (start : ℕ) (flags : List Bool) (port : ℕ) (b : Bool) → start ≤ port → port < start + length flags → (q : ℕ) → is_listed q (ports_from start (set flags (port - start) b)) ≡ cond (q == port) b (is_listed q (ports_from start flags))
-listed-set start flags port b low high q =
-    elim (cases_lt q start) [
-      | inl below ↦ (listed-below start (set flags (port - start) b) q below
-          ∙ sym (cond-false (q == port) b (is_listed q (ports_from start flags)) (ne_eqb q port (λ e. absurd (omega arith))) ∙ listed-below start flags q below))
-      | inr from ↦ elim (cases_eq q port) [
-        | inl same ↦ (let here : q - start ≡ port - start = ap (λ (p : ℕ). p - start) same in
-            listed-from start (set flags (port - start) b) q from ∙ ap (λ (i : ℕ). get_or (set flags (port - start) b) i false) here
-            ∙ get_or-set_same flags (port - start) b false (omega arith) ∙ sym (cond-true (q == port) b (is_listed q (ports_from start flags)) (eq-eqb q port same)))
-        | inr other ↦ (listed-from start (set flags (port - start) b) q from ∙ get_or-set_other flags (port - start) (q - start) b false (λ e. other (omega arith))
-            ∙ sym (cond-false (q == port) b (is_listed q (ports_from start flags)) (ne_eqb q port other) ∙ listed-from start flags q from))
+-- what passes lies between
+abbrev pub PassWithin : ℕ → ℕ → (ℕ → Bool) → Type 0
+PassWithin lowest highest test = (port : ℕ) → test port ≡ true → is_within lowest highest port ≡ true
+
+-- the ports of a range that pass a test are those that pass it
+pub where-is : (lowest highest : ℕ) (test : ℕ → Bool) → lowest ≤ highest → PassWithin lowest highest test → (q : ℕ) → is_listed q (ports_where test lowest (highest + 1 - lowest)) ≡ test q
+where-is lowest highest test order within q =
+    elim (cases_lt q lowest) [
+      | inl below ↦ where-outside test lowest (highest + 1 - lowest) q (λ from. absurd (omega arith)) ∙ sym (fails (and_left (nat_le lowest q) (nat_le q highest) (lt-leb lowest q below)))
+      | inr from ↦ elim (cases_lt highest q) [
+        | inl past ↦ where-outside test lowest (highest + 1 - lowest) q (λ from. omega arith) ∙ sym (fails (and_right (nat_le lowest q) (nat_le q highest) (lt-leb q highest past)))
+        | inr to ↦ where-within test lowest (highest + 1 - lowest) q from (omega arith)
       ]
     ]
+  where
+    fails : is_within lowest highest q ≡ false → test q ≡ false
+    fails outside = false_from_ne_true (test q) (λ holds. both_ways (is_within lowest highest q) outside (within q holds))
 
--- where all flags are set, the ports of the range are listed
-pub listed-full : (start end count : ℕ) → start + count ≡ end + 1 → (q : ℕ) → is_listed q (ports_from start (replicate count true)) ≡ is_within start end q
-listed-full start end count e q =
-    elim (cases_lt q start) [
-      | inl below ↦ listed-below start (replicate count true) q below ∙ sym (and_left (nat_le start q) (nat_le q end) (lt-leb start q below))
-      | inr from ↦ elim (cases_lt end q) [
-        | inl past ↦ (listed-from start (replicate count true) q from ∙ get_or_past (replicate count true) (q - start) false (rw length-replicate (omega arith))
-            ∙ sym (and_right (nat_le start q) (nat_le q end) (lt-leb q end past)))
-        | inr to ↦ (listed-from start (replicate count true) q from ∙ get_or-replicate count (q - start) true false (omega arith)
-            ∙ sym (and_from (nat_le start q) (nat_le q end) (le-leb start q from) (le-leb q end to)))
-      ]
-    ]
+-- they rise, above any number before the first
+rise-on : (passes : Bool) (low first : ℕ) (rest : List ℕ) → low < first → RiseAbove first rest → RiseAbove low rest → RiseAbove low (cond passes (first ∷ rest) rest)
+rise-on true low first rest before from_first from_low = (before, from_first)
+rise-on false low first rest before from_first from_low = from_low
 
--- where no flag is set, no port is listed
-pub listed-none : (start count q : ℕ) → is_listed q (ports_from start (replicate count false)) ≡ false
-listed-none start zero q = refl
-listed-none start (suc count) q = listed-none (start + 1) count q
+where-rising : (test : ℕ → Bool) (low start count : ℕ) → low < start → RiseAbove low (ports_where test start count)
+where-rising test low start zero before = tt
+where-rising test low start (suc count) before =
+    rise-on (test start) low start (ports_where test (start + 1) count) before (where-rising test start (start + 1) count (omega arith)) (where-rising test low (start + 1) count (omega arith))
 
-pub listed-no_flag : (start count : ℕ) → ports_from start (replicate count false) ≡ []
-listed-no_flag start zero = refl
-listed-no_flag start (suc count) = listed-no_flag (start + 1) count
+-- where none passes, there is none
+pub where-none : (test : ℕ → Bool) (start count : ℕ) → ((q : ℕ) → test q ≡ false) → ports_where test start count ≡ []
+where-none test start zero none = refl
+where-none test start (suc count) none =
+    cond-false (test start) (start ∷ ports_where test (start + 1) count) (ports_where test (start + 1) count) (none start) ∙ where-none test (start + 1) count none
 
--- where all flags are alike, the ports of the range are listed, or none
-pub listed-all : (start end count : ℕ) (flag : Bool) → start + count ≡ end + 1 → (q : ℕ) → is_listed q (ports_from start (replicate count flag)) ≡ (flag && is_within start end q)
-listed-all start end count true e q = listed-full start end count e q
-listed-all start end count false e q = listed-none start count q
+-- ---- a range by its marks
 
--- a port from the start on is listed only where it has a flag
-pub listed-past : (start : ℕ) (flags : List Bool) (q : ℕ) → start ≤ q → length flags ≤ q - start → is_listed q (ports_from start flags) ≡ false
-listed-past start flags q low past = listed-from start flags q low ∙ get_or_past flags (q - start) false past
-
--- a port whose flag is set lies in the range
-flag-within : (lowest highest : ℕ) (flags : List Bool) (port : ℕ) → lowest ≤ highest → length flags ≡ highest + 1 - lowest → is_listed port (ports_from lowest flags) ≡ true → is_within lowest highest port ≡ true
-flag-within lowest highest flags port order each listed =
-    let in_flags = listed-within lowest flags port listed in
-    and_from (nat_le lowest port) (nat_le port highest) (le-leb lowest port in_flags.0) (le-leb port highest (omega (arith, in_flags.1, each, order)))
-
--- the ports of flags rise, above any number before the first one's
-rising-flags : (low start : ℕ) (flags : List Bool) → low < start → RiseAbove low (ports_from start flags)
-rising-flags low start [] before = tt
-rising-flags low start (true ∷ flags) before = (before, rising-flags start (start + 1) flags (omega arith))
-rising-flags low start (false ∷ flags) before = rising-flags low (start + 1) flags (omega arith)
-
--- a range by its flags keeps what each range does
-pub kept-flags : (lowest highest : ℕ) (free owned : List Bool) → HasFlags lowest highest free owned → IsRange (flagged lowest highest free owned)
-kept-flags lowest highest free owned h = record {
+-- a range by its marks keeps what each range does
+pub kept-marks : (lowest highest : ℕ) (marks : Marked) → HasMarks lowest highest marks → IsRange (ranged lowest highest marks)
+kept-marks lowest highest marks h = record {
   low = h.low;
   order = h.order;
   high = h.high;
-  free = λ port listed. flag-within lowest highest free port h.order h.free_flags listed;
-  owned = λ port listed. flag-within lowest highest owned port h.order h.owned_flags listed;
-  rising = rising-flags 0 lowest owned (let low : 1024 ≤ lowest = h.low in omega arith);
+  free = λ port listed. h.free port (sym (where-is lowest highest (has_bit marks.free) h.order h.free port) ∙ listed);
+  owned = λ port listed. h.owned port (sym (where-is lowest highest (has_bit marks.owned) h.order h.owned port) ∙ listed);
+  rising = where-rising (has_bit marks.owned) 0 lowest (highest + 1 - lowest) (let low : 1024 ≤ lowest = h.low in omega arith);
 }
 
--- a port of a range has a flag
-pub within-flags : (lowest highest : ℕ) (flags : List Bool) (port : ℕ) → lowest ≤ highest → length flags ≡ highest + 1 - lowest → is_within lowest highest port ≡ true → (lowest ≤ port) × (port < lowest + length flags)
-within-flags lowest highest flags port order each within =
-    let parts = and_parts (nat_le lowest port) (nat_le port highest) within in
-    let low : lowest ≤ port = leb-true lowest port parts.0 in
-    let high : port ≤ highest = leb-true port highest parts.1 in
-    (low, omega (arith, low, high, each))
+-- a port may be given where it has both marks
+pub available-is : (lowest highest : ℕ) (marks : Marked) → HasMarks lowest highest marks → (q : ℕ) → is_available (ranged lowest highest marks) q ≡ has_both marks.free marks.owned q
+available-is lowest highest marks h q =
+    ap (λ b. b && is_listed q (ports_where (has_bit marks.owned) lowest (highest + 1 - lowest))) (where-is lowest highest (has_bit marks.free) h.order h.free q)
+    ∙ ap (λ b. has_bit marks.free q && b) (where-is lowest highest (has_bit marks.owned) h.order h.owned q)
+
+-- one port's mark is written, and all others stay
+abbrev pub ArePut : ℕ → Bool → List ℕ → List ℕ → Type 0
+ArePut port flag old new = (p : ℕ) → has_bit new p ≡ cond (p == port) flag (has_bit old p)
+
+-- what is marked still lies in the range, where the port does
+pub within-put : (lowest highest port : ℕ) (flag : Bool) (old new : List ℕ) → PassWithin lowest highest (has_bit old) → (flag ≡ true → is_within lowest highest port ≡ true) → ArePut port flag old new → PassWithin lowest highest (has_bit new)
+within-put lowest highest port flag old new within fits put p holds =
+    elim (cases_eq p port) [
+      | inl same ↦ ap (is_within lowest highest) same ∙ fits (sym (put p ∙ cond-true (p == port) flag (has_bit old p) (eq-eqb p port same)) ∙ holds)
+      | inr other ↦ within p (sym (put p ∙ cond-false (p == port) flag (has_bit old p) (ne_eqb p port other)) ∙ holds)
+    ]
+
+-- what is listed follows the mark
+pub listed-put : (lowest highest port : ℕ) (flag : Bool) (old new : List ℕ) → lowest ≤ highest → PassWithin lowest highest (has_bit old) → (flag ≡ true → is_within lowest highest port ≡ true) → ArePut port flag old new
+    → (p : ℕ) → is_listed p (ports_where (has_bit new) lowest (highest + 1 - lowest)) ≡ cond (p == port) flag (is_listed p (ports_where (has_bit old) lowest (highest + 1 - lowest)))
+listed-put lowest highest port flag old new order before fits put p =
+    where-is lowest highest (has_bit new) order (within-put lowest highest port flag old new before fits put) p ∙ put p
+    ∙ ap (cond (p == port) flag) (sym (where-is lowest highest (has_bit old) order before p))
+
+-- where all ports of a range are marked, or none is, they are listed so
+pub listed-filled : (lowest highest : ℕ) (flag : Bool) (marks : List ℕ) → lowest ≤ highest → ((p : ℕ) → has_bit marks p ≡ (flag && is_within lowest highest p))
+    → (p : ℕ) → is_listed p (ports_where (has_bit marks) lowest (highest + 1 - lowest)) ≡ (flag && is_within lowest highest p)
+listed-filled lowest highest flag marks order filled p =
+    where-is lowest highest (has_bit marks) order (λ q holds. (and_parts flag (is_within lowest highest q) (sym (filled q) ∙ holds)).1) p ∙ filled p
+
+-- ---- the choice
+
+between : (lowest highest : ℕ) (marks : Marked) → HasMarks lowest highest marks → Between (has_both marks.free marks.owned) lowest highest
+between lowest highest marks h q holds =
+    let within = h.free q (and_parts (has_bit marks.free q) (has_bit marks.owned q) holds).0 in
+    let parts = and_parts (nat_le lowest q) (nat_le q highest) within in
+    (leb-true lowest q parts.0, leb-true q highest parts.1)
+
+choice : (lowest highest : ℕ) (marks : Marked) (parity : Parity) → HasMarks lowest highest marks → chosen_port (ranged lowest highest marks) parity ≡ chosen_open (has_both marks.free marks.owned) lowest highest parity
+choice lowest highest marks parity h =
+    chosen-same (is_available (ranged lowest highest marks)) (has_both marks.free marks.owned) lowest highest parity (available-is lowest highest marks h)
+
+-- what is found of the parity is the choice
+pub found-like : (lowest highest : ℕ) (marks : Marked) (parity : Parity) (port : Port) → HasMarks lowest highest marks → IsLowestOf (has_both marks.free marks.owned) parity port
+    → Some port ≡ chosen_port (ranged lowest highest marks) parity
+found-like lowest highest marks parity port h is =
+    sym (choice lowest highest marks parity h ∙ chosen-like (has_both marks.free marks.owned) lowest highest parity port (between lowest highest marks h) is)
+
+-- where none is, what is found of the other parity is
+pub found-other : (lowest highest : ℕ) (marks : Marked) (parity : Parity) (answer : Option Port) → HasMarks lowest highest marks → NonePass (has_both marks.free marks.owned) parity
+    → IfSome answer (IsLowestOf (has_both marks.free marks.owned) (other_parity parity)) → IfNone answer (NonePass (has_both marks.free marks.owned) (other_parity parity))
+    → answer ≡ chosen_port (ranged lowest highest marks) parity
+found-other lowest highest marks parity None h none some others =
+    sym (choice lowest highest marks parity h ∙ chosen-nothing (has_both marks.free marks.owned) lowest highest parity none others)
+found-other lowest highest marks parity (Some port) h none some others =
+    sym (choice lowest highest marks parity h ∙ chosen-other (has_both marks.free marks.owned) lowest highest parity port (between lowest highest marks h) none some)
+
+-- ---- how many words are looked at
+
+-- the port found is none past the highest
+found-port : (lowest highest : ℕ) (marks : Marked) (parity : Parity) (port : Port) → HasMarks lowest highest marks → IsLowestOf (has_both marks.free marks.owned) parity port → port.0 ≤ 65535
+found-port lowest highest marks parity port h is = omega (arith, (between lowest highest marks h port.0 is.passes).1, h.high)
+
+pub looked-like : (lowest highest : ℕ) (marks : Marked) (parity : Parity) (port : Port) (looked : ℕ) → HasMarks lowest highest marks → IsLowestOf (has_both marks.free marks.owned) parity port
+    → looked ≡ port.0 / 4096 + 3 → (looked ≡ words_looked_at parity (Some port)) × (looked ≤ 34)
+looked-like lowest highest marks parity port looked h is many =
+    let same = cond-true {A = ℕ} (same_parity (parity_of port.0) parity) 0 16 (parity-true (parity_of port.0) parity is.kind) in
+    (omega (arith, same, many), omega (arith, many, found-port lowest highest marks parity port h is))
+
+other-parity : (parity : Parity) → same_parity (other_parity parity) parity ≡ false
+other-parity Even = refl
+other-parity Odd = refl
+
+pub looked-other : (lowest highest : ℕ) (marks : Marked) (parity : Parity) (answer : Option Port) (looked more : ℕ) → HasMarks lowest highest marks → looked ≡ 16
+    → IfSome answer (IsLowestOf (has_both marks.free marks.owned) (other_parity parity)) → IfSome answer (λ port. more ≡ port.0 / 4096 + 3) → IfNone answer (more ≡ 16)
+    → (looked + more ≡ words_looked_at parity answer) × (looked + more ≤ 34)
+looked-other lowest highest marks parity None looked more h whole is some none = (omega (arith, whole, none), omega (arith, whole, none))
+looked-other lowest highest marks parity (Some port) looked more h whole is some none =
+    let apart = cond-false {A = ℕ} (same_parity (parity_of port.0) parity) 0 16 (ap (λ (p : Parity). same_parity p parity) is.kind ∙ other-parity parity) in
+    (omega (arith, apart, whole, some), omega (arith, whole, some, found-port lowest highest marks (other_parity parity) port h is))

@@ -1,2 +1,3 @@
-pub mod Flags
+pub mod Marks
 pub mod Ports
+pub mod Words

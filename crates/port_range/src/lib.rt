@@ -1,13 +1,15 @@
 //! The ports of a range: which are free, which are owned, and which one an endpoint is given.
 #![tactic(auto)]
 
-ghost use Rattle.std.specs.Prelude.{◌≡◌, ℕ, [], true, false, OnOk, IfOk, IfErr, IfSome, IfNone, ◌==◌, ◌&&◌, if◌then◌else◌};
+ghost use Rattle.std.specs.Prelude.{◌≡◌, ℕ, [], true, false, OnOk, IfOk, IfErr, IfSome, IfNone, ◌≤◌, ◌==◌, ◌&&◌, if◌then◌else◌};
 ghost use Rattle.port_range.specs.Ports.{is_free, is_owned, is_available, is_within, is_bad, IsReason, IsRange, IsChosen, chosen_port};
+ghost use Rattle.port_range.specs.Marks.{words_looked_at};
 
-mod flags;
 mod laws;
+mod marks;
+mod words;
 
-use crate::flags::{all_flags, choose_port, has_flag, put_all, put_flag};
+use crate::marks::{Marks, other_parity};
 use addresses::{Parity, Port};
 pub use laws::limits_law;
 use std::alloc::{AllocError, Global};
@@ -41,19 +43,18 @@ impl From<AllocError> for RangeFault {
 pub struct Range {
     lowest: Port,
     highest: Port,
-    free: Vec<bool>,
-    owned: Vec<bool>,
+    marks: Marks,
 }
 
 impl Model for Range {
     ghost use Rattle.port_range.specs.Ports.{Range as Ports};
-    ghost use Rattle.port_range.specs.Flags.{flagged, HasFlags};
+    ghost use Rattle.port_range.specs.Marks.{ranged, HasMarks};
 
     ghost Value = { Ports };
 
-    ghost view = { λ r. flagged r.lowest.0 r.highest.0 r.free.items r.owned.items };
+    ghost view = { λ r. ranged r.lowest.0 r.highest.0 r.marks };
 
-    ghost invariant = { λ r. HasFlags r.lowest.0 r.highest.0 r.free.items r.owned.items };
+    ghost invariant = { λ r. HasMarks r.lowest.0 r.highest.0 r.marks };
 }
 
 impl Range {
@@ -71,14 +72,12 @@ impl Range {
         if lowest.0 < FIRST_PORT.0 || highest.0 < lowest.0 {
             return Err(RangeFault::BadRange);
         }
-        let count = usize::from(highest.0 - lowest.0) + 1;
-        let free = all_flags(alloc, count, true)?;
-        let owned = all_flags(alloc, count, owned)?;
+        let mut marks = Marks::new(alloc)?;
+        marks.fill(lowest, highest, owned);
         Ok(Range {
             lowest,
             highest,
-            free,
-            owned,
+            marks,
         })
     }
 
@@ -113,7 +112,7 @@ impl Range {
     pub fn recall(&self)
         ensures { IsRange self.now }
     {
-        let _ = &self.free;
+        let _ = &self.marks;
     }
 
     /// The lowest free owned port with that parity, else the lowest free owned one (RFC 4787, section 4.2.2).
@@ -122,7 +121,25 @@ impl Range {
         ensures like { IfSome result (IsChosen (is_available self.now) parity) }
         ensures none { IfNone result ((port : ℕ) → is_available self.now port ≡ false) }
     {
-        choose_port(&self.free, &self.owned, self.lowest, self.highest, parity)
+        self.free_like_counted(parity).0
+    }
+
+    /// The port that `free_like` gives, and how many words the search looks at.
+    pub fn free_like_counted(&self, parity: Parity) -> (Option<Port>, u32)
+        ensures port { result.0 ≡ chosen_port self.now parity }
+        ensures like { IfSome result.0 (IsChosen (is_available self.now) parity) }
+        ensures none { IfNone result.0 ((port : ℕ) → is_available self.now port ≡ false) }
+        ensures looked { result.1 ≡ words_looked_at parity result.0 }
+        ensures few { result.1 ≤ 34 }
+    {
+        let (like, looked) = self.marks.lowest(parity);
+        match like {
+            Some(port) => (Some(port), looked),
+            None => {
+                let (other, more) = self.marks.lowest(other_parity(parity));
+                (other, looked + more)
+            }
+        }
     }
 
     /// Whether a port lies in the range.
@@ -136,14 +153,14 @@ impl Range {
     pub fn is_free(&self, port: Port) -> bool
         ensures { result ≡ is_free self.now port.0 }
     {
-        has_flag(&self.free, self.lowest, port)
+        self.marks.is_free(port)
     }
 
     /// Whether a port is owned.
     pub fn owns(&self, port: Port) -> bool
         ensures { result ≡ is_owned self.now port.0 }
     {
-        has_flag(&self.owned, self.lowest, port)
+        self.marks.is_owned(port)
     }
 
     /// Takes a free port, owned or not.
@@ -155,7 +172,7 @@ impl Range {
         ensures lowest { self.new.lowest ≡ self.old.lowest }
         ensures highest { self.new.highest ≡ self.old.highest }
     {
-        put_flag(&mut self.free, self.lowest, port, false);
+        self.marks.put_free(port, false);
     }
 
     /// Makes a taken port free.
@@ -168,7 +185,7 @@ impl Range {
         ensures lowest { self.new.lowest ≡ self.old.lowest }
         ensures highest { self.new.highest ≡ self.old.highest }
     {
-        put_flag(&mut self.free, self.lowest, port, true);
+        self.marks.put_free(port, true);
     }
 
     /// Makes a port of the range an owned one, whether it is free or taken.
@@ -181,7 +198,7 @@ impl Range {
         ensures lowest { self.new.lowest ≡ self.old.lowest }
         ensures highest { self.new.highest ≡ self.old.highest }
     {
-        put_flag(&mut self.owned, self.lowest, port, true);
+        self.marks.put_owned(port, true);
     }
 
     /// Gives a free owned port up.
@@ -194,7 +211,7 @@ impl Range {
         ensures lowest { self.new.lowest ≡ self.old.lowest }
         ensures highest { self.new.highest ≡ self.old.highest }
     {
-        put_flag(&mut self.owned, self.lowest, port, false);
+        self.marks.put_owned(port, false);
     }
 
     /// Makes all ports free, and owns none.
@@ -205,7 +222,6 @@ impl Range {
         ensures lowest { self.new.lowest ≡ self.old.lowest }
         ensures highest { self.new.highest ≡ self.old.highest }
     {
-        put_all(&mut self.free, true);
-        put_all(&mut self.owned, false);
+        self.marks.fill(self.lowest, self.highest, false);
     }
 }

@@ -1,9 +1,11 @@
-use Rattle.std.proofs.Common.{arith}
-use Rattle.port_range.proofs.Listed.{listed-full, listed-all}
+use Rattle.std.proofs.Common.{true}
+use Rattle.port_range.proofs.Listed.{listed-filled}
 use Rattle.port_range.proofs.Range.begin.Goals as goal
 
 pub returns-clause-free : goal.returns-clause-free
-returns-clause-free c = rw c.in_ok-free.ensures (listed-full c.args.lowest.0 c.args.highest.0 _ (omega arith))
+returns-clause-free c =
+    listed-filled c.args.lowest.0 c.args.highest.0 true c.fill.new.self.free c.if-highest-lowest.false c.fill.ensures.free
 
 pub returns-clause-owned : goal.returns-clause-owned
-returns-clause-owned c = rw c.in_ok-owned.ensures (listed-all c.args.lowest.0 c.args.highest.0 _ c.args.owned (omega arith))
+returns-clause-owned c =
+    listed-filled c.args.lowest.0 c.args.highest.0 c.args.owned c.fill.new.self.owned c.if-highest-lowest.false c.fill.ensures.owned

@@ -1,21 +1,9 @@
-use Rattle.std.proofs.Common.{false, ap, ◌∙◌}
-use Rattle.port_range.specs.Ports.{is_owned}
-use Rattle.port_range.proofs.Listed.{listed-within, listed-set}
+use Rattle.std.proofs.Common.{false}
+use Rattle.port_range.proofs.Listed.{listed-put}
 use Rattle.port_range.proofs.Range.disown.Goals as goal
-
-pub put_flag-requires-clause-low : goal.put_flag-requires-clause-low
-put_flag-requires-clause-low c =
-    let was = ap (λ r. is_owned r c.args.port.0) c.self.view_is ∙ c.requires.owned in
-    (listed-within c.self.inside.lowest.0 c.self.inside.owned.items c.args.port.0 was).0
-
-pub put_flag-requires-clause-high : goal.put_flag-requires-clause-high
-put_flag-requires-clause-high c =
-    let was = ap (λ r. is_owned r c.args.port.0) c.self.view_is ∙ c.requires.owned in
-    (listed-within c.self.inside.lowest.0 c.self.inside.owned.items c.args.port.0 was).1
 
 pub returns-clause-owned : goal.returns-clause-owned
 returns-clause-owned c =
-    let was = ap (λ r. is_owned r c.args.port.0) c.self.view_is ∙ c.requires.owned in
-    let within = listed-within c.self.inside.lowest.0 c.self.inside.owned.items c.args.port.0 was in
-    rw (c.put_flag.ensures, ← c.self.view_is)
-    (listed-set c.self.inside.lowest.0 c.self.inside.owned.items c.args.port.0 false within.0 within.1)
+    let i = c.self.inside in
+    rw (← c.self.view_is)
+    (listed-put i.lowest.0 i.highest.0 c.args.port.0 false i.marks.owned c.put_owned.new.self.owned c.self.invariant.order c.self.invariant.owned (λ e. cc) c.put_owned.ensures.owned)

@@ -1,0 +1,197 @@
+//! Free and owned ports as bits by number, and the search through a summary for each parity.
+ghost use Rattle.std.specs.Prelude.{◌≡◌, ℕ, ◌+◌, ◌*◌, ◌/◌, ◌<◌, ◌≤◌, ◌==◌, ◌&&◌, false, length, slice_index, nat_lt, bit_and, IfOk, IfSome, IfNone, if◌then◌else◌};
+ghost use Rattle.addresses.specs.Transport.{parity_of};
+ghost use Rattle.port_range.specs.Ports.{is_within};
+ghost use Rattle.port_range.specs.Words.{has_bit};
+ghost use Rattle.port_range.specs.Marks.{has_both, other_parity, mask_of, open_word, IsSummary, IsLowestOf};
+
+use crate::words::{fill_between, has_bit, lowest_bit, put_bit, zeros};
+use addresses::{Parity, Port};
+use std::alloc::{AllocError, Global};
+use std::marker::Model;
+
+/// Words of 64 ports, for all ports.
+const WORDS: usize = 1024;
+
+/// Words of a summary, which has a bit for each word of ports.
+const SUMMARY_WORDS: usize = 16;
+
+pub(crate) fn other_parity(parity: Parity) -> Parity
+    ensures { result ≡ other_parity parity }
+{
+    match parity {
+        Parity::Even => Parity::Odd,
+        Parity::Odd => Parity::Even,
+    }
+}
+
+/// The bits of a word at the numbers of a parity.
+fn mask_of(parity: Parity) -> u64
+    ensures { result ≡ mask_of parity }
+{
+    match parity {
+        Parity::Even => 0x5555_5555_5555_5555,
+        Parity::Odd => 0xAAAA_AAAA_AAAA_AAAA,
+    }
+}
+
+/// The ports of a parity that a word has to give.
+fn open_word(free: &[u64], owned: &[u64], parity: Parity, index: usize) -> u64
+    requires free { index < length free.now }
+    requires owned { index < length owned.now }
+    ensures { result ≡ open_word parity free.now owned.now index }
+{
+    free[index] & owned[index] & mask_of(parity)
+}
+
+/// Says again in a summary whether a word has a port to give.
+fn sum_up(summary: &mut [u64], free: &[u64], owned: &[u64], parity: Parity, index: usize)
+    requires summary { index < 64 * length summary.old }
+    requires free { index < length free.now }
+    requires owned { index < length owned.now }
+    ensures bits { (n : ℕ) → has_bit summary.new n ≡ (if n == index then
+        nat_lt 0 (open_word parity free.now owned.now index) else has_bit summary.old n) }
+    ensures size { length summary.new ≡ length summary.old }
+{
+    let some = 0 < open_word(free, owned, parity, index);
+    put_bit(summary, index, some);
+}
+
+/// Makes a summary of all words.
+fn sum_up_all(summary: &mut [u64], free: &[u64], owned: &[u64], parity: Parity)
+    requires size { length summary.old ≡ 16 }
+    requires free { length free.now ≡ 1024 }
+    requires owned { length owned.now ≡ 1024 }
+    ensures { IsSummary parity free.now owned.now summary.new }
+{
+    for index in 0..WORDS {
+        sum_up(summary, free, owned, parity, index);
+    }
+}
+
+/// The lowest port of a parity that may be given, and how many words were looked at.
+fn lowest_open(summary: &[u64], free: &[u64], owned: &[u64], parity: Parity) -> (Option<Port>, u32)
+    requires free { length free.now ≡ 1024 }
+    requires owned { length owned.now ≡ 1024 }
+    requires summary { IsSummary parity free.now owned.now summary.now }
+    ensures some { IfSome result.0 (IsLowestOf (has_both free.now owned.now) parity) }
+    ensures none { IfNone result.0 ((port : ℕ) → parity_of port ≡ parity
+        → has_both free.now owned.now port ≡ false) }
+    ensures looked_some { IfSome result.0 (λ port. result.1 ≡ port.0 / 4096 + 3) }
+    ensures looked_none { IfNone result.0 (result.1 ≡ 16) }
+{
+    let (index, looked) = lowest_bit(summary);
+    match index {
+        None => (None, looked),
+        Some(index) => {
+            let word = open_word(free, owned, parity, index);
+            let port = index * 64 + word.trailing_zeros() as usize;
+            (Some(Port(port as u16)), looked + 2)
+        }
+    }
+}
+
+/// Which ports are free, and which are owned.
+#[derive(Drop)]
+pub(crate) struct Marks {
+    free: Vec<u64>,
+    owned: Vec<u64>,
+    /// The words that have an even port which is both.
+    even: Vec<u64>,
+    /// The words that have an odd one.
+    odd: Vec<u64>,
+}
+
+impl Model for Marks {
+    ghost use Rattle.port_range.specs.Marks.{Marked, AreMarks};
+
+    ghost Value = { Marked };
+
+    ghost view = { λ m. record { free = m.free.items; owned = m.owned.items } };
+
+    ghost invariant = { λ m. AreMarks m.free.items m.owned.items m.even.items m.odd.items };
+}
+
+impl Marks {
+    /// No port is free, and none is owned.
+    pub(crate) fn new(alloc: Global) -> Result<Marks, AllocError>
+        ensures free { IfOk result (λ m. (port : ℕ) → has_bit m.free port ≡ false) }
+        ensures owned { IfOk result (λ m. (port : ℕ) → has_bit m.owned port ≡ false) }
+    {
+        let free = zeros(alloc, WORDS)?;
+        let owned = zeros(alloc, WORDS)?;
+        let even = zeros(alloc, SUMMARY_WORDS)?;
+        let odd = zeros(alloc, SUMMARY_WORDS)?;
+        Ok(Marks {
+            free,
+            owned,
+            even,
+            odd,
+        })
+    }
+
+    /// The ports from one to another are free, and all of them owned or none; no other is either.
+    pub(crate) fn fill(&mut self, lowest: Port, highest: Port, owned: bool)
+        ensures free { (port : ℕ) → has_bit self.new.free port
+            ≡ is_within lowest.0 highest.0 port }
+        ensures owned { (port : ℕ) → has_bit self.new.owned port
+            ≡ (owned && is_within lowest.0 highest.0 port) }
+    {
+        let (low, high) = (usize::from(lowest.0), usize::from(highest.0));
+        fill_between(&mut self.free, low, high, true);
+        fill_between(&mut self.owned, low, high, owned);
+        sum_up_all(&mut self.even, &self.free, &self.owned, Parity::Even);
+        sum_up_all(&mut self.odd, &self.free, &self.owned, Parity::Odd);
+    }
+
+    pub(crate) fn is_free(&self, port: Port) -> bool
+        ensures { result ≡ has_bit self.now.free port.0 }
+    {
+        has_bit(&self.free, usize::from(port.0))
+    }
+
+    pub(crate) fn is_owned(&self, port: Port) -> bool
+        ensures { result ≡ has_bit self.now.owned port.0 }
+    {
+        has_bit(&self.owned, usize::from(port.0))
+    }
+
+    pub(crate) fn put_free(&mut self, port: Port, flag: bool)
+        ensures free { (p : ℕ) → has_bit self.new.free p ≡ (if p == port.0 then flag
+            else has_bit self.old.free p) }
+        ensures owned { self.new.owned ≡ self.old.owned }
+    {
+        let number = usize::from(port.0);
+        let index = number / 64;
+        put_bit(&mut self.free, number, flag);
+        sum_up(&mut self.even, &self.free, &self.owned, Parity::Even, index);
+        sum_up(&mut self.odd, &self.free, &self.owned, Parity::Odd, index);
+    }
+
+    pub(crate) fn put_owned(&mut self, port: Port, flag: bool)
+        ensures owned { (p : ℕ) → has_bit self.new.owned p ≡ (if p == port.0 then flag
+            else has_bit self.old.owned p) }
+        ensures free { self.new.free ≡ self.old.free }
+    {
+        let number = usize::from(port.0);
+        let index = number / 64;
+        put_bit(&mut self.owned, number, flag);
+        sum_up(&mut self.even, &self.free, &self.owned, Parity::Even, index);
+        sum_up(&mut self.odd, &self.free, &self.owned, Parity::Odd, index);
+    }
+
+    /// The lowest port of a parity that is free and owned, and how many words were looked at.
+    pub(crate) fn lowest(&self, parity: Parity) -> (Option<Port>, u32)
+        ensures some { IfSome result.0 (IsLowestOf (has_both self.now.free self.now.owned) parity) }
+        ensures none { IfNone result.0 ((port : ℕ) → parity_of port ≡ parity
+            → has_both self.now.free self.now.owned port ≡ false) }
+        ensures looked_some { IfSome result.0 (λ port. result.1 ≡ port.0 / 4096 + 3) }
+        ensures looked_none { IfNone result.0 (result.1 ≡ 16) }
+    {
+        let summary = match parity {
+            Parity::Even => &self.even,
+            Parity::Odd => &self.odd,
+        };
+        lowest_open(summary, &self.free, &self.owned, parity)
+    }
+}

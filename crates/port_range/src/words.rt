@@ -1,0 +1,105 @@
+//! Numbers as bits of words of 64.
+ghost use Rattle.std.specs.Prelude.{◌≡◌, ℕ, ◌+◌, ◌-◌, ◌*◌, ◌/◌, ◌%◌, ◌^◌, ◌<◌, ◌≤◌, ◌==◌, ◌&&◌, false, length, nat_lt, replicate, IfOk, IfSome, IfNone, if◌then◌else◌};
+ghost use Rattle.port_range.specs.Ports.{is_within};
+ghost use Rattle.port_range.specs.Words.{is_set, has_bit, IsLowestBit, AreOthers};
+
+use std::alloc::{AllocError, Global};
+
+pub(crate) fn zeros(alloc: Global, count: usize) -> Result<Vec<u64>, AllocError>
+    ensures { IfOk result (λ v. v.items ≡ replicate count 0) }
+{
+    vec![in alloc; 0; count]
+}
+
+pub(crate) fn has_bit(words: &[u64], number: usize) -> bool
+    requires { number < 64 * length words.now }
+    ensures { result ≡ has_bit words.now number }
+{
+    (words[number / 64] >> (number % 64)) & 1 == 1
+}
+
+fn with_bit(word: u64, bit: usize, flag: bool) -> u64
+    requires { bit < 64 }
+    ensures { (i : ℕ) → i < 64 → is_set result i ≡ (if i == bit then flag else is_set word i) }
+{
+    if flag {
+        word | (1u64 << bit)
+    } else {
+        word & !(1u64 << bit)
+    }
+}
+
+pub(crate) fn put_bit(words: &mut [u64], number: usize, flag: bool)
+    requires { number < 64 * length words.old }
+    ensures bits { (n : ℕ) → has_bit words.new n ≡ (if n == number then flag
+        else has_bit words.old n) }
+    ensures others { AreOthers (number / 64) words.old words.new }
+    ensures size { length words.new ≡ length words.old }
+{
+    let index = number / 64;
+    words[index] = with_bit(words[index], number % 64, flag);
+}
+
+/// The lowest number whose bit is set, and how many words were looked at.
+pub(crate) fn lowest_bit(words: &[u64]) -> (Option<usize>, u32)
+    requires { length words.now ≤ 1024 }
+    ensures some { IfSome result.0 (IsLowestBit words.now) }
+    ensures none { IfNone result.0 ((number : ℕ) → has_bit words.now number ≡ false) }
+    ensures looked_some { IfSome result.0 (λ number. result.1 ≡ number / 64 + 1) }
+    ensures looked_none { IfNone result.0 (result.1 ≡ length words.now) }
+{
+    for (index, word) in words.iter().enumerate() {
+        if *word != 0 {
+            let number = index * 64 + word.trailing_zeros() as usize;
+            return (Some(number), index as u32 + 1);
+        }
+    }
+    (None, words.len() as u32)
+}
+
+/// A word whose so many lowest bits are set.
+fn low_ones(count: usize) -> u64
+    requires { count ≤ 64 }
+    ensures { (i : ℕ) → i < 64 → is_set result i ≡ nat_lt i count }
+{
+    if count == 64 {
+        u64::MAX
+    } else {
+        (1u64 << count) - 1
+    }
+}
+
+/// The word from a number on that has the bits of the numbers from one to another.
+fn word_between(start: usize, lowest: usize, highest: usize) -> u64
+    requires { highest ≤ 65535 }
+    ensures { (i : ℕ) → i < 64 → is_set result i ≡ is_within lowest highest (start + i) }
+{
+    let below = lowest.saturating_sub(start).min(64);
+    let end = (highest + 1).saturating_sub(start).min(64);
+    low_ones(end) & !low_ones(below)
+}
+
+/// The same where a flag is set, else none.
+fn filled_word(start: usize, lowest: usize, highest: usize, flag: bool) -> u64
+    requires { highest ≤ 65535 }
+    ensures { (i : ℕ) → i < 64 → is_set result i
+        ≡ (flag && is_within lowest highest (start + i)) }
+{
+    if flag {
+        word_between(start, lowest, highest)
+    } else {
+        0
+    }
+}
+
+/// Gives the numbers from one to another a flag, and clears all others.
+pub(crate) fn fill_between(words: &mut [u64], lowest: usize, highest: usize, flag: bool)
+    requires words { length words.old ≤ 1024 }
+    requires high { highest < 64 * length words.old }
+    ensures bits { (n : ℕ) → has_bit words.new n ≡ (flag && is_within lowest highest n) }
+    ensures size { length words.new ≡ length words.old }
+{
+    for (index, word) in words.iter_mut().enumerate() {
+        *word = filled_word(index * 64, lowest, highest, flag);
+    }
+}
