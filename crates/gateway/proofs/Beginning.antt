@@ -5,12 +5,13 @@ use Rattle.nat_types.specs.declared.gateways.GatewayId.{GatewayId}
 use Rattle.settings.specs.declared.whole.Settings.{Settings}
 use Rattle.step_parts.specs.Founding.{begun, founded}
 use Rattle.step_parts.specs.Machine.{IsStanding}
+use Rattle.step_parts.specs.Settled.{IsSettled}
 use Rattle.step_parts.specs.Shown.{Shown}
 use Rattle.gateway.specs.Gateway.{IsGateway}
 
-begun-is : (settings : Settings) (id : GatewayId) (boot : ℕ) → IsStanding (begun settings id boot) [] → IsGateway (begun settings id boot)
+begun-is : (settings : Settings) (id : GatewayId) (boot : ℕ) → IsStanding (begun settings id boot) [] → IsSettled (begun settings id boot) → IsGateway (begun settings id boot)
 unfolding begun
-begun-is settings id boot stands = record {
+begun-is settings id boot stands settled = record {
   book = stands.book;
   alone = stands.alone;
   bytes = stands.kept;
@@ -18,11 +19,12 @@ begun-is settings id boot stands = record {
   history = [];
   pushed = stands.pushed;
   places = refl;
+  settled = settled;
 }
 
-founded-is : (settings : Settings) (boot : ℕ) → IsStanding (founded settings boot) [] → IsGateway (founded settings boot)
+founded-is : (settings : Settings) (boot : ℕ) → IsStanding (founded settings boot) [] → IsSettled (founded settings boot) → IsGateway (founded settings boot)
 unfolding founded begun
-founded-is settings boot stands = record {
+founded-is settings boot stands settled = record {
   book = stands.book;
   alone = stands.alone;
   bytes = stands.kept;
@@ -30,10 +32,12 @@ founded-is settings boot stands = record {
   history = [];
   pushed = stands.pushed;
   places = refl;
+  settled = settled;
 }
 
 -- founded or not
 pub beginning-is : (settings : Settings) (id : GatewayId) (boot : ℕ) (found : Bool) (g : Shown) → IsStanding (begun settings id boot) [] → IsStanding (founded settings boot) []
+    → IsSettled (begun settings id boot) → IsSettled (founded settings boot)
     → g ≡ (if found then founded settings boot else begun settings id boot) → IsGateway g
-beginning-is settings id boot true g b f is = subst IsGateway (sym is) (founded-is settings boot f)
-beginning-is settings id boot false g b f is = subst IsGateway (sym is) (begun-is settings id boot b)
+beginning-is settings id boot true g b f x y is = subst IsGateway (sym is) (founded-is settings boot f y)
+beginning-is settings id boot false g b f x y is = subst IsGateway (sym is) (begun-is settings id boot b x)

@@ -5,6 +5,7 @@ use Rattle.binding_step.specs.Books.{IsBook}
 use Rattle.vrrp_states.specs.Table.{IsMoment}
 use Rattle.step_parts.specs.Founding.{link_places}
 use Rattle.step_parts.specs.Machine.{HasPushed, IsAlone, KeepsBytes}
+use Rattle.step_parts.specs.Settled.{IsSettled}
 use Rattle.step_parts.specs.Shown.{Shown}
 
 pub record IsGateway (g : Shown) : Type 0 where
@@ -17,3 +18,5 @@ pub record IsGateway (g : Shown) : Type 0 where
   pub pushed : HasPushed g history
   -- a whole batch finds room in the link, and 64 answers beside it
   pub places : g.link.capacity ≡ link_places g.ledger.book.zero g.ledger.book.one
+  -- idle routers where it isn't up, no datagram due, kept packets in their limits
+  pub settled : IsSettled g

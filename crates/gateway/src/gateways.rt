@@ -24,7 +24,7 @@ use nat_types::{GatewayId, Pair, Side};
 use settings::Settings;
 use std::alloc::Global;
 use std::marker::Model;
-use step_parts::{Event, Outcome, beginnings};
+use step_parts::{Event, Outcome, beginnings, beginnings_settle};
 
 /// One gateway of the pair. Moments are in centiseconds.
 #[derive(Drop)]
@@ -61,6 +61,7 @@ impl Gateway {
             ≡ (if found then founded settings.now boot else begun settings.now id boot)) }
     {
         beginnings();
+        beginnings_settle();
         let forwarder = begin(alloc, settings, id, boot, found)?;
         Ok(Gateway { alloc, forwarder })
     }

@@ -25,7 +25,7 @@ use crate::words::take_word;
 use forwarder::Forwarder;
 use nat_types::Side;
 use std::alloc::Global;
-use step_parts::{Event, Outcome, parts_stand, steps_go, steps_keep};
+use step_parts::{Event, Outcome, parts_stand, steps_go, steps_keep, steps_settle};
 use told::{Page, Room};
 
 /// What a frame asks room for that is taken: an answer and a packet that goes on, three notes, and
@@ -240,6 +240,7 @@ pub(crate) fn step(
 {
     steps_go();
     steps_keep();
+    steps_settle();
     parts_stand();
     recall_event(event);
     let outcome = take_event(alloc, forwarder, page, event)?;

@@ -22,4 +22,5 @@ returns-clause-gateway c =
       history = go.history;
       pushed = go.pushed;
       places = rw (lasts.zero, lasts.one) (lasts.capacity ∙ g.places);
+      settled = c.steps_settle.ensures s c.args.event s2 step g.settled;
     }
