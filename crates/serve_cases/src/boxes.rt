@@ -1,7 +1,7 @@
 //! The two boxes, whose links lead to each other.
 
 use crate::memory::{Letter, Memory, Steps};
-use anyhow::{Context, Result, bail};
+use anyhow::{Result, bail};
 use gateway::Gateway;
 use nat_types::{GatewayId, Side};
 use serving::serve;
@@ -94,17 +94,6 @@ impl Boxes {
         }
     }
 
-    fn place(&mut self, id: GatewayId) -> &mut Option<Station> {
-        match id {
-            GatewayId::Zero => &mut self.zero,
-            GatewayId::One => &mut self.one,
-        }
-    }
-
-    fn numbered(&mut self, id: GatewayId) -> Result<&mut Station> {
-        self.place(id).as_mut().context("the box isn't there")
-    }
-
     /// A box starts.
     pub(crate) fn start(
         &mut self,
@@ -114,13 +103,20 @@ impl Boxes {
         found: bool,
     ) -> Result<()> {
         let id = id_named(id)?;
-        *self.place(id) = Some(Station::new(self.alloc, settings, id, boot, found)?);
+        let station = Station::new(self.alloc, settings, id, boot, found)?;
+        match id {
+            GatewayId::Zero => self.zero = Some(station),
+            GatewayId::One => self.one = Some(station),
+        }
         Ok(())
     }
 
     /// A box isn't there any more.
     pub(crate) fn end(&mut self, id: &str) -> Result<()> {
-        *self.place(id_named(id)?) = None;
+        match id_named(id)? {
+            GatewayId::Zero => self.zero = None,
+            GatewayId::One => self.one = None,
+        }
         Ok(())
     }
 
@@ -128,9 +124,11 @@ impl Boxes {
     pub(crate) fn bring(&mut self, id: &str, place: &str, text: &str) -> Result<()> {
         let place = place_named(place)?;
         let bytes = hex::decode(self.alloc, text)?;
-        let station = self.numbered(id_named(id)?)?;
-        station.wire.coming.push(Letter { place, bytes })?;
-        Ok(())
+        let letter = Letter { place, bytes };
+        match id_named(id)? {
+            GatewayId::Zero => bring_to(&mut self.zero, letter),
+            GatewayId::One => bring_to(&mut self.one, letter),
+        }
     }
 
     /// A box runs so many rounds; what it sends on the link comes to the other, if that is there.
@@ -141,24 +139,49 @@ impl Boxes {
         pace: u64,
         output: &mut O,
     ) -> Result<()> {
-        let id = id_named(id)?;
-        let alloc = self.alloc;
-        let station = self.numbered(id)?;
-        station.run(rounds, pace, output)?;
-        let mut under_way = Vec::new(alloc);
-        for letter in &station.wire.sent {
-            if letter.place == Place::Link {
-                let bytes = letter.bytes.clone()?;
-                let place = letter.place;
-                under_way.push(Letter { place, bytes })?;
+        match id_named(id)? {
+            GatewayId::Zero => {
+                let letters = run_on(&mut self.zero, rounds, pace, output)?;
+                pass_on(letters, &mut self.one)
+            }
+            GatewayId::One => {
+                let letters = run_on(&mut self.one, rounds, pace, output)?;
+                pass_on(letters, &mut self.zero)
             }
         }
-        let Some(other) = self.place(id.other()).as_mut() else {
-            return Ok(());
-        };
-        for letter in under_way {
-            other.wire.coming.push(letter)?;
-        }
-        Ok(())
     }
+}
+
+/// A datagram comes to a box that is there.
+fn bring_to(station: &mut Option<Station>, letter: Letter) -> Result<()> {
+    let Some(station) = station else {
+        bail!("the box isn't there");
+    };
+    station.wire.coming.push(letter)?;
+    Ok(())
+}
+
+/// A box that is there runs so many rounds. The answer is what it sent on the link.
+fn run_on<O: Write>(
+    station: &mut Option<Station>,
+    rounds: u32,
+    pace: u64,
+    output: &mut O,
+) -> Result<Vec<Letter>> {
+    let Some(station) = station else {
+        bail!("the box isn't there");
+    };
+    station.run(rounds, pace, output)?;
+    station.wire.sent_on_link()
+}
+
+/// The datagrams come to a box, if it is there.
+fn pass_on(letters: Vec<Letter>, station: &mut Option<Station>) -> Result<()> {
+    let Some(station) = station else {
+        return Ok(());
+    };
+    for letter in letters {
+        station.wire.coming.push(letter)?;
+    }
+    Ok(())
 }

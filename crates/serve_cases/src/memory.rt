@@ -2,6 +2,7 @@
 
 ghost use Rattle.std.specs.Prelude.{◌≤◌};
 
+use anyhow::Result as Checked;
 use nat_types::Side;
 use serving::Clockwork;
 use std::alloc::Global;
@@ -36,6 +37,19 @@ impl Memory {
             received: Received::none(),
             sent: Vec::new(alloc),
         }
+    }
+
+    /// Copies of what was sent on the link.
+    pub(crate) fn sent_on_link(&self) -> Checked<Vec<Letter>> {
+        let mut letters = Vec::new(self.alloc);
+        for letter in &self.sent {
+            if letter.place == Place::Link {
+                let bytes = letter.bytes.clone()?;
+                let place = letter.place;
+                letters.push(Letter { place, bytes })?;
+            }
+        }
+        Ok(letters)
     }
 
     /// Prints what was sent.
