@@ -10,9 +10,9 @@ use std::alloc::Global;
 
 type Records = ArrayVec<Record, 64>;
 
-/// The bytes of a datagram of this sender, as `boot 1 to 1 took 3 first 4: ask udp 20000, want`: the
-/// sender's boot, the receiver's boot as it knows it, how many records it took, and the number of the
-/// first of its own records, which stand behind the colon.
+/// The bytes of a datagram of this sender, as `boot 1 to 1 took 3 first 4: ask udp 20000, want`:
+/// the sender's boot, the receiver's boot as it knows it, how many records it took, and the number
+/// of the first of its own records, which stand behind the colon.
 pub(crate) fn spelled(alloc: Global, sender: GatewayId, text: &str) -> Result<Vec<u8>> {
     let (head, list) = text.split_once(": ").unwrap_or((text, ""));
     let words = head.split(' ').collect::<Vec<&str>>(alloc)?;
