@@ -1,0 +1,105 @@
+//! A gateway to which datagrams come that the other gateway never sent: does what the lines of the
+//! files that its words name say, and prints what comes of each.
+#![tactic(auto)]
+
+mod letters;
+mod stations;
+mod telling;
+mod words;
+
+use anyhow::{Context, Result, bail};
+use settings::Settings;
+use stations::Station;
+use std::io::{self, BufWriter, Write};
+use std::{env, fs};
+
+/// What the lines so far have set up.
+#[derive(Drop)]
+struct Desk {
+    settings: Option<Settings>,
+    station: Option<Station>,
+}
+
+/// A gateway starts, by the settings of the line `settings` before.
+fn start(rt: &HostRuntime, desk: &mut Desk, id: &str, boot: &str, found: bool) -> Result<()> {
+    let settings = desk.settings.as_ref().context("there are no settings")?;
+    desk.station = Some(Station::new(rt.alloc(), settings, id, boot, found)?);
+    Ok(())
+}
+
+/// The settings of a file.
+fn read_settings(rt: &HostRuntime, name: &str) -> Result<Settings> {
+    let text = fs::read_to_string(rt, name)?;
+    Ok(settings_file::read(rt.alloc(), text.as_str())?)
+}
+
+/// Does what a line says.
+///
+/// - `settings FILE`: how the gateways below are set up
+/// - `gateway I boot N`, `gateway 0 boot N founded`: a gateway starts, in place of the one before
+/// - `tick MOMENT`, `frame SIDE HEX`: the clock goes on; a frame comes
+/// - `letter ..`: a datagram comes, in words (`letters::spelled`)
+/// - `bytes HEX`, `again`: a datagram of these bytes comes; the last datagram comes once more
+/// - `cuts HEX`: a datagram comes cut at every length
+/// - `table`: how the gateway stands
+fn act<O: Write>(rt: &HostRuntime, desk: &mut Desk, line: &str, output: &mut O) -> Result<()> {
+    let words = line.split(' ').collect::<Vec<&str>>(rt.alloc())?;
+    match words.as_slice() {
+        ["settings", name] => {
+            desk.settings = Some(read_settings(rt, name)?);
+            Ok(())
+        }
+        ["gateway", id, "boot", boot] => start(rt, desk, id, boot, false),
+        ["gateway", id, "boot", boot, "founded"] => start(rt, desk, id, boot, true),
+        words => {
+            let station = desk.station.as_mut().context("there is no gateway")?;
+            happen(station, line, words, output)
+        }
+    }
+}
+
+/// What happens to the gateway of a case.
+fn happen<O: Write>(
+    station: &mut Station,
+    line: &str,
+    words: &[&str],
+    output: &mut O,
+) -> Result<()> {
+    match words {
+        ["tick", moment] => station.tick(moment, output),
+        ["frame", side, bytes] => station.frame(side, bytes, output),
+        ["letter", ..] => station.letter(line.strip_prefix("letter ").unwrap_or(""), output),
+        ["bytes", bytes] => station.bytes(bytes, output),
+        ["again"] => station.again(output),
+        ["cuts", bytes] => station.cuts(bytes, output),
+        ["table"] => station.table(output),
+        _ => bail!("no line of the cases: {line}"),
+    }
+}
+
+/// Each line of a file, and what comes of it. A line is empty, begins with `#`, or is one of `act`.
+fn answer<O: Write>(rt: &HostRuntime, text: &str, output: &mut O) -> Result<()> {
+    let mut desk = Desk {
+        settings: None,
+        station: None,
+    };
+    for line in text.lines() {
+        if line.is_empty() || line.starts_with("#") {
+            continue;
+        }
+        writeln!(output, "{line}")?;
+        act(rt, &mut desk, line, output)?;
+    }
+    Ok(())
+}
+
+fn main(rt: HostRuntime) -> Result<()> {
+    let mut output = BufWriter::new(rt.alloc(), io::writer(&rt))?;
+    for file in env::args(&rt)?.skip(1).collect::<Vec<String>>(rt.alloc())? {
+        let text = fs::read_to_string(&rt, file.as_str())?;
+        writeln!(output, "== {file}")?;
+        answer(&rt, text.as_str(), &mut output)?;
+    }
+    output.flush()?;
+    Ok(())
+}
