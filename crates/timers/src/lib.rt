@@ -5,7 +5,12 @@ ghost use Rattle.std.specs.Prelude.{◌≡◌, ◌+◌, ◌<◌, ◌≤◌, None
 ghost use Rattle.std.specs.List.Sorted.{IsPermutation};
 ghost use Rattle.timers.specs.Due.{due_slots, cleared, set_count};
 
+mod links;
 mod scan;
+mod wheel;
+
+pub use crate::links::{Links, Slots};
+pub use crate::wheel::Wheel;
 
 use crate::scan::{clear_due, count_due, list_due, unset, write_slot};
 use std::alloc::{AllocError, Global};
