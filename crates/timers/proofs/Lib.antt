@@ -4,3 +4,4 @@ pub mod Leading
 pub mod Writing
 pub mod Standing
 pub mod Unlinking
+pub mod Linking

@@ -108,3 +108,86 @@ times-without t s (x ∷ rest) =
           ]
         )
     ]
+
+other_kept : {X : Type 0} (f : Links → X) (links : List Links) (s t : ℕ) (l : Links) → eqb t s ≡ false → f (links_of (set links s l) t) ≡ f (links_of links t)
+other_kept {X} f links s t l other = ap f (get_or-set_other links s t l unset_links (eqb-false t s other))
+
+-- the links then lead past the slot
+bypassed : (heads : List (Option ℕ)) (turns : ℕ) (links : List Links) (chains : ℕ → List ℕ) → AreChains heads turns links chains → (chain s due : ℕ) → (links_of links s).due ≡ Some due → Bypassed links (unlinked links s) s (chains chain)
+bypassed heads turns links chains a chain s due is_set =
+    let n = (links_of links s).next in
+    let q = (links_of links s).previous in
+    let own = in_own heads turns links chains a s due is_set in
+    let first = previous_within heads turns links chains a s due is_set q refl in
+    let second = IsSlot-length links (with_next links q n) n (length-with_next links q n) (next_within heads turns links chains a s due is_set n refl) in
+    record {
+      next = λ t has other.
+        other_kept (λ l. l.next) (joined links s) s t unset_links other
+        ∙ next_joined links s t first second
+        ∙ around_named s t q n (links_of links t).next (λ e. agreed_previous heads turns links chains a (chain_of turns due) s t own e) (λ e. agreed_next heads turns links chains a chain t s has e);
+      previous = λ t has other.
+        other_kept (λ l. l.previous) (joined links s) s t unset_links other
+        ∙ previous_joined links s t first second
+        ∙ around_named s t n q (links_of links t).previous (λ e. agreed_next heads turns links chains a (chain_of turns due) s t own e) (λ e. agreed_previous heads turns links chains a chain t s has e);
+    }
+
+-- the slot heads no chain but its own
+heads_own : (heads : List (Option ℕ)) (turns : ℕ) (links : List Links) (chains : ℕ → List ℕ) → AreChains heads turns links chains → (chain s due : ℕ) → (links_of links s).due ≡ Some due → get_or heads chain None ≡ Some s → chain ≡ chain_of turns due
+heads_own heads turns links chains a chain s due is_set is =
+    only_there turns due chain (links_of links s).due is_set (stands_from heads turns links chains a chain s (head_stands heads turns links chains a chain s is).0)
+
+around_other : (slot : ℕ) (to at : Option ℕ) → (at ≡ Some slot → ⊥) → at ≡ around slot to at
+around_other slot to None h = refl
+around_other slot to (Some u) h =
+    elim (cases_Bool (eqb u slot)) [
+      | inl is ↦ absurd (h (ap (λ v. Some v) (eqb-true u slot is)))
+      | inr not ↦ sym (cond-false (eqb u slot) to (Some u) not)
+    ]
+
+around_it : (slot : ℕ) (to at : Option ℕ) → at ≡ Some slot → to ≡ around slot to at
+around_it slot to at is = sym (cond-true (eqb slot slot) to (Some slot) (eq-eqb slot slot refl)) ∙ ap (around slot to) (sym is)
+
+-- the heads lead past the slot
+head_past : (heads : List (Option ℕ)) (turns : ℕ) (links : List Links) (chains : ℕ → List ℕ) → AreChains heads turns links chains → (chain s due : ℕ) → (links_of links s).due ≡ Some due → chain_of turns due < length heads → (q : Option ℕ) → (links_of links s).previous ≡ q → get_or (with_head heads (chain_of turns due) (links_of links s)) chain None ≡ around s (links_of links s).next (get_or heads chain None)
+head_past heads turns links chains a chain s due is_set within (Some u) is =
+    ap (λ b. get_or (cond b heads (set heads (chain_of turns due) (links_of links s).next)) chain None) (ap is_some is)
+    ∙ around_other s (links_of links s).next (get_or heads chain None) (λ e. none-some u (sym (head_stands heads turns links chains a chain s e).1 ∙ is))
+head_past heads turns links chains a chain s due is_set within None is =
+    let own = chain_of turns due in
+    let n = (links_of links s).next in
+    let written : get_or (with_head heads own (links_of links s)) chain None ≡ get_or (set heads own n) chain None = ap (λ b. get_or (cond b heads (set heads own n)) chain None) (ap is_some is) in
+    elim (cases_eq chain own) [
+      | inl same ↦ (
+          let head : get_or heads chain None ≡ Some s = ap (λ k. get_or heads k None) same ∙ heads_chain links (get_or heads own None) (chains own) s (a.led own) (in_own heads turns links chains a s due is_set) is in
+          written ∙ ap (λ k. get_or (set heads own n) k None) same ∙ get_or-set_same heads own n None within ∙ around_it s n (get_or heads chain None) head
+        )
+      | inr other ↦ written ∙ get_or-set_other heads own chain n None other ∙ around_other s n (get_or heads chain None) (λ e. other (heads_own heads turns links chains a chain s due is_set e))
+    ]
+
+-- each slot left stands in its own chain once
+once_left : (heads : List (Option ℕ)) (turns : ℕ) (links : List Links) (chains : ℕ → List ℕ) → AreChains heads turns links chains → (s t chain : ℕ) → s < length links → IsSlot links (links_of links s).previous → IsSlot (with_next links (links_of links s).previous (links_of links s).next) (links_of links s).next → times t (without s (chains chain)) ≡ cond (stands turns chain (links_of (unlinked links s) t).due) 1 0
+once_left heads turns links chains a s t chain inside first second =
+    elim (cases_Bool (eqb t s)) [
+      | inl is ↦ (
+          let gone : (links_of (unlinked links s) t).due ≡ None = ap (λ k. (links_of (unlinked links s) k).due) (eqb-true t s is) ∙ ap (λ l. l.due) (get_or-set_same (joined links s) s unset_links unset_links (omega (arith, length-joined links s))) in
+          times-without t s (chains chain) ∙ cond-true {A = ℕ} (eqb t s) 0 (times t (chains chain)) is ∙ ap (λ o. cond {A = ℕ} (stands turns chain o) 1 0) (sym gone)
+        )
+      | inr not ↦ (
+          let kept : (links_of (unlinked links s) t).due ≡ (links_of links t).due = other_kept (λ l. l.due) (joined links s) s t unset_links not ∙ due_joined links s t first second in
+          times-without t s (chains chain) ∙ cond-false {A = ℕ} (eqb t s) 0 (times t (chains chain)) not ∙ a.once chain t ∙ ap (λ o. cond {A = ℕ} (stands turns chain o) 1 0) (sym kept)
+        )
+    ]
+
+-- the chains are then those without the slot
+pub unlinked-chains : (heads : List (Option ℕ)) (turns : ℕ) (links : List Links) (chains : ℕ → List ℕ) → AreChains heads turns links chains → (s due : ℕ) → (links_of links s).due ≡ Some due → s < length links → chain_of turns due < length heads → AreChains (with_head heads (chain_of turns due) (links_of links s)) turns (unlinked links s) (λ chain. without s (chains chain))
+unlinked-chains heads turns links chains a s due is_set inside within =
+    let q = (links_of links s).previous in
+    let n = (links_of links s).next in
+    let first = previous_within heads turns links chains a s due is_set q refl in
+    let second = IsSlot-length links (with_next links q n) n (length-with_next links q n) (next_within heads turns links chains a s due is_set n refl) in
+    record {
+      led = λ chain.
+        (let P : Option ℕ → Type 0 = λ at. Leads (unlinked links s) None at (without s (chains chain)) in
+        subst P (sym (head_past heads turns links chains a chain s due is_set within q refl)) (leads_without links (unlinked links s) s None (get_or heads chain None) (chains chain) (a.led chain) (few heads turns links chains a chain s) refl (bypassed heads turns links chains a chain s due is_set)));
+      once = λ chain t. once_left heads turns links chains a s t chain inside first second;
+    }
