@@ -5,3 +5,5 @@ pub mod Writing
 pub mod Standing
 pub mod Unlinking
 pub mod Linking
+pub mod Counting
+pub mod Changing

@@ -109,6 +109,13 @@ times-without t s (x ∷ rest) =
         )
     ]
 
+-- the writes of the neighbours and of the slot
+pub unlinked_by : (links first second third : List Links) (s : ℕ) (old none : Links) → old ≡ links_of links s → first ≡ with_next links old.previous old.next → second ≡ with_previous first old.next old.previous → none ≡ unset_links → third ≡ set second s none → third ≡ unlinked links s
+unlinked_by links first second third s old none e f h k l =
+    l
+    ∙ ap (λ x. set second s x) k
+    ∙ ap (λ ls. set ls s unset_links) (h ∙ ap (λ ls. with_previous ls old.next old.previous) f ∙ ap (λ o. with_previous (with_next links o.previous o.next) o.next o.previous) e)
+
 other_kept : {X : Type 0} (f : Links → X) (links : List Links) (s t : ℕ) (l : Links) → eqb t s ≡ false → f (links_of (set links s l) t) ≡ f (links_of links t)
 other_kept {X} f links s t l other = ap f (get_or-set_other links s t l unset_links (eqb-false t s other))
 
