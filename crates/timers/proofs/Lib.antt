@@ -7,3 +7,6 @@ pub mod Unlinking
 pub mod Linking
 pub mod Counting
 pub mod Changing
+pub mod Taking
+pub mod Walking
+pub mod Fresh

@@ -126,7 +126,7 @@ counted_it : (b : Bool) (s : ℕ) (chain : List ℕ) → times s chain ≡ 0 →
 counted_it true s chain none = omega (arith, cond-true {A = ℕ} (eqb s s) 1 0 (eq-eqb s s refl))
 counted_it false s chain none = none
 
-eqb_swap : (a b : ℕ) → eqb a b ≡ eqb b a
+pub eqb_swap : (a b : ℕ) → eqb a b ≡ eqb b a
 eqb_swap a b =
     elim (cases_eq a b) [
       | inl same ↦ eq-eqb a b same ∙ sym (eq-eqb b a (sym same))

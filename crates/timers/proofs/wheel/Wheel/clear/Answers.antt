@@ -6,7 +6,6 @@ use Rattle.timers.proofs.wheel.Wheel.clear.Goals as goal
 
 pub returns-in_default-clause-moments : goal.returns-in_default-clause-moments
 returns-in_default-clause-moments g c =
-    let ms = moments (g.S.Slots.all c.args.slots.now) in
-    let h = c.in_default.is in
-    let k = c.in_default.not-Some in
-    ?
+    let links = g.S.Slots.all c.args.slots.now in
+    let unset : get_or (moments links) c.args.slot None ≡ None = moment_of links c.args.slot ∙ ap (λ l. l.due) (sym c.links-links.ensures) ∙ c.in_default.is in
+    sym (set-get_or (moments links) c.args.slot None) ∙ ap (λ o. slice_set (moments links) c.args.slot o) unset
