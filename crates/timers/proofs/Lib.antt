@@ -10,3 +10,4 @@ pub mod Changing
 pub mod Taking
 pub mod Walking
 pub mod Fresh
+pub mod Turning

@@ -1,5 +1,5 @@
 //! A wheel of due moments.
-ghost use Rattle.std.specs.Prelude.{◌≡◌, ◌≢◌, ◌+◌, ◌<◌, ◌≤◌, ◌^◌, ℕ, List, None, Some, true, false, length, map, take, drop, slice_set, vec_len, vec_capacity, if◌then◌else◌, All, IfOk, OnOk, OnErr, IsOk};
+ghost use Rattle.std.specs.Prelude.{◌≡◌, ◌≢◌, ◌+◌, ◌<◌, ◌≤◌, ◌^◌, ℕ, List, None, Some, true, false, length, map, take, drop, replicate, slice_set, vec_len, vec_capacity, if◌then◌else◌, All, IfOk, OnOk, OnErr, IsOk};
 ghost use Rattle.std.specs.List.Sorted.{IsPermutation};
 ghost use Rattle.timers.specs.Due.{is_due, due_slots, cleared, set_count};
 ghost use Rattle.timers.specs.declared.links.Links.{Links};
@@ -17,6 +17,13 @@ pub struct Wheel {
     heads: Vec<Option<usize>>,
     turns: u64,
     count: usize,
+}
+
+/// The heads of so many chains that have no slot.
+fn no_heads(alloc: Global, count: usize) -> Result<Vec<Option<usize>>, AllocError>
+    ensures { IfOk result (λ heads. heads.items ≡ replicate count None) }
+{
+    vec![in alloc; None; count]
 }
 
 /// The chain of a moment, on a wheel that has turned so many times.
@@ -50,7 +57,7 @@ impl Wheel {
         ensures { IfOk result (λ wheel. (links : List Links) → length links < 2 ^ 64
             → All (λ slot. slot ≡ unset_links) links → IsLinked wheel links) }
     {
-        let heads = vec![in alloc; None; 1024]?;
+        let heads = no_heads(alloc, 1024)?;
         Ok(Wheel {
             heads,
             turns: 0,

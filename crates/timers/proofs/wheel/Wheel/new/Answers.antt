@@ -3,4 +3,4 @@ use Rattle.timers.proofs.Fresh.{fresh_linked}
 use Rattle.timers.proofs.wheel.Wheel.new.Goals as goal
 
 pub returns : goal.returns
-returns c = λ links room unset. fresh_linked _ links c.in_ok-heads.ensures.items refl refl room unset
+returns c = λ links room unset. fresh_linked _ links c.in_ok-heads.ensures refl refl room unset
