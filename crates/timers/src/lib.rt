@@ -7,6 +7,8 @@ ghost use Rattle.timers.specs.Due.{due_slots, cleared, set_count};
 
 mod links;
 mod scan;
+#[cfg(test)]
+mod tests;
 mod wheel;
 
 pub use crate::links::{Links, Slots};
