@@ -6,7 +6,8 @@ use Rattle.std.proofs.lemmas.Bool.{cases_Bool, cond-true, cond-false}
 use Rattle.timers.specs.Due.{set_count}
 use Rattle.timers.specs.declared.links.Links.{Links}
 use Rattle.timers.specs.declared.wheel.Wheel.{Wheel}
-use Rattle.timers.specs.Chains.{links_of, chain_of, AreChains, IsSlot, moments, without, with_head}
+use Rattle.timers.specs.Chains.{links_of, chain_of, AreChains, IsSlot, moments}
+use Rattle.timers.specs.Steps.{without, with_head}
 use Rattle.timers.specs.Linked.{IsLinked}
 use Rattle.timers.proofs.Counting.{moment_of, count-set, count-clear, count-le}
 use Rattle.timers.proofs.Linking.{put_before, put_in, put-chains, length-put_before, moments-put_before}

@@ -3,7 +3,7 @@ use Rattle.std.proofs.Common.{◌≡◌, ℕ, zero, suc, ◌+◌, ◌<◌, ◌�
 use Rattle.std.specs.List.{All}
 use Rattle.std.proofs.lemmas.Bool.{cases_lt}
 use Rattle.std.proofs.lemmas.List.{get_or-replicate, get_or_past, length-replicate}
-use Rattle.std.proofs.lemmas.List.Elements.{All-get_or, All-replicate}
+use Rattle.std.proofs.lemmas.List.Elements.{All-get_or}
 use Rattle.std.proofs.lemmas.List.Sums.{sum_by-cons}
 use Rattle.timers.specs.Due.{set_count}
 use Rattle.timers.specs.declared.links.Links.{Links}
@@ -43,6 +43,3 @@ fresh_linked wheel links heads turns count room unset = record {
     once = λ chain s. ap (λ l. cond {A = ℕ} (stands wheel.turns chain l.due) 1 0) (sym (unset_each links unset s));
   };
 }
-
-pub all_unset : (count : ℕ) → All (λ slot. slot ≡ unset_links) (replicate count unset_links)
-all_unset count = All-replicate (λ slot. slot ≡ unset_links) count unset_links refl

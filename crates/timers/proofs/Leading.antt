@@ -3,7 +3,8 @@ use Rattle.std.proofs.Common.{◌≡◌, ℕ, zero, suc, ◌+◌, ◌<◌, ◌�
 use Rattle.std.proofs.lemmas.Bool.{cond-true, cond-false, eqb-true, eqb-false, eq-eqb, cases_Bool, true≢false}
 use Rattle.std.proofs.lemmas.Option.{same_Some, none-some}
 use Rattle.timers.specs.declared.links.Links.{Links}
-use Rattle.timers.specs.Chains.{links_of, unset_links, times, Leads, without}
+use Rattle.timers.specs.Chains.{links_of, unset_links, times, Leads}
+use Rattle.timers.specs.Steps.{without}
 
 -- past a slot, on to the one that it leads to
 abbrev pub around : ℕ → Option ℕ → Option ℕ → Option ℕ
@@ -56,10 +57,10 @@ leads_on old new slot previous at (x ∷ rest) h none b =
     let on = leads_on old new slot (Some x) (links_of old x).next rest h.2 gone (tail_bypassed old new slot x rest b) in
     let same = begins_elsewhere old (Some x) (links_of old x).next slot (links_of old slot).next rest h.2 gone in
     let P : Option ℕ → Type 0 = λ p. Leads new p (links_of old x).next rest in
-    let Q : Option ℕ → Type 0 = λ a. Leads new (Some x) a rest in
-    ( h.0
-    , b.previous x (here x rest) ne ∙ ap (around slot q) h.1
-    , subst Q (sym (b.next x (here x rest) ne ∙ same)) (subst P (cond-false (eqb x slot) q (Some x) ne) on)
+    let Q : Option ℕ → Type 0 = λ a. Leads new (Some x) a rest in (
+      h.0,
+      b.previous x (here x rest) ne ∙ ap (around slot q) h.1,
+      subst Q (sym (b.next x (here x rest) ne ∙ same)) (subst P (cond-false (eqb x slot) q (Some x) ne) on),
     )
 
 -- a chain that hasn't the slot is as it was
@@ -90,7 +91,7 @@ leads_without old new slot previous at (x ∷ rest) h few outside b =
           let R : Option ℕ → Type 0 = λ a. Leads new previous a (without slot (x ∷ rest)) in
           let S : List ℕ → Type 0 = λ ys. Leads new previous n ys in
           subst R (sym led) (subst S (sym left) (subst Q next (subst P back on)))
-        )
+          )
       | inr not ↦ (
           let fewer : times slot rest ≤ 1 = omega arith in
           let led : around slot n at ≡ Some x = ap (around slot n) h.0 ∙ cond-false (eqb x slot) n (Some x) not in
@@ -100,7 +101,7 @@ leads_without old new slot previous at (x ∷ rest) h few outside b =
           let S : List ℕ → Type 0 = λ ys. Leads new previous (around slot n at) ys in
           let whole : Leads new previous (around slot n at) (x ∷ without slot rest) = (led, b.previous x (here x rest) not ∙ ap (around slot q) h.1 ∙ outside, subst P (sym (b.next x (here x rest) not)) on) in
           subst S (sym left) whole
-        )
+          )
     ]
 
 answered_first : (links : List Links) (x u : ℕ) (rest : List ℕ) → Leads links (Some x) (links_of links x).next rest → (links_of links x).next ≡ Some u → (links_of links u).previous ≡ Some x

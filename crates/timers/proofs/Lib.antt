@@ -9,5 +9,6 @@ pub mod Counting
 pub mod Changing
 pub mod Taking
 pub mod Walking
-pub mod Fresh
 pub mod Turning
+pub mod Fresh
+pub mod CallerLemmas

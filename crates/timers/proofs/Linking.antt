@@ -5,7 +5,8 @@ use Rattle.std.proofs.lemmas.Bool.{cond-true, cond-false, eqb-true, eqb-false, e
 use Rattle.std.proofs.lemmas.Option.{same_Some, none-some}
 use Rattle.std.proofs.lemmas.List.{get_or-set_same, get_or-set_other, length-set, map-set}
 use Rattle.timers.specs.declared.links.Links.{Links}
-use Rattle.timers.specs.Chains.{links_of, unset_links, times, stands, chain_of, Leads, AreChains, IsSlot, moments, with_previous}
+use Rattle.timers.specs.Chains.{links_of, unset_links, times, stands, chain_of, Leads, AreChains, IsSlot, moments}
+use Rattle.timers.specs.Steps.{with_previous}
 use Rattle.timers.proofs.Leading.{here, later, leads_same}
 use Rattle.timers.proofs.Writing.{names, names-true, names_it, next-with_previous, previous-with_previous, due-with_previous, length-with_previous, moments-with_previous, others-with_previous}
 use Rattle.timers.proofs.Standing.{stands-own, moment_there, stands_from, few, head_stands, head_is_slot}
@@ -83,9 +84,10 @@ led_own heads turns links chains a own s due unset within =
     let mine = its_own links at s due within in
     let slot = head_is_slot heads turns links chains a own at refl in
     let on = leads_behind links new s at (chains own) (a.led own) (few heads turns links chains a own) (λ x is has. (
-        ap (λ l. l.previous) (of_another links at s due x (apart heads turns links chains a own s x unset has)) ∙ previous-with_previous links at (Some s) x slot ∙ cond-true (names at x) (Some s) (links_of links x).previous (names_it at x is),
-        ap (λ l. l.next) (of_another links at s due x (apart heads turns links chains a own s x unset has)) ∙ next-with_previous links at (Some s) x slot))
-      (λ t has other. of_another links at s due t (apart heads turns links chains a own s t unset has) ∙ others-with_previous links at (Some s) t (not_named at t other)) in
+      ap (λ l. l.previous) (of_another links at s due x (apart heads turns links chains a own s x unset has)) ∙ previous-with_previous links at (Some s) x slot ∙ cond-true (names at x) (Some s) (links_of links x).previous (names_it at x is),
+      ap (λ l. l.next) (of_another links at s due x (apart heads turns links chains a own s x unset has)) ∙ next-with_previous links at (Some s) x slot,
+    ))
+    (λ t has other. of_another links at s due t (apart heads turns links chains a own s t unset has) ∙ others-with_previous links at (Some s) t (not_named at t other)) in
     let P : Option ℕ → Type 0 = λ n. Leads new (Some s) n (chains own) in
     (refl, ap (λ l. l.previous) mine, subst P (sym (ap (λ l. l.next) mine)) on)
 
@@ -94,9 +96,9 @@ led_other : (heads : List (Option ℕ)) (turns : ℕ) (links : List Links) (chai
 led_other heads turns links chains a own chain s due differ unset =
     let at = get_or heads own None in
     leads_same links (put_before links at s due) None (get_or heads chain None) (chains chain) (a.led chain)
-      (λ t has. of_another links at s due t (apart heads turns links chains a chain s t unset has)
-        ∙ others-with_previous links at (Some s) t (not_named at t (λ is. differ (one_chain turns (links_of links t).due chain own
-            (stands_from heads turns links chains a chain t has) (stands_from heads turns links chains a own t (head_stands heads turns links chains a own t is).0)))))
+    (λ t has. of_another links at s due t (apart heads turns links chains a chain s t unset has)
+    ∙ others-with_previous links at (Some s) t (not_named at t (λ is. differ (one_chain turns (links_of links t).due chain own
+    (stands_from heads turns links chains a chain t has) (stands_from heads turns links chains a own t (head_stands heads turns links chains a own t is).0)))))
 
 led_put : (heads : List (Option ℕ)) (turns : ℕ) (links : List Links) (chains : ℕ → List ℕ) → AreChains heads turns links chains → (own chain s due : ℕ) → (links_of links s).due ≡ None → s < length links → own < length heads → Leads (put_before links (get_or heads own None) s due) None (get_or (set heads own (Some s)) chain None) (put_in chains own s chain)
 led_put heads turns links chains a own chain s due unset within inside =
@@ -108,13 +110,13 @@ led_put heads turns links chains a own chain s due unset within inside =
           let list : put_in chains own s chain ≡ s ∷ chains own = cond-true (eqb chain own) (s ∷ chains chain) (chains chain) (eq-eqb chain own same) ∙ ap (λ k. s ∷ chains k) same in
           let Q : List ℕ → Type 0 = λ ys. Leads new None (Some s) ys in
           subst P (sym head) (subst Q (sym list) (led_own heads turns links chains a own s due unset within))
-        )
+          )
       | inr differ ↦ (
           let head : get_or (set heads own (Some s)) chain None ≡ get_or heads chain None = get_or-set_other heads own chain (Some s) None differ in
           let list : put_in chains own s chain ≡ chains chain = cond-false (eqb chain own) (s ∷ chains chain) (chains chain) (ne_eqb chain own differ) in
           let Q : List ℕ → Type 0 = λ ys. Leads new None (get_or heads chain None) ys in
           subst P (sym head) (subst Q (sym list) (led_other heads turns links chains a own chain s due differ unset))
-        )
+          )
     ]
 
 -- the slot stands in its own chain once, and all others as before
@@ -143,13 +145,13 @@ once_put heads turns links chains a chain s due t unset within at slot =
           ∙ counted_it (eqb chain own) s (chains chain) (unset_none heads turns links chains a chain s unset)
           ∙ ap (λ b. cond {A = ℕ} b 1 0) (eqb_swap chain own)
           ∙ ap (λ o. cond {A = ℕ} (stands turns chain o) 1 0) (sym moment)
-        )
+          )
       | inr differ ↦ (
           let moment : (links_of (put_before links at s due) t).due ≡ (links_of links t).due = ap (λ l. l.due) (of_another links at s due t (ne_eqb t s differ)) ∙ due-with_previous links at (Some s) t slot in
           counted (eqb chain own) own s t (chains chain) (ne_eqb s t (λ e. differ (sym e)))
           ∙ a.once chain t
           ∙ ap (λ o. cond {A = ℕ} (stands turns chain o) 1 0) (sym moment)
-        )
+          )
     ]
 
 -- the chains then have the slot at the head of its own

@@ -8,7 +8,7 @@ use Rattle.std.proofs.lemmas.List.{get_or-set_same, get_or-set_other}
 use Rattle.std.proofs.lemmas.List.Sorted.{IsPermutation-refl, IsPermutation-trans, IsPermutation-cons, IsPermutation-middle, IsPermutation-append_right}
 use Rattle.std.specs.List.Sorted.{IsPermutation}
 use Rattle.timers.specs.Due.{is_due, due_from, due_slots, cleared}
-use Rattle.timers.specs.Linked.{AreTaken}
+use Rattle.timers.specs.Steps.{AreTaken}
 
 behind_one : (b : Bool) (first n : ℕ) (xs ys : List ℕ) → IsPermutation xs (n ∷ ys) → IsPermutation (cond b (first ∷ xs) xs) (n ∷ cond b (first ∷ ys) ys)
 behind_one true first n xs ys h = IsPermutation-trans (first ∷ xs) (first ∷ n ∷ ys) (n ∷ first ∷ ys) (IsPermutation-cons first xs (n ∷ ys) h) (IsPermutation-middle (first ∷ []) n ys)

@@ -6,8 +6,10 @@ use Rattle.std.proofs.lemmas.Option.{none-some}
 use Rattle.timers.specs.Due.{is_due, due_from, due_slots, cleared}
 use Rattle.timers.specs.declared.links.Links.{Links}
 use Rattle.timers.specs.declared.wheel.Wheel.{Wheel}
-use Rattle.timers.specs.Chains.{links_of, stands, chain_of, chain_count, AreChains, moments}
-use Rattle.timers.specs.Linked.{IsLinked, AreTaken, HasNoneDue, AreNoneDue}
+use Rattle.timers.specs.Chains.{links_of, stands, chain_of, AreChains, moments}
+use Rattle.timers.specs.Steps.{chain_count}
+use Rattle.timers.specs.Linked.{IsLinked}
+use Rattle.timers.specs.Steps.{AreTaken, HasNoneDue, AreNoneDue}
 use Rattle.timers.proofs.Counting.{moment_of}
 use Rattle.timers.proofs.Standing.{moment_there}
 
@@ -17,10 +19,10 @@ quotient_le a b h = omega arith
 -- a due moment stands in one of the chains that are passed
 pub due_chain : (turns now due : ℕ) → due ≤ now → (k : ℕ) × (k < chain_count turns now) × ((turns % 1024 + k) % 1024 ≡ chain_of turns due)
 due_chain turns now due h =
-    let far : ℕ = max turns (due / 1024) - turns in
-    ( far % 1024
-    , omega (arith, quotient_le due now h)
-    , omega arith
+    let far : ℕ = max turns (due / 1024) - turns in (
+      far % 1024,
+      omega (arith, quotient_le due now h),
+      omega arith,
     )
 
 -- what isn't due stands where it did once the wheel has turned to `now`
@@ -45,7 +47,7 @@ none_at turns now links s none (Some due) is =
           let there = due_chain turns now due (leb-true due now passed) in
           let stood : stands turns ((turns % 1024 + there.0) % 1024) (Some due) ≡ true = eq-eqb (chain_of turns due) ((turns % 1024 + there.0) % 1024) (sym there.2) in
           ap (is_due now) (sym is) ∙ none there.0 there.1 s (ap (stands turns ((turns % 1024 + there.0) % 1024)) is ∙ stood)
-        )
+          )
       | inr not ↦ not
     ]
 

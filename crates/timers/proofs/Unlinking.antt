@@ -5,7 +5,8 @@ use Rattle.std.proofs.lemmas.Bool.{cond-true, cond-false, eqb-true, eqb-false, e
 use Rattle.std.proofs.lemmas.Option.{same_Some, none-some}
 use Rattle.std.proofs.lemmas.List.{get_or-set_same, get_or-set_other, length-set, map-set}
 use Rattle.timers.specs.declared.links.Links.{Links}
-use Rattle.timers.specs.Chains.{links_of, unset_links, times, stands, chain_of, Leads, AreChains, IsSlot, moments, without, with_next, with_previous, with_head}
+use Rattle.timers.specs.Chains.{links_of, unset_links, times, stands, chain_of, Leads, AreChains, IsSlot, moments}
+use Rattle.timers.specs.Steps.{without, with_next, with_previous, with_head}
 use Rattle.timers.proofs.Leading.{around, Bypassed, leads_without, heads_chain}
 use Rattle.timers.proofs.Writing.{names, names-true, names_it, one_written, next-with_next, previous-with_next, due-with_next, length-with_next, moments-with_next, next-with_previous, previous-with_previous, due-with_previous, length-with_previous, moments-with_previous}
 use Rattle.timers.proofs.Standing.{stands-own, only_there, stands_from, in_own, few, agreed_next, agreed_previous, next_within, previous_within, head_stands, within_from}
@@ -33,7 +34,7 @@ around_named slot t o to (Some u) there back =
             | inl same ↦ absurd (true≢false (sym (names_it o t (back (ap (λ v. Some v) (eqb-true u slot same)))) ∙ not))
             | inr other ↦ cond-false (names o t) to (Some u) not ∙ sym (cond-false (eqb u slot) to (Some u) other)
           ]
-        )
+          )
     ]
 
 next_joined : (links : List Links) (s t : ℕ) → IsSlot links (links_of links s).previous → IsSlot (with_next links (links_of links s).previous (links_of links s).next) (links_of links s).next → (links_of (joined links s) t).next ≡ cond (names (links_of links s).previous t) (links_of links s).next (links_of links t).next
@@ -90,9 +91,9 @@ times-without t s (x ∷ rest) =
                 let apart : eqb x t ≡ false = differ x s t (eqb-true x s is) other in
                 let none : times t rest ≡ all = omega (arith, cond-false {A = ℕ} (eqb x t) 1 0 apart) in
                 left ∙ more ∙ cond-false {A = ℕ} (eqb t s) 0 (times t rest) other ∙ none ∙ sym (cond-false {A = ℕ} (eqb t s) 0 all other)
-              )
+                )
           ]
-        )
+          )
       | inr not ↦ (
           let left : times t (without s (x ∷ rest)) ≡ cond (eqb x t) 1 0 + times t (without s rest) = ap (times t) (cond-false (eqb x s) (without s rest) (x ∷ without s rest) not) in
           elim (cases_Bool (eqb t s)) [
@@ -100,13 +101,13 @@ times-without t s (x ∷ rest) =
                 let apart : eqb x t ≡ false = ap (eqb x) (eqb-true t s same) ∙ not in
                 let none : times t (without s (x ∷ rest)) ≡ 0 = omega (arith, left, more, cond-false {A = ℕ} (eqb x t) 1 0 apart, cond-true {A = ℕ} (eqb t s) 0 (times t rest) same) in
                 none ∙ sym (cond-true {A = ℕ} (eqb t s) 0 all same)
-              )
+                )
             | inr other ↦ (
                 let same : times t (without s (x ∷ rest)) ≡ all = omega (arith, left, more, cond-false {A = ℕ} (eqb t s) 0 (times t rest) other) in
                 same ∙ sym (cond-false {A = ℕ} (eqb t s) 0 all other)
-              )
+                )
           ]
-        )
+          )
     ]
 
 -- the writes of the neighbours and of the slot
@@ -129,13 +130,13 @@ bypassed heads turns links chains a chain s due is_set =
     let second = IsSlot-length links (with_next links q n) n (length-with_next links q n) (next_within heads turns links chains a s due is_set n refl) in
     record {
       next = λ t has other.
-        other_kept (λ l. l.next) (joined links s) s t unset_links other
-        ∙ next_joined links s t first second
-        ∙ around_named s t q n (links_of links t).next (λ e. agreed_previous heads turns links chains a (chain_of turns due) s t own e) (λ e. agreed_next heads turns links chains a chain t s has e);
+          other_kept (λ l. l.next) (joined links s) s t unset_links other
+          ∙ next_joined links s t first second
+          ∙ around_named s t q n (links_of links t).next (λ e. agreed_previous heads turns links chains a (chain_of turns due) s t own e) (λ e. agreed_next heads turns links chains a chain t s has e);
       previous = λ t has other.
-        other_kept (λ l. l.previous) (joined links s) s t unset_links other
-        ∙ previous_joined links s t first second
-        ∙ around_named s t n q (links_of links t).previous (λ e. agreed_next heads turns links chains a (chain_of turns due) s t own e) (λ e. agreed_previous heads turns links chains a chain t s has e);
+          other_kept (λ l. l.previous) (joined links s) s t unset_links other
+          ∙ previous_joined links s t first second
+          ∙ around_named s t n q (links_of links t).previous (λ e. agreed_next heads turns links chains a (chain_of turns due) s t own e) (λ e. agreed_previous heads turns links chains a chain t s has e);
     }
 
 -- the slot heads no chain but its own
@@ -167,7 +168,7 @@ head_past heads turns links chains a chain s due is_set within None is =
       | inl same ↦ (
           let head : get_or heads chain None ≡ Some s = ap (λ k. get_or heads k None) same ∙ heads_chain links (get_or heads own None) (chains own) s (a.led own) (in_own heads turns links chains a s due is_set) is in
           written ∙ ap (λ k. get_or (set heads own n) k None) same ∙ get_or-set_same heads own n None within ∙ around_it s n (get_or heads chain None) head
-        )
+          )
       | inr other ↦ written ∙ get_or-set_other heads own chain n None other ∙ around_other s n (get_or heads chain None) (λ e. other (heads_own heads turns links chains a chain s due is_set e))
     ]
 
@@ -178,11 +179,11 @@ once_left heads turns links chains a s t chain inside first second =
       | inl is ↦ (
           let gone : (links_of (unlinked links s) t).due ≡ None = ap (λ k. (links_of (unlinked links s) k).due) (eqb-true t s is) ∙ ap (λ l. l.due) (get_or-set_same (joined links s) s unset_links unset_links (omega (arith, length-joined links s))) in
           times-without t s (chains chain) ∙ cond-true {A = ℕ} (eqb t s) 0 (times t (chains chain)) is ∙ ap (λ o. cond {A = ℕ} (stands turns chain o) 1 0) (sym gone)
-        )
+          )
       | inr not ↦ (
           let kept : (links_of (unlinked links s) t).due ≡ (links_of links t).due = other_kept (λ l. l.due) (joined links s) s t unset_links not ∙ due_joined links s t first second in
           times-without t s (chains chain) ∙ cond-false {A = ℕ} (eqb t s) 0 (times t (chains chain)) not ∙ a.once chain t ∙ ap (λ o. cond {A = ℕ} (stands turns chain o) 1 0) (sym kept)
-        )
+          )
     ]
 
 -- the chains are then those without the slot
@@ -194,7 +195,7 @@ unlinked-chains heads turns links chains a s due is_set inside within =
     let second = IsSlot-length links (with_next links q n) n (length-with_next links q n) (next_within heads turns links chains a s due is_set n refl) in
     record {
       led = λ chain.
-        (let P : Option ℕ → Type 0 = λ at. Leads (unlinked links s) None at (without s (chains chain)) in
-        subst P (sym (head_past heads turns links chains a chain s due is_set within q refl)) (leads_without links (unlinked links s) s None (get_or heads chain None) (chains chain) (a.led chain) (few heads turns links chains a chain s) refl (bypassed heads turns links chains a chain s due is_set)));
+          (let P : Option ℕ → Type 0 = λ at. Leads (unlinked links s) None at (without s (chains chain)) in
+          subst P (sym (head_past heads turns links chains a chain s due is_set within q refl)) (leads_without links (unlinked links s) s None (get_or heads chain None) (chains chain) (a.led chain) (few heads turns links chains a chain s) refl (bypassed heads turns links chains a chain s due is_set)));
       once = λ chain t. once_left heads turns links chains a s t chain inside first second;
     }

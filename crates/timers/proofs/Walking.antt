@@ -8,8 +8,10 @@ use Rattle.std.proofs.lemmas.Map.Steps.{length-le_from_distinct_below}
 use Rattle.timers.specs.Due.{is_due}
 use Rattle.timers.specs.declared.links.Links.{Links}
 use Rattle.timers.specs.declared.wheel.Wheel.{Wheel}
-use Rattle.timers.specs.Chains.{links_of, times, stands, Leads, AreChains, moments, without, passed}
-use Rattle.timers.specs.Linked.{IsLinked, AreTaken}
+use Rattle.timers.specs.Chains.{links_of, times, stands, Leads, AreChains, moments}
+use Rattle.timers.specs.Steps.{without, passed}
+use Rattle.timers.specs.Linked.{IsLinked}
+use Rattle.timers.specs.Steps.{AreTaken}
 use Rattle.timers.proofs.Leading.{absent, behind, here, later, without_none}
 use Rattle.timers.proofs.Linking.{eqb_swap}
 use Rattle.timers.proofs.Standing.{stands_from, in_chain, few, moment_there, within_from}
@@ -183,25 +185,27 @@ further now chain old new links after list longer s at to l done (x ∷ rest) sp
     let apart = only_between s done rest (subst R here_split (few old.heads.items old.turns links l.chains l.linked chain s)) in
     elim (cases_Bool (is_due now (links_of links s).due)) [
       | inl is_due_now ↦ (
-          record {
-            linked = record { heads = linked.heads; count = linked.count; room = linked.room; chains = λ c. passed now links s (l.chains c); linked = chains l.chains l.linked };
-            done = done;
-            rest = rest;
-            split = cond-true (is_due now (links_of links s).due) (without s (l.chains chain)) (l.chains chain) is_due_now ∙ ap (without s) here_split ∙ without_between s done rest apart.0 apart.1;
-            front = front;
-            passed = λ t has. kept t (before t has);
-          },
-          omega arith)
+        record {
+          linked = record { heads = linked.heads; count = linked.count; room = linked.room; chains = λ c. passed now links s (l.chains c); linked = chains l.chains l.linked };
+          done = done;
+          rest = rest;
+          split = cond-true (is_due now (links_of links s).due) (without s (l.chains chain)) (l.chains chain) is_due_now ∙ ap (without s) here_split ∙ without_between s done rest apart.0 apart.1;
+          front = front;
+          passed = λ t has. kept t (before t has);
+        },
+        omega arith,
+      )
       | inr not_due ↦ (
-          record {
-            linked = record { heads = linked.heads; count = linked.count; room = linked.room; chains = λ c. passed now links s (l.chains c); linked = chains l.chains l.linked };
-            done = done ++ s ∷ [];
-            rest = rest;
-            split = cond-false (is_due now (links_of links s).due) (without s (l.chains chain)) (l.chains chain) not_due ∙ here_split ∙ sym (append_assoc done (s ∷ []) rest);
-            front = front;
-            passed = λ t has. kept t (in_either now links s t done not_due before has);
-          },
-          omega arith)
+        record {
+          linked = record { heads = linked.heads; count = linked.count; room = linked.room; chains = λ c. passed now links s (l.chains c); linked = chains l.chains l.linked };
+          done = done ++ s ∷ [];
+          rest = rest;
+          split = cond-false (is_due now (links_of links s).due) (without s (l.chains chain)) (l.chains chain) not_due ∙ here_split ∙ sym (append_assoc done (s ∷ []) rest);
+          front = front;
+          passed = λ t has. kept t (in_either now links s t done not_due before has);
+        },
+        omega arith,
+      )
     ]
 
 -- one slot further

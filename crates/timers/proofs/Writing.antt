@@ -5,7 +5,8 @@ use Rattle.std.proofs.Math.Seq.{map-set_same}
 use Rattle.std.proofs.lemmas.Bool.{cond-true, cond-false, eqb-true, eqb-false, eq-eqb, cases_Bool}
 use Rattle.std.proofs.lemmas.List.{get_or-set_same, get_or-set_other, length-set}
 use Rattle.timers.specs.declared.links.Links.{Links}
-use Rattle.timers.specs.Chains.{links_of, unset_links, IsSlot, moments, with_next, with_previous}
+use Rattle.timers.specs.Chains.{links_of, unset_links, IsSlot, moments}
+use Rattle.timers.specs.Steps.{with_next, with_previous}
 
 -- an option holds this number
 abbrev pub names : Option ℕ → ℕ → Bool

@@ -12,9 +12,8 @@ mod tests;
 mod wheel;
 
 pub use crate::links::{Links, Slots};
-pub use crate::wheel::Wheel;
-
 use crate::scan::{clear_due, count_due, list_due, unset, write_slot};
+pub use crate::wheel::Wheel;
 use std::alloc::{AllocError, Global};
 use std::marker::Model;
 

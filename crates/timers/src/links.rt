@@ -1,7 +1,8 @@
 //! What a wheel keeps of its caller's slots.
 ghost use Rattle.std.specs.Prelude.{◌≡◌, ◌<◌, ⊤, List, length, slice_set};
 ghost use Rattle.timers.specs.declared.links.Links.{Links};
-ghost use Rattle.timers.specs.Chains.{unset_links, links_of, with_next, with_previous, IsSlot};
+ghost use Rattle.timers.specs.Chains.{unset_links, links_of, IsSlot};
+ghost use Rattle.timers.specs.Steps.{with_next, with_previous};
 
 /// A slot's neighbours in its chain, and its due moment in centiseconds where it is set.
 #[derive(Clone, Copy, Debug, PartialEq, Eq)]

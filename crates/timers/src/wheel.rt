@@ -3,19 +3,24 @@ ghost use Rattle.std.specs.Prelude.{◌≡◌, ◌≢◌, ◌+◌, ◌<◌, ◌�
 ghost use Rattle.std.specs.List.Sorted.{IsPermutation};
 ghost use Rattle.timers.specs.Due.{is_due, due_slots, cleared, set_count};
 ghost use Rattle.timers.specs.declared.links.Links.{Links};
-ghost use Rattle.timers.specs.Chains.{AreChains, unset_links, links_of, moments, without, with_head, passed, chain_count};
+ghost use Rattle.timers.specs.Chains.{AreChains, unset_links, links_of, moments};
+ghost use Rattle.timers.specs.Steps.{without, with_head, passed, chain_count};
 ghost use Rattle.timers.specs.Chains.{chain_of as chain_number};
-ghost use Rattle.timers.specs.Linked.{IsLinked, AreTaken, HasNoneDue, AreNoneDue};
+ghost use Rattle.timers.specs.Linked.{IsLinked};
+ghost use Rattle.timers.specs.Steps.{AreTaken, HasNoneDue, AreNoneDue};
 
 use crate::links::{Links, Slots, set_next, set_previous};
 use std::alloc::{AllocError, Global};
 
-/// Due moments of slots, in 1,024 chains of slots that are due about the same time. The links of
-/// the chains lie in the slots.
+/// Due moments of slots in centiseconds, in 1,024 chains of slots that are due about the same time.
+/// The links of the chains lie in the slots.
 #[derive(Drop)]
 pub struct Wheel {
+    // The first slot of each chain.
     heads: Vec<Option<usize>>,
+    // How often the wheel has turned: it turns by a chain in 1,024 centiseconds.
     turns: u64,
+    // How many slots are set.
     count: usize,
 }
 
@@ -93,7 +98,8 @@ impl Wheel {
         }
     }
 
-    /// Appends the slots whose moment is at most `now`, in any order, and clears them.
+    /// Appends the slots whose moment is at most `now`, in any order, and clears them. Makes room
+    /// for all slots that are set, and visits no chain twice.
     pub fn due<S: Slots>(
         &mut self,
         slots: &mut S,
@@ -154,7 +160,7 @@ impl Wheel {
         ensures chains { (chains : ℕ → List ℕ)
             → AreChains self.old.heads.items self.old.turns (S.all slots.old) chains
             → AreChains self.new.heads.items self.new.turns (S.all slots.new)
-                (λ chain. without slot (chains chain)) }
+            (λ chain. without slot (chains chain)) }
         ensures turns { self.new.turns ≡ self.old.turns }
         ensures count { self.new.count + 1 ≡ self.old.count }
         ensures moments { moments (S.all slots.new)
@@ -186,7 +192,7 @@ impl Wheel {
         ensures chains { (chains : ℕ → List ℕ)
             → AreChains self.old.heads.items self.old.turns (S.all slots.old) chains
             → AreChains self.new.heads.items self.new.turns (S.all slots.new)
-                (λ chain. passed now (S.all slots.old) slot (chains chain)) }
+            (λ chain. passed now (S.all slots.old) slot (chains chain)) }
         ensures turns { self.new.turns ≡ self.old.turns }
         ensures taken { AreTaken now (moments (S.all slots.old)) (moments (S.all slots.new))
             out.old.items out.new.items }
@@ -204,13 +210,7 @@ impl Wheel {
     }
 
     /// Clears the due slots of a chain, and appends them.
-    fn pass_chain<S: Slots>(
-        &mut self,
-        slots: &mut S,
-        chain: usize,
-        now: u64,
-        out: &mut Vec<usize>,
-    )
+    fn pass_chain<S: Slots>(&mut self, slots: &mut S, chain: usize, now: u64, out: &mut Vec<usize>)
         requires linked { IsLinked self.old (S.all slots.old) }
         requires within { chain < 1024 }
         requires room { vec_len out.old + self.old.count ≤ vec_capacity out.old }

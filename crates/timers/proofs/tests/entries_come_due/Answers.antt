@@ -2,7 +2,7 @@ use Rattle.std.proofs.Common.{◌<◌, ◌^◌, List, length, replicate, ap, ◌
 use Rattle.timers.specs.declared.links.Links.{Links}
 use Rattle.timers.specs.Chains.{unset_links}
 use Rattle.timers.specs.Linked.{IsLinked}
-use Rattle.timers.proofs.Fresh.{all_unset}
+use Rattle.timers.proofs.CallerLemmas.{all_unset}
 use Rattle.timers.proofs.tests.entries_come_due.Goals as goal
 
 pub set_row-requires-clause-linked : goal.set_row-requires-clause-linked

@@ -1,6 +1,6 @@
 use Rattle.std.proofs.Common.{◌≡◌, ◌+◌, ◌≤◌, length, vec_len, vec_capacity}
 use Rattle.timers.specs.Chains.{moments}
-use Rattle.timers.specs.Linked.{AreTaken}
+use Rattle.timers.specs.Steps.{AreTaken}
 use Rattle.timers.proofs.Walking.{IsPassing, walk}
 use Rattle.timers.proofs.wheel.Wheel.pass_chain.Given as goal
 

@@ -1,7 +1,7 @@
 use Rattle.std.proofs.Common.{◌≡◌, ℕ, ◌+◌, ◌%◌, ◌<◌, ◌≤◌, ap, ◌∙◌, subst, arith}
 use borrow.Author.Count.{below_more}
 use Rattle.timers.specs.Chains.{moments}
-use Rattle.timers.specs.Linked.{HasNoneDue}
+use Rattle.timers.specs.Steps.{HasNoneDue}
 use Rattle.timers.proofs.Taking.{taken_more}
 use Rattle.timers.proofs.Turning.{stays_none, none_left}
 use Rattle.timers.proofs.wheel.Wheel.pass_chains.Goals as goal

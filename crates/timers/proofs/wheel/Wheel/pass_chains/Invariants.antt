@@ -1,6 +1,7 @@
 use Rattle.std.proofs.Common.{◌≡◌, ℕ, ◌+◌, ◌%◌, ◌<◌, ◌≤◌, length, vec_len, vec_capacity}
 use Rattle.timers.specs.Chains.{moments}
-use Rattle.timers.specs.Linked.{IsLinked, AreTaken, HasNoneDue}
+use Rattle.timers.specs.Linked.{IsLinked}
+use Rattle.timers.specs.Steps.{AreTaken, HasNoneDue}
 use Rattle.timers.proofs.wheel.Wheel.pass_chains.Given as goal
 
 -- the chains so far are without due slots
