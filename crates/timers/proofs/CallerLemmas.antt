@@ -1,12 +1,12 @@
 -- For callers: a fresh store of slots, and one that grows.
-use Rattle.std.proofs.Common.{◌≡◌, ℕ, zero, suc, ◌+◌, ◌<◌, ◌^◌, cond, is_some, Option, Some, None, List, [], ◌∷◌, ◌++◌, length, length-append, get_or, map, replicate, refl, sym, ap, ◌∙◌, arith}
+use Rattle.std.proofs.Common.{◌≡◌, ℕ, zero, suc, ◌+◌, ◌<◌, ◌^◌, cond, is_some, None, List, [], ◌∷◌, ◌++◌, length, length-append, get_or, replicate, refl, sym, ap, ◌∙◌, arith}
 use Rattle.std.specs.List.{All}
 use Rattle.std.proofs.lemmas.List.Elements.{All-replicate}
 use Rattle.std.proofs.lemmas.List.Sums.{sum_by-cons}
 use Rattle.timers.specs.Due.{set_count}
 use Rattle.timers.specs.declared.links.Links.{Links}
 use Rattle.timers.specs.declared.wheel.Wheel.{Wheel}
-use Rattle.timers.specs.Chains.{links_of, unset_links, stands, AreChains, moments}
+use Rattle.timers.specs.Chains.{links_of, unset_links, stands, moments}
 use Rattle.timers.specs.Linked.{IsLinked}
 use Rattle.timers.proofs.Leading.{leads_same}
 

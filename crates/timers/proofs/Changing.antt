@@ -1,15 +1,14 @@
 -- A wheel after a slot has been put into its chain, or taken out of it.
-use Rattle.std.proofs.Common.{◌≡◌, ℕ, ◌+◌, ◌-◌, ◌<◌, ◌≤◌, ◌^◌, cond, is_some, Option, Some, None, List, length, get_or, map, refl, sym, ap, ◌∙◌, subst, arith}
+use Rattle.std.proofs.Common.{◌≡◌, ℕ, ◌+◌, ◌-◌, ◌<◌, cond, is_some, Option, Some, None, List, length, get_or, refl, sym, ap, ◌∙◌, subst, arith}
 use Rattle.std.proofs.Math.ListN.{set}
 use Rattle.std.proofs.lemmas.List.{length-set, length-map}
-use Rattle.std.proofs.lemmas.Bool.{cases_Bool, cond-true, cond-false}
 use Rattle.timers.specs.Due.{set_count}
 use Rattle.timers.specs.declared.links.Links.{Links}
 use Rattle.timers.specs.declared.wheel.Wheel.{Wheel}
-use Rattle.timers.specs.Chains.{links_of, chain_of, AreChains, IsSlot, moments}
+use Rattle.timers.specs.Chains.{links_of, chain_of, AreChains, moments}
 use Rattle.timers.specs.Steps.{without, with_head}
 use Rattle.timers.specs.Linked.{IsLinked}
-use Rattle.timers.proofs.Counting.{moment_of, count-set, count-clear, count-le}
+use Rattle.timers.proofs.Counting.{moment_of, count-set, count-clear}
 use Rattle.timers.proofs.Linking.{put_before, put_in, put-chains, length-put_before, moments-put_before}
 use Rattle.timers.proofs.Unlinking.{unlinked, unlinked-chains, length-unlinked, moments-unlinked}
 

@@ -1,5 +1,5 @@
 -- A wheel on which no slot is set.
-use Rattle.std.proofs.Common.{◌≡◌, ℕ, zero, suc, ◌+◌, ◌<◌, ◌≤◌, ◌^◌, Bool, true, false, cond, is_some, Option, Some, None, ◌⊎◌, inl, inr, List, [], ◌∷◌, length, get_or, map, replicate, refl, sym, ap, ◌∙◌, subst, arith}
+use Rattle.std.proofs.Common.{◌≡◌, ℕ, suc, ◌<◌, ◌^◌, cond, is_some, Option, None, inl, inr, List, [], ◌∷◌, length, get_or, replicate, refl, sym, ap, ◌∙◌, arith}
 use Rattle.std.specs.List.{All}
 use Rattle.std.proofs.lemmas.Bool.{cases_lt}
 use Rattle.std.proofs.lemmas.List.{get_or-replicate, get_or_past, length-replicate}
@@ -8,7 +8,7 @@ use Rattle.std.proofs.lemmas.List.Sums.{sum_by-cons}
 use Rattle.timers.specs.Due.{set_count}
 use Rattle.timers.specs.declared.links.Links.{Links}
 use Rattle.timers.specs.declared.wheel.Wheel.{Wheel}
-use Rattle.timers.specs.Chains.{links_of, unset_links, times, stands, Leads, AreChains, moments}
+use Rattle.timers.specs.Chains.{links_of, unset_links, stands, Leads, moments}
 use Rattle.timers.specs.Linked.{IsLinked}
 
 unset_each : (links : List Links) → All (λ slot. slot ≡ unset_links) links → (s : ℕ) → links_of links s ≡ unset_links

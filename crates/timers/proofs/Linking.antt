@@ -1,15 +1,15 @@
 -- A slot is put at the head of its chain.
-use Rattle.std.proofs.Common.{◌≡◌, ℕ, ◌+◌, ◌<◌, ◌≤◌, Bool, true, false, cond, Option, Some, None, ◌⊎◌, inl, inr, List, [], ◌∷◌, length, get_or, map, eqb, refl, sym, ap, ◌∙◌, subst, arith}
+use Rattle.std.proofs.Common.{◌≡◌, ℕ, ◌<◌, ◌≤◌, Bool, true, false, cond, Option, Some, None, inl, inr, List, [], ◌∷◌, length, get_or, eqb, refl, sym, ap, ◌∙◌, subst, arith}
 use Rattle.std.proofs.Math.ListN.{set}
 use Rattle.std.proofs.lemmas.Bool.{cond-true, cond-false, eqb-true, eqb-false, eq-eqb, ne_eqb, cases_Bool, true≢false, cases_eq}
-use Rattle.std.proofs.lemmas.Option.{same_Some, none-some}
+use Rattle.std.proofs.lemmas.Option.{same_Some}
 use Rattle.std.proofs.lemmas.List.{get_or-set_same, get_or-set_other, length-set, map-set}
 use Rattle.timers.specs.declared.links.Links.{Links}
 use Rattle.timers.specs.Chains.{links_of, unset_links, times, stands, chain_of, Leads, AreChains, IsSlot, moments}
 use Rattle.timers.specs.Steps.{with_previous}
 use Rattle.timers.proofs.Leading.{here, later, leads_same}
 use Rattle.timers.proofs.Writing.{names, names-true, names_it, next-with_previous, previous-with_previous, due-with_previous, length-with_previous, moments-with_previous, others-with_previous}
-use Rattle.timers.proofs.Standing.{stands-own, moment_there, stands_from, few, head_stands, head_is_slot}
+use Rattle.timers.proofs.Standing.{moment_there, stands_from, few, head_stands, head_is_slot}
 
 -- what a slot has that goes before that one
 abbrev pub first_links : Option ℕ → ℕ → Links

@@ -1,5 +1,5 @@
 -- A slot is taken out of its chain.
-use Rattle.std.proofs.Common.{◌≡◌, ℕ, ◌+◌, ◌<◌, ◌≤◌, Bool, true, false, cond, Option, Some, None, ◌⊎◌, inl, inr, List, [], ◌∷◌, length, get_or, map, eqb, is_some, refl, sym, ap, ◌∙◌, subst, arith}
+use Rattle.std.proofs.Common.{◌≡◌, ℕ, ◌+◌, ◌<◌, false, cond, Option, Some, None, inl, inr, List, [], ◌∷◌, length, get_or, eqb, is_some, refl, sym, ap, ◌∙◌, subst, arith}
 use Rattle.std.proofs.Math.ListN.{set}
 use Rattle.std.proofs.lemmas.Bool.{cond-true, cond-false, eqb-true, eqb-false, eq-eqb, cases_Bool, true≢false, cases_eq}
 use Rattle.std.proofs.lemmas.Option.{same_Some, none-some}
@@ -8,8 +8,8 @@ use Rattle.timers.specs.declared.links.Links.{Links}
 use Rattle.timers.specs.Chains.{links_of, unset_links, times, stands, chain_of, Leads, AreChains, IsSlot, moments}
 use Rattle.timers.specs.Steps.{without, with_next, with_previous, with_head}
 use Rattle.timers.proofs.Leading.{around, Bypassed, leads_without, heads_chain}
-use Rattle.timers.proofs.Writing.{names, names-true, names_it, one_written, next-with_next, previous-with_next, due-with_next, length-with_next, moments-with_next, next-with_previous, previous-with_previous, due-with_previous, length-with_previous, moments-with_previous}
-use Rattle.timers.proofs.Standing.{stands-own, only_there, stands_from, in_own, few, agreed_next, agreed_previous, next_within, previous_within, head_stands, within_from}
+use Rattle.timers.proofs.Writing.{names, names-true, names_it, next-with_next, previous-with_next, due-with_next, length-with_next, moments-with_next, next-with_previous, previous-with_previous, due-with_previous, length-with_previous, moments-with_previous}
+use Rattle.timers.proofs.Standing.{only_there, stands_from, in_own, few, agreed_next, agreed_previous, next_within, previous_within, head_stands}
 
 -- with a slot's neighbours linked to one another
 abbrev pub joined : List Links → ℕ → List Links

@@ -1,9 +1,8 @@
 -- A walk along a chain.
-use Rattle.std.proofs.Common.{◌≡◌, ℕ, zero, suc, ◌+◌, ◌<◌, ◌≤◌, Bool, true, false, cond, ◌||◌, Option, Some, None, ◌⊎◌, inl, inr, List, [], ◌∷◌, ◌++◌, append_assoc, length, length-append, get_or, eqb, refl, sym, ap, ◌∙◌, subst, arith}
+use Rattle.std.proofs.Common.{◌≡◌, ℕ, zero, suc, ◌+◌, ◌<◌, ◌≤◌, true, false, Option, Some, None, inl, inr, List, [], ◌∷◌, ◌++◌, append_assoc, length, length-append, get_or, eqb, refl, sym, ap, ◌∙◌, subst, arith}
 use Rattle.std.specs.List.{IsDistinct, AllByRecursion, list_any}
-use Rattle.std.proofs.lemmas.Bool.{cond-true, cond-false, cases_eq, cases_Bool, eqb-true, eq-eqb, or_cases, true≢false}
+use Rattle.std.proofs.lemmas.Bool.{cond-true, cond-false, cases_Bool, eqb-true, eq-eqb, or_cases}
 use Rattle.std.proofs.lemmas.Option.{none-some, same_Some}
-use Rattle.std.proofs.lemmas.Map.Keys.{IsDistinct-cons}
 use Rattle.std.proofs.lemmas.Map.Steps.{length-le_from_distinct_below}
 use Rattle.timers.specs.Due.{is_due}
 use Rattle.timers.specs.declared.links.Links.{Links}
@@ -12,7 +11,7 @@ use Rattle.timers.specs.Chains.{links_of, times, stands, Leads, AreChains, momen
 use Rattle.timers.specs.Steps.{without, passed}
 use Rattle.timers.specs.Linked.{IsLinked}
 use Rattle.timers.specs.Steps.{AreTaken}
-use Rattle.timers.proofs.Leading.{absent, behind, here, later, without_none}
+use Rattle.timers.proofs.Leading.{absent, here, later, without_none}
 use Rattle.timers.proofs.Linking.{eqb_swap}
 use Rattle.timers.proofs.Standing.{stands_from, in_chain, few, moment_there, within_from}
 use Rattle.timers.proofs.Counting.{moment_of}

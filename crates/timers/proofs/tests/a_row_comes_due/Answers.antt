@@ -1,4 +1,4 @@
-use Rattle.std.proofs.Common.{◌<◌, ◌^◌, List, length, replicate, ap, ◌∙◌, refl, sym, subst, lit<}
+use Rattle.std.proofs.Common.{List, length, replicate, ap, sym, subst, lit<}
 use Rattle.timers.specs.declared.links.Links.{Links}
 use Rattle.timers.specs.Chains.{unset_links}
 use Rattle.timers.specs.Linked.{IsLinked}

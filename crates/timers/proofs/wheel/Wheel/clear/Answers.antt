@@ -1,6 +1,6 @@
-use Rattle.std.proofs.Common.{◌≡◌, None, get_or, slice_set, ap, ◌∙◌, refl, sym}
+use Rattle.std.proofs.Common.{◌≡◌, None, get_or, slice_set, ap, ◌∙◌, sym}
 use Rattle.std.proofs.lemmas.List.{set-get_or}
-use Rattle.timers.specs.Chains.{links_of, moments}
+use Rattle.timers.specs.Chains.{moments}
 use Rattle.timers.proofs.Counting.{moment_of}
 use Rattle.timers.proofs.wheel.Wheel.clear.Goals as goal
 

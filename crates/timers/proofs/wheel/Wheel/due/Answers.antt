@@ -1,4 +1,4 @@
-use Rattle.std.proofs.Common.{◌≡◌, ℕ, List, drop, length, ap, ◌∙◌, sym, subst}
+use Rattle.std.proofs.Common.{ℕ, List, drop, length, subst}
 use Rattle.std.specs.List.Sorted.{IsPermutation}
 use Rattle.timers.specs.Due.{due_slots}
 use Rattle.timers.specs.Chains.{moments}

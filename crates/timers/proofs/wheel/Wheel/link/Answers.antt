@@ -1,8 +1,7 @@
-use Rattle.std.proofs.Common.{◌≡◌, ℕ, ◌+◌, ◌≤◌, ◌<◌, None, Some, length, get_or, slice_set, ap, ◌∙◌, refl, sym, subst, arith}
-use Rattle.std.proofs.lemmas.List.{get_or_read, length-map, length-set}
+use Rattle.std.proofs.Common.{◌<◌, None, length, slice_set, ap, ◌∙◌, refl, sym, arith}
+use Rattle.std.proofs.lemmas.List.{get_or_read, length-map}
 use Rattle.timers.specs.Due.{set_count}
-use Rattle.timers.specs.Chains.{IsSlot, links_of, moments}
-use Rattle.timers.specs.Steps.{with_previous}
+use Rattle.timers.specs.Chains.{moments}
 use Rattle.timers.proofs.Standing.{head_is_slot}
 use Rattle.timers.proofs.Counting.{moment_of, count-set, count-le}
 use Rattle.timers.proofs.Linking.{put_before, first_links, moments-put_before, length-put_before}

@@ -1,4 +1,4 @@
-use Rattle.std.proofs.Common.{◌≡◌, ℕ, length, refl}
+use Rattle.std.proofs.Common.{refl}
 use Rattle.timers.proofs.Fresh.{fresh_linked}
 use Rattle.timers.proofs.wheel.Wheel.new.Goals as goal
 

@@ -1,8 +1,8 @@
-use Rattle.std.proofs.Common.{◌≡◌, ◌<◌, None, Some, length, get_or, ap, ◌∙◌, refl, sym, arith}
+use Rattle.std.proofs.Common.{None, length, ap, ◌∙◌, refl, arith}
 use Rattle.std.proofs.lemmas.List.{get_or_read}
-use Rattle.timers.specs.Chains.{links_of, moments}
+use Rattle.timers.specs.Chains.{moments}
 use Rattle.timers.proofs.Taking.{taken_none, taken_more}
-use Rattle.timers.proofs.Walking.{passing_none, passing_within, passing_more, passing_all, steps_left}
+use Rattle.timers.proofs.Walking.{passing_none, passing_within, passing_more, steps_left}
 use Rattle.timers.proofs.wheel.Wheel.pass_chain.Goals as goal
 
 pub loop-at-init : goal.loop-at-init

@@ -1,4 +1,4 @@
-use Rattle.std.proofs.Common.{◌≡◌, ℕ, ◌+◌, ◌%◌, ◌<◌, ◌≤◌, ap, ◌∙◌, subst, arith}
+use Rattle.std.proofs.Common.{ℕ, ◌+◌, ◌%◌, ◌∙◌, subst, arith}
 use borrow.Author.Count.{below_more}
 use Rattle.timers.specs.Chains.{moments}
 use Rattle.timers.specs.Steps.{HasNoneDue}

@@ -1,4 +1,4 @@
-use Rattle.std.proofs.Common.{◌≡◌, ℕ, ◌+◌, ◌%◌, ◌<◌, ◌≤◌, length, vec_len, vec_capacity}
+use Rattle.std.proofs.Common.{◌≡◌, ℕ, ◌+◌, ◌%◌, ◌<◌, ◌≤◌, vec_len, vec_capacity}
 use Rattle.timers.specs.Chains.{moments}
 use Rattle.timers.specs.Linked.{IsLinked}
 use Rattle.timers.specs.Steps.{AreTaken, HasNoneDue}

@@ -1,6 +1,6 @@
-use Rattle.std.proofs.Common.{◌≡◌, ◌<◌, None, Some, length, get_or, ap, ◌∙◌, refl, sym, arith}
+use Rattle.std.proofs.Common.{◌≡◌, ◌<◌, None, Some, length, get_or, ap, ◌∙◌, sym, arith}
 use Rattle.std.proofs.lemmas.List.{length-map}
-use Rattle.timers.specs.Chains.{links_of, moments}
+use Rattle.timers.specs.Chains.{moments}
 use Rattle.timers.proofs.Counting.{moment_of}
 use Rattle.timers.proofs.Taking.{taken_one}
 use Rattle.timers.proofs.wheel.Wheel.pass_slot.Goals as goal

@@ -1,6 +1,6 @@
-use Rattle.std.proofs.Common.{◌≡◌, ◌<◌, None, Some, length, get_or, slice_set, ap, ◌∙◌, refl, sym, arith}
+use Rattle.std.proofs.Common.{◌<◌, None, Some, length, get_or, slice_set, ap, ◌∙◌, sym, arith}
 use Rattle.std.proofs.lemmas.List.{set-set, get_or-set_same, length-map}
-use Rattle.timers.specs.Chains.{links_of, moments}
+use Rattle.timers.specs.Chains.{moments}
 use Rattle.timers.proofs.Counting.{moment_of}
 use Rattle.timers.proofs.wheel.Wheel.set.Goals as goal
 

@@ -1,9 +1,8 @@
-use Rattle.std.proofs.Common.{◌≡◌, ℕ, ◌+◌, ◌-◌, ◌≤◌, ◌<◌, None, Some, length, get_or, slice_set, ap, ◌∙◌, refl, sym, subst, arith}
-use Rattle.timers.specs.declared.links.Links.{Links}
-use Rattle.timers.specs.Chains.{IsSlot, links_of, moments, unset_links}
-use Rattle.timers.specs.Steps.{with_previous, with_next, with_head}
+use Rattle.std.proofs.Common.{length, ap, ◌∙◌, refl, sym, arith}
+use Rattle.timers.specs.Chains.{moments}
+use Rattle.timers.specs.Steps.{with_head}
 use Rattle.timers.proofs.Standing.{next_within, previous_within}
-use Rattle.timers.proofs.Unlinking.{unlinked, unlinked_by, moments-unlinked, IsSlot-length}
+use Rattle.timers.proofs.Unlinking.{unlinked_by, moments-unlinked, IsSlot-length}
 use Rattle.timers.proofs.Writing.{length-with_next}
 use Rattle.timers.proofs.Changing.{unlinked-linked, unlinked-again, count_falls}
 use Rattle.timers.proofs.wheel.Wheel.unlink.Goals as goal
