@@ -1,13 +1,12 @@
 //! A wheel of due moments.
-ghost use Rattle.std.specs.Prelude.{◌≡◌, ◌≢◌, ◌+◌, ◌<◌, ◌≤◌, ◌^◌, ℕ, List, None, Some, true, false, length, map, take, drop, replicate, slice_set, vec_len, vec_capacity, if◌then◌else◌, All, IfOk, OnOk, OnErr, IsOk};
+ghost use Rattle.std.specs.Prelude.{◌≡◌, ◌+◌, ◌<◌, ◌≤◌, ◌^◌, ℕ, List, None, Some, length, map, take, drop, replicate, slice_set, vec_len, vec_capacity, All, IfOk, OnOk, OnErr, IsOk};
 ghost use Rattle.std.specs.List.Sorted.{IsPermutation};
-ghost use Rattle.timers.specs.Due.{is_due, due_slots, cleared, set_count};
+ghost use Rattle.timers.specs.Due.{due_slots, cleared, set_count};
 ghost use Rattle.timers.specs.declared.links.Links.{Links};
 ghost use Rattle.timers.specs.Chains.{AreChains, unset_links, links_of, moments};
-ghost use Rattle.timers.specs.Steps.{without, with_head, passed, chain_count};
 ghost use Rattle.timers.specs.Chains.{chain_of as chain_number};
 ghost use Rattle.timers.specs.Linked.{IsLinked};
-ghost use Rattle.timers.specs.Steps.{AreTaken, HasNoneDue, AreNoneDue};
+ghost use Rattle.timers.specs.Steps.{without, with_head, passed, chain_count, AreTaken, HasNoneDue, AreNoneDue};
 
 use crate::links::{Links, Slots, set_next, set_previous};
 use std::alloc::{AllocError, Global};
