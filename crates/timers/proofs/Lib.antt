@@ -1,2 +1,14 @@
 pub mod Lists
 pub mod Found
+pub mod Leading
+pub mod Writing
+pub mod Standing
+pub mod Unlinking
+pub mod Linking
+pub mod Counting
+pub mod Changing
+pub mod Taking
+pub mod Walking
+pub mod Turning
+pub mod Fresh
+pub mod CallerLemmas

@@ -5,9 +5,15 @@ ghost use Rattle.std.specs.Prelude.{◌≡◌, ◌+◌, ◌<◌, ◌≤◌, None
 ghost use Rattle.std.specs.List.Sorted.{IsPermutation};
 ghost use Rattle.timers.specs.Due.{due_slots, cleared, set_count};
 
+mod links;
 mod scan;
+#[cfg(test)]
+mod tests;
+mod wheel;
 
+pub use crate::links::{Links, Slots};
 use crate::scan::{clear_due, count_due, list_due, unset, write_slot};
+pub use crate::wheel::Wheel;
 use std::alloc::{AllocError, Global};
 use std::marker::Model;
 

@@ -1,0 +1,46 @@
+-- Slots in 1,024 chains by their due moments, each slot with the numbers of its neighbours.
+use Rattle.std.specs.Prelude.{◌≡◌, ℕ, ◌+◌, ◌/◌, ◌%◌, ◌<◌, Bool, false, cond, nat_eq, max, List, [], ◌∷◌, length, map, Option, Some, None, IfSome}
+use Rattle.std.proofs.Common.{get_or}
+use Rattle.timers.specs.declared.links.Links.{Links}
+
+-- of a slot that is in no chain
+abbrev pub unset_links : Links
+unset_links = record { next = None; previous = None; due = None }
+
+-- of the slot of that number
+abbrev pub links_of : List Links → ℕ → Links
+links_of links slot = get_or links slot unset_links
+
+-- a slot's number, if there is one
+abbrev pub IsSlot : List Links → Option ℕ → Type 0
+IsSlot links slot = IfSome slot (λ s. s < length links)
+
+-- the moment of each slot that is set
+abbrev pub moments : List Links → List (Option ℕ)
+moments links = map (λ l. l.due) links
+
+-- the chain of a moment, once the wheel has turned so many times: it turns by a chain in 1,024 centiseconds, and a
+-- moment that lies before stands in its present chain
+abbrev pub chain_of : ℕ → ℕ → ℕ
+chain_of turns due = max turns (due / 1024) % 1024
+
+-- a slot of that moment stands in that chain
+abbrev pub stands : ℕ → ℕ → Option ℕ → Bool
+stands turns chain None = false
+stands turns chain (Some due) = nat_eq (chain_of turns due) chain
+
+-- how often a chain has a slot
+abbrev pub times : ℕ → List ℕ → ℕ
+times slot [] = 0
+times slot (other ∷ rest) = cond (nat_eq other slot) 1 0 + times slot rest
+
+-- from the slot `at` on, the links lead through these slots, and back to the slot before them
+unfoldable pub Leads : List Links → Option ℕ → Option ℕ → List ℕ → Type 0
+Leads links previous at [] = at ≡ None
+Leads links previous at (slot ∷ rest) = (at ≡ Some slot) × ((links_of links slot).previous ≡ previous) × Leads links (Some slot) (links_of links slot).next rest
+
+-- from these heads the links lead through these chains, and each slot that is set stands in its own chain once, and in
+-- no other
+pub record AreChains (heads : List (Option ℕ)) (turns : ℕ) (links : List Links) (chains : ℕ → List ℕ) : Type 0 where
+  pub led : (chain : ℕ) → Leads links None (get_or heads chain None) (chains chain)
+  pub once : (chain slot : ℕ) → times slot (chains chain) ≡ cond (stands turns chain (links_of links slot).due) 1 0
