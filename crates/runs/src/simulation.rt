@@ -5,7 +5,7 @@ ghost use Rattle.runs.specs.Script.{first_bad_line};
 ghost use Rattle.runs.specs.Status.{has_refusal, run_status, IsRun, RunsScript, TellsRun};
 ghost use Rattle.runs.specs.declared.faults.Fault.TheVariants as faults;
 
-use crate::{Fault, printing, scripts};
+use crate::{Fault, plan_of, printing};
 use frame_sim::{Step, World, WorldEvent};
 use settings::Settings;
 use std::alloc::Global;
@@ -43,9 +43,8 @@ fn simulated<O: Write>(
     ensures run { IfOk result (RunsScript settings.now script.now) }
     ensures status { IfOk result (λ status. (status ≡ 0) ⊎ (status ≡ 3)) }
 {
-    let settings = settings_file::read(alloc, settings)?;
-    let events = scripts::read(alloc, script)?;
-    play(alloc, &settings, events.as_slice(), output)
+    let plan = plan_of(alloc, settings, script)?;
+    play(alloc, &plan.settings, plan.events.as_slice(), output)
 }
 
 /// Runs events on a new world of these settings, and prints their steps and its tables. The answer is the exit status.
