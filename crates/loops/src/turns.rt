@@ -1,5 +1,5 @@
 //! A script's run in which what each event hands in is first sent through a passage.
-ghost use Rattle.std.specs.Prelude.{◌≡◌, ◌⊎◌, None, IfOk, IfErr, OnOk, IsSome};
+ghost use Rattle.std.specs.Prelude.{◌≡◌, ◌⊎◌, None, IfOk, IfErr, OnOk, IsSome, if◌then◌else◌};
 ghost use Rattle.told.specs.Told.{none_told};
 ghost use Rattle.frame_sim.specs.Runs.{Answers};
 ghost use Rattle.runs.specs.Faults.{status_of};
@@ -55,7 +55,9 @@ fn looped<P: Passage, O: Write>(
     ensures status { IfOk result (λ status. (status ≡ 0) ⊎ (status ≡ 3)) }
 {
     let plan = plan_of(alloc, settings, script)?;
-    passage.open(&plan.settings).map_err(of_socket)?;
+    if let Err(fault) = passage.open(&plan.settings) {
+        return Err(of_socket(fault));
+    }
     play(alloc, &plan.settings, plan.events.as_slice(), passage, output)
 }
 
@@ -96,7 +98,14 @@ pub fn play<P: Passage, O: Write>(
     }
     tables(output, &world)?;
     output.flush()?;
-    Ok(if refused { 3 } else { 0 })
+    Ok(status_of(refused))
+}
+
+/// 3 where an event was refused, else 0.
+fn status_of(refused: bool) -> u8
+    ensures { result ≡ (if refused then 3 else 0) }
+{
+    if refused { 3 } else { 0 }
 }
 
 /// An event was refused.
@@ -133,7 +142,7 @@ fn turn<P: Passage>(
 {
     match sent(world, event, passage) {
         Some(Passed::Lost) => None,
-        _ => Some(step(alloc, world, event)),
+        Some(Passed::Received) | None => Some(step(alloc, world, event)),
     }
 }
 
@@ -149,7 +158,11 @@ fn sent<P: Passage>(world: &World<'_>, event: &WorldEvent, passage: &mut P) -> O
             let bytes = world.datagram(*id, *number)?;
             Some(passage.pass(*id, Place::Link, bytes))
         }
-        _ => None,
+        WorldEvent::Tick(_, _)
+        | WorldEvent::Stop(_)
+        | WorldEvent::Crash(_)
+        | WorldEvent::Boot(_, _)
+        | WorldEvent::PeerOff(_, _) => None,
     }
 }
 

@@ -10,7 +10,7 @@ use settings::Settings;
 use std::alloc::Global;
 
 /// What a run needs: what the pair is set up with, and what happens to it.
-#[derive(Debug, Drop)]
+#[derive(Drop)]
 pub struct Plan {
     pub settings: Settings,
     pub events: Vec<WorldEvent>,
