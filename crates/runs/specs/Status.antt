@@ -29,6 +29,16 @@ pub record IsRun (settings : Settings) (events : List WorldEvent) (status : ℕ)
   pub answers : AreSteps (founding settings) events steps world
   pub refusals : status ≡ run_status steps
 
+-- a new world of these settings
+unfoldable pub IsNew : Settings → World → Type 0
+IsNew settings w = w ≡ founding settings
+
+-- the status of the steps that these events take, in order, from one world to another
+pub record TakesSteps (w : World) (events : List WorldEvent) (w2 : World) (status : ℕ) : Type 0 where
+  pub steps : List Step
+  pub answers : AreSteps w events steps w2
+  pub refusals : status ≡ run_status steps
+
 -- the settings that a text holds, and a script's events
 pub record IsPlanOf (text script : List ℕ) (plan : Plan) : Type 0 where
   pub held : IsReadFrom (parse_document text) plan.settings

@@ -12,5 +12,5 @@ pub use faults::Fault;
 pub use plans::{Plan, plan_of};
 pub use printing::{PrintFault, Printer, tables};
 pub use scripts::{ScriptFault, read};
-pub use simulation::{play, simulate};
+pub use simulation::{founded, play, simulate};
 pub use texts::text_of;

@@ -1,4 +1,5 @@
 //! Prints a run: a line for each frame, note and event, and the tables at its end.
+ghost use Rattle.std.specs.Prelude.{◌≤◌, length};
 
 use addresses::Port;
 use frame_sim::{Step, World, WorldEvent};
@@ -148,15 +149,25 @@ fn datagrams<O: Write>(
 }
 
 fn bytes<O: Write>(output: &mut O, bytes: &[u8]) -> io::Result<()> {
-    let mut digits = [0; 2 * AT_A_TIME];
-    for part in bytes.chunks(AT_A_TIME) {
-        let digits = &mut digits[..2 * part.len()];
-        match hex::encode_to_slice(part, digits) {
-            Ok(()) => output.write_all(digits)?,
-            Err(_other_length) => unreachable!(),
-        }
+    let mut rest = bytes;
+    while !rest.is_empty() {
+        let count = rest.len().min(AT_A_TIME);
+        few(output, &rest[..count])?;
+        rest = &rest[count..];
     }
     writeln!(output)
+}
+
+/// No more bytes than are printed at a time, two digits each.
+fn few<O: Write>(output: &mut O, bytes: &[u8]) -> io::Result<()>
+    requires { length bytes.now ≤ AT_A_TIME }
+{
+    let mut digits = [0; 2 * AT_A_TIME];
+    let digits = &mut digits[..2 * bytes.len()];
+    match hex::encode_to_slice(bytes, digits) {
+        Ok(()) => output.write_all(digits),
+        Err(_other_length) => unreachable!(),
+    }
 }
 
 fn answer<O: Write>(output: &mut O, number: usize, step: &Step) -> io::Result<()> {
