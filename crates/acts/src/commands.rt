@@ -7,6 +7,7 @@ use crate::boxes::{gate, peer_off};
 use crate::faults::of_file;
 use boot_file::Uncached;
 use command_line::{Task, command};
+use loops::{Loopback, run_loop};
 use runs::{Fault, simulate, text_of};
 use std::fs::Files;
 use std::io::Write;
@@ -36,6 +37,9 @@ where
         Ok(Task::Init(file)) => init(rt, file.as_str(), errors),
         Ok(Task::Sim(settings, script)) => {
             sim(rt, settings.as_str(), script.as_str(), output, errors)
+        }
+        Ok(Task::Loop(settings, script)) => {
+            repeat(rt, settings.as_str(), script.as_str(), output, errors)
         }
         Ok(Task::Gate(settings, id, rounds, found)) => {
             gate(rt, settings.as_str(), id, rounds, found, output, errors)
@@ -75,6 +79,31 @@ fn sim<R: Files + AllocGlobal, O: Write, E: Write>(
                 rt.alloc(),
                 settings.as_str(),
                 script.as_str(),
+                output,
+                errors,
+            )
+        }
+        Err(fault) => fault.tell(errors),
+    }
+}
+
+/// Runs the script of one file with the settings of another, over the own loopback ports of both gateways.
+fn repeat<R: Files + Net + Clock + AllocGlobal, O: Write, E: Write>(
+    rt: &R,
+    settings: &str,
+    script: &str,
+    output: &mut O,
+    errors: &mut E,
+) -> u8
+    ensures status { (result ≡ 0) ⊎ ((result ≡ 1) ⊎ (result ≡ 3)) }
+{
+    match texts(rt, settings, script) {
+        Ok((settings, script)) => {
+            run_loop(
+                rt.alloc(),
+                settings.as_str(),
+                script.as_str(),
+                &mut Loopback::new(rt),
                 output,
                 errors,
             )

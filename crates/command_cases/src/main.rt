@@ -1,8 +1,8 @@
-//! Reads lines of words as command lines, and prints what each requests, or why it is refused.
+//! Reads lines of words as command lines, and prints what each asks for, or why it is refused.
 #![tactic(auto)]
 
 use anyhow::Result;
-use command_line::{LineFault, command, requested};
+use command_line::{LineFault, command};
 use std::alloc::Global;
 use std::fs;
 use std::io::{self, BufWriter, Write};
@@ -25,15 +25,8 @@ fn reason<O: Write>(fault: &LineFault, output: &mut O) -> io::Result<()> {
     }
 }
 
-/// What a line requests, and what the program does about it.
+/// What a line asks for.
 fn line<O: Write>(alloc: Global, words: &[String], output: &mut O) -> Result<()> {
-    match requested(alloc, words) {
-        Ok(request) => writeln!(output, "  requests {request:?}")?,
-        Err(fault) => {
-            write!(output, "  refused: ")?;
-            reason(&fault, output)?;
-        }
-    }
     match command(alloc, words) {
         Ok(task) => writeln!(output, "  task {task:?}")?,
         Err(fault) => {

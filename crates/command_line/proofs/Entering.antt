@@ -9,7 +9,7 @@ use Rattle.clap.specs.Walk.{Held, Row, Text, answers_to, finished, nothing_held,
 use Rattle.clap.specs.Simple.{App, Shape, argument_words, built, entered, label_of, names_of}
 use Rattle.clap.specs.Faults.{built_fault, check_fault, defaults_fault, entered_fault, settle_fault, walk_fault}
 use Rattle.command_line.specs.Line.{Takes, entered_by, line_app}
-use Rattle.command_line.specs.Requests.{Enters, IsNamed}
+use Rattle.command_line.specs.Tasks.{Enters, IsNamed}
 
 -- neither of two has a kind
 neither : (a b : Kinds) → or_else a b ≡ [] → (a ≡ []) × (b ≡ [])

@@ -6,7 +6,7 @@ use Rattle.std.specs.Str.Parse.{ParsesUnsigned}
 use Rattle.clap.specs.Words.{ReadsOne, Text, one_text, rows_of}
 use Rattle.clap.specs.declared.parser.matches.Found.{Found}
 use Rattle.clap.proofs.WalkLemmas.{one_text-rows}
-use Rattle.command_line.specs.Requests.{IsNumber, IsReadFrom}
+use Rattle.command_line.specs.Tasks.{IsNumber, IsReadFrom}
 
 -- the text of a value, or of a default
 pub text_or : (o : Option (Bor Text)) (d : Bor Text) (x : Option Text) → option_map (λ s. s.now) o ≡ x → (unwrap_or o d).now ≡ unwrap_or x d.now

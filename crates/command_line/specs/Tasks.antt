@@ -1,30 +1,113 @@
--- The task that words ask for: a request of what the program can do.
-use Rattle.std.specs.Prelude.{◌≡◌, List, codes, Option, Some, None}
-use Rattle.clap.specs.Words.{Row, Text}
-use Rattle.command_line.specs.Line.{entered_by}
-use Rattle.command_line.specs.Requests.{Refuses}
+-- The task that words ask for.
+use Rattle.std.specs.Prelude.{◌≡◌, ◌⊎◌, ◌<◌, ◌^◌, ◌==◌, ℕ, Bool, true, false, List, [], codes, Option, Some, None, unwrap_or, if◌then◌else◌, string_bytes}
+use Rattle.std.specs.Str.{bytes_eq}
+use Rattle.std.specs.Str.Parse.{IsNumeral, digits_value, without_leading_plus}
+use Rattle.std.specs.Option.{option_map_or}
+use Rattle.clap.specs.Words.{Row, Text, first_of, one_of}
+use Rattle.command_line.specs.Line.{Takes, entered_by}
 use Rattle.command_line.specs.declared.faults.LineFault.{LineFault}
-use Rattle.command_line.specs.declared.faults.LineFault.TheVariants.{Refused, FoundNeedsIdZero, NotYet, NoMemory}
-use Rattle.command_line.specs.declared.requests.Request.{Request}
-use Rattle.command_line.specs.declared.requests.Request.TheVariants as requests
+use Rattle.command_line.specs.declared.faults.LineFault.TheVariants.{Refused, FoundNeedsIdZero, NoMemory}
+use Rattle.nat_types.specs.declared.gateways.GatewayId.{GatewayId}
+use Rattle.nat_types.specs.declared.gateways.GatewayId.TheVariants.{Zero, One}
 use Rattle.command_line.specs.declared.tasks.Task.{Task}
-use Rattle.command_line.specs.declared.tasks.Task.TheVariants.{Init, Sim, Gate, PeerOff}
+use Rattle.command_line.specs.declared.tasks.Task.TheVariants.{Init, Sim, Loop, Gate, PeerOff}
 
--- the request of a task
-abbrev pub request_of : Task → Request
-request_of (Init file) = requests.Init file
-request_of (Sim settings script) = requests.Sim settings script
-request_of (Gate settings id rounds found) = requests.Gate settings id rounds found
-request_of (PeerOff settings id boot) = requests.PeerOff settings id boot
+-- the word at a name
+abbrev pub word_of : Text → List Row → Text
+word_of name rows = unwrap_or (first_of name rows) []
 
--- the command that is not there yet was entered
-abbrev pub EntersLater : Option (Text × List Row) → Type 0
-EntersLater None = ⊥
-EntersLater (Some entered) = entered.0 ≡ codes "loop"
+-- a text is a numeral of so many bits
+abbrev pub IsNumeralOf : ℕ → Text → Type 0
+IsNumeralOf bits text = IsNumeral 10 text × (digits_value 10 text < 2 ^ bits)
 
--- why words are no task: as no request, or as a command that is not there yet
-abbrev pub RefusesTask : List Text → LineFault → Type 0
-RefusesTask words (Refused error) = Refuses words (Refused error)
-RefusesTask words FoundNeedsIdZero = Refuses words FoundNeedsIdZero
-RefusesTask words NotYet = EntersLater (entered_by words)
-RefusesTask words NoMemory = Refuses words NoMemory
+-- n is the number of a numeral, and 0 where the text is none
+abbrev pub IsRead : ℕ → Text → ℕ → Type 0
+IsRead bits text n = (IsNumeralOf bits text × (n ≡ digits_value 10 text)) ⊎ (¬ (IsNumeralOf bits text) × (n ≡ 0))
+
+-- the same of a text that may be absent, and may begin with a plus
+abbrev pub IsReadFrom : ℕ → Option Text → ℕ → Type 0
+IsReadFrom bits None n = n ≡ 0
+IsReadFrom bits (Some text) n = IsRead bits (without_leading_plus text) n
+
+-- n is the number at a name
+abbrev pub IsNumber : ℕ → Text → List Row → ℕ → Type 0
+IsNumber bits name rows n = IsReadFrom bits (one_of name rows) n
+
+-- the flag at a name is set
+abbrev pub flag_of : Text → List Row → Bool
+flag_of name rows = option_map_or (λ text. bytes_eq text (codes "true")) (first_of name rows) false
+
+abbrev pub gateway_numbered : ℕ → GatewayId
+gateway_numbered n = if n == 1 then One else Zero
+
+-- the gateway that `--id` names
+abbrev pub IsId : List Row → GatewayId → Type 0
+IsId rows id = (n : ℕ) × IsNumber 8 (codes "id") rows n × (id ≡ gateway_numbered n)
+
+-- the task of a command, by the values that the words give it
+abbrev pub IsTask : Text → List Row → Task → Type 0
+IsTask name rows (Init file) = (name ≡ codes "init") × (string_bytes file ≡ word_of (codes "FILE") rows)
+IsTask name rows (Sim settings script) =
+    (name ≡ codes "sim") × (string_bytes settings ≡ word_of (codes "SETTINGS") rows)
+    × (string_bytes script ≡ word_of (codes "SCRIPT") rows)
+IsTask name rows (Loop settings script) =
+    (name ≡ codes "loop") × (string_bytes settings ≡ word_of (codes "SETTINGS") rows)
+    × (string_bytes script ≡ word_of (codes "SCRIPT") rows)
+IsTask name rows (Gate settings id rounds found) =
+    (name ≡ codes "gate") × (string_bytes settings ≡ word_of (codes "SETTINGS") rows)
+    × IsId rows id × IsNumber 32 (codes "rounds") rows rounds × (found ≡ flag_of (codes "found") rows)
+IsTask name rows (PeerOff settings id boot) =
+    (name ≡ codes "peer-off") × (string_bytes settings ≡ word_of (codes "SETTINGS") rows)
+    × IsId rows id × IsNumber 64 (codes "boot") rows boot
+
+-- the task of the command that words enter
+abbrev pub Asks : Option (Text × List Row) → Task → Type 0
+Asks None task = ⊥
+Asks (Some entered) task = IsTask entered.0 entered.1 task
+
+-- only gateway 0 founds the pair
+abbrev pub FoundsAtZero : Task → Type 0
+FoundsAtZero (Gate settings id rounds found) = found ≡ true → id ≡ Zero
+FoundsAtZero _ = Unit {0}
+
+-- one of the five commands
+abbrev pub IsNamed : Text → Type 0
+IsNamed name = (name ≡ codes "init") ⊎ ((name ≡ codes "sim") ⊎ ((name ≡ codes "loop")
+    ⊎ ((name ≡ codes "gate") ⊎ (name ≡ codes "peer-off"))))
+
+-- one of the five commands was entered
+abbrev pub Enters : Option (Text × List Row) → Type 0
+Enters None = ⊥
+Enters (Some entered) = IsNamed entered.0
+
+-- `--found` stands beside `--id 1`
+abbrev pub FoundsAtOne : List Row → Type 0
+FoundsAtOne rows = (flag_of (codes "found") rows ≡ true) × IsId rows One
+
+-- why the values of `gate` are refused
+abbrev pub RefusesGate : List Row → LineFault → Type 0
+RefusesGate rows FoundNeedsIdZero = FoundsAtOne rows
+RefusesGate rows NoMemory = Unit {0}
+RefusesGate rows _ = ⊥
+
+-- why a command with its values is refused
+abbrev pub RefusesValues : Text → List Row → LineFault → Type 0
+RefusesValues name rows FoundNeedsIdZero = (name ≡ codes "gate") × FoundsAtOne rows
+RefusesValues name rows NoMemory = Unit {0}
+RefusesValues name rows _ = ⊥
+
+abbrev pub RefusesEntered : Option (Text × List Row) → LineFault → Type 0
+RefusesEntered (Some entered) fault = RefusesValues entered.0 entered.1 fault
+RefusesEntered None fault = ⊥
+
+-- why clap's parse is refused
+abbrev pub RefusesWords : List Text → LineFault → Type 0
+RefusesWords words (Refused error) = ¬ (Takes words)
+RefusesWords words NoMemory = Unit {0}
+RefusesWords words _ = ⊥
+
+-- why words are no task: where clap takes them, only for want of memory, or for `--found` at gateway 1
+abbrev pub Refuses : List Text → LineFault → Type 0
+Refuses words (Refused error) = ¬ (Takes words)
+Refuses words FoundNeedsIdZero = RefusesEntered (entered_by words) FoundNeedsIdZero
+Refuses words NoMemory = Unit {0}

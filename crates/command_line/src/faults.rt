@@ -12,9 +12,6 @@ pub enum LineFault {
     /// `--found` stands beside `--id 1`: only gateway 0 founds the pair.
     #[error("found needs id 0")]
     FoundNeedsIdZero,
-    /// The words are a request for `loop`, which the program can't run.
-    #[error("this command is not there yet")]
-    NotYet,
     #[error("memory 1 NoMemory")]
     NoMemory,
 }

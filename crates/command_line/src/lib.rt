@@ -4,10 +4,8 @@
 mod commands;
 mod faults;
 mod options;
-mod requests;
 mod tasks;
 mod values;
 
 pub use faults::LineFault;
-pub use requests::{Request, requested};
 pub use tasks::{Task, command};

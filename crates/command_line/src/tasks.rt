@@ -1,44 +1,142 @@
-//! The task that words ask for: a request of what the program can do.
-ghost use Rattle.std.specs.Prelude.{map, string_bytes, IfOk, IfErr};
+//! The task that words ask for.
+ghost use Rattle.std.specs.Prelude.{◌≡◌, codes, string_bytes, map, option_map, IfOk, IfErr};
+ghost use Rattle.clap.specs.Words.{found_of, rows_of, subcommand_rows_of};
 ghost use Rattle.command_line.specs.Line.{Takes, entered_by};
-ghost use Rattle.command_line.specs.Requests.{Requests, FoundsAtZero};
-ghost use Rattle.command_line.specs.Tasks.{request_of, RefusesTask};
+ghost use Rattle.command_line.specs.Tasks.{IsTask, Asks, FoundsAtZero, IsNamed, Enters, RefusesGate, RefusesValues, RefusesEntered, RefusesWords, Refuses};
 
 use crate::faults::LineFault;
-use crate::requests::{Request, requested};
+use crate::{commands, values};
+use clap::ArgMatches;
+use clap::error::ErrorKind;
 use nat_types::GatewayId;
-use std::alloc::Global;
+use std::alloc::{AllocError, Global};
 
-/// What a command line asks for and the program can do. Files are paths.
+/// What a command line asks for. Files are paths.
 #[derive(Debug, Drop)]
 pub enum Task {
     /// Create a boot file.
     Init(String),
     /// Run a script (the second file) with settings (the first) and print it.
     Sim(String, String),
+    /// The same, with frames and datagrams sent through loopback sockets.
+    Loop(String, String),
     /// Run one gateway with settings, for so many rounds, and found the pair if so told.
     Gate(String, GatewayId, u32, bool),
     /// Tell a running gateway that this boot of its peer has ended for good.
     PeerOff(String, GatewayId, u64),
 }
 
+fn init(alloc: Global, matches: &ArgMatches<'_>) -> Result<Task, AllocError>
+    ensures { IfOk result (IsTask (codes "init") (rows_of (found_of matches.now))) }
+{
+    let file = values::word(alloc, matches, "FILE")?;
+    Ok(Task::Init(file))
+}
+
+fn sim(alloc: Global, matches: &ArgMatches<'_>) -> Result<Task, AllocError>
+    ensures { IfOk result (IsTask (codes "sim") (rows_of (found_of matches.now))) }
+{
+    let settings = values::word(alloc, matches, "SETTINGS")?;
+    let script = values::word(alloc, matches, "SCRIPT")?;
+    Ok(Task::Sim(settings, script))
+}
+
+fn repeat(alloc: Global, matches: &ArgMatches<'_>) -> Result<Task, AllocError>
+    ensures { IfOk result (IsTask (codes "loop") (rows_of (found_of matches.now))) }
+{
+    let settings = values::word(alloc, matches, "SETTINGS")?;
+    let script = values::word(alloc, matches, "SCRIPT")?;
+    Ok(Task::Loop(settings, script))
+}
+
+/// The gateway to run: only gateway 0 founds the pair.
+fn gate(alloc: Global, matches: &ArgMatches<'_>) -> Result<Task, LineFault>
+    ensures ok { IfOk result (IsTask (codes "gate") (rows_of (found_of matches.now))) }
+    ensures zero { IfOk result FoundsAtZero }
+    ensures err { IfErr result (RefusesGate (rows_of (found_of matches.now))) }
+{
+    let id = values::id(matches);
+    let found = values::flag(matches, "found");
+    if found && id == GatewayId::One {
+        return Err(LineFault::FoundNeedsIdZero);
+    }
+    let settings = values::word(alloc, matches, "SETTINGS")?;
+    let rounds = values::short(matches, "rounds");
+    Ok(Task::Gate(settings, id, rounds, found))
+}
+
+fn peer_off(alloc: Global, matches: &ArgMatches<'_>) -> Result<Task, AllocError>
+    ensures { IfOk result (IsTask (codes "peer-off") (rows_of (found_of matches.now))) }
+{
+    let settings = values::word(alloc, matches, "SETTINGS")?;
+    let id = values::id(matches);
+    let boot = values::long(matches, "boot");
+    Ok(Task::PeerOff(settings, id, boot))
+}
+
+/// The command that a line entered, and its values.
+fn entered<'m, 'a>(matches: &'m ArgMatches<'a>) -> Option<(&'a str, &'m ArgMatches<'a>)>
+    ensures { option_map (λ p. (p.0.now, rows_of (found_of p.1.now))) result
+        ≡ subcommand_rows_of matches.now }
+{
+    matches.subcommand()
+}
+
+fn named(alloc: Global, name: &str, matches: &ArgMatches<'_>) -> Result<Task, LineFault>
+    requires { IsNamed name.now }
+    ensures ok { IfOk result (IsTask name.now (rows_of (found_of matches.now))) }
+    ensures zero { IfOk result FoundsAtZero }
+    ensures err { IfErr result (RefusesValues name.now (rows_of (found_of matches.now))) }
+{
+    match name {
+        "init" => Ok(init(alloc, matches)?),
+        "sim" => Ok(sim(alloc, matches)?),
+        "loop" => Ok(repeat(alloc, matches)?),
+        "gate" => gate(alloc, matches),
+        "peer-off" => Ok(peer_off(alloc, matches)?),
+        _ => unreachable!(),
+    }
+}
+
+fn of_matches(alloc: Global, matches: &ArgMatches<'_>) -> Result<Task, LineFault>
+    requires { Enters (subcommand_rows_of matches.now) }
+    ensures ok { IfOk result (Asks (subcommand_rows_of matches.now)) }
+    ensures zero { IfOk result FoundsAtZero }
+    ensures err { IfErr result (RefusesEntered (subcommand_rows_of matches.now)) }
+{
+    match entered(matches) {
+        Some((name, values)) => named(alloc, name, values),
+        None => unreachable!(),
+    }
+}
+
+/// The matches of all commands.
+fn parse<'a>(alloc: Global, words: &'a [String]) -> Result<ArgMatches<'a>, LineFault>
+    ensures taken { IfOk result (λ _. Takes (map string_bytes words.now)) }
+    ensures values { IfOk result (λ m. subcommand_rows_of m
+        ≡ entered_by (map string_bytes words.now)) }
+    ensures one { IfOk result (λ m. Enters (subcommand_rows_of m)) }
+    ensures err { IfErr result (RefusesWords (map string_bytes words.now)) }
+{
+    let line = commands::line(alloc)?;
+    match line.try_get_matches_from(words) {
+        Ok(matches) => Ok(matches),
+        Err(error) if error.kind() == ErrorKind::OutOfMemory => Err(LineFault::NoMemory),
+        Err(error) => Err(LineFault::Refused(error)),
+    }
+}
+
 /// The task that the words of a command line ask for, the program's name first.
 ///
 /// # Errors
-/// Those of `requested`; and `NotYet` for the command `loop`, whose words are read and which the
-/// program can't run.
+/// What `clap` refuses, a request for help too, is `Refused` with its text; `--found` beside `--id 1` is
+/// `FoundNeedsIdZero`.
 pub fn command(alloc: Global, words: &[String]) -> Result<Task, LineFault>
     ensures taken { IfOk result (λ _. Takes (map string_bytes words.now)) }
-    ensures task { IfOk result (λ task. Requests (entered_by (map string_bytes words.now))
-        (request_of task)) }
-    ensures found { IfOk result (λ task. FoundsAtZero (request_of task)) }
-    ensures refused { IfErr result (RefusesTask (map string_bytes words.now)) }
+    ensures task { IfOk result (Asks (entered_by (map string_bytes words.now))) }
+    ensures found { IfOk result FoundsAtZero }
+    ensures refused { IfErr result (Refuses (map string_bytes words.now)) }
 {
-    match requested(alloc, words)? {
-        Request::Init(file) => Ok(Task::Init(file)),
-        Request::Sim(settings, script) => Ok(Task::Sim(settings, script)),
-        Request::Gate(settings, id, rounds, found) => Ok(Task::Gate(settings, id, rounds, found)),
-        Request::PeerOff(settings, id, boot) => Ok(Task::PeerOff(settings, id, boot)),
-        Request::Loop(..) => Err(LineFault::NotYet),
-    }
+    let matches = parse(alloc, words)?;
+    of_matches(alloc, &matches)
 }

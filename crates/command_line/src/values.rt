@@ -1,7 +1,7 @@
 //! The values that clap gives the options of a command.
 ghost use Rattle.std.specs.Prelude.{◌≡◌, string_bytes, IfOk};
 ghost use Rattle.clap.specs.Words.{found_of, rows_of};
-ghost use Rattle.command_line.specs.Requests.{word_of, flag_of, IsNumber, IsId};
+ghost use Rattle.command_line.specs.Tasks.{word_of, flag_of, IsNumber, IsId};
 
 use clap::ArgMatches;
 use nat_types::GatewayId;

@@ -1,12 +1,12 @@
 //! The world of a script: two gateways, what happens to them, and the trace of their notes.
-ghost use Rattle.std.specs.Prelude.{◌≡◌, ◌<◌, ◌++◌, ◌∷◌, [], true, vec_len, vec_capacity, IfOk, OnOk, OnErr};
+ghost use Rattle.std.specs.Prelude.{◌≡◌, ◌<◌, ◌++◌, ◌∷◌, [], true, option_map, vec_len, vec_capacity, IfOk, OnOk, OnErr};
 ghost use Rattle.bindings.specs.Entries.{is_pair, translates};
 ghost use Rattle.trace_words.specs.OneBox.{IsOneBox};
 ghost use Rattle.trace_words.specs.Trace.{Fits, GoesOn, Idle, Kept, Silent};
 ghost use Rattle.told.specs.Told.{none_told, with_note};
 ghost use Rattle.frame_sim.specs.declared.events.WorldEvent.TheVariants as events;
 ghost use Rattle.frame_sim.specs.declared.events.WorldFault.TheVariants as faults;
-ghost use Rattle.frame_sim.specs.Events.{TakesAt, may_be_told, may_boot, may_crash};
+ghost use Rattle.frame_sim.specs.Events.{TakesAt, datagram_for, may_be_told, may_boot, may_crash};
 ghost use Rattle.frame_sim.specs.Runs.{Answers, AreSteps, fault_of};
 ghost use Rattle.frame_sim.specs.Scene.{IsHanded};
 ghost use Rattle.frame_sim.specs.World.{Holds, IsOwned, ShowsSynced, Translates, founding, gateway_at, half, is_up, owned_by, pairs_of, synced_at};
@@ -186,6 +186,13 @@ impl<'a> World<'a> {
         ensures { result ≡ is_up (gateway_at self.now id) }
     {
         self.half(id).up()
+    }
+
+    /// The datagram of this number, counted from 1, that a gateway can be handed: one that the other sent.
+    pub fn datagram(&self, id: GatewayId, number: u64) -> Option<&[u8]>
+        ensures { option_map (λ b. b.now) result ≡ datagram_for self.now id number }
+    {
+        self.half(id.other()).datagram(number)
     }
 
     /// Takes one event. What the gateway sends and notes is appended to `out`.

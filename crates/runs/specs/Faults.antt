@@ -1,7 +1,7 @@
 -- The faults of a run, and what leads to each.
 use Rattle.std.specs.Prelude.{◌≡◌, ℕ, List, Some}
 use Rattle.runs.specs.declared.faults.Fault.{Fault}
-use Rattle.runs.specs.declared.faults.Fault.TheVariants.{Words, Setting, BadLine, NoFile, Exists, NotWritten, NotText, NoMemory}
+use Rattle.runs.specs.declared.faults.Fault.TheVariants.{Words, Setting, BadLine, NoFile, Exists, NotWritten, NotText, NoSocket, NoMemory}
 use Rattle.runs.specs.declared.printing.PrintFault.{PrintFault}
 use Rattle.runs.specs.declared.printing.PrintFault.TheVariants as prints
 use Rattle.runs.specs.declared.scripts.ScriptFault.{ScriptFault}
@@ -20,6 +20,7 @@ status_of NoFile = 1
 status_of Exists = 1
 status_of NotWritten = 1
 status_of NotText = 1
+status_of NoSocket = 1
 status_of NoMemory = 1
 
 -- the fault of a run that isn't printed

@@ -9,6 +9,7 @@ use Rattle.frame_sim.specs.declared.events.Step.{Step}
 use Rattle.frame_sim.specs.declared.events.WorldEvent.{WorldEvent}
 use Rattle.frame_sim.specs.World.{World, founding}
 use Rattle.frame_sim.specs.Runs.{AreSteps}
+use Rattle.runs.specs.declared.plans.Plan.{Plan}
 use Rattle.runs.specs.declared.faults.Fault.{Fault}
 use Rattle.runs.specs.declared.faults.Fault.TheVariants.{Setting, BadLine, NotWritten, NoMemory}
 use Rattle.runs.specs.Script.{said, events_of, first_bad_line}
@@ -28,13 +29,26 @@ pub record IsRun (settings : Settings) (events : List WorldEvent) (status : ℕ)
   pub answers : AreSteps (founding settings) events steps world
   pub refusals : status ≡ run_status steps
 
+-- a new world of these settings
+unfoldable pub IsNew : Settings → World → Type 0
+IsNew settings w = w ≡ founding settings
+
+-- the status of the steps that these events take, in order, from one world to another
+pub record TakesSteps (w : World) (events : List WorldEvent) (w2 : World) (status : ℕ) : Type 0 where
+  pub steps : List Step
+  pub answers : AreSteps w events steps w2
+  pub refusals : status ≡ run_status steps
+
+-- the settings that a text holds, and a script's events
+pub record IsPlanOf (text script : List ℕ) (plan : Plan) : Type 0 where
+  pub held : IsReadFrom (parse_document text) plan.settings
+  pub read : map said plan.events.items ≡ events_of (lines script)
+
 -- the status of a run of a script's events on a new world of the settings that a text holds
 pub record RunsScript (text script : List ℕ) (status : ℕ) : Type 0 where
-  pub settings : Settings
-  pub held : IsReadFrom (parse_document text) settings
-  pub events : List WorldEvent
-  pub read : map said events ≡ events_of (lines script)
-  pub run : IsRun settings events status
+  pub plan : Plan
+  pub is : IsPlanOf text script plan
+  pub run : IsRun plan.settings plan.events.items status
 
 -- why a script isn't run to its end: the settings' fault, else the script's first bad line, else want of memory or
 -- output that is refused

@@ -33,6 +33,9 @@ pub enum Fault {
     /// A file isn't UTF-8.
     #[error("file 4 NotText")]
     NotText,
+    /// A port couldn't be had.
+    #[error("socket 1 NoSocket")]
+    NoSocket,
     #[error("memory 1 NoMemory")]
     NoMemory,
 }

@@ -1,4 +1,5 @@
 //! Prints a run: a line for each frame, note and event, and the tables at its end.
+ghost use Rattle.std.specs.Prelude.{◌≤◌, length};
 
 use addresses::Port;
 use frame_sim::{Step, World, WorldEvent};
@@ -57,12 +58,51 @@ impl Sent {
     }
 }
 
-/// What each event gave, in order. Events are counted from 1, and so are the datagrams of a gateway.
+/// What a run's lines count: its events, and the datagrams of each gateway, each from 1.
+#[derive(Clone, Copy)]
+pub struct Printer {
+    events: usize,
+    sent: Sent,
+}
+
+impl Printer {
+    /// Nothing has been printed.
+    pub fn new() -> Printer {
+        Printer {
+            events: 0,
+            sent: Sent { zero: 0, one: 0 },
+        }
+    }
+
+    /// What the next event gave.
+    pub fn step<O: Write>(
+        &mut self,
+        output: &mut O,
+        event: &WorldEvent,
+        step: &Step,
+    ) -> io::Result<()> {
+        told(output, gateway_of(event), &step.out, &mut self.sent)?;
+        answer(output, self.count(), step)
+    }
+
+    /// That what the next event was to hand in is lost.
+    pub fn lost<O: Write>(&mut self, output: &mut O) -> io::Result<()> {
+        let number = self.count();
+        writeln!(output, "event {number} lost")
+    }
+
+    /// Counts one event more, and gives its number.
+    fn count(&mut self) -> usize {
+        self.events = self.events.saturating_add(1);
+        self.events
+    }
+}
+
+/// What each event gave, in order.
 pub fn steps<O: Write>(output: &mut O, events: &[WorldEvent], steps: &[Step]) -> io::Result<()> {
-    let mut sent = Sent { zero: 0, one: 0 };
-    for (above, (event, step)) in events.iter().zip(steps).enumerate() {
-        told(output, gateway_of(event), &step.out, &mut sent)?;
-        answer(output, above.saturating_add(1), step)?;
+    let mut printer = Printer::new();
+    for (event, step) in events.iter().zip(steps) {
+        printer.step(output, event, step)?;
     }
     Ok(())
 }
@@ -109,15 +149,25 @@ fn datagrams<O: Write>(
 }
 
 fn bytes<O: Write>(output: &mut O, bytes: &[u8]) -> io::Result<()> {
-    let mut digits = [0; 2 * AT_A_TIME];
-    for part in bytes.chunks(AT_A_TIME) {
-        let digits = &mut digits[..2 * part.len()];
-        match hex::encode_to_slice(part, digits) {
-            Ok(()) => output.write_all(digits)?,
-            Err(_other_length) => unreachable!(),
-        }
+    let mut rest = bytes;
+    while !rest.is_empty() {
+        let count = rest.len().min(AT_A_TIME);
+        few(output, &rest[..count])?;
+        rest = &rest[count..];
     }
     writeln!(output)
+}
+
+/// No more bytes than are printed at a time, two digits each.
+fn few<O: Write>(output: &mut O, bytes: &[u8]) -> io::Result<()>
+    requires { length bytes.now ≤ AT_A_TIME }
+{
+    let mut digits = [0; 2 * AT_A_TIME];
+    let digits = &mut digits[..2 * bytes.len()];
+    match hex::encode_to_slice(bytes, digits) {
+        Ok(()) => output.write_all(digits),
+        Err(_other_length) => unreachable!(),
+    }
 }
 
 fn answer<O: Write>(output: &mut O, number: usize, step: &Step) -> io::Result<()> {

@@ -1,11 +1,13 @@
 //! A script's run: its events on a new world, their steps and the tables at its end printed.
 ghost use Rattle.std.specs.Prelude.{◌≡◌, ◌⊎◌, None, IfOk, IfErr, OnOk, IsSome};
+ghost use Rattle.frame_sim.specs.Runs.{AreSteps};
 ghost use Rattle.runs.specs.Faults.{status_of};
 ghost use Rattle.runs.specs.Script.{first_bad_line};
-ghost use Rattle.runs.specs.Status.{has_refusal, run_status, IsRun, RunsScript, TellsRun};
+ghost use Rattle.runs.specs.Status.{has_refusal, run_status, IsNew, IsRun, RunsScript, TakesSteps, TellsRun};
 ghost use Rattle.runs.specs.declared.faults.Fault.TheVariants as faults;
 
-use crate::{Fault, printing, scripts};
+use crate::{Fault, PrintFault, plan_of, printing};
+use gateway::NoMemory;
 use frame_sim::{Step, World, WorldEvent};
 use settings::Settings;
 use std::alloc::Global;
@@ -43,9 +45,8 @@ fn simulated<O: Write>(
     ensures run { IfOk result (RunsScript settings.now script.now) }
     ensures status { IfOk result (λ status. (status ≡ 0) ⊎ (status ≡ 3)) }
 {
-    let settings = settings_file::read(alloc, settings)?;
-    let events = scripts::read(alloc, script)?;
-    play(alloc, &settings, events.as_slice(), output)
+    let plan = plan_of(alloc, settings, script)?;
+    play(alloc, &plan.settings, plan.events.as_slice(), output)
 }
 
 /// Runs events on a new world of these settings, and prints their steps and its tables. The answer is the exit status.
@@ -64,12 +65,51 @@ pub fn play<O: Write>(
     ensures fault { IfErr result
         (λ fault. (fault ≡ faults.NotWritten) ⊎ (fault ≡ faults.NoMemory)) }
 {
-    let mut world = World::new(alloc, settings)?;
-    let steps = world.run(events)?;
-    printing::steps(output, events, steps.as_slice())?;
-    printing::tables(output, &world)?;
-    output.flush()?;
+    let mut world = founded(alloc, settings)?;
+    played(&mut world, events, output)
+}
+
+/// A new world of these settings.
+pub fn founded<'a>(alloc: Global, settings: &'a Settings) -> Result<World<'a>, NoMemory>
+    ensures { IfOk result (IsNew settings.now) }
+{
+    World::new(alloc, settings)
+}
+
+/// Runs events on a world, and prints their steps and its tables.
+fn played<O: Write>(
+    world: &mut World<'_>,
+    events: &[WorldEvent],
+    output: &mut O,
+) -> Result<u8, Fault>
+    ensures run { IfOk result (TakesSteps world.old events.now world.new) }
+    ensures status { IfOk result (λ status. (status ≡ 0) ⊎ (status ≡ 3)) }
+    ensures fault { IfErr result
+        (λ fault. (fault ≡ faults.NotWritten) ⊎ (fault ≡ faults.NoMemory)) }
+{
+    let steps = steps_of(world, events)?;
+    shown(world, events, steps.as_slice(), output)?;
     Ok(status_of(steps.as_slice()))
+}
+
+/// Prints steps, and the tables of the world to which they led.
+fn shown<O: Write>(
+    world: &World<'_>,
+    events: &[WorldEvent],
+    steps: &[Step],
+    output: &mut O,
+) -> Result<(), PrintFault> {
+    printing::steps(output, events, steps)?;
+    printing::tables(output, world)?;
+    output.flush()?;
+    Ok(())
+}
+
+/// What the events do to a world, in order.
+fn steps_of(world: &mut World<'_>, events: &[WorldEvent]) -> Result<Vec<Step>, NoMemory>
+    ensures { IfOk result (λ steps. AreSteps world.old events.now steps.items world.new) }
+{
+    world.run(events)
 }
 
 /// 3 where an event was refused, else 0.

@@ -1,7 +1,7 @@
 use Rattle.std.proofs.Common.{subst, sym, ℕ}
 use Rattle.std.specs.Str.Parse.{ParsesUnsigned, ExplainsUnsignedError, HasUnsignedDigitsIfOk}
 use Rattle.clap.specs.Words.{found_of, rows_of}
-use Rattle.command_line.specs.Requests.{IsNumber}
+use Rattle.command_line.specs.Tasks.{IsNumber}
 use Rattle.command_line.proofs.Readings.{number_at}
 use Rattle.command_line.proofs.values.short.Goals as goal
 

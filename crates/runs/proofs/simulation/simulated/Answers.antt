@@ -1,14 +1,6 @@
-use Rattle.std.proofs.Common.{ℕ, List, map, IfOk, Result, Ok, Err, ◌∙◌, ap}
-use Rattle.std.specs.Str.Lines.{lines}
-use Rattle.std.proofs.lemmas.Result.{err_from_is_err_and}
-use Rattle.toml.specs.Parse.{parse_document}
-use Rattle.settings.specs.declared.whole.Settings.{Settings}
-use Rattle.settings_file.specs.Settings.{IsReadFrom}
-use Rattle.runs.specs.Faults.{IsTold, of_script}
-use Rattle.runs.specs.Script.{said}
-use Rattle.runs.specs.Status.{TellsRun}
-use Rattle.runs.specs.declared.scripts.ScriptFault.{ScriptFault}
-use Rattle.runs.specs.declared.scripts.ScriptFault.TheVariants as scripts
+use Rattle.std.proofs.Common.{ℕ, List, IfOk, Result, Ok, Err, subst}
+use Rattle.frame_sim.specs.declared.events.WorldEvent.{WorldEvent}
+use Rattle.runs.specs.Status.{IsRun}
 use Rattle.runs.proofs.simulation.simulated.Goals as goal
 
 -- what holds of the value of a result holds by what follows from it
@@ -18,21 +10,7 @@ in_ok (Err e) f h = tt
 
 pub returns-clause-run : goal.returns-clause-run
 returns-clause-run g c = in_ok c.play.result (λ n h. record {
-  settings = c.in_ok-settings.settings;
-  held = c.in_ok-settings.ensures.ok;
-  events = c.as_slice.result.now;
-  read = ap (λ xs. map said xs) c.as_slice.ensures.value ∙ c.in_ok-events.ensures.events;
-  run = h;
+  plan = c.in_ok-plan.plan;
+  is = c.in_ok-plan.ensures.plan;
+  run = subst (λ (es : List WorldEvent). IsRun c.in_ok-plan.plan.settings es n) c.as_slice.ensures.value h;
 }) c.play.ensures.run
-
--- a script's fault, where the settings are read
-told_bad : (text script : List ℕ) (fault : ScriptFault) → ((settings : Settings) × IsReadFrom (parse_document text) settings)
-    → IsTold (lines script) fault → TellsRun text script (of_script fault)
-told_bad text script (scripts.BadLine n) held told = (held, told)
-told_bad text script scripts.NoMemory held told = tt
-
-pub returns-in_err-events-clause-told : goal.returns-in_err-events-clause-told
-returns-in_err-events-clause-told g c =
-    let p = err_from_is_err_and c.from_residual-in_err-events.result c.from_residual-in_err-events.ensures.1 in
-    rw (p.1, p.2) (told_bad c.args.settings.now c.args.script.now c.in_err-events.field-0.0
-    (c.in_ok-settings.settings, c.in_ok-settings.ensures.ok) c.in_err-events.ensures.told)

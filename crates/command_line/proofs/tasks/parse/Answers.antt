@@ -1,7 +1,7 @@
 use Rattle.std.proofs.Common.{◌≡◌, ◌∙◌, ap, sym, true, refl, map, string_bytes}
 use Rattle.clap.specs.Words.{App, fault_of, is_simple, is_simple_and_free}
 use Rattle.command_line.specs.Line.{line_app}
-use Rattle.command_line.proofs.requests.parse.Goals as goal
+use Rattle.command_line.proofs.tasks.parse.Goals as goal
 
 is_free : is_simple_and_free line_app ≡ true
 is_free = refl

@@ -1,0 +1,40 @@
+//! A passage in memory.
+
+use loops::{Passage, Passed};
+use nat_types::GatewayId;
+use settings::Settings;
+use wires::{Place, SocketFault};
+
+/// A passage that loses each of so many, and receives all others.
+#[derive(Drop)]
+pub(crate) struct Memory {
+    every: u64,
+    since: u64,
+}
+
+impl Memory {
+    /// Loses each of so many; none at 0.
+    pub(crate) fn losing(every: u64) -> Memory {
+        Memory { every, since: 0 }
+    }
+
+}
+
+impl Passage for Memory {
+    ghost opens = { λ _ _ _. Unit {0} };
+
+    ghost passes = { λ _ _ _ _. Unit {0} };
+
+    fn open(&mut self, _settings: &Settings) -> Result<(), SocketFault> {
+        Ok(())
+    }
+
+    fn pass(&mut self, _id: GatewayId, _place: Place, _bytes: &[u8]) -> Passed {
+        self.since = self.since.saturating_add(1);
+        if self.since != self.every {
+            return Passed::Received;
+        }
+        self.since = 0;
+        Passed::Lost
+    }
+}

@@ -1,0 +1,3 @@
+pub mod Parcels
+pub mod Turns
+pub mod Loops

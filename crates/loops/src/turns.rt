@@ -1,0 +1,176 @@
+//! A script's run in which what each event hands in is first sent through a passage.
+ghost use Rattle.std.specs.Prelude.{◌≡◌, ◌⊎◌, None, IfOk, IfErr, OnOk, IsSome, if◌then◌else◌};
+ghost use Rattle.told.specs.Told.{none_told};
+ghost use Rattle.frame_sim.specs.Runs.{Answers};
+ghost use Rattle.runs.specs.Faults.{status_of};
+ghost use Rattle.runs.specs.Script.{first_bad_line};
+ghost use Rattle.runs.specs.declared.faults.Fault.TheVariants as faults;
+ghost use Rattle.loops.specs.Turns.{HasSent, TakesTurn, handed, is_refusal, of_socket};
+ghost use Rattle.loops.specs.Loops.{IsLoop, LoopsScript, TellsLoop};
+
+use crate::{Passage, Passed};
+use frame_sim::{Step, World, WorldEvent};
+use gateway::Out;
+use runs::{Fault, Printer, plan_of, tables};
+use settings::Settings;
+use std::alloc::Global;
+use std::io::{self, Write};
+use wires::{Place, SocketFault};
+
+/// Runs a script as `runs::simulate` does, but each frame and each datagram that an event hands in is first sent
+/// through the passage. Where it is lost, its event is left out: that is printed, and the world doesn't take it.
+///
+/// The answer is the exit status: 0, 3 where an event was refused, or 1 for a fault, which is told on `errors`.
+pub fn run_loop<P: Passage, O: Write, E: Write>(
+    alloc: Global,
+    settings: &str,
+    script: &str,
+    passage: &mut P,
+    output: &mut O,
+    errors: &mut E,
+) -> u8
+    ensures status { (result ≡ 0) ⊎ ((result ≡ 1) ⊎ (result ≡ 3)) }
+    ensures bad { IsSome (first_bad_line script.now) → result ≡ 1 }
+    ensures run { (result ≡ 0) ⊎ (result ≡ 3) → LoopsScript P.opens P.passes settings.now
+        script.now passage.old passage.new result }
+{
+    match looped(alloc, settings, script, passage, output) {
+        Ok(status) => status,
+        Err(fault) => fault.tell(errors),
+    }
+}
+
+fn looped<P: Passage, O: Write>(
+    alloc: Global,
+    settings: &str,
+    script: &str,
+    passage: &mut P,
+    output: &mut O,
+) -> Result<u8, Fault>
+    ensures told { IfErr result (TellsLoop settings.now script.now) }
+    ensures known { IfErr result (λ fault. status_of fault ≡ 1) }
+    ensures good { OnOk result (first_bad_line script.now ≡ None) }
+    ensures run { IfOk result (LoopsScript P.opens P.passes settings.now script.now passage.old
+        passage.new) }
+    ensures status { IfOk result (λ status. (status ≡ 0) ⊎ (status ≡ 3)) }
+{
+    let plan = plan_of(alloc, settings, script)?;
+    if let Err(fault) = passage.open(&plan.settings) {
+        return Err(of_socket(fault));
+    }
+    play(alloc, &plan.settings, plan.events.as_slice(), passage, output)
+}
+
+fn of_socket(fault: SocketFault) -> Fault
+    ensures { result ≡ of_socket fault }
+{
+    match fault {
+        SocketFault::NoSocket => Fault::NoSocket,
+        SocketFault::NoMemory => Fault::NoMemory,
+    }
+}
+
+/// Runs events on a new world of these settings, each after what it hands in has passed, and prints their steps, which
+/// were lost, and the world's tables. The answer is the exit status.
+///
+/// # Errors
+///
+/// `NotWritten` where output is refused, `NoMemory`.
+pub fn play<P: Passage, O: Write>(
+    alloc: Global,
+    settings: &Settings,
+    events: &[WorldEvent],
+    passage: &mut P,
+    output: &mut O,
+) -> Result<u8, Fault>
+    ensures run { IfOk result (IsLoop P.passes settings.now events.now passage.old passage.new) }
+    ensures status { IfOk result (λ status. (status ≡ 0) ⊎ (status ≡ 3)) }
+    ensures fault { IfErr result
+        (λ fault. (fault ≡ faults.NotWritten) ⊎ (fault ≡ faults.NoMemory)) }
+{
+    let mut world = World::new(alloc, settings)?;
+    let mut printer = Printer::new();
+    let mut refused = false;
+    for event in events {
+        let step = turn(alloc, &mut world, event, passage);
+        refused |= is_refusal(&step);
+        print(&mut printer, output, event, &step)?;
+    }
+    tables(output, &world)?;
+    output.flush()?;
+    Ok(status_of(refused))
+}
+
+/// 3 where an event was refused, else 0.
+fn status_of(refused: bool) -> u8
+    ensures { result ≡ (if refused then 3 else 0) }
+{
+    if refused { 3 } else { 0 }
+}
+
+/// An event was refused.
+fn is_refusal(step: &Option<Step>) -> bool
+    ensures { result ≡ is_refusal step.now }
+{
+    match step {
+        Some(step) => step.answer.is_err(),
+        None => false,
+    }
+}
+
+/// Prints what an event gave, or that it is lost.
+fn print<O: Write>(
+    printer: &mut Printer,
+    output: &mut O,
+    event: &WorldEvent,
+    step: &Option<Step>,
+) -> io::Result<()> {
+    match step {
+        Some(step) => printer.step(output, event, step),
+        None => printer.lost(output),
+    }
+}
+
+/// What an event gives, where what it hands in isn't lost.
+fn turn<P: Passage>(
+    alloc: Global,
+    world: &mut World<'_>,
+    event: &WorldEvent,
+    passage: &mut P,
+) -> Option<Step>
+    ensures { TakesTurn P.passes world.old passage.old event.now result world.new passage.new }
+{
+    match sent(world, event, passage) {
+        Some(Passed::Lost) => None,
+        Some(Passed::Received) | None => Some(step(alloc, world, event)),
+    }
+}
+
+/// Sends what an event hands in, if it hands in anything, and says what became of it.
+fn sent<P: Passage>(world: &World<'_>, event: &WorldEvent, passage: &mut P) -> Option<Passed>
+    ensures { HasSent P.passes passage.old (handed world.now event.now) result passage.new }
+{
+    match event {
+        WorldEvent::Frame(id, side, bytes) => {
+            Some(passage.pass(*id, Place::Side(*side), bytes.as_slice()))
+        }
+        WorldEvent::Deliver(id, number) => {
+            let bytes = world.datagram(*id, *number)?;
+            Some(passage.pass(*id, Place::Link, bytes))
+        }
+        WorldEvent::Tick(_, _)
+        | WorldEvent::Stop(_)
+        | WorldEvent::Crash(_)
+        | WorldEvent::Boot(_, _)
+        | WorldEvent::PeerOff(_, _) => None,
+    }
+}
+
+/// What an event gives.
+fn step(alloc: Global, world: &mut World<'_>, event: &WorldEvent) -> Step
+    ensures { Answers world.old event.now none_told result.answer result.out world.new }
+{
+    let mut out = Out::new(alloc);
+    let answer = world.apply(event, &mut out);
+    Step { answer, out }
+}
