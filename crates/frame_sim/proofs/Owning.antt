@@ -102,7 +102,7 @@ pushed-so g h has = pushed_is h g.ledger.book.coming g.link has ∙ sym (length-
 -- of two that have taken all, where the machine says that each port of these has an owner
 whole-so : (ports : PortRanges) (these : ℕ → Bool) (a b : Option Shown) (m n : ℕ) (h k : List Record) → IsHalf ports Zero m a h → IsHalf ports One n b k
     → ((box_at a m h).synced ≡ true → (box_at b n k).synced ≡ true → (box_at a m h).taken ≡ length (box_at b n k).sent → (box_at b n k).taken ≡ length (box_at a m h).sent
-      → (p : ℕ) → IsTrue (these p) → IsTrue ((box_at a m h).owned p || (box_at b n k).owned p))
+    → (p : ℕ) → IsTrue (these p) → IsTrue ((box_at a m h).owned p || (box_at b n k).owned p))
     → synced_at a ≡ true → synced_at b ≡ true → HaveTakenAll a b → (p : Port) → IsTrue (these p.0) → Contains (owned_by a) p ⊎ Contains (owned_by b) p
 whole-so ports these None b m n h k x y law sa sb even p is = absurd even
 whole-so ports these (Some a) None m n h k x y law sa sb even p is = absurd even

@@ -35,7 +35,11 @@ fn ready(alloc: Global, out: &mut Out) -> Result<Gateway> {
     let mut gateway = Gateway::new(alloc, &settings, GatewayId::Zero, 1, true)?;
     step(&mut gateway, Event::Tick(360), out)?;
     let frame = hex::decode(alloc, OUT)?;
-    step(&mut gateway, Event::Frame(Side::Inside, frame.as_slice()), out)?;
+    step(
+        &mut gateway,
+        Event::Frame(Side::Inside, frame.as_slice()),
+        out,
+    )?;
     Ok(gateway)
 }
 

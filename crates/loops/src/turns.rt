@@ -58,7 +58,13 @@ fn looped<P: Passage, O: Write>(
     if let Err(fault) = passage.open(&plan.settings) {
         return Err(of_socket(fault));
     }
-    play(alloc, &plan.settings, plan.events.as_slice(), passage, output)
+    play(
+        alloc,
+        &plan.settings,
+        plan.events.as_slice(),
+        passage,
+        output,
+    )
 }
 
 fn of_socket(fault: SocketFault) -> Fault
