@@ -1,21 +1,34 @@
 -- A run whose events have all had their turns.
-use Rattle.std.proofs.Common.{◌≡◌, ◌≤◌, ◌∙◌, ℕ, Bool, List, length, take, ap, subst, if◌then◌else◌}
+use Rattle.std.proofs.Common.{◌≡◌, ◌∙◌, ℕ, Bool, List, IfOk, Result, Ok, Err, ap, subst, if◌then◌else◌}
 use Rattle.settings.specs.declared.whole.Settings.{Settings}
 use Rattle.frame_sim.specs.declared.events.WorldEvent.{WorldEvent}
 use Rattle.frame_sim.specs.World.{World, founding}
+use Rattle.runs.specs.Status.{IsNew}
 use Rattle.loops.specs.Loops.{IsLoop}
-use Rattle.loops.specs.Turns.{AreTurns, HasTurned, Passes, steps_in}
+use Rattle.loops.specs.Turns.{AreTurns, Passes, TakesTurns, steps_in}
 use Rattle.loops.proofs.Turning.{steps_of_turns}
 
-pub all_turned : {P : Type 0} (passes : Passes P) (settings : Settings) (events : List WorldEvent) (p : P) (w2 : World) (p2 : P) (refused : Bool) (status : ℕ)
-    → HasTurned passes (founding settings) p events w2 p2 refused → status ≡ (if refused then 3 else 0) → IsLoop passes settings events p p2 status
-all_turned passes settings events p w2 p2 refused status h is = record {
-  turns = h.turns;
-  run = record {
-    steps = steps_in h.turns;
-    world = w2;
-    answers = steps_of_turns passes (founding settings) p events h.turns w2 p2 h.taken;
-    refusals = is ∙ ap (λ b. if b then 3 else 0) h.refusals;
-  };
-  taken = h.taken;
-}
+-- what holds of the value of a result holds by what follows from it
+pub in_ok : {E : Type 0} {P Q : ℕ → Type 0} (r : Result ℕ E) → ((n : ℕ) → P n → Q n) → IfOk r P → IfOk r Q
+in_ok (Ok n) f h = f n h
+in_ok (Err e) f h = tt
+
+loop_from : {P : Type 0} (passes : Passes P) (settings : Settings) (w : World) (p : P) (events : List WorldEvent) (w2 : World) (p2 : P) (status : ℕ)
+    → IsNew settings w → TakesTurns passes w p events w2 p2 status → IsLoop passes settings events p p2 status
+unfolding IsNew
+loop_from passes settings w p events w2 p2 status new h =
+    let taken = subst (λ (x : World). AreTurns passes x p events h.had.turns w2 p2) new h.had.taken in
+    record {
+      turns = h.had.turns;
+      run = record {
+        steps = steps_in h.had.turns;
+        world = w2;
+        answers = steps_of_turns passes (founding settings) p events h.had.turns w2 p2 taken;
+        refusals = h.is ∙ ap (λ (b : Bool). if b then 3 else 0) h.had.refusals;
+      };
+      taken = taken;
+    }
+
+pub loops_from : {E : Type 0} {P : Type 0} (r : Result ℕ E) (passes : Passes P) (settings : Settings) (w : World) (p : P) (events : List WorldEvent) (w2 : World) (p2 : P)
+    → IsNew settings w → IfOk r (TakesTurns passes w p events w2 p2) → IfOk r (IsLoop passes settings events p p2)
+loops_from r passes settings w p events w2 p2 new h = in_ok r (λ n t. loop_from passes settings w p events w2 p2 n new t) h

@@ -1,5 +1,5 @@
 -- An event whose bytes are first sent through a passage.
-use Rattle.std.specs.Prelude.{◌≡◌, Bool, false, List, [], ◌∷◌, Option, Some, None, is_err, option_map}
+use Rattle.std.specs.Prelude.{◌≡◌, ℕ, if◌then◌else◌, Bool, false, List, [], ◌∷◌, Option, Some, None, is_err, option_map}
 use Rattle.std.specs.List.{filter_map}
 use Rattle.nat_types.specs.declared.gateways.GatewayId.{GatewayId}
 use Rattle.wires.specs.declared.places.Place.TheVariants.{Link, Side}
@@ -92,6 +92,12 @@ pub record HasTurned {P : Type 0} (passes : Passes P) (w : World) (p : P) (es : 
   pub turns : List Turn
   pub taken : AreTurns passes w p es turns w2 p2
   pub refusals : refused ≡ has_refusal (steps_in turns)
+
+-- the same, with the status
+pub record TakesTurns {P : Type 0} (passes : Passes P) (w : World) (p : P) (es : List WorldEvent) (w2 : World) (p2 : P) (status : ℕ) : Type 0 where
+  pub refused : Bool
+  pub had : HasTurned passes w p es w2 p2 refused
+  pub is : status ≡ (if refused then 3 else 0)
 
 -- one event's turn, and the step that it gave
 pub record TakesTurn {P : Type 0} (passes : Passes P) (w : World) (p : P) (e : WorldEvent) (step : Option Step) (w2 : World) (p2 : P) : Type 0 where

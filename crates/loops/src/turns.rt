@@ -5,13 +5,13 @@ ghost use Rattle.frame_sim.specs.Runs.{Answers};
 ghost use Rattle.runs.specs.Faults.{status_of};
 ghost use Rattle.runs.specs.Script.{first_bad_line};
 ghost use Rattle.runs.specs.declared.faults.Fault.TheVariants as faults;
-ghost use Rattle.loops.specs.Turns.{HasSent, TakesTurn, handed, is_refusal, of_socket};
+ghost use Rattle.loops.specs.Turns.{HasSent, HasTurned, TakesTurn, TakesTurns, handed, is_refusal, of_socket};
 ghost use Rattle.loops.specs.Loops.{IsLoop, LoopsScript, TellsLoop};
 
 use crate::{Passage, Passed};
 use frame_sim::{Step, World, WorldEvent};
 use gateway::Out;
-use runs::{Fault, Printer, plan_of, tables};
+use runs::{Fault, Printer, founded, plan_of, tables};
 use settings::Settings;
 use std::alloc::Global;
 use std::io::{self, Write};
@@ -94,17 +94,49 @@ pub fn play<P: Passage, O: Write>(
     ensures fault { IfErr result
         (λ fault. (fault ≡ faults.NotWritten) ⊎ (fault ≡ faults.NoMemory)) }
 {
-    let mut world = World::new(alloc, settings)?;
+    let mut world = founded(alloc, settings)?;
+    played(alloc, &mut world, events, passage, output)
+}
+
+/// Runs events on a world, and prints what they gave and its tables.
+fn played<P: Passage, O: Write>(
+    alloc: Global,
+    world: &mut World<'_>,
+    events: &[WorldEvent],
+    passage: &mut P,
+    output: &mut O,
+) -> Result<u8, Fault>
+    ensures run { IfOk result (TakesTurns P.passes world.old passage.old events.now world.new
+        passage.new) }
+    ensures status { IfOk result (λ status. (status ≡ 0) ⊎ (status ≡ 3)) }
+    ensures fault { IfErr result
+        (λ fault. (fault ≡ faults.NotWritten) ⊎ (fault ≡ faults.NoMemory)) }
+{
+    let refused = turned(alloc, world, events, passage, output)?;
+    tables(output, world)?;
+    output.flush()?;
+    Ok(status_of(refused))
+}
+
+/// Gives each event its turn, and prints what it gave. The answer says whether one was refused.
+fn turned<P: Passage, O: Write>(
+    alloc: Global,
+    world: &mut World<'_>,
+    events: &[WorldEvent],
+    passage: &mut P,
+    output: &mut O,
+) -> io::Result<bool>
+    ensures { IfOk result (HasTurned P.passes world.old passage.old events.now world.new
+        passage.new) }
+{
     let mut printer = Printer::new();
     let mut refused = false;
     for event in events {
-        let step = turn(alloc, &mut world, event, passage);
-        refused |= is_refusal(&step);
+        let step = turn(alloc, world, event, passage);
+        refused = refused || is_refusal(&step);
         print(&mut printer, output, event, &step)?;
     }
-    tables(output, &world)?;
-    output.flush()?;
-    Ok(status_of(refused))
+    Ok(refused)
 }
 
 /// 3 where an event was refused, else 0.
