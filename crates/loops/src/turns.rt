@@ -1,5 +1,5 @@
 //! A script's run in which what each event hands in is first sent through a passage.
-ghost use Rattle.std.specs.Prelude.{◌≡◌, ◌⊎◌, None, IfOk, IfErr, OnOk, IsSome, if◌then◌else◌};
+ghost use Rattle.std.specs.Prelude.{◌≡◌, ◌⊎◌, ◌||◌, None, IfOk, IfErr, OnOk, IsSome, if◌then◌else◌};
 ghost use Rattle.told.specs.Told.{none_told};
 ghost use Rattle.frame_sim.specs.Runs.{Answers};
 ghost use Rattle.runs.specs.Faults.{status_of};
@@ -55,10 +55,10 @@ fn looped<P: Passage, O: Write>(
     ensures status { IfOk result (λ status. (status ≡ 0) ⊎ (status ≡ 3)) }
 {
     let plan = plan_of(alloc, settings, script)?;
-    if let Err(fault) = passage.open(&plan.settings) {
-        return Err(of_socket(fault));
+    match passage.open(&plan.settings) {
+        Ok(()) => play(alloc, &plan.settings, plan.events.as_slice(), passage, output),
+        Err(fault) => Err(of_socket(fault)),
     }
-    play(alloc, &plan.settings, plan.events.as_slice(), passage, output)
 }
 
 fn of_socket(fault: SocketFault) -> Fault
@@ -127,7 +127,7 @@ fn turned<P: Passage, O: Write>(
     let mut refused = false;
     for event in events {
         let step = turn(alloc, world, event, passage);
-        refused = refused || is_refusal(&step);
+        refused = has_refused(refused, &step);
         print(&mut printer, output, event, &step)?;
     }
     Ok(refused)
@@ -138,6 +138,13 @@ fn status_of(refused: bool) -> u8
     ensures { result ≡ (if refused then 3 else 0) }
 {
     if refused { 3 } else { 0 }
+}
+
+/// An event was refused before, or this one is.
+fn has_refused(before: bool, step: &Option<Step>) -> bool
+    ensures { result ≡ (before || is_refusal step.now) }
+{
+    before || is_refusal(step)
 }
 
 /// An event was refused.
@@ -174,7 +181,8 @@ fn turn<P: Passage>(
 {
     match sent(world, event, passage) {
         Some(Passed::Lost) => None,
-        Some(Passed::Received) | None => Some(step(alloc, world, event)),
+        Some(Passed::Received) => Some(step(alloc, world, event)),
+        None => Some(step(alloc, world, event)),
     }
 }
 
