@@ -46,7 +46,9 @@ fn repeat<'a>(alloc: Global) -> Result<Command<'a>, AllocError>
     ensures local { IfOk result (λ c. (fields_of c).has_globals ≡ false) }
 {
     let command = Command::new(alloc, "loop")
-        .about("Runs a script as sim does, with each frame and datagram sent through a loopback socket")
+        .about(
+            "Runs a script as sim does, with each frame and datagram sent through a loopback socket",
+        )
         .after_help("Example: natpair loop S.toml day.script");
     with_script(alloc, command)
 }

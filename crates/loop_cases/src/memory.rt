@@ -17,7 +17,6 @@ impl Memory {
     pub(crate) fn losing(every: u64) -> Memory {
         Memory { every, since: 0 }
     }
-
 }
 
 impl Passage for Memory {

@@ -131,7 +131,6 @@ impl<'a, R: Net + Clock + AllocGlobal> Loopback<'a, R> {
     pub fn new(rt: &'a R) -> Loopback<'a, R> {
         Loopback { rt, ports: None }
     }
-
 }
 
 impl<R: Net + Clock + AllocGlobal> Passage for Loopback<'_, R> {

@@ -56,7 +56,13 @@ fn looped<P: Passage, O: Write>(
 {
     let plan = plan_of(alloc, settings, script)?;
     match passage.open(&plan.settings) {
-        Ok(()) => play(alloc, &plan.settings, plan.events.as_slice(), passage, output),
+        Ok(()) => play(
+            alloc,
+            &plan.settings,
+            plan.events.as_slice(),
+            passage,
+            output,
+        ),
         Err(fault) => Err(of_socket(fault)),
     }
 }

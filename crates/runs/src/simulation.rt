@@ -7,8 +7,8 @@ ghost use Rattle.runs.specs.Status.{has_refusal, run_status, IsNew, IsRun, RunsS
 ghost use Rattle.runs.specs.declared.faults.Fault.TheVariants as faults;
 
 use crate::{Fault, PrintFault, plan_of, printing};
-use gateway::NoMemory;
 use frame_sim::{Step, World, WorldEvent};
+use gateway::NoMemory;
 use settings::Settings;
 use std::alloc::Global;
 use std::io::Write;
