@@ -5,7 +5,7 @@ ghost use Rattle.frame_sim.specs.Runs.{Answers};
 ghost use Rattle.runs.specs.Faults.{status_of};
 ghost use Rattle.runs.specs.Script.{first_bad_line};
 ghost use Rattle.runs.specs.declared.faults.Fault.TheVariants as faults;
-ghost use Rattle.loops.specs.Turns.{HasSent, HasTurned, TakesTurn, TakesTurns, handed, is_refusal, of_socket};
+ghost use Rattle.loops.specs.Turns.{HasSent, HasTurned, TakesTurn, TakesTurns, handed, is_lost, is_refusal, of_socket};
 ghost use Rattle.loops.specs.Loops.{IsLoop, LoopsScript, TellsLoop};
 
 use crate::{Passage, Passed};
@@ -185,10 +185,21 @@ fn turn<P: Passage>(
 ) -> Option<Step>
     ensures { TakesTurn P.passes world.old passage.old event.now result world.new passage.new }
 {
-    match sent(world, event, passage) {
-        Some(Passed::Lost) => None,
-        Some(Passed::Received) => Some(step(alloc, world, event)),
-        None => Some(step(alloc, world, event)),
+    let passed = sent(world, event, passage);
+    if is_lost(&passed) {
+        None
+    } else {
+        Some(step(alloc, world, event))
+    }
+}
+
+/// What was sent is lost.
+fn is_lost(passed: &Option<Passed>) -> bool
+    ensures { result ≡ is_lost passed.now }
+{
+    match passed {
+        Some(Passed::Lost) => true,
+        Some(Passed::Received) | None => false,
     }
 }
 

@@ -12,5 +12,5 @@ loop-event-preserved g c =
     let after = c.turn-step.new in
     let more = take_more c.args.events.now l.event-index e c.loop-event-test.true in
     let turn = subst (λ (x : WorldEvent). TakesTurn g.P.Passage.passes l.world l.passage x c.turn-step.result after.world after.passage) c.event-item.is c.turn-step.ensures in
-    rw (more, c.has_refused.ensures)
+    rw (more, c.has_refused-refused.ensures)
     (one_turned _ _ _ (take l.event-index c.args.events.now) l.world l.passage l.refused _ c.turn-step.result after.world after.passage l.invariant turn)
