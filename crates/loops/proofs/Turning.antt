@@ -10,29 +10,31 @@ use Rattle.runs.specs.Status.{has_refusal}
 use Rattle.loops.specs.declared.passage.Passed.{Passed}
 use Rattle.loops.specs.declared.passage.Passed.TheVariants.{Received, Lost}
 use Rattle.loops.specs.Parcels.{Parcel}
-use Rattle.loops.specs.Turns.{AreTurns, HasSent, HasTurned, IsTurn, Passes, TakesTurn, Turn, handed, is_refusal, left, lost, received, step_of, steps_in, without}
+use Rattle.loops.specs.Turns.{AreTurns, HasSent, HasTurned, IsTurn, Passes, TakesTurn, Turn, handed, is_lost, is_refusal, left, lost, received, step_of, steps_in, without}
 
 -- ---- one turn
 
 -- what an event hands in is lost
-pub lost_turn : {P : Type 0} (passes : Passes P) (w : World) (p : P) (e : WorldEvent) (w2 : World) (p2 : P)
-    → HasSent passes p (handed w e) (Some Lost) p2 → w2 ≡ w → TakesTurn passes w p e None w2 p2
-lost_turn {P = P} passes w p e w2 p2 sent same = go (handed w e) refl sent
+pub lost_turn : {P : Type 0} (passes : Passes P) (w : World) (p : P) (e : WorldEvent) (r : Option Passed) (w2 : World) (p2 : P)
+    → HasSent passes p (handed w e) r p2 → is_lost r ≡ true → w2 ≡ w → TakesTurn passes w p e None w2 p2
+lost_turn {P = P} passes w p e r w2 p2 sent gone same = go (handed w e) r refl gone sent
   where
-    go : (o : Option Parcel) → handed w e ≡ o → HasSent passes p o (Some Lost) p2 → TakesTurn passes w p e None w2 p2
-    go None is h = absurd (let bad : Some Lost ≡ None = h.0 in cc)
-    go (Some parcel) is h = record { turn = lost parcel; is = (is, h, same); gives = refl }
+    go : (o : Option Parcel) (x : Option Passed) → handed w e ≡ o → is_lost x ≡ true → HasSent passes p o x p2 → TakesTurn passes w p e None w2 p2
+    go o None is not h = absurd (cc)
+    go o (Some Received) is not h = absurd (cc)
+    go None (Some Lost) is not h = absurd (let bad : Some Lost ≡ None = h.0 in cc)
+    go (Some parcel) (Some Lost) is not h = record { turn = lost parcel; is = (is, h, same); gives = refl }
 
 -- it isn't, and the event is answered
 pub taken_turn : {P : Type 0} (passes : Passes P) (w : World) (p : P) (e : WorldEvent) (r : Option Passed) (s : Step) (w2 : World) (p2 : P)
-    → HasSent passes p (handed w e) r p2 → r ≢ Some Lost → Answers w e none_told s.answer s.out w2 → TakesTurn passes w p e (Some s) w2 p2
+    → HasSent passes p (handed w e) r p2 → is_lost r ≡ false → Answers w e none_told s.answer s.out w2 → TakesTurn passes w p e (Some s) w2 p2
 taken_turn {P = P} passes w p e r s w2 p2 sent kept answers = go (handed w e) r refl kept sent
   where
-    go : (o : Option Parcel) (x : Option Passed) → handed w e ≡ o → x ≢ Some Lost → HasSent passes p o x p2 → TakesTurn passes w p e (Some s) w2 p2
+    go : (o : Option Parcel) (x : Option Passed) → handed w e ≡ o → is_lost x ≡ false → HasSent passes p o x p2 → TakesTurn passes w p e (Some s) w2 p2
     go None x is not h = record { turn = without s; is = (is, h.1, answers); gives = refl }
     go (Some parcel) None is not h = absurd h
     go (Some parcel) (Some Received) is not h = record { turn = received parcel s; is = (is, h, answers); gives = refl }
-    go (Some parcel) (Some Lost) is not h = absurd (not refl)
+    go (Some parcel) (Some Lost) is not h = absurd (cc)
 
 -- ---- turns in order
 
@@ -62,8 +64,10 @@ refusal_alone (lost parcel) = refl
 -- a refusal among turns, and one more
 refused-push : (ts : List Turn) (t : Turn) → has_refusal (steps_in (ts ++ t ∷ [])) ≡ (has_refusal (steps_in ts) || is_refusal (step_of t))
 refused-push [] t = refusal_alone t
-refused-push (without s ∷ ts) t = ap (λ b. is_refusal (Some s) || b) (refused-push ts t) ∙ or_assoc _ _ _
-refused-push (received parcel s ∷ ts) t = ap (λ b. is_refusal (Some s) || b) (refused-push ts t) ∙ or_assoc _ _ _
+refused-push (without s ∷ ts) t =
+    ap (λ b. is_refusal (Some s) || b) (refused-push ts t) ∙ or_assoc (is_refusal (Some s)) (has_refusal (steps_in ts)) (is_refusal (step_of t))
+refused-push (received parcel s ∷ ts) t =
+    ap (λ b. is_refusal (Some s) || b) (refused-push ts t) ∙ or_assoc (is_refusal (Some s)) (has_refusal (steps_in ts)) (is_refusal (step_of t))
 refused-push (lost parcel ∷ ts) t = refused-push ts t
 
 -- no event has had its turn

@@ -1,5 +1,5 @@
 -- An event whose bytes are first sent through a passage.
-use Rattle.std.specs.Prelude.{◌≡◌, ℕ, if◌then◌else◌, Bool, false, List, [], ◌∷◌, Option, Some, None, is_err, option_map}
+use Rattle.std.specs.Prelude.{◌≡◌, ℕ, if◌then◌else◌, Bool, true, false, List, [], ◌∷◌, Option, Some, None, is_err, option_map}
 use Rattle.std.specs.List.{filter_map}
 use Rattle.nat_types.specs.declared.gateways.GatewayId.{GatewayId}
 use Rattle.wires.specs.declared.places.Place.TheVariants.{Link, Side}
@@ -81,6 +81,12 @@ abbrev pub HasSent : {P : Type 0} → Passes P → P → Option Parcel → Optio
 HasSent passes p None passed p2 = (passed ≡ None) × (p2 ≡ p)
 HasSent passes p (Some parcel) None p2 = ⊥
 HasSent passes p (Some parcel) (Some passed) p2 = passes p parcel passed p2
+
+-- what was sent is lost
+abbrev pub is_lost : Option Passed → Bool
+is_lost None = false
+is_lost (Some Received) = false
+is_lost (Some Lost) = true
 
 -- an event was refused
 abbrev pub is_refusal : Option Step → Bool

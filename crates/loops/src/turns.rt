@@ -1,11 +1,11 @@
 //! A script's run in which what each event hands in is first sent through a passage.
-ghost use Rattle.std.specs.Prelude.{◌≡◌, ◌⊎◌, None, IfOk, IfErr, OnOk, IsSome, if◌then◌else◌};
+ghost use Rattle.std.specs.Prelude.{◌≡◌, ◌⊎◌, ◌||◌, None, IfOk, IfErr, OnOk, IsSome, if◌then◌else◌};
 ghost use Rattle.told.specs.Told.{none_told};
 ghost use Rattle.frame_sim.specs.Runs.{Answers};
 ghost use Rattle.runs.specs.Faults.{status_of};
 ghost use Rattle.runs.specs.Script.{first_bad_line};
 ghost use Rattle.runs.specs.declared.faults.Fault.TheVariants as faults;
-ghost use Rattle.loops.specs.Turns.{HasSent, HasTurned, TakesTurn, TakesTurns, handed, is_refusal, of_socket};
+ghost use Rattle.loops.specs.Turns.{HasSent, HasTurned, TakesTurn, TakesTurns, handed, is_lost, is_refusal, of_socket};
 ghost use Rattle.loops.specs.Loops.{IsLoop, LoopsScript, TellsLoop};
 
 use crate::{Passage, Passed};
@@ -55,16 +55,16 @@ fn looped<P: Passage, O: Write>(
     ensures status { IfOk result (λ status. (status ≡ 0) ⊎ (status ≡ 3)) }
 {
     let plan = plan_of(alloc, settings, script)?;
-    if let Err(fault) = passage.open(&plan.settings) {
-        return Err(of_socket(fault));
+    match passage.open(&plan.settings) {
+        Ok(()) => play(
+            alloc,
+            &plan.settings,
+            plan.events.as_slice(),
+            passage,
+            output,
+        ),
+        Err(fault) => Err(of_socket(fault)),
     }
-    play(
-        alloc,
-        &plan.settings,
-        plan.events.as_slice(),
-        passage,
-        output,
-    )
 }
 
 fn of_socket(fault: SocketFault) -> Fault
@@ -133,7 +133,7 @@ fn turned<P: Passage, O: Write>(
     let mut refused = false;
     for event in events {
         let step = turn(alloc, world, event, passage);
-        refused = refused || is_refusal(&step);
+        refused = has_refused(refused, &step);
         print(&mut printer, output, event, &step)?;
     }
     Ok(refused)
@@ -144,6 +144,13 @@ fn status_of(refused: bool) -> u8
     ensures { result ≡ (if refused then 3 else 0) }
 {
     if refused { 3 } else { 0 }
+}
+
+/// An event was refused before, or this one is.
+fn has_refused(before: bool, step: &Option<Step>) -> bool
+    ensures { result ≡ (before || is_refusal step.now) }
+{
+    before || is_refusal(step)
 }
 
 /// An event was refused.
@@ -178,9 +185,21 @@ fn turn<P: Passage>(
 ) -> Option<Step>
     ensures { TakesTurn P.passes world.old passage.old event.now result world.new passage.new }
 {
-    match sent(world, event, passage) {
-        Some(Passed::Lost) => None,
-        Some(Passed::Received) | None => Some(step(alloc, world, event)),
+    let passed = sent(world, event, passage);
+    if is_lost(&passed) {
+        None
+    } else {
+        Some(step(alloc, world, event))
+    }
+}
+
+/// What was sent is lost.
+fn is_lost(passed: &Option<Passed>) -> bool
+    ensures { result ≡ is_lost passed.now }
+{
+    match passed {
+        Some(Passed::Lost) => true,
+        Some(Passed::Received) | None => false,
     }
 }
 
