@@ -161,6 +161,10 @@ impl Trio {
     }
 
     /// The next datagram of any socket; where none is there, one is waited for.
+    ///
+    /// A socket that was found empty isn't asked again before the system says that it has something.
+    /// So a call with a time to wait hears the system first: else a flood at one socket would hide
+    /// the others for as long as it lasts.
     fn receive(
         &mut self,
         limit: Duration,
@@ -168,6 +172,9 @@ impl Trio {
     ) -> Result<Option<(Place, usize)>, WireFault>
         ensures { IfOk result (λ found. IfSome found (λ datagram. datagram.1 ≤ 4096)) }
     {
+        if limit > Duration::ZERO {
+            self.wait(Duration::ZERO).map_err(|_| WireFault)?;
+        }
         if let Some(found) = self.next(room)? {
             return Ok(Some(found));
         }
