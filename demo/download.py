@@ -106,8 +106,8 @@ def download(options):
 
 
 def tell(size, checksum, fetch, probe, owed):
-    end = fetch.end or ["0", "0", "0", "0", ""]
-    whole = int(end[0]) == size and end[4] == checksum
+    end = fetch.end or ["0", "0", "0", ""]
+    whole = int(end[0]) == size and end[3] == checksum
     steady = len(set(probe.flow.ports)) == 1
     rows = [
         (f"{size:,} bytes by HTTP, with the right SHA-256", 1, int(whole), int(not whole)),

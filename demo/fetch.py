@@ -2,8 +2,8 @@
 
     fetch.py URL
 
-A line `at BYTES MOMENT` at each sixteenth, and at the end `end BYTES SECONDS GAP MOMENT SHA256`: GAP is the
-longest time without bytes, in seconds, and MOMENT when it began.
+A line `at BYTES` at each sixteenth, and at the end `end BYTES SECONDS GAP SHA256`: GAP is the longest
+time without bytes, in seconds.
 """
 
 import hashlib
@@ -17,21 +17,20 @@ CHUNK = 65536
 
 def fetch(url):
     begun = last = time.monotonic()
-    gap, gap_began, count, told = 0.0, begun, 0, 0
+    gap, count, told = 0.0, 0, 0
     digest = hashlib.sha256()
     with urllib.request.urlopen(url, timeout=120) as response:
         whole = int(response.headers["Content-Length"])
         while chunk := response.read1(CHUNK):
             now = time.monotonic()
-            if now - last > gap:
-                gap, gap_began = now - last, last
+            gap = max(gap, now - last)
             last = now
             count += len(chunk)
             digest.update(chunk)
             if count * 16 // whole > told:
                 told = count * 16 // whole
-                print("at", count, now, flush=True)
-    print("end", count, last - begun, gap, gap_began, digest.hexdigest(), flush=True)
+                print("at", count, flush=True)
+    print("end", count, last - begun, gap, digest.hexdigest(), flush=True)
 
 
 fetch(sys.argv[1])

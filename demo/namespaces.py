@@ -107,7 +107,8 @@ class Namespace:
     def cable(self, name, other, other_name):
         """A cable between two namespaces: an interface at each end, both up."""
         place = f"/proc/{os.getpid()}/fd/{other.handle}"
-        self.ip("link", "add", "name", name, "type", "veth", "peer", "name", other_name, "netns", place)
+        peer = ("peer", "name", other_name, "netns", place)
+        self.ip("link", "add", "name", name, "type", "veth", *peer)
         for space, end in ((self, name), (other, other_name)):
             space.no_offload(end)
             space.ip("link", "set", "dev", end, "up")

@@ -6,7 +6,7 @@ import struct
 import time
 
 from joiner import card
-from pair import SERVER
+from pair import SERVER, SIDES
 
 SO_ATTACH_FILTER = 26
 ADVERTISEMENT = 112
@@ -64,7 +64,7 @@ def marks_of(frame):
 
 
 class Observer:
-    """Sees each frame that the two switches pass on."""
+    """Sees each frame that the two switches pass on. What passes the link is only kept."""
 
     def __init__(self, networks, stack, folder=None, all_frames=True):
         self.networks = networks
@@ -81,9 +81,13 @@ class Observer:
             stack.callback(self.sockets[side].close)
             if not all_frames:
                 set_filter(self.sockets[side], ONLY_ADVERTISEMENTS)
-            if folder:
-                self.files[side] = Capture(folder / f"{side}.pcap")
-                stack.callback(self.files[side].close)
+        if folder:
+            with networks.boxes[0].space.entered():
+                self.sockets["link"] = card("link")
+            stack.callback(self.sockets["link"].close)
+            for name in self.sockets:
+                self.files[name] = Capture(folder / f"{name}.pcap")
+                stack.callback(self.files[name].close)
 
     def join(self, loop):
         for side, sock in self.sockets.items():
@@ -96,8 +100,10 @@ class Observer:
                 frame = self.sockets[side].recv(65535)
                 if side in self.files:
                     self.files[side].add(frame)
-                self.see(side, frame)
-        except BlockingIOError:
+                if side != "link":
+                    self.see(side, frame)
+        except OSError:
+            # Nothing is there, or the cable was cut.
             pass
 
     def see(self, side, frame):
@@ -124,7 +130,7 @@ class Observer:
     def active(self, number):
         """Whether a box is the one that advertises itself on both sides."""
         now = time.monotonic()
-        last = [self.advertised.get(side, (None, 0)) for side in self.sockets]
+        last = [self.advertised.get(side, (None, 0)) for side in SIDES]
         return all(who == number and now - moment < FRESH for who, moment in last)
 
     def took_over(self, number, since):

@@ -46,7 +46,7 @@ class Box:
         self.folder = folder / f"box{number}"
         self.folder.mkdir()
         self.output = self.folder / "output"
-        self.log = self.folder / "log"
+        self.starts = 0
         self.boot = 0
         self.gate = None
         self.joiner = None
@@ -66,9 +66,15 @@ class Box:
         if self.joiner.stdout.readline() != b"joined\n":
             raise SystemExit(f"demo: the joiner of box {self.number} doesn't run")
 
+    @property
+    def log(self):
+        """The file of the lines of the last start."""
+        return self.folder / f"box{self.number}.{self.starts}.log"
+
     def start(self, *words):
         """Starts `natpair gate`, and waits until it has printed its boot number."""
         number = str(self.number)
+        self.starts += 1
         line = (str(PROGRAM), "gate", str(SETTINGS), "--id", number, "--rounds", ROUNDS, *words)
         with open(self.output, "wb") as output, open(self.log, "wb") as log:
             self.gate = self.space.start(*line, cwd=self.folder, stdout=output, stderr=log)

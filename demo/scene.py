@@ -10,6 +10,9 @@ from flows import PORT, Loop
 from observer import NAMES, Observer
 from pair import FOLDER, PYTHON, SERVER, Networks
 
+# So many of what was seen wrong are told one by one.
+TOLD = 10
+
 
 class Scene:
     """Both networks with the pair founded, box 1 synced, and box 0 Active on both sides."""
@@ -66,8 +69,8 @@ class Scene:
 
     def keep_logs(self, folder):
         for box in self.boxes:
-            if box.log.exists():
-                shutil.copy(box.log, folder / f"box{box.number}.log")
+            for log in box.folder.glob("*.log"):
+                shutil.copy(log, folder)
 
     def tell_drops(self):
         for box in self.boxes:
@@ -98,8 +101,8 @@ def audit(observer):
     ports, endpoints = observer.ports()
     moved = {end: found for end, found in ports.items() if len(found) > 1}
     shared = {port: found for port, found in endpoints.items() if len(found) > 1}
-    for (protocol, end), found in moved.items():
+    for (protocol, end), found in list(moved.items())[:TOLD]:
         print(f"moved: {NAMES[protocol]} {end[0]} {end[1]} was seen at ports {sorted(found)}")
-    for (protocol, port), found in shared.items():
+    for (protocol, port), found in list(shared.items())[:TOLD]:
         print(f"shared: {NAMES[protocol]} {port} was seen with {sorted(found)}")
     return len(ports), len(moved), len(shared)
