@@ -9,6 +9,7 @@ from joiner import card
 from pair import SERVER, SIDES
 
 SO_ATTACH_FILTER = 26
+SO_TIMESTAMPNS = 35
 ADVERTISEMENT = 112
 TCP, UDP = 6, 17
 NAMES = {TCP: "tcp", UDP: "udp"}
@@ -38,14 +39,23 @@ class Capture:
         self.file = open(path, "wb")
         self.file.write(struct.pack("=IHHiIII", 0xA1B2C3D4, 2, 4, 0, 0, 65535, 1))
 
-    def add(self, frame):
-        now = time.time()
-        part = int(now % 1 * 1_000_000)
-        self.file.write(struct.pack("=IIII", int(now), part, len(frame), len(frame)))
+    def add(self, moment, frame):
+        part = int(moment % 1 * 1_000_000)
+        self.file.write(struct.pack("=IIII", int(moment), part, len(frame), len(frame)))
         self.file.write(frame)
 
     def close(self):
         self.file.close()
+
+
+def receive(sock):
+    """The next frame, and the moment at which the kernel saw it, by the clock of the day."""
+    frame, notes, _, _ = sock.recvmsg(65535, 64)
+    for level, kind, value in notes:
+        if (level, kind) == (socket.SOL_SOCKET, SO_TIMESTAMPNS):
+            seconds, part = struct.unpack("qq", value)
+            return frame, seconds + part / 1e9
+    return frame, time.time()
 
 
 def marks_of(frame):
@@ -89,6 +99,9 @@ class Observer:
                 self.files[name] = Capture(folder / f"{name}.pcap")
                 stack.callback(self.files[name].close)
 
+        for sock in self.sockets.values():
+            sock.setsockopt(socket.SOL_SOCKET, SO_TIMESTAMPNS, 1)
+
     def join(self, loop):
         for side, sock in self.sockets.items():
             loop.watch(sock, lambda side=side: self.look(side))
@@ -97,18 +110,18 @@ class Observer:
         """Takes the frames that are there."""
         try:
             for _ in range(64):
-                frame = self.sockets[side].recv(65535)
+                frame, moment = receive(self.sockets[side])
                 if side in self.files:
-                    self.files[side].add(frame)
+                    self.files[side].add(moment, frame)
                 if side != "link":
-                    self.see(side, frame)
+                    self.see(side, frame, moment)
         except OSError:
             # Nothing is there, or the cable was cut.
             pass
 
-    def see(self, side, frame):
+    def see(self, side, frame, moment):
         if frame[12:14] == b"\x08\x00" and len(frame) > 33 and frame[23] == ADVERTISEMENT:
-            self.see_advertisement(side, socket.inet_ntoa(frame[26:30]))
+            self.see_advertisement(side, socket.inet_ntoa(frame[26:30]), moment)
             return
         found = marks_of(frame)
         if found is None:
@@ -119,10 +132,10 @@ class Observer:
         if side == "outside" and source[0] == self.virtual:
             self.outside_ports.setdefault((protocol, mark), set()).add(source[1])
 
-    def see_advertisement(self, side, source):
+    def see_advertisement(self, side, source, moment):
         settings = self.networks.settings
         number = next(i for i in (0, 1) if settings[f"gateway_{i}"][f"{side}_ip"] == source)
-        now = time.monotonic()
+        now = moment - time.time() + time.monotonic()
         if self.advertised.get(side, (None, 0))[0] != number:
             self.changes.append((now, side, number))
         self.advertised[side] = (number, now)
