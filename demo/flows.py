@@ -75,12 +75,15 @@ class Flow:
         self.round += 1
         self.send()
 
+    def question(self):
+        return b"flow %d %d" % (self.number, self.round)
+
     def send(self):
         self.asked = time.monotonic()
         if not self.connected or self.broken:
             return
         try:
-            self.sock.send(b"flow %d %d\n" % (self.number, self.round))
+            self.sock.send(self.question() + b"\n")
         except OSError as error:
             self.fail(error)
 

@@ -70,7 +70,8 @@ def marks_of(frame):
         return UDP, source, target, frame[start + 8 :].split(b"\n")[0]
     if frame[start + 13] & 0x12 == 0x02:
         return TCP, source, target, frame[start + 4 : start + 8]
-    return None
+    text = frame[start + (frame[start + 12] >> 4) * 4 :]
+    return (TCP, source, target, text.split(b"\n")[0]) if text.startswith(b"flow ") else None
 
 
 class Observer:
@@ -150,6 +151,12 @@ class Observer:
         """The moment after `since` from which on a box was Active on both sides."""
         moments = [m for m, _, who in self.changes if who == number and m >= since]
         return max(moments) if len(moments) >= 2 else None
+
+    def sent_on(self, flow):
+        """Whether the last question of a flow was seen outside, from the port that it had before."""
+        protocol = TCP if flow.protocol == "tcp" else UDP
+        seen = self.outside_ports.get((protocol, flow.question()), set())
+        return bool(seen) and seen == set(flow.ports)
 
     def ports(self):
         """By each endpoint its outside ports, and by each outside port its endpoints."""

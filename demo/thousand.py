@@ -83,6 +83,10 @@ def try_condition(options, name):
         soon, told = try_new(current, flows)
         flows.ask(answered, 15)
         held, moved, silent = verdict(answered)
+        if silent:
+            sent = sum(current.observer.sent_on(flow) for flow in answered
+                       if flow.answered < flow.round)
+            current.say(f"{sent} of the {silent} silent ones were sent on, from their port")
         current.tell_drops()
         counts = (len(flows.flows) - FRESH, len(answered), held, moved, silent)
         others = (len(waiting), late, FRESH, soon, told)
