@@ -2,8 +2,8 @@
 
     fetch.py URL
 
-A line `at BYTES` at each sixteenth, and at the end `end BYTES SECONDS GAP SHA256`: GAP is the longest
-time without bytes, in seconds.
+A line `at BYTES` at each sixteenth, and at the end `end BYTES SECONDS GAP SHA256`: GAP is the
+longest time without bytes, in seconds.
 """
 
 import hashlib

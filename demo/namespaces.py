@@ -1,7 +1,7 @@
 """Network namespaces without names, and the programs that run in them.
 
-A namespace lives as long as this process holds it open or a program runs in it. Each program that is
-started here dies with this process. So nothing is left behind, however this process ends.
+A namespace lives as long as this process holds it open or a program runs in it. Each program that
+is started here dies with this process. So nothing is left behind, however this process ends.
 """
 
 import contextlib

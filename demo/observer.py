@@ -153,7 +153,7 @@ class Observer:
         return max(moments) if len(moments) >= 2 else None
 
     def sent_on(self, flow):
-        """Whether the last question of a flow was seen outside, from the port that it had before."""
+        """Whether a flow's last question was seen outside, from the port that it had before."""
         protocol = TCP if flow.protocol == "tcp" else UDP
         seen = self.outside_ports.get((protocol, flow.question()), set())
         return bool(seen) and seen == set(flow.ports)

@@ -1,4 +1,4 @@
-"""The killed box comes back, loads the table and takes over; then the other is killed, and so on."""
+"""The killed box comes back, loads the table and takes over; then the other is killed."""
 
 from flows import Flows, verdict
 from scene import audit, scene, show

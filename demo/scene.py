@@ -53,7 +53,7 @@ class Scene:
         return moment
 
     def tell_takeover(self, number, since):
-        """Waits until a box is Active on both sides, and says so. `since` is when the other ended."""
+        """Waits until a box is Active on both sides. `since` is when the other ended."""
         self.expect_active(number)
         moment = self.observer.took_over(number, since)
         after = f", {moment - since:.2f} s after the kill" if moment else ""

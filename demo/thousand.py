@@ -36,7 +36,7 @@ CONDITIONS = {
 
 
 def open_flows(current, flows, condition, count):
-    """Opens the flows. Where nothing happens half-way, a few still wait for their answer at the end."""
+    """Opens the flows. Where nothing happens half-way, a few are unanswered at the end."""
     if condition.halfway is None:
         flows.open(count, WINDOW, 60, count - WINDOW // 2)
         return
