@@ -2,16 +2,19 @@
 
 use crate::narrow::Narrow;
 use anyhow::{Context, Result, bail};
-use frame_sim::{World, audit};
+use frame_sim::{AuditFault, World, audit};
 use nat_types::GatewayId;
 use runs::{read, simulate, text_of};
 use std::alloc::Global;
 use std::io::Write;
 use std::rt::Files;
+use std::slice;
 
 /// Prints what the run of a line prints, with the settings of S.toml where it names no others.
 ///
 /// - `script NAME` runs the file NAME.script, and audits its trace; `with NAME` does so with the settings of NAME.toml
+/// - `each NAME` applies the events of NAME.script one by one and audits the trace after each of them, and prints how many
+///   there were, or the first one after which the audit fails; `each-with NAME` does so with the settings of NAME.toml
 /// - `fault NAME` runs a file that isn't read as a script
 /// - `line TEXT` runs a script of that one line, `times COUNT TEXT` one of so many
 /// - `settings TEXT` runs an empty script with this text for the settings
@@ -34,6 +37,12 @@ fn sample<R: Files + AllocGlobal>(rt: &R) -> Result<String> {
     Ok(text_of(rt, "S.toml")?)
 }
 
+/// The text of a script's own settings.
+fn own<R: Files + AllocGlobal>(rt: &R, name: &str) -> Result<String> {
+    let file = format!(in rt.alloc(); "{name}.toml")?;
+    Ok(text_of(rt, file.as_str())?)
+}
+
 /// The lines whose last word is the name of a script's file.
 fn scripted<R: Files + AllocGlobal, O: Write>(
     rt: &R,
@@ -46,10 +55,9 @@ fn scripted<R: Files + AllocGlobal, O: Write>(
     let script = text.as_str();
     match verb {
         "script" => audited(alloc, sample(rt)?.as_str(), script, output),
-        "with" => {
-            let settings = text_of(rt, format!(in alloc; "{name}.toml")?.as_str())?;
-            audited(alloc, settings.as_str(), script, output)
-        }
+        "with" => audited(alloc, own(rt, name)?.as_str(), script, output),
+        "each" => audited_each(alloc, sample(rt)?.as_str(), script, output),
+        "each-with" => audited_each(alloc, own(rt, name)?.as_str(), script, output),
         "fault" => simulated(alloc, sample(rt)?.as_str(), script, output),
         _ => bail!("no verb {verb}"),
     }
@@ -71,12 +79,40 @@ fn audited<O: Write>(alloc: Global, settings: &str, script: &str, output: &mut O
     let settings = settings_file::read(alloc, settings)?;
     let mut world = World::new(alloc, &settings)?;
     world.run(read(alloc, script)?.as_slice())?;
-    let (zero, one) = (world.table(GatewayId::Zero)?, world.table(GatewayId::One)?);
-    match audit(alloc, world.trace(), zero.as_slice(), one.as_slice()) {
-        Ok(()) => writeln!(output, "audit passed")?,
-        Err(fault) => writeln!(output, "audit: {fault}")?,
+    match fault_in(alloc, &world)? {
+        None => writeln!(output, "audit passed")?,
+        Some(fault) => writeln!(output, "audit: {fault}")?,
     }
     Ok(())
+}
+
+/// The events of a script one by one: how many there were, or the first one after which the trace and the tables aren't
+/// those of a pair that keeps its promises.
+fn audited_each<O: Write>(
+    alloc: Global,
+    settings: &str,
+    script: &str,
+    output: &mut O,
+) -> Result<()> {
+    let settings = settings_file::read(alloc, settings)?;
+    let mut world = World::new(alloc, &settings)?;
+    let events = read(alloc, script)?;
+    for (above, event) in events.iter().enumerate() {
+        world.run(slice::from_ref(event))?;
+        if let Some(fault) = fault_in(alloc, &world)? {
+            let number = above.saturating_add(1);
+            writeln!(output, "audit after event {number}: {fault}")?;
+            return Ok(());
+        }
+    }
+    writeln!(output, "audit passed {}", events.len())?;
+    Ok(())
+}
+
+/// What is wrong with a world's trace and tables.
+fn fault_in(alloc: Global, world: &World<'_>) -> Result<Option<AuditFault>> {
+    let (zero, one) = (world.table(GatewayId::Zero)?, world.table(GatewayId::One)?);
+    Ok(audit(alloc, world.trace(), zero.as_slice(), one.as_slice()).err())
 }
 
 /// A script of the same line many times.
