@@ -20,3 +20,6 @@ pub use memory::NoMemory;
 pub use packet_rules::Reason;
 pub use step_parts::{Event, Outcome};
 pub use told::Out;
+
+#[cfg(test)]
+mod tests;
