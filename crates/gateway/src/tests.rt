@@ -92,18 +92,22 @@ fn step(
     }
 }
 
-/// Three packets wait for their pairs, and the last event frees them all. What it tells is told where there is no room yet.
-fn free_three(rt: &impl Abort, alloc: Global, last: Event<'_>) -> Result<(), Fail> {
+/// A gateway with three packets that wait for their pairs.
+fn waiting(rt: &impl Abort, alloc: Global) -> Result<Gateway, Fail> {
     let (mut gateway, mut out) = (founded(alloc)?, Out::new(alloc));
     step(rt, &mut gateway, Event::Tick(360), &mut out)?;
     step(rt, &mut gateway, Event::Datagram(&HELLO), &mut out)?;
     for port in [5000, 5002, 5004] {
         let frame = from_port(CAME, port);
         let event = Event::Frame(Side::Inside, &frame);
-        assert_eq!(rt; step(rt, &mut gateway, event, &mut out)?, Outcome::Waiting);
+        let outcome = step(rt, &mut gateway, event, &mut out)?;
+        assert_eq!(rt; outcome, Outcome::Waiting);
     }
-    let mut out = Out::new(alloc);
-    assert_eq!(rt; step(rt, &mut gateway, last, &mut out)?, Outcome::Done);
+    Ok(gateway)
+}
+
+/// These packets went out, and no others.
+fn assert_sent(rt: &impl Abort, out: &Out) {
     let mut frames = out.frames();
     for port in [20000, 20002, 20004] {
         let bytes = from_port(SENT, port);
@@ -114,6 +118,14 @@ fn free_three(rt: &impl Abort, alloc: Global, last: Event<'_>) -> Result<(), Fai
         assert_eq!(rt; frames.next(), Some(frame));
     }
     assert!(rt; frames.next().is_none());
+}
+
+/// An event frees all three. It has no room yet for what it tells.
+fn free_three(rt: &impl Abort, alloc: Global, last: Event<'_>) -> Result<(), Fail> {
+    let (mut gateway, mut out) = (waiting(rt, alloc)?, Out::new(alloc));
+    let outcome = step(rt, &mut gateway, last, &mut out)?;
+    assert_eq!(rt; outcome, Outcome::Done);
+    assert_sent(rt, &out);
     Ok(())
 }
 
