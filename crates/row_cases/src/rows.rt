@@ -2,9 +2,9 @@
 
 use crate::narrow::Narrow;
 use anyhow::{Context, Result, bail};
-use frame_sim::{AuditFault, World, audit};
+use frame_sim::{AuditFault, World, WorldEvent, audit};
 use nat_types::GatewayId;
-use runs::{read, simulate, text_of};
+use runs::{founded, read, simulate, text_of};
 use std::alloc::Global;
 use std::io::Write;
 use std::rt::Files;
@@ -77,8 +77,8 @@ fn simulated<O: Write>(alloc: Global, settings: &str, script: &str, output: &mut
 fn audited<O: Write>(alloc: Global, settings: &str, script: &str, output: &mut O) -> Result<()> {
     simulated(alloc, settings, script, output)?;
     let settings = settings_file::read(alloc, settings)?;
-    let mut world = World::new(alloc, &settings)?;
-    world.run(read(alloc, script)?.as_slice())?;
+    let mut world = founded(alloc, &settings)?;
+    run_on(&mut world, read(alloc, script)?.as_slice())?;
     match fault_in(alloc, &world)? {
         None => writeln!(output, "audit passed")?,
         Some(fault) => writeln!(output, "audit: {fault}")?,
@@ -95,10 +95,10 @@ fn audited_each<O: Write>(
     output: &mut O,
 ) -> Result<()> {
     let settings = settings_file::read(alloc, settings)?;
-    let mut world = World::new(alloc, &settings)?;
+    let mut world = founded(alloc, &settings)?;
     let events = read(alloc, script)?;
     for (above, event) in events.iter().enumerate() {
-        world.run(slice::from_ref(event))?;
+        run_on(&mut world, slice::from_ref(event))?;
         if let Some(fault) = fault_in(alloc, &world)? {
             let number = above.saturating_add(1);
             writeln!(output, "audit after event {number}: {fault}")?;
@@ -106,6 +106,12 @@ fn audited_each<O: Write>(
         }
     }
     writeln!(output, "audit passed {}", events.len())?;
+    Ok(())
+}
+
+/// Runs events on a world. It says nothing of it, so that what a caller has to show stays small.
+fn run_on(world: &mut World<'_>, events: &[WorldEvent]) -> Result<()> {
+    world.run(events)?;
     Ok(())
 }
 
