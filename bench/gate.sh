@@ -26,7 +26,8 @@ for turn in 1 2 3; do
     "$natpair" init boot0
     "$natpair" gate S.toml --id 0 --rounds 4294967295 --found > gate.out 2> gate.err &
     running=$!
-    sleep 0.5
+    # Its routers are Active after three advertisement intervals and the skew.
+    sleep 4.5
     measure | tee -a gate.lines
     stop
     ./bare 7001 7011 7021 7101 7102 &
