@@ -2,19 +2,14 @@
 
 use crate::narrow::Narrow;
 use anyhow::{Context, Result, bail};
-use frame_sim::{AuditFault, World, WorldEvent, audit};
-use nat_types::GatewayId;
-use runs::{founded, read, simulate, text_of};
+use runs::{simulate, text_of};
 use std::alloc::Global;
 use std::io::Write;
 use std::rt::Files;
-use std::slice;
 
 /// Prints what the run of a line prints, with the settings of S.toml where it names no others.
 ///
-/// - `script NAME` runs the file NAME.script, and audits its trace; `with NAME` does so with the settings of NAME.toml
-/// - `each NAME` applies the events of NAME.script one by one and audits the trace after each of them, and prints how many
-///   there were, or the first one after which the audit fails; `each-with NAME` does so with the settings of NAME.toml
+/// - `script NAME` runs the file NAME.script; `with NAME` does so with the settings of NAME.toml
 /// - `fault NAME` runs a file that isn't read as a script
 /// - `line TEXT` runs a script of that one line, `times COUNT TEXT` one of so many
 /// - `settings TEXT` runs an empty script with this text for the settings
@@ -54,11 +49,8 @@ fn scripted<R: Files + AllocGlobal, O: Write>(
     let text = text_of(rt, format!(in alloc; "{name}.script")?.as_str())?;
     let script = text.as_str();
     match verb {
-        "script" => audited(alloc, sample(rt)?.as_str(), script, output),
-        "with" => audited(alloc, own(rt, name)?.as_str(), script, output),
-        "each" => audited_each(alloc, sample(rt)?.as_str(), script, output),
-        "each-with" => audited_each(alloc, own(rt, name)?.as_str(), script, output),
-        "fault" => simulated(alloc, sample(rt)?.as_str(), script, output),
+        "script" | "fault" => simulated(alloc, sample(rt)?.as_str(), script, output),
+        "with" => simulated(alloc, own(rt, name)?.as_str(), script, output),
         _ => bail!("no verb {verb}"),
     }
 }
@@ -70,55 +62,6 @@ fn simulated<O: Write>(alloc: Global, settings: &str, script: &str, output: &mut
     output.write_all(errors.as_slice())?;
     writeln!(output, "status {status}")?;
     Ok(())
-}
-
-/// Output and status of a script, and whether the trace and the tables of its run are those of a pair that keeps its
-/// promises.
-fn audited<O: Write>(alloc: Global, settings: &str, script: &str, output: &mut O) -> Result<()> {
-    simulated(alloc, settings, script, output)?;
-    let settings = settings_file::read(alloc, settings)?;
-    let mut world = founded(alloc, &settings)?;
-    run_on(&mut world, read(alloc, script)?.as_slice())?;
-    match fault_in(alloc, &world)? {
-        None => writeln!(output, "audit passed")?,
-        Some(fault) => writeln!(output, "audit: {fault}")?,
-    }
-    Ok(())
-}
-
-/// The events of a script one by one: how many there were, or the first one after which the trace and the tables aren't
-/// those of a pair that keeps its promises.
-fn audited_each<O: Write>(
-    alloc: Global,
-    settings: &str,
-    script: &str,
-    output: &mut O,
-) -> Result<()> {
-    let settings = settings_file::read(alloc, settings)?;
-    let mut world = founded(alloc, &settings)?;
-    let events = read(alloc, script)?;
-    for (above, event) in events.iter().enumerate() {
-        run_on(&mut world, slice::from_ref(event))?;
-        if let Some(fault) = fault_in(alloc, &world)? {
-            let number = above.saturating_add(1);
-            writeln!(output, "audit after event {number}: {fault}")?;
-            return Ok(());
-        }
-    }
-    writeln!(output, "audit passed {}", events.len())?;
-    Ok(())
-}
-
-/// Runs events on a world. It says nothing of it, so that what a caller has to show stays small.
-fn run_on(world: &mut World<'_>, events: &[WorldEvent]) -> Result<()> {
-    world.run(events)?;
-    Ok(())
-}
-
-/// What is wrong with a world's trace and tables.
-fn fault_in(alloc: Global, world: &World<'_>) -> Result<Option<AuditFault>> {
-    let (zero, one) = (world.table(GatewayId::Zero)?, world.table(GatewayId::One)?);
-    Ok(audit(alloc, world.trace(), zero.as_slice(), one.as_slice()).err())
 }
 
 /// A script of the same line many times.
