@@ -143,8 +143,8 @@ impl Half {
         event: Event<'_>,
         out: &mut Out,
     ) -> Result<Outcome, NoMemory>
-        ensures steps { IfOk result (λ o. StepsAt self.old self.old.gateway trace.old.items event.entry
-            out.old o out.new self.new trace.new.items) }
+        ensures steps { IfOk result (λ o. StepsAt self.old self.old.gateway trace.old.items
+            event.entry out.old o out.new self.new trace.new.items) }
         ensures err { OnErr result (self.new ≡ self.old) }
         ensures unnoted { OnErr result (trace.new.items ≡ trace.old.items) }
         ensures untold { OnErr result (out.new ≡ out.old) }

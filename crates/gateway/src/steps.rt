@@ -196,7 +196,8 @@ fn take_event(
 fn end_event(forwarder: &mut Forwarder, page: &mut Page, event: Event<'_>)
     requires promised { length forwarder.old.core.coming ≡ forwarder.old.link.promised }
     requires datagrams { 1 ≤ page.old.room.datagrams }
-    ensures { scene_on forwarder.new page.new ≡ ended_on event.entry (scene_on forwarder.old page.old) }
+    ensures { scene_on forwarder.new page.new
+        ≡ ended_on event.entry (scene_on forwarder.old page.old) }
 {
     match event {
         Event::Tick(_) => end_tick(forwarder, page),
