@@ -21,7 +21,7 @@ fn words_of(alloc: Global, line: &str) -> Result<Vec<String>> {
 fn acted<O: Write>(rt: &HostRuntime, line: &str, output: &mut O) -> Result<()> {
     let words = words_of(rt.alloc(), line)?;
     let mut errors = Vec::new(rt.alloc());
-    let status = act(rt, words.as_slice(), output, &mut errors);
+    let status = act(rt, words.as_slice(), false, output, &mut errors);
     output.write_all(errors.as_slice())?;
     writeln!(output, "status {status}")?;
     Ok(())

@@ -5,16 +5,18 @@ ghost use Rattle.acts.specs.Words.{AreRefused};
 
 use crate::boxes::{gate, peer_off};
 use crate::faults::of_file;
+use crate::meters::Meter;
 use boot_file::Uncached;
 use command_line::{Task, command};
 use loops::{Loopback, run_loop};
-use runs::{Fault, simulate, text_of};
+use runs::{Fault, simulate, simulate_watched, text_of};
 use std::fs::Files;
 use std::io::Write;
 use std::net::Net;
 use std::rt::Clock;
 
-/// All that the program does with its words, its name first. The answer is the exit status.
+/// All that the program does with its words, its name first. The answer is the exit status. Where somebody watches
+/// `errors` at a terminal, a long script of `sim` says there every few seconds how far it is.
 ///
 /// | Status | |
 /// |---|---|
@@ -25,6 +27,7 @@ use std::rt::Clock;
 pub fn act<R: Files + Net + Clock + AllocGlobal, O: Write, E: Write>(
     rt: &R,
     words: &[String],
+    is_watched: bool,
     output: &mut O,
     errors: &mut E,
 ) -> u8
@@ -36,7 +39,8 @@ where
     match command(rt.alloc(), words) {
         Ok(Task::Init(file)) => init(rt, file.as_str(), errors),
         Ok(Task::Sim(settings, script)) => {
-            sim(rt, settings.as_str(), script.as_str(), output, errors)
+            let (settings, script) = (settings.as_str(), script.as_str());
+            sim(rt, settings, script, is_watched, output, errors)
         }
         Ok(Task::Loop(settings, script)) => {
             repeat(rt, settings.as_str(), script.as_str(), output, errors)
@@ -64,7 +68,31 @@ where
 }
 
 /// Runs the script of one file with the settings of another.
-fn sim<R: Files + AllocGlobal, O: Write, E: Write>(
+fn sim<R: Files + Clock + AllocGlobal, O: Write, E: Write>(
+    rt: &R,
+    settings: &str,
+    script: &str,
+    is_watched: bool,
+    output: &mut O,
+    errors: &mut E,
+) -> u8
+    ensures status { (result ≡ 0) ⊎ ((result ≡ 1) ⊎ (result ≡ 3)) }
+{
+    match texts(rt, settings, script) {
+        Ok((settings, script)) => {
+            let (settings, script) = (settings.as_str(), script.as_str());
+            if is_watched {
+                watched(rt, settings, script, output, errors)
+            } else {
+                simulate(rt.alloc(), settings, script, output, errors)
+            }
+        }
+        Err(fault) => fault.tell(errors),
+    }
+}
+
+/// Runs a script, and says how far it is while somebody waits.
+fn watched<R: Clock + AllocGlobal, O: Write, E: Write>(
     rt: &R,
     settings: &str,
     script: &str,
@@ -73,16 +101,9 @@ fn sim<R: Files + AllocGlobal, O: Write, E: Write>(
 ) -> u8
     ensures status { (result ≡ 0) ⊎ ((result ≡ 1) ⊎ (result ≡ 3)) }
 {
-    match texts(rt, settings, script) {
-        Ok((settings, script)) => {
-            simulate(
-                rt.alloc(),
-                settings.as_str(),
-                script.as_str(),
-                output,
-                errors,
-            )
-        }
+    let mut meter = Meter::start(rt, errors);
+    match simulate_watched(rt.alloc(), settings, script, &mut meter, output) {
+        Ok(status) => status,
         Err(fault) => fault.tell(errors),
     }
 }

@@ -4,5 +4,6 @@
 mod boxes;
 mod commands;
 mod faults;
+mod meters;
 
 pub use commands::act;

@@ -4,15 +4,16 @@
 use acts::act;
 use runs::Fault;
 use std::env;
-use std::io::{self, BufWriter, Write};
+use std::io::{self, BufWriter, IsTerminal, Write};
 use std::process::ExitCode;
 use std::rt::{Env, Files};
 
 /// Reads the words that the program was started with, acts by them, and gives the exit status.
-fn start<E: Write>(rt: &HostRuntime, errors: &mut E) -> io::Result<u8> {
+fn start<E: Write + IsTerminal>(rt: &HostRuntime, errors: &mut E) -> io::Result<u8> {
     let words = env::args(rt)?.collect::<Vec<String>>(rt.alloc())?;
     let mut output = BufWriter::new(rt.alloc(), io::writer(rt))?;
-    Ok(act(rt, words.as_slice(), &mut output, errors))
+    let is_watched = errors.is_terminal();
+    Ok(act(rt, words.as_slice(), is_watched, &mut output, errors))
 }
 
 fn main(rt: HostRuntime) -> ExitCode {

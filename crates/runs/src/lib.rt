@@ -4,6 +4,7 @@
 mod faults;
 mod plans;
 mod printing;
+mod progress;
 mod scripts;
 mod simulation;
 mod texts;
@@ -11,6 +12,7 @@ mod texts;
 pub use faults::Fault;
 pub use plans::{Plan, plan_of};
 pub use printing::{PrintFault, Printer, tables};
+pub use progress::{Progress, Unwatched};
 pub use scripts::{ScriptFault, read};
-pub use simulation::{founded, play, simulate};
+pub use simulation::{founded, play, simulate, simulate_watched};
 pub use texts::text_of;

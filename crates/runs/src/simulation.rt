@@ -6,7 +6,7 @@ ghost use Rattle.runs.specs.Script.{first_bad_line};
 ghost use Rattle.runs.specs.Status.{has_refusal, run_status, IsNew, IsRun, RunsScript, TakesSteps, TellsRun};
 ghost use Rattle.runs.specs.declared.faults.Fault.TheVariants as faults;
 
-use crate::{Fault, PrintFault, plan_of, printing};
+use crate::{Fault, PrintFault, Progress, Unwatched, plan_of, printing};
 use frame_sim::{Step, World, WorldEvent};
 use gateway::NoMemory;
 use settings::Settings;
@@ -27,16 +27,23 @@ pub fn simulate<O: Write, E: Write>(
     ensures bad { IsSome (first_bad_line script.now) → result ≡ 1 }
     ensures run { (result ≡ 0) ⊎ (result ≡ 3) → RunsScript settings.now script.now result }
 {
-    match simulated(alloc, settings, script, output) {
+    match simulate_watched(alloc, settings, script, &mut Unwatched, output) {
         Ok(status) => status,
         Err(fault) => fault.tell(errors),
     }
 }
 
-fn simulated<O: Write>(
+/// Runs a script as `simulate` does, and tells how far it is before every few events. The answer is the exit status: 0, or 3
+/// where an event was refused.
+///
+/// # Errors
+///
+/// The settings' fault, else the script's first bad line; `NotWritten` where output is refused, `NoMemory`.
+pub fn simulate_watched<P: Progress, O: Write>(
     alloc: Global,
     settings: &str,
     script: &str,
+    progress: &mut P,
     output: &mut O,
 ) -> Result<u8, Fault>
     ensures told { IfErr result (TellsRun settings.now script.now) }
@@ -46,18 +53,26 @@ fn simulated<O: Write>(
     ensures status { IfOk result (λ status. (status ≡ 0) ⊎ (status ≡ 3)) }
 {
     let plan = plan_of(alloc, settings, script)?;
-    play(alloc, &plan.settings, plan.events.as_slice(), output)
+    play(
+        alloc,
+        &plan.settings,
+        plan.events.as_slice(),
+        progress,
+        output,
+    )
 }
 
-/// Runs events on a new world of these settings, and prints their steps and its tables. The answer is the exit status.
+/// Runs events on a new world of these settings, tells how far it is before every few of them, and prints their steps and the
+/// world's tables. The answer is the exit status.
 ///
 /// # Errors
 ///
 /// `NotWritten` where output is refused, `NoMemory`.
-pub fn play<O: Write>(
+pub fn play<P: Progress, O: Write>(
     alloc: Global,
     settings: &Settings,
     events: &[WorldEvent],
+    progress: &mut P,
     output: &mut O,
 ) -> Result<u8, Fault>
     ensures run { IfOk result (IsRun settings.now events.now) }
@@ -66,7 +81,7 @@ pub fn play<O: Write>(
         (λ fault. (fault ≡ faults.NotWritten) ⊎ (fault ≡ faults.NoMemory)) }
 {
     let mut world = founded(alloc, settings)?;
-    played(&mut world, events, output)
+    played(alloc, &mut world, events, progress, output)
 }
 
 /// A new world of these settings.
@@ -77,9 +92,11 @@ pub fn founded<'a>(alloc: Global, settings: &'a Settings) -> Result<World<'a>, N
 }
 
 /// Runs events on a world, and prints their steps and its tables.
-fn played<O: Write>(
+fn played<P: Progress, O: Write>(
+    alloc: Global,
     world: &mut World<'_>,
     events: &[WorldEvent],
+    progress: &mut P,
     output: &mut O,
 ) -> Result<u8, Fault>
     ensures run { IfOk result (TakesSteps world.old events.now world.new) }
@@ -87,7 +104,7 @@ fn played<O: Write>(
     ensures fault { IfErr result
         (λ fault. (fault ≡ faults.NotWritten) ⊎ (fault ≡ faults.NoMemory)) }
 {
-    let steps = steps_of(world, events)?;
+    let steps = steps_of(alloc, world, events, progress)?;
     shown(world, events, steps.as_slice(), output)?;
     Ok(status_of(steps.as_slice()))
 }
@@ -105,8 +122,31 @@ fn shown<O: Write>(
     Ok(())
 }
 
+/// How many events are run at a time.
+const AT_A_TIME: usize = 64;
+
 /// What the events do to a world, in order.
-fn steps_of(world: &mut World<'_>, events: &[WorldEvent]) -> Result<Vec<Step>, NoMemory>
+fn steps_of<P: Progress>(
+    alloc: Global,
+    world: &mut World<'_>,
+    events: &[WorldEvent],
+    progress: &mut P,
+) -> Result<Vec<Step>, NoMemory>
+    ensures { IfOk result (λ steps. AreSteps world.old events.now steps.items world.new) }
+{
+    let mut steps = Vec::with_capacity(alloc, events.len())?;
+    let mut rest = events;
+    while !rest.is_empty() {
+        progress.reached(steps.len(), events.len());
+        let (next, others) = rest.split_at(rest.len().min(AT_A_TIME));
+        steps.append(&mut next_steps(world, next)?)?;
+        rest = others;
+    }
+    Ok(steps)
+}
+
+/// What the next few events do to a world, in order.
+fn next_steps(world: &mut World<'_>, events: &[WorldEvent]) -> Result<Vec<Step>, NoMemory>
     ensures { IfOk result (λ steps. AreSteps world.old events.now steps.items world.new) }
 {
     world.run(events)

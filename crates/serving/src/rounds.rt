@@ -6,7 +6,7 @@ use crate::Clockwork;
 use crate::left::LeftOut;
 use crate::letters::event_of;
 use crate::logs::tell;
-use crate::views::view_of;
+use crate::views::{View, view_of};
 use gateway::{Event, Gateway, Out};
 use std::alloc::Global;
 use std::io::{self, Write};
@@ -20,10 +20,11 @@ pub const MOST: usize = 256;
 /// How long a round waits for its first datagram, in milliseconds.
 pub const WAIT: u64 = 10;
 
-/// What the gateway has told in its last step, and how many events were left out.
+/// What the gateway has told in its last step, how it stood then, and how many events were left out.
 #[derive(Drop)]
 struct Desk {
     out: Out,
+    view: View,
     left: LeftOut,
 }
 
@@ -52,10 +53,12 @@ pub fn serve<W: Wire, C: Clockwork, O: Write, E: Write>(
 {
     let mut desk = Desk {
         out: Out::new(alloc),
+        view: view_of(gateway),
         left: LeftOut::none(),
     };
+    let mut room = [0; LONGEST];
     for _ in 0..rounds {
-        round(gateway, wire, clock, &mut desk, errors);
+        round(gateway, wire, clock, &mut room, &mut desk, errors);
     }
     writeln!(output, "end")?;
     output.flush()?;
@@ -67,13 +70,14 @@ fn round<W: Wire, C: Clockwork, E: Write>(
     gateway: &mut Gateway,
     wire: &mut W,
     clock: &mut C,
+    room: &mut [u8; LONGEST],
     desk: &mut Desk,
     errors: &mut E,
 )
     ensures { IsRound (box gateway.old (W.received wire.old) desk.old.left)
         (box gateway.new (W.received wire.new) desk.new.left) }
 {
-    take_what_comes(gateway, wire, desk, errors);
+    take_what_comes(gateway, wire, room, desk, errors);
     let tick = Event::Tick(clock.moment());
     hand_in(gateway, tick, wire, desk, errors);
 }
@@ -82,6 +86,7 @@ fn round<W: Wire, C: Clockwork, E: Write>(
 fn take_what_comes<W: Wire, E: Write>(
     gateway: &mut Gateway,
     wire: &mut W,
+    room: &mut [u8; LONGEST],
     desk: &mut Desk,
     errors: &mut E,
 )
@@ -90,7 +95,7 @@ fn take_what_comes<W: Wire, E: Write>(
 {
     let mut limit = Duration::from_millis(WAIT);
     for _ in 0..MOST {
-        if !take_next(gateway, wire, limit, desk, errors) {
+        if !take_next(gateway, wire, limit, room, desk, errors) {
             return;
         }
         limit = Duration::ZERO;
@@ -102,14 +107,14 @@ fn take_next<W: Wire, E: Write>(
     gateway: &mut Gateway,
     wire: &mut W,
     limit: Duration,
+    room: &mut [u8; LONGEST],
     desk: &mut Desk,
     errors: &mut E,
 ) -> bool
     ensures { TakesNew (box gateway.old (W.received wire.old) desk.old.left)
         (box gateway.new (W.received wire.new) desk.new.left) }
 {
-    let mut room = [0; LONGEST];
-    match wire.receive(limit, &mut room) {
+    match wire.receive(limit, room) {
         Ok(Some((place, count))) => {
             let event = event_of(place, &room[..count]);
             hand_in(gateway, event, wire, desk, errors);
@@ -131,14 +136,15 @@ fn hand_in<W: Wire, E: Write>(
     ensures taken { Takes gateway.old desk.old.left event.entry gateway.new desk.new.left }
     ensures received { W.received wire.new ≡ W.received wire.old }
 {
-    let before = view_of(gateway);
     desk.out.clear();
     let outcome = gateway.step(event, &mut desk.out);
     if outcome.is_err() {
         desk.left.count();
     }
     send_all(wire, &desk.out);
-    let _left_out = tell(errors, &event, outcome, &before, &view_of(gateway));
+    let view = view_of(gateway);
+    let _left_out = tell(errors, &event, outcome, &desk.view, &view);
+    desk.view = view;
 }
 
 /// Sends what was told: the frames by the wires of their sides, the datagrams by the link.

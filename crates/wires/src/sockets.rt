@@ -160,6 +160,11 @@ impl Trio {
         Ok(())
     }
 
+    /// Whether a socket may have something, as far as is known.
+    fn is_any_ready(&self) -> bool {
+        self.link.ready || self.inside.ready || self.outside.ready
+    }
+
     /// The next datagram of any socket; where none is there, one is waited for.
     ///
     /// A socket that was found empty isn't asked again before the system says that it has something.
@@ -172,7 +177,7 @@ impl Trio {
     ) -> Result<Option<(Place, usize)>, WireFault>
         ensures { IfOk result (λ found. IfSome found (λ datagram. datagram.1 ≤ 4096)) }
     {
-        if limit > Duration::ZERO {
+        if limit > Duration::ZERO && self.is_any_ready() {
             self.wait(Duration::ZERO).map_err(|_| WireFault)?;
         }
         if let Some(found) = self.next(room)? {

@@ -1,7 +1,7 @@
 use Rattle.std.proofs.Common.{ℕ, List, IfOk, Result, Ok, Err, subst}
 use Rattle.frame_sim.specs.declared.events.WorldEvent.{WorldEvent}
 use Rattle.runs.specs.Status.{IsRun}
-use Rattle.runs.proofs.simulation.simulated.Goals as goal
+use Rattle.runs.proofs.simulation.simulate_watched.Goals as goal
 
 -- what holds of the value of a result holds by what follows from it
 in_ok : {E : Type 0} {P Q : ℕ → Type 0} (r : Result ℕ E) → ((n : ℕ) → P n → Q n) → IfOk r P → IfOk r Q
