@@ -1,15 +1,16 @@
 //! What is done at a box: its rounds, and the operator's word.
-ghost use Rattle.std.specs.Prelude.{◌≡◌, ◌⊎◌, IsTrue};
+ghost use Rattle.std.specs.Prelude.{◌≡◌, ◌⊎◌, ◌<◌, IsTrue};
 ghost use Rattle.nat_types.specs.declared.gateways.GatewayId.TheVariants.{Zero};
 
 use crate::faults::BoxFault;
 use boot_file::Uncached;
 use boot_store::next_boot;
-use gateway::Gateway;
+use gateway::{Gateway, NoMemory};
 use nat_types::GatewayId;
 use runs::text_of;
 use serving::{Stopwatch, serve, spelled_word};
 use settings::Settings;
+use std::alloc::Global;
 use std::fs::Files;
 use std::io::Write;
 use std::net::Net;
@@ -83,10 +84,24 @@ where
     let file = settings.gateway(id).boot_file.as_str();
     let mut disk = boot_file::open(rt, file)?;
     let boot = next_boot(&mut disk, found)?;
-    let gateway = Gateway::new(rt.alloc(), settings, id, boot, found)?;
+    let gateway = begun(rt.alloc(), settings, id, boot, found)?;
     writeln!(output, "boot {boot}")?;
     output.flush()?;
     Ok(gateway)
+}
+
+/// A gateway in this boot. What it shows is nothing to its caller here.
+fn begun(
+    alloc: Global,
+    settings: &Settings,
+    id: GatewayId,
+    boot: u64,
+    found: bool,
+) -> Result<Gateway, NoMemory>
+    requires boot { 0 < boot }
+    requires found { IsTrue found → id ≡ Zero }
+{
+    Gateway::new(alloc, settings, id, boot, found)
 }
 
 /// Tells a running gateway that this boot of the other is off.
