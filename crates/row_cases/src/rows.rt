@@ -11,8 +11,8 @@ use std::rt::Files;
 /// Prints what the run of a line prints, with the settings of S.toml where it names no others.
 ///
 /// - `script NAME` runs the file NAME.script, and audits its trace; `with NAME` does so with the settings of NAME.toml
-/// - `each NAME` runs NAME.script event by event, and audits the trace after each of them; it prints how many there were,
-///   or the first one after which the audit fails; `each-with NAME` does so with the settings of NAME.toml
+/// - `each NAME` runs NAME.script event by event, and audits the trace after each; it prints how many there were, or the
+///   first one after which the audit fails; `each-with NAME` does so with the settings of NAME.toml
 /// - `fault NAME` runs a file that isn't read as a script
 /// - `line TEXT` runs a script of that one line, `times COUNT TEXT` one of so many
 /// - `settings TEXT` runs an empty script with this text for the settings
