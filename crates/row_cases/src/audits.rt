@@ -7,7 +7,6 @@ use runs::{founded, plan_of};
 use settings::Settings;
 use std::alloc::Global;
 use std::io::Write;
-use std::slice;
 
 /// Runs a script, and prints what is wrong once it is run, or that nothing is.
 pub(crate) fn after_all<O: Write>(
@@ -47,8 +46,7 @@ fn fault_after(
     events: &[WorldEvent],
 ) -> Result<Option<AuditFault>> {
     let mut world = founded(alloc, settings)?;
-    run_on(&mut world, events)?;
-    fault_in(alloc, &world)
+    fault_behind(alloc, &mut world, events)
 }
 
 /// The number of the first event, from 1, after which something is wrong, and what it is.
@@ -67,7 +65,7 @@ fn first_fault_on(
     world: &mut World<'_>,
     events: &[WorldEvent],
 ) -> Result<Option<(usize, AuditFault)>> {
-    for (above, event) in events.iter().enumerate() {
+    for (above, event) in events.chunks(1).enumerate() {
         if let Some(fault) = fault_behind(alloc, world, event)? {
             return Ok(Some((above.saturating_add(1), fault)));
         }
@@ -75,13 +73,13 @@ fn first_fault_on(
     Ok(None)
 }
 
-/// What is wrong once one event more has happened.
+/// What is wrong once these events have happened to a world, too.
 fn fault_behind(
     alloc: Global,
     world: &mut World<'_>,
-    event: &WorldEvent,
+    events: &[WorldEvent],
 ) -> Result<Option<AuditFault>> {
-    run_on(world, slice::from_ref(event))?;
+    run_on(world, events)?;
     fault_in(alloc, world)
 }
 
