@@ -1,6 +1,7 @@
 //! Runs scripts as the lines of `rows.list` say, and prints behind each line what its run prints.
 #![tactic(auto)]
 
+mod audits;
 mod narrow;
 mod rows;
 

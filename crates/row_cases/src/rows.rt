@@ -1,5 +1,6 @@
 //! A line of the list: which script is run, and on what.
 
+use crate::audits::{after_all, after_each};
 use crate::narrow::Narrow;
 use anyhow::{Context, Result, bail};
 use runs::{simulate, text_of};
@@ -9,7 +10,9 @@ use std::rt::Files;
 
 /// Prints what the run of a line prints, with the settings of S.toml where it names no others.
 ///
-/// - `script NAME` runs the file NAME.script; `with NAME` does so with the settings of NAME.toml
+/// - `script NAME` runs the file NAME.script, and audits its trace; `with NAME` does so with the settings of NAME.toml
+/// - `each NAME` runs NAME.script event by event, and audits the trace after each; it prints how many there were, or the
+///   first one after which the audit fails; `each-with NAME` does so with the settings of NAME.toml
 /// - `fault NAME` runs a file that isn't read as a script
 /// - `line TEXT` runs a script of that one line, `times COUNT TEXT` one of so many
 /// - `settings TEXT` runs an empty script with this text for the settings
@@ -49,8 +52,11 @@ fn scripted<R: Files + AllocGlobal, O: Write>(
     let text = text_of(rt, format!(in alloc; "{name}.script")?.as_str())?;
     let script = text.as_str();
     match verb {
-        "script" | "fault" => simulated(alloc, sample(rt)?.as_str(), script, output),
-        "with" => simulated(alloc, own(rt, name)?.as_str(), script, output),
+        "script" => audited(alloc, sample(rt)?.as_str(), script, output),
+        "with" => audited(alloc, own(rt, name)?.as_str(), script, output),
+        "each" => after_each(alloc, sample(rt)?.as_str(), script, output),
+        "each-with" => after_each(alloc, own(rt, name)?.as_str(), script, output),
+        "fault" => simulated(alloc, sample(rt)?.as_str(), script, output),
         _ => bail!("no verb {verb}"),
     }
 }
@@ -62,6 +68,13 @@ fn simulated<O: Write>(alloc: Global, settings: &str, script: &str, output: &mut
     output.write_all(errors.as_slice())?;
     writeln!(output, "status {status}")?;
     Ok(())
+}
+
+/// Output and status of a script, and whether the trace and the tables of its run are those of a pair that keeps its
+/// promises.
+fn audited<O: Write>(alloc: Global, settings: &str, script: &str, output: &mut O) -> Result<()> {
+    simulated(alloc, settings, script, output)?;
+    after_all(alloc, settings, script, output)
 }
 
 /// A script of the same line many times.
