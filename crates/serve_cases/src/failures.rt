@@ -1,0 +1,90 @@
+//! Rounds of which something fails: a call of the wire, or to write.
+
+use crate::stations::Station;
+use anyhow::Result;
+use nat_types::{GatewayId, Side};
+use settings::Settings;
+use std::alloc::Global;
+use std::io::{self, ErrorKind, Write};
+use wires::Place;
+
+/// A packet of a new pair, from 192.168.1.10:5000 to 198.51.100.7:53.
+const OUT: &str =
+    "00005e00010b02000000000a08004500001e0001000040118ee1c0a8010ac633640713880035000a97c66869";
+
+/// Its reply, to port 20000.
+const BACK: &str =
+    "00005e00010a0200000000fe08004500001e000200003c119291c6336407c000020100354e20000a55dd6f6b";
+
+/// A frame of no host's, which is dropped.
+const SHORT: &str = "00";
+
+/// Gateway 0 as it is founded, one round later: both its sides are Active. Three frames have come.
+fn ready(alloc: Global, settings: &Settings) -> Result<Station> {
+    let mut station = Station::new(alloc, settings, GatewayId::Zero, 1, true)?;
+    station.run(1, 360)?;
+    station.bring(Place::Side(Side::Inside), OUT)?;
+    station.bring(Place::Side(Side::Outside), BACK)?;
+    station.bring(Place::Side(Side::Inside), SHORT)?;
+    Ok(station)
+}
+
+/// Four rounds, 360 centiseconds apart, over a wire of which a call fails. A send that fails is a
+/// datagram less; where to receive fails, what is there comes later.
+pub(crate) fn run<O: Write>(
+    alloc: Global,
+    settings: &Settings,
+    number: u64,
+    output: &mut O,
+) -> Result<()> {
+    let mut station = ready(alloc, settings)?;
+    let written = station.run_failing(number, 4, 360)?;
+    station.wire.count(output)?;
+    output.write_all(written.as_slice())?;
+    Ok(())
+}
+
+/// A writer that takes nothing.
+#[derive(Drop)]
+struct Shut;
+
+impl Write for Shut {
+    fn write(&mut self, _bytes: &[u8]) -> io::Result<usize> {
+        Err(io::Error::from(ErrorKind::BrokenPipe))
+    }
+
+    fn flush(&mut self) -> io::Result<()> {
+        Ok(())
+    }
+}
+
+/// The same rounds, where no line for the operator can be written. It is left out.
+pub(crate) fn run_untold<O: Write>(
+    alloc: Global,
+    settings: &Settings,
+    output: &mut O,
+) -> Result<()> {
+    let mut station = ready(alloc, settings)?;
+    let mut written = Vec::new(alloc);
+    station.run_into(4, 360, &mut written, &mut Shut)?;
+    station.wire.count(output)?;
+    output.write_all(written.as_slice())?;
+    Ok(())
+}
+
+/// The same rounds, where `end` can't be written. All else is done before.
+pub(crate) fn run_endless<O: Write>(
+    alloc: Global,
+    settings: &Settings,
+    output: &mut O,
+) -> Result<()> {
+    let mut station = ready(alloc, settings)?;
+    let mut errors = Vec::new(alloc);
+    let ended = station.run_into(4, 360, &mut Shut, &mut errors);
+    station.wire.count(output)?;
+    output.write_all(errors.as_slice())?;
+    if ended.is_err() {
+        writeln!(output, "  no end")?;
+    }
+    Ok(())
+}
