@@ -19,25 +19,40 @@ const BACK: &str =
 /// A frame of no host's, which is dropped.
 const SHORT: &str = "00";
 
-/// Gateway 0 as it is founded, one round later: both its sides are Active. Three frames have come.
-fn ready(alloc: Global, settings: &Settings) -> Result<Station> {
+/// Rounds of gateway 0 as it is founded, once both its sides are Active and three frames have come.
+///
+/// - `errors`, `output`: what they write there is refused
+/// - a number: the call of the wire with that number fails
+pub(crate) fn run<O: Write>(
+    alloc: Global,
+    settings: &Settings,
+    what: &str,
+    output: &mut O,
+) -> Result<()> {
     let mut station = Station::new(alloc, settings, GatewayId::Zero, 1, true)?;
+    fail(&mut station, what, output)
+}
+
+fn fail<O: Write>(station: &mut Station, what: &str, output: &mut O) -> Result<()> {
+    make_ready(station)?;
+    match what {
+        "errors" => run_untold(station, output),
+        "output" => run_endless(station, output),
+        number => run_failing(station, number.parse::<u64>()?, output),
+    }
+}
+
+/// A first round, after which both sides are Active. Then three frames come.
+fn make_ready(station: &mut Station) -> Result<()> {
     station.run(1, 360)?;
     station.bring(Place::Side(Side::Inside), OUT)?;
     station.bring(Place::Side(Side::Outside), BACK)?;
-    station.bring(Place::Side(Side::Inside), SHORT)?;
-    Ok(station)
+    station.bring(Place::Side(Side::Inside), SHORT)
 }
 
 /// Four rounds, 360 centiseconds apart, over a wire of which a call fails. A send that fails is a
 /// datagram less; where to receive fails, what is there comes later.
-pub(crate) fn run<O: Write>(
-    alloc: Global,
-    settings: &Settings,
-    number: u64,
-    output: &mut O,
-) -> Result<()> {
-    let mut station = ready(alloc, settings)?;
+fn run_failing<O: Write>(station: &mut Station, number: u64, output: &mut O) -> Result<()> {
     let written = station.run_failing(number, 4, 360)?;
     station.wire.count(output)?;
     output.write_all(written.as_slice())?;
@@ -59,13 +74,8 @@ impl Write for Shut {
 }
 
 /// The same rounds, where no line for the operator can be written. It is left out.
-pub(crate) fn run_untold<O: Write>(
-    alloc: Global,
-    settings: &Settings,
-    output: &mut O,
-) -> Result<()> {
-    let mut station = ready(alloc, settings)?;
-    let mut written = Vec::new(alloc);
+fn run_untold<O: Write>(station: &mut Station, output: &mut O) -> Result<()> {
+    let mut written = Vec::new(station.wire.alloc);
     station.run_into(4, 360, &mut written, &mut Shut)?;
     station.wire.count(output)?;
     output.write_all(written.as_slice())?;
@@ -73,13 +83,8 @@ pub(crate) fn run_untold<O: Write>(
 }
 
 /// The same rounds, where `end` can't be written. All else is done before.
-pub(crate) fn run_endless<O: Write>(
-    alloc: Global,
-    settings: &Settings,
-    output: &mut O,
-) -> Result<()> {
-    let mut station = ready(alloc, settings)?;
-    let mut errors = Vec::new(alloc);
+fn run_endless<O: Write>(station: &mut Station, output: &mut O) -> Result<()> {
+    let mut errors = Vec::new(station.wire.alloc);
     let ended = station.run_into(4, 360, &mut Shut, &mut errors);
     station.wire.count(output)?;
     output.write_all(errors.as_slice())?;

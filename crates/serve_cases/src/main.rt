@@ -31,7 +31,7 @@ fn act<O: Write>(
 ) -> Result<()> {
     let words = line.split(' ').collect::<Vec<&str>>(alloc)?;
     match words.as_slice() {
-        ["fail", what] => fail(alloc, settings, what, output),
+        ["fail", what] => failures::run(alloc, settings, what, output),
         [id, words @ ..] => happen(settings, boxes, id, words, output),
         [] => bail!("no line of the cases"),
     }
@@ -55,15 +55,6 @@ fn happen<O: Write>(
             boxes.run(id, count.parse::<u32>()?, pace.parse::<u64>()?, output)
         }
         _ => bail!("no line of the cases"),
-    }
-}
-
-/// Rounds of which something fails.
-fn fail<O: Write>(alloc: Global, settings: &Settings, what: &str, output: &mut O) -> Result<()> {
-    match what {
-        "errors" => failures::run_untold(alloc, settings, output),
-        "output" => failures::run_endless(alloc, settings, output),
-        number => failures::run(alloc, settings, number.parse::<u64>()?, output),
     }
 }
 
