@@ -1,0 +1,131 @@
+//! The two boxes, whose links lead to each other.
+
+use crate::memory::Letter;
+use crate::stations::Station;
+use anyhow::{Context, Result, bail};
+use nat_types::{GatewayId, Side};
+use settings::Settings;
+use std::alloc::Global;
+use std::io::Write;
+use wires::Place;
+
+/// The boxes that are there.
+#[derive(Drop)]
+pub(crate) struct Boxes {
+    alloc: Global,
+    zero: Option<Station>,
+    one: Option<Station>,
+}
+
+fn id_named(name: &str) -> Result<GatewayId> {
+    match name {
+        "0" => Ok(GatewayId::Zero),
+        "1" => Ok(GatewayId::One),
+        _ => bail!("no box of that number"),
+    }
+}
+
+fn place_named(name: &str) -> Result<Place> {
+    match name {
+        "link" => Ok(Place::Link),
+        "inside" => Ok(Place::Side(Side::Inside)),
+        "outside" => Ok(Place::Side(Side::Outside)),
+        _ => bail!("no place of that name"),
+    }
+}
+
+impl Boxes {
+    pub(crate) fn new(alloc: Global) -> Boxes {
+        Boxes {
+            alloc,
+            zero: None,
+            one: None,
+        }
+    }
+
+    /// A box starts.
+    pub(crate) fn start(
+        &mut self,
+        settings: &Settings,
+        id: &str,
+        boot: u64,
+        found: bool,
+    ) -> Result<()> {
+        let id = id_named(id)?;
+        let station = Station::new(self.alloc, settings, id, boot, found)?;
+        match id {
+            GatewayId::Zero => self.zero = Some(station),
+            GatewayId::One => self.one = Some(station),
+        }
+        Ok(())
+    }
+
+    /// A box isn't there any more.
+    pub(crate) fn end(&mut self, id: &str) -> Result<()> {
+        match id_named(id)? {
+            GatewayId::Zero => self.zero = None,
+            GatewayId::One => self.one = None,
+        }
+        Ok(())
+    }
+
+    /// A datagram comes to a box so often.
+    pub(crate) fn bring(&mut self, id: &str, place: &str, text: &str, count: u32) -> Result<()> {
+        let place = place_named(place)?;
+        match id_named(id)? {
+            GatewayId::Zero => bring_to(&mut self.zero, place, text, count),
+            GatewayId::One => bring_to(&mut self.one, place, text, count),
+        }
+    }
+
+    /// A box runs so many rounds; what it sends on the link comes to the other, if that is there.
+    pub(crate) fn run<O: Write>(
+        &mut self,
+        id: &str,
+        rounds: u32,
+        pace: u64,
+        output: &mut O,
+    ) -> Result<()> {
+        match id_named(id)? {
+            GatewayId::Zero => {
+                let letters = run_on(&mut self.zero, rounds, pace, output)?;
+                pass_on(letters, &mut self.one)
+            }
+            GatewayId::One => {
+                let letters = run_on(&mut self.one, rounds, pace, output)?;
+                pass_on(letters, &mut self.zero)
+            }
+        }
+    }
+}
+
+/// A datagram comes so often to a box that is there.
+fn bring_to(station: &mut Option<Station>, place: Place, text: &str, count: u32) -> Result<()> {
+    let station = station.as_mut().context("the box isn't there")?;
+    for _ in 0..count {
+        station.bring(place, text)?;
+    }
+    Ok(())
+}
+
+/// A box that is there runs so many rounds. The answer is what it sent on the link.
+fn run_on<O: Write>(
+    station: &mut Option<Station>,
+    rounds: u32,
+    pace: u64,
+    output: &mut O,
+) -> Result<Vec<Letter>> {
+    let station = station.as_mut().context("the box isn't there")?;
+    let written = station.run(rounds, pace)?;
+    station.wire.show(output)?;
+    output.write_all(written.as_slice())?;
+    station.wire.sent_on_link()
+}
+
+/// The datagrams come to a box, if it is there.
+fn pass_on(letters: Vec<Letter>, station: &mut Option<Station>) -> Result<()> {
+    match station {
+        Some(station) => station.wire.add(letters),
+        None => Ok(()),
+    }
+}

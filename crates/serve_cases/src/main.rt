@@ -1,0 +1,109 @@
+//! Two boxes whose wires lie in memory: does what the lines of its cases say, and prints what each
+//! box sends and writes.
+#![tactic(auto)]
+
+mod boxes;
+mod failures;
+mod memory;
+mod stations;
+
+use anyhow::{Result, bail};
+use boxes::Boxes;
+use settings::Settings;
+use std::alloc::Global;
+use std::fs;
+use std::io::{self, BufWriter, Write};
+
+/// Does what a line says.
+///
+/// - `I box N`, `I box N found`: box I starts in that boot, at moment 0
+/// - `I off`: box I isn't there any more
+/// - `I come PLACE HEX`, `I come PLACE HEX N`: a datagram comes to box I, or comes N times
+/// - `I rounds N M`: box I runs N rounds, at each of which M centiseconds more have passed
+/// - `fail N`: rounds of a box founded anew, the call N of whose wire fails
+/// - `fail errors`, `fail output`: the same rounds, where what they write there is refused
+fn act<O: Write>(
+    alloc: Global,
+    settings: &Settings,
+    boxes: &mut Boxes,
+    line: &str,
+    output: &mut O,
+) -> Result<()> {
+    let words = line.split(' ').collect::<Vec<&str>>(alloc)?;
+    match words.as_slice() {
+        ["fail", what] => failures::run(alloc, settings, what, output),
+        [id, words @ ..] => happen(settings, boxes, id, words, output),
+        [] => bail!("no line of the cases"),
+    }
+}
+
+/// What happens to a box.
+fn happen<O: Write>(
+    settings: &Settings,
+    boxes: &mut Boxes,
+    id: &str,
+    words: &[&str],
+    output: &mut O,
+) -> Result<()> {
+    match words {
+        ["box", boot] => boxes.start(settings, id, boot.parse::<u64>()?, false),
+        ["box", boot, "found"] => boxes.start(settings, id, boot.parse::<u64>()?, true),
+        ["off"] => boxes.end(id),
+        ["come", place, bytes] => boxes.bring(id, place, bytes, 1),
+        ["come", place, bytes, count] => boxes.bring(id, place, bytes, count.parse::<u32>()?),
+        ["rounds", count, pace] => {
+            boxes.run(id, count.parse::<u32>()?, pace.parse::<u64>()?, output)
+        }
+        _ => bail!("no line of the cases"),
+    }
+}
+
+/// What comes of a line: it is empty, begins with `#`, or is one of `act`.
+fn answer<O: Write>(
+    alloc: Global,
+    settings: &Settings,
+    boxes: &mut Boxes,
+    line: &str,
+    output: &mut O,
+) -> Result<()> {
+    if line.is_empty() || line.starts_with("#") {
+        return Ok(());
+    }
+    writeln!(output, "{line}")?;
+    act(alloc, settings, boxes, line, output)
+}
+
+/// What comes of each line of a text.
+fn answer_all<O: Write>(
+    alloc: Global,
+    settings: &Settings,
+    boxes: &mut Boxes,
+    text: &str,
+    output: &mut O,
+) -> Result<()> {
+    for line in text.lines() {
+        answer(alloc, settings, boxes, line, output)?;
+    }
+    Ok(())
+}
+
+/// The settings of both boxes.
+fn read_settings(rt: &HostRuntime) -> Result<Settings> {
+    let text = fs::read_to_string(rt, "S.toml")?;
+    Ok(settings_file::read(rt.alloc(), text.as_str())?)
+}
+
+/// The cases of a text, with no box at first.
+fn run<O: Write>(alloc: Global, settings: &Settings, text: &str, output: &mut O) -> Result<()> {
+    let mut boxes = Boxes::new(alloc);
+    answer_all(alloc, settings, &mut boxes, text, output)
+}
+
+fn main(rt: HostRuntime) -> Result<()> {
+    let settings = read_settings(&rt)?;
+    let cases = fs::read_to_string(&rt, "rounds.cases")?;
+    let mut output = BufWriter::new(rt.alloc(), io::writer(&rt))?;
+    run(rt.alloc(), &settings, cases.as_str(), &mut output)?;
+    output.flush()?;
+    Ok(())
+}

@@ -1,0 +1,148 @@
+//! A wire in memory, and a clock that goes by steps.
+
+ghost use Rattle.std.specs.Prelude.{◌≤◌};
+
+use anyhow::Result as Checked;
+use nat_types::Side;
+use serving::Clockwork;
+use std::alloc::Global;
+use std::io::{self, Write};
+use std::time::Duration;
+use wires::{LONGEST, Place, Received, Wire, WireFault};
+
+/// A datagram, and where it came from or went to.
+#[derive(Drop)]
+pub(crate) struct Letter {
+    pub(crate) place: Place,
+    pub(crate) bytes: Vec<u8>,
+}
+
+/// What is to come by a wire, and what was sent by it.
+#[derive(Drop)]
+pub(crate) struct Memory {
+    pub(crate) alloc: Global,
+    pub(crate) coming: Vec<Letter>,
+    /// How many of them have come.
+    pub(crate) come: usize,
+    received: Received,
+    pub(crate) sent: Vec<Letter>,
+}
+
+impl Memory {
+    pub(crate) fn new(alloc: Global) -> Memory {
+        Memory {
+            alloc,
+            coming: Vec::new(alloc),
+            come: 0,
+            received: Received::none(),
+            sent: Vec::new(alloc),
+        }
+    }
+
+    /// Copies of what was sent on the link.
+    pub(crate) fn sent_on_link(&self) -> Checked<Vec<Letter>> {
+        let mut letters = Vec::new(self.alloc);
+        for letter in &self.sent {
+            if letter.place == Place::Link {
+                let bytes = letter.bytes.clone()?;
+                let place = letter.place;
+                letters.push(Letter { place, bytes })?;
+            }
+        }
+        Ok(letters)
+    }
+
+    /// These datagrams come, after those that are to come already.
+    pub(crate) fn add(&mut self, letters: Vec<Letter>) -> Checked<()> {
+        for letter in letters {
+            self.coming.push(letter)?;
+        }
+        Ok(())
+    }
+
+    /// Prints what was sent, and how many datagrams are still to come, if any.
+    pub(crate) fn show<O: Write>(&self, output: &mut O) -> io::Result<()> {
+        for letter in &self.sent {
+            show_letter(letter, output)?;
+        }
+        match self.coming.len().saturating_sub(self.come) {
+            0 => Ok(()),
+            left => writeln!(output, "  left {left}"),
+        }
+    }
+
+    /// Prints where what was sent went to, in order, and how many datagrams have come.
+    pub(crate) fn count<O: Write>(&self, output: &mut O) -> io::Result<()> {
+        write!(output, "  sent")?;
+        for letter in &self.sent {
+            let name = name_of(letter.place);
+            write!(output, " {name}")?;
+        }
+        let come = self.come;
+        writeln!(output, ", came {come}")
+    }
+}
+
+fn name_of(place: Place) -> &'static str {
+    match place {
+        Place::Link => "link",
+        Place::Side(Side::Inside) => "inside",
+        Place::Side(Side::Outside) => "outside",
+    }
+}
+
+fn show_letter<O: Write>(letter: &Letter, output: &mut O) -> io::Result<()> {
+    let name = name_of(letter.place);
+    write!(output, "  {name} ")?;
+    for byte in &letter.bytes {
+        write!(output, "{byte:02x}")?;
+    }
+    writeln!(output)
+}
+
+impl Wire for Memory {
+    ghost received = { λ m. m.received };
+
+    fn send(&mut self, to: Place, bytes: &[u8]) -> Result<(), WireFault> {
+        let bytes = Vec::from_slice(self.alloc, bytes).map_err(|_| WireFault)?;
+        let letter = Letter { place: to, bytes };
+        self.sent.push(letter).map_err(|_| WireFault)
+    }
+
+    fn receive(
+        &mut self,
+        _limit: Duration,
+        room: &mut [u8; LONGEST],
+    ) -> Result<Option<(Place, usize)>, WireFault> {
+        let Some(letter) = self.coming.get(self.come) else {
+            return Ok(None);
+        };
+        self.come = self.come.saturating_add(1);
+        let count = copied(letter.bytes.as_slice(), room);
+        self.received.keep(letter.place, count, room);
+        Ok(Some((letter.place, count)))
+    }
+}
+
+/// Copies bytes as far as there is room, and says how many.
+fn copied(bytes: &[u8], room: &mut [u8; LONGEST]) -> usize
+    ensures { result ≤ 4096 }
+{
+    let count = bytes.len().min(LONGEST);
+    room[..count].copy_from_slice(&bytes[..count]);
+    count
+}
+
+/// A clock that goes on by as much at each reading.
+#[derive(Drop)]
+pub(crate) struct Steps {
+    pub(crate) moment: u64,
+    pub(crate) pace: u64,
+}
+
+impl Clockwork for Steps {
+    fn moment(&mut self) -> u64 {
+        self.moment = self.moment.saturating_add(self.pace);
+        self.moment
+    }
+}
