@@ -45,14 +45,14 @@ impl Shown {
 }
 
 /// What shows now, asked for once more where memory is refused.
-pub(crate) fn shown(alloc: Global, gateway: &Gateway, out: &Out) -> Result<Shown> {
-    match shown_once(alloc, gateway, out) {
-        Ok(shown) => Ok(shown),
-        Err(_refused) => shown_once(alloc, gateway, out),
+pub(crate) fn observe(alloc: Global, gateway: &Gateway, out: &Out) -> Result<Shown> {
+    match observe_once(alloc, gateway, out) {
+        Ok(seen) => Ok(seen),
+        Err(_refused) => observe_once(alloc, gateway, out),
     }
 }
 
-fn shown_once(alloc: Global, gateway: &Gateway, out: &Out) -> Result<Shown> {
+fn observe_once(alloc: Global, gateway: &Gateway, out: &Out) -> Result<Shown> {
     Ok(Shown {
         standing: standing_of(gateway),
         pairs: gateway.pairs()?,

@@ -1,6 +1,6 @@
 //! A gateway whose steps are asked for again where memory is refused.
 
-use crate::shown::{Shown, shown};
+use crate::shown::{Shown, observe};
 use anyhow::{Context, Result, bail};
 use gateway::{Event, Gateway, NoMemory, Out, Outcome};
 use nat_types::{GatewayId, Side};
@@ -121,12 +121,12 @@ fn step<O: Write>(
     out: &mut Out,
     output: &mut O,
 ) -> Result<()> {
-    let before = shown(alloc, gateway, out)?;
+    let before = observe(alloc, gateway, out)?;
     match once(gateway, event, out) {
         Ok(outcome) => tell_outcome(output, outcome),
         Err(NoMemory) => {
             writeln!(output, "  refused")?;
-            tell_change(output, &before, &shown(alloc, gateway, out)?)?;
+            tell_change(output, &before, &observe(alloc, gateway, out)?)?;
             tell_outcome(output, once(gateway, event, out)?)
         }
     }
