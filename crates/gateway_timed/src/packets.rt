@@ -1,0 +1,111 @@
+//! The packets that are handed in, in their frames.
+
+use addresses::Protocol;
+use nat_types::Side;
+use sums::sum;
+
+/// The longest frame: a header of 14 bytes, and a packet of 1,500.
+pub(crate) const LONGEST: usize = 1514;
+
+/// Where a frame's packet begins.
+pub(crate) const HEADER: usize = 14;
+
+/// The bytes of a frame as far as the ports of its packet.
+const STARTS: usize = 38;
+
+/// The ports of a protocol that the gateway has for new pairs.
+pub(crate) const PORTS: u32 = 20_000;
+
+/// The port of an inside host that has the first pair; those of the others are above it.
+const FIRST_INSIDE: u32 = 5000;
+
+/// The port that the first pair has outside.
+const FIRST_OUTSIDE: u32 = 20_000;
+
+/// A kind of packet: the side on which it comes in, its protocol, and its bytes, 40 to 1,500.
+#[derive(Clone, Copy)]
+pub(crate) struct Kind {
+    pub(crate) side: Side,
+    pub(crate) protocol: Protocol,
+    pub(crate) size: u16,
+}
+
+/// A packet of 192.168.1.10 to 198.51.100.7:53 in its frame, as far as the ports; its length,
+/// protocol, header checksum and source port are 0.
+const FROM_INSIDE: [u8; STARTS] = *b"\
+    \x00\x00\x5e\x00\x01\x0b\x02\x00\x00\x00\x00\x0a\x08\x00\
+    \x45\x00\x00\x00\x00\x01\x00\x00\x40\x00\x00\x00\
+    \xc0\xa8\x01\x0a\xc6\x33\x64\x07\x00\x00\x00\x35";
+
+/// The same of 198.51.100.7:53 to 192.0.2.1, the address that all hosts have outside; the port to which
+/// it goes is 0.
+const FROM_OUTSIDE: [u8; STARTS] = *b"\
+    \x00\x00\x5e\x00\x01\x0a\x02\x00\x00\x00\x00\xfe\x08\x00\
+    \x45\x00\x00\x00\x00\x01\x00\x00\x40\x00\x00\x00\
+    \xc6\x33\x64\x07\xc0\x00\x02\x01\x00\x35\x00\x00";
+
+/// The start of such a packet's frame, without the header checksum.
+fn start_of(kind: Kind) -> [u8; STARTS] {
+    let mut start = match kind.side {
+        Side::Inside => FROM_INSIDE,
+        Side::Outside => FROM_OUTSIDE,
+    };
+    let [high, low] = kind.size.to_be_bytes();
+    start[16] = high;
+    start[17] = low;
+    start[23] = kind.protocol.number();
+    start
+}
+
+/// A start with its header checksum.
+fn summed(mut start: [u8; STARTS]) -> [u8; STARTS] {
+    let [high, low] = (65535 - sum(&start[14..34])).to_be_bytes();
+    start[24] = high;
+    start[25] = low;
+    start
+}
+
+/// Writes what follows the ports. No gateway tests the checksum of a datagram or of a segment; it
+/// stands for any.
+fn set_transport(frame: &mut [u8; LONGEST], kind: Kind) {
+    match kind.protocol {
+        Protocol::Udp => {
+            let [high, low] = kind.size.saturating_sub(20).to_be_bytes();
+            frame[38] = high;
+            frame[39] = low;
+            frame[40] = 0x12;
+            frame[41] = 0x34;
+        }
+        Protocol::Tcp => {
+            // An acknowledgement without options.
+            frame[46] = 0x50;
+            frame[47] = 0x10;
+            frame[50] = 0x12;
+            frame[51] = 0x34;
+        }
+    }
+}
+
+/// The frame of such a packet, which is of no pair yet. Its payload is zeros.
+pub(crate) fn frame_of(kind: Kind) -> [u8; LONGEST] {
+    let mut frame = [0; LONGEST];
+    frame[..STARTS].copy_from_slice(&summed(start_of(kind)));
+    set_transport(&mut frame, kind);
+    frame
+}
+
+/// Makes it a packet of the pair with this number, counted from 0.
+pub(crate) fn set_pair(frame: &mut [u8; LONGEST], side: Side, number: u32) {
+    match side {
+        Side::Inside => {
+            let [_, _, high, low] = (FIRST_INSIDE + number % PORTS).to_be_bytes();
+            frame[34] = high;
+            frame[35] = low;
+        }
+        Side::Outside => {
+            let [_, _, high, low] = (FIRST_OUTSIDE + number % PORTS).to_be_bytes();
+            frame[36] = high;
+            frame[37] = low;
+        }
+    }
+}

@@ -1,0 +1,98 @@
+//! The gateway that is measured. Nothing here says what a step does, so that what a caller has to
+//! show stays small.
+
+use crate::packets::{HEADER, Kind, LONGEST, PORTS, frame_of, set_pair};
+use addresses::Protocol;
+use anyhow::{Result, bail};
+use gateway::{Event, Gateway, Out, Outcome};
+use nat_types::{GatewayId, Side};
+use settings::Settings;
+use std::alloc::Global;
+
+/// When its routers are Active, in centiseconds.
+const ACTIVE: u64 = 360;
+
+/// The bytes of a packet that opens a pair.
+const OPENING: u16 = 44;
+
+/// A gateway, and what it told last.
+#[derive(Drop)]
+pub(crate) struct Station {
+    gateway: Gateway,
+    out: Out,
+}
+
+impl Station {
+    /// Gateway 0 in this boot, founded or not.
+    fn new(alloc: Global, boot: u64, found: bool) -> Result<Station> {
+        if boot == 0 {
+            bail!("boots are counted from 1");
+        }
+        let settings = Settings::sample(alloc)?;
+        Ok(Station {
+            gateway: Gateway::new(alloc, &settings, GatewayId::Zero, boot, found)?,
+            out: Out::new(alloc),
+        })
+    }
+
+    /// A founded gateway of the sample settings, Active on both sides, with so many pairs: of this
+    /// protocol while it has ports, the others of the other one.
+    pub(crate) fn ready(alloc: Global, protocol: Protocol, pairs: u32) -> Result<Station> {
+        let mut station = Station::new(alloc, 1, true)?;
+        station.tick(ACTIVE)?;
+        station.open(protocol, pairs.min(PORTS))?;
+        station.open(other(protocol), pairs.saturating_sub(PORTS))?;
+        Ok(station)
+    }
+
+    /// The clock goes on.
+    fn tick(&mut self, moment: u64) -> Result<()> {
+        let event = Event::Tick(moment);
+        step(&mut self.gateway, event, &mut self.out)?;
+        Ok(())
+    }
+
+    /// Opens so many pairs, each by a packet of its own.
+    fn open(&mut self, protocol: Protocol, pairs: u32) -> Result<()> {
+        let (side, size) = (Side::Inside, OPENING);
+        let mut frame = frame_of(Kind {
+            side,
+            protocol,
+            size,
+        });
+        for number in 0..pairs {
+            set_pair(&mut frame, side, number);
+            if !self.sends_on(side, &frame, size)? {
+                bail!("pair {number} wasn't opened");
+            }
+        }
+        Ok(())
+    }
+
+    /// Whether it sends on a packet of so many bytes that comes in on a side.
+    pub(crate) fn sends_on(
+        &mut self,
+        side: Side,
+        frame: &[u8; LONGEST],
+        size: u16,
+    ) -> Result<bool> {
+        let bytes = &frame[..(HEADER + usize::from(size)).min(LONGEST)];
+        let event = Event::Frame(side, bytes);
+        let outcome = step(&mut self.gateway, event, &mut self.out)?;
+        Ok(outcome == Outcome::Sent)
+    }
+}
+
+fn other(protocol: Protocol) -> Protocol {
+    match protocol {
+        Protocol::Tcp => Protocol::Udp,
+        Protocol::Udp => Protocol::Tcp,
+    }
+}
+
+/// One step, by a cleared `Out`.
+fn step(gateway: &mut Gateway, event: Event<'_>, out: &mut Out) -> Result<Outcome> {
+    out.clear();
+    let outcome = gateway.step(event, out)?;
+    Ok(outcome)
+}

@@ -1,0 +1,45 @@
+//! Steps whose growth is refused: a gateway takes what the lines of each file say; where memory is
+//! refused, nothing may have changed, and the step has to go when it is asked for again.
+#![tactic(auto)]
+
+mod shown;
+mod stations;
+
+use anyhow::Result;
+use stations::Station;
+use std::alloc::Global;
+use std::fs;
+use std::io::{self, Write};
+use std::rt::Files;
+
+/// The text of a file, asked for once more where memory is refused.
+fn text_of<R: Files + AllocGlobal>(rt: &R, name: &str) -> Result<String> {
+    match fs::read_to_string(rt, name) {
+        Ok(text) => Ok(text),
+        Err(_refused) => Ok(fs::read_to_string(rt, name)?),
+    }
+}
+
+/// What the lines of a text say, at a founded gateway. A line is empty, begins with `#`, or is one
+/// of `Station::act`.
+fn play<O: Write>(alloc: Global, text: &str, output: &mut O) -> Result<()> {
+    let mut station = Station::new(alloc, 1, true)?;
+    for line in text.lines() {
+        if line.is_empty() || line.starts_with("#") {
+            continue;
+        }
+        writeln!(output, "{line}")?;
+        station.act(line, output)?;
+    }
+    Ok(())
+}
+
+fn main(rt: HostRuntime) -> Result<()> {
+    let mut output = io::writer(&rt);
+    for name in ["word.cases", "accepts.cases"] {
+        let text = text_of(&rt, name)?;
+        writeln!(output, "== {name}")?;
+        play(rt.alloc(), text.as_str(), &mut output)?;
+    }
+    Ok(())
+}

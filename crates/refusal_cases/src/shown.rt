@@ -1,0 +1,99 @@
+//! What shows of a gateway, and of what it told.
+
+use addresses::Port;
+use anyhow::Result;
+use gateway::{Gateway, Out};
+use nat_types::{Note, Pair, Side};
+use std::alloc::Global;
+use std::io::{self, Write};
+
+/// Room for what is told, so that copying it asks for memory once.
+const ROOM: usize = 4096;
+
+/// What a gateway knows beside its table.
+#[derive(Clone, Copy, PartialEq, Eq)]
+struct Standing {
+    moment: u64,
+    synced: bool,
+    inside_active: bool,
+    outside_active: bool,
+    known_peer: u64,
+    hears_peer: bool,
+}
+
+/// All that shows: what a gateway knows, its pairs, those that translate, the ports that it owns;
+/// and the frames, the datagrams and the notes that were told.
+#[derive(Drop)]
+pub(crate) struct Shown {
+    standing: Standing,
+    pairs: Vec<Pair>,
+    translating: Vec<Pair>,
+    owned: Vec<Port>,
+    sent: Vec<u8>,
+    notes: Vec<Note>,
+}
+
+impl Shown {
+    pub(crate) fn is_same(&self, other: &Shown) -> bool {
+        self.standing == other.standing
+            && self.pairs.as_slice() == other.pairs.as_slice()
+            && self.translating.as_slice() == other.translating.as_slice()
+            && self.owned.as_slice() == other.owned.as_slice()
+            && self.sent.as_slice() == other.sent.as_slice()
+            && self.notes.as_slice() == other.notes.as_slice()
+    }
+}
+
+/// What shows now, asked for once more where memory is refused.
+pub(crate) fn observe(alloc: Global, gateway: &Gateway, out: &Out) -> Result<Shown> {
+    match observe_once(alloc, gateway, out) {
+        Ok(seen) => Ok(seen),
+        Err(_refused) => observe_once(alloc, gateway, out),
+    }
+}
+
+fn observe_once(alloc: Global, gateway: &Gateway, out: &Out) -> Result<Shown> {
+    Ok(Shown {
+        standing: standing_of(gateway),
+        pairs: gateway.pairs()?,
+        translating: gateway.translating()?,
+        owned: gateway.owned()?,
+        sent: sent_by(alloc, out)?,
+        notes: Vec::from_slice(alloc, out.notes())?,
+    })
+}
+
+fn standing_of(gateway: &Gateway) -> Standing {
+    Standing {
+        moment: gateway.moment(),
+        synced: gateway.synced(),
+        inside_active: gateway.is_active(Side::Inside),
+        outside_active: gateway.is_active(Side::Outside),
+        known_peer: gateway.known_peer(),
+        hears_peer: gateway.hears_peer(),
+    }
+}
+
+/// The frames, each behind its side and length, and the datagrams, each behind its length.
+fn sent_by(alloc: Global, out: &Out) -> Result<Vec<u8>> {
+    let mut list = Vec::with_capacity(alloc, ROOM)?;
+    copy_frames(&mut list, out)?;
+    copy_datagrams(&mut list, out)?;
+    Ok(list)
+}
+
+fn copy_frames(list: &mut Vec<u8>, out: &Out) -> io::Result<()> {
+    for frame in out.frames() {
+        writeln!(list, "{} {}", frame.side, frame.bytes.len())?;
+        list.write_all(frame.bytes)?;
+    }
+    Ok(())
+}
+
+fn copy_datagrams(list: &mut Vec<u8>, out: &Out) -> io::Result<()> {
+    for datagram in out.datagrams() {
+        writeln!(list, "{}", datagram.len())?;
+        list.write_all(datagram)?;
+    }
+    Ok(())
+}

@@ -1,0 +1,166 @@
+//! A gateway whose steps are asked for again where memory is refused.
+
+use crate::shown::{Shown, observe};
+use anyhow::{Context, Result, bail};
+use gateway::{Event, Gateway, NoMemory, Out, Outcome};
+use nat_types::{GatewayId, Side};
+use settings::Settings;
+use std::alloc::Global;
+use std::io::Write;
+
+/// A gateway, and what it told.
+#[derive(Drop)]
+pub(crate) struct Station {
+    alloc: Global,
+    gateway: Gateway,
+    out: Out,
+}
+
+impl Station {
+    /// Gateway 0 of the sample settings in this boot, founded or not.
+    pub(crate) fn new(alloc: Global, boot: u64, found: bool) -> Result<Station> {
+        let settings = match Settings::sample(alloc) {
+            Ok(settings) => settings,
+            Err(_refused) => Settings::sample(alloc)?,
+        };
+        let gateway = match started(alloc, &settings, boot, found) {
+            Ok(gateway) => gateway,
+            Err(_refused) => started(alloc, &settings, boot, found)?,
+        };
+        let out = Out::new(alloc);
+        Ok(Station {
+            alloc,
+            gateway,
+            out,
+        })
+    }
+
+    /// Does what a line says, and prints what comes of a step.
+    ///
+    /// - `tick MOMENT`, `frame SIDE HEX`, `datagram HEX`, `peer-off BOOT`: a step
+    /// - `page`: what was told is forgotten, with all room for more
+    /// - `frames`: prints the frames that were told
+    pub(crate) fn act<O: Write>(&mut self, line: &str, output: &mut O) -> Result<()> {
+        let (verb, rest) = line.split_once(' ').unwrap_or((line, ""));
+        match verb {
+            "tick" => self.tick(rest, output),
+            "frame" => self.frame(rest, output),
+            "datagram" => self.datagram(rest, output),
+            "peer-off" => self.peer_off(rest, output),
+            "page" => self.page(),
+            "frames" => tell_frames(output, &self.out),
+            _ => bail!("no line of the cases: {line}"),
+        }
+    }
+
+    fn tick<O: Write>(&mut self, moment: &str, output: &mut O) -> Result<()> {
+        let event = Event::Tick(moment.parse::<u64>()?);
+        step(self.alloc, &mut self.gateway, event, &mut self.out, output)
+    }
+
+    fn frame<O: Write>(&mut self, rest: &str, output: &mut O) -> Result<()> {
+        let (side, digits) = rest.split_once(' ').context("no side")?;
+        let side = side_named(side)?;
+        let bytes = bytes_of(self.alloc, digits)?;
+        let event = Event::Frame(side, bytes.as_slice());
+        step(self.alloc, &mut self.gateway, event, &mut self.out, output)
+    }
+
+    fn datagram<O: Write>(&mut self, digits: &str, output: &mut O) -> Result<()> {
+        let bytes = bytes_of(self.alloc, digits)?;
+        let event = Event::Datagram(bytes.as_slice());
+        step(self.alloc, &mut self.gateway, event, &mut self.out, output)
+    }
+
+    fn peer_off<O: Write>(&mut self, boot: &str, output: &mut O) -> Result<()> {
+        let event = Event::PeerOff(boot.parse::<u64>()?);
+        step(self.alloc, &mut self.gateway, event, &mut self.out, output)
+    }
+
+    fn page(&mut self) -> Result<()> {
+        self.out = Out::new(self.alloc);
+        Ok(())
+    }
+}
+
+fn side_named(word: &str) -> Result<Side> {
+    match word {
+        "inside" => Ok(Side::Inside),
+        "outside" => Ok(Side::Outside),
+        _ => bail!("no side {word}"),
+    }
+}
+
+/// The bytes of hexadecimal digits, asked for once more where memory is refused.
+fn bytes_of(alloc: Global, digits: &str) -> Result<Vec<u8>> {
+    match hex::decode(alloc, digits) {
+        Ok(bytes) => Ok(bytes),
+        Err(_refused) => Ok(hex::decode(alloc, digits)?),
+    }
+}
+
+/// A gateway, of which nothing is said, so that what a caller has to show stays small.
+fn started(alloc: Global, settings: &Settings, boot: u64, found: bool) -> Result<Gateway> {
+    if boot == 0 {
+        bail!("boots are counted from 1");
+    }
+    let gateway = Gateway::new(alloc, settings, GatewayId::Zero, boot, found)?;
+    Ok(gateway)
+}
+
+/// One step, of which nothing is said either.
+fn once(gateway: &mut Gateway, event: Event<'_>, out: &mut Out) -> Result<Outcome, NoMemory> {
+    gateway.step(event, out)
+}
+
+/// Takes an event; where a growth is refused nothing has changed, and it takes the event then.
+fn step<O: Write>(
+    alloc: Global,
+    gateway: &mut Gateway,
+    event: Event<'_>,
+    out: &mut Out,
+    output: &mut O,
+) -> Result<()> {
+    let before = observe(alloc, gateway, out)?;
+    match once(gateway, event, out) {
+        Ok(outcome) => tell_outcome(output, outcome),
+        Err(NoMemory) => {
+            writeln!(output, "  refused")?;
+            tell_change(output, &before, &observe(alloc, gateway, out)?)?;
+            tell_outcome(output, once(gateway, event, out)?)
+        }
+    }
+}
+
+fn tell_change<O: Write>(output: &mut O, before: &Shown, after: &Shown) -> Result<()> {
+    if !before.is_same(after) {
+        writeln!(output, "  something changed")?;
+    }
+    Ok(())
+}
+
+fn tell_outcome<O: Write>(output: &mut O, outcome: Outcome) -> Result<()> {
+    match outcome {
+        Outcome::Sent => writeln!(output, "  sent")?,
+        Outcome::Waiting => writeln!(output, "  waiting")?,
+        Outcome::Done => writeln!(output, "  done")?,
+        Outcome::Dropped(reason) => writeln!(output, "  dropped {}", reason.number())?,
+    }
+    Ok(())
+}
+
+fn tell_frames<O: Write>(output: &mut O, out: &Out) -> Result<()> {
+    for frame in out.frames() {
+        write!(output, "  {} ", frame.side)?;
+        tell_bytes(output, frame.bytes)?;
+    }
+    Ok(())
+}
+
+fn tell_bytes<O: Write>(output: &mut O, bytes: &[u8]) -> Result<()> {
+    for byte in bytes {
+        write!(output, "{byte:02x}")?;
+    }
+    writeln!(output)?;
+    Ok(())
+}
