@@ -86,7 +86,7 @@ def follow(current, probe, test, seconds):
 
 def download(options):
     size = options.megabytes * MEGABYTE
-    with scene(options.capture, bool(options.capture)) as current:
+    with scene(options.program, options.capture, bool(options.capture)) as current:
         checksum = publish(current, size)
         probe = Probe(current)
         follow(current, probe, lambda: probe.flow.answered > 0, 5)

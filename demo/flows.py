@@ -10,6 +10,8 @@ from pair import HOSTS, SERVER
 PORT = 4000
 # A datagram is sent again after so many seconds without an answer.
 AGAIN = 1.0
+# A flow that isn't answered for so many seconds is silent.
+PATIENCE = 30
 
 
 class Loop:

@@ -13,6 +13,8 @@ import socket
 import struct
 import subprocess
 
+from ending import SIGNALS, undisturbed
+
 CLONE_NEWNET = 0x40000000
 PR_SET_PDEATHSIG = 1
 SIOCETHTOOL = 0x8946
@@ -20,6 +22,8 @@ SIOCETHTOOL = 0x8946
 OFFLOADS = (0x15, 0x17, 0x19, 0x1F, 0x24, 0x2C)
 # ETHTOOL_GTXCSUM
 SENDS_CHECKSUMS = 0x16
+# A short program is over in so many seconds.
+LONGEST_RUN = 20
 
 LIBC = ctypes.CDLL(None, use_errno=True)
 
@@ -68,6 +72,7 @@ class Namespace:
         """What a child does before its program begins."""
         check(LIBC.setns(self.handle, CLONE_NEWNET))
         os.setpgrp()
+        signal.pthread_sigmask(signal.SIG_UNBLOCK, SIGNALS)
         LIBC.prctl(PR_SET_PDEATHSIG, signal.SIGKILL)
         if os.getppid() != parent:
             os._exit(1)
@@ -75,25 +80,30 @@ class Namespace:
     def start(self, *words, **options):
         """A program that runs in the namespace until it ends or `close` ends it."""
         parent = os.getpid()
-        child = subprocess.Popen(words, preexec_fn=lambda: self.begin(parent), **options)
-        self.children.append(child)
+        with undisturbed():
+            child = subprocess.Popen(words, preexec_fn=lambda: self.begin(parent), **options)
+            self.children.append(child)
         return child
 
     def run(self, *words, **options):
-        """Runs a program in the namespace to its end, which has to be a good one."""
+        """Runs a short program in the namespace to its end, which has to be a good one."""
         parent = os.getpid()
+        line = " ".join(words)
         try:
-            done = subprocess.run(
-                words,
-                preexec_fn=lambda: self.begin(parent),
-                check=True,
-                capture_output=True,
-                text=True,
-                **options,
-            )
+            with undisturbed():
+                done = subprocess.run(
+                    words,
+                    preexec_fn=lambda: self.begin(parent),
+                    check=True,
+                    capture_output=True,
+                    text=True,
+                    timeout=LONGEST_RUN,
+                    **options,
+                )
         except subprocess.CalledProcessError as error:
-            line = " ".join(words)
             raise SystemExit(f"demo: {self.name}: {line}: {error.stderr.strip()}") from None
+        except subprocess.TimeoutExpired:
+            raise SystemExit(f"demo: {self.name}: {line}: not over in {LONGEST_RUN} s") from None
         return done.stdout
 
     def ip(self, *words):

@@ -1,6 +1,5 @@
 """The two networks, and the two boxes between them."""
 
-import os
 import pathlib
 import shutil
 import signal
@@ -10,12 +9,12 @@ import tempfile
 import time
 import tomllib
 
+from ending import undisturbed
 from joiner import LINK_ADDRESSES
 from namespaces import Namespace
 
 FOLDER = pathlib.Path(__file__).resolve().parent
 SETTINGS = FOLDER / "natpair.toml"
-PROGRAM = os.environ.get("NATPAIR", FOLDER.parent / "crates/natpair/out/natpair")
 PYTHON = (sys.executable, "-B")
 
 HOSTS = ("192.168.1.10", "192.168.1.11", "192.168.1.12", "192.168.1.13")
@@ -40,8 +39,9 @@ def wait_until(test, seconds, what):
 class Box:
     """One of the two boxes: a namespace with three interfaces, and `natpair gate`."""
 
-    def __init__(self, number, folder):
+    def __init__(self, number, program, folder):
         self.number = number
+        self.program = str(program)
         self.space = Namespace(f"box {number}")
         self.folder = folder / f"box{number}"
         self.folder.mkdir()
@@ -52,7 +52,7 @@ class Box:
         self.joiner = None
 
     def natpair(self, *words):
-        return self.space.run(str(PROGRAM), *words, cwd=self.folder)
+        return self.space.run(self.program, *words, cwd=self.folder)
 
     def join(self):
         """Plugs the box in: its interfaces have no address and answer nothing by themselves."""
@@ -75,7 +75,7 @@ class Box:
         """Starts `natpair gate`, and waits until it has printed its boot number."""
         number = str(self.number)
         self.starts += 1
-        line = (str(PROGRAM), "gate", str(SETTINGS), "--id", number, "--rounds", ROUNDS, *words)
+        line = (self.program, "gate", str(SETTINGS), "--id", number, "--rounds", ROUNDS, *words)
         with open(self.output, "wb") as output, open(self.log, "wb") as log:
             self.gate = self.space.start(*line, cwd=self.folder, stdout=output, stderr=log)
         wait_until(lambda: self.output.read_text().endswith("\n"), 10, f"{line} prints its boot")
@@ -130,9 +130,10 @@ class Switch:
 class Networks:
     """Everything that is built: switches, hosts, router, server, boxes."""
 
-    def __init__(self, stack):
-        folder = pathlib.Path(tempfile.mkdtemp(prefix="natpair-demo-"))
-        stack.callback(shutil.rmtree, folder, ignore_errors=True)
+    def __init__(self, program, stack):
+        with undisturbed():
+            folder = pathlib.Path(tempfile.mkdtemp(prefix="natpair-demo-"))
+            stack.callback(shutil.rmtree, folder, ignore_errors=True)
         self.folder = folder
         with open(SETTINGS, "rb") as file:
             self.settings = tomllib.load(file)
@@ -140,7 +141,7 @@ class Networks:
         self.router = Namespace("router")
         self.server = Namespace("server")
         self.switches = {side: Switch(side) for side in SIDES}
-        self.boxes = (Box(0, folder), Box(1, folder))
+        self.boxes = (Box(0, program, folder), Box(1, program, folder))
         for space in self.spaces():
             stack.callback(space.close)
         self.plug()

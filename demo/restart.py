@@ -1,6 +1,6 @@
 """The killed box comes back, loads the table and takes over; then the other is killed."""
 
-from flows import Flows, verdict
+from flows import PATIENCE, Flows, verdict
 from scene import audit, scene, show
 
 WINDOW = 48
@@ -17,7 +17,7 @@ class Tally:
 
     def ask(self, name):
         flows = [flow for flow in self.flows.flows if flow.answered]
-        self.flows.ask(flows, 30)
+        self.flows.ask(flows, PATIENCE)
         held, moved, silent = verdict(flows)
         self.current.say(f"{held} of {len(flows)} flows hold their port")
         self.rows.append((name, len(flows), held, moved, silent))
@@ -27,7 +27,7 @@ class Tally:
 
 
 def restart(options):
-    with scene(options.capture) as current:
+    with scene(options.program, options.capture) as current:
         flows = Flows(current.loop, current.networks.host, current.stack)
         tally = Tally(current, flows)
         flows.open(options.flows, WINDOW, 60)

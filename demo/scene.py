@@ -1,7 +1,6 @@
 """What each scene begins with, and how it tells what it saw."""
 
 import contextlib
-import pathlib
 import shutil
 import subprocess
 import time
@@ -17,14 +16,13 @@ TOLD = 10
 class Scene:
     """Both networks with the pair founded, box 1 synced, and box 0 Active on both sides."""
 
-    def __init__(self, stack, capture=None, all_frames=True):
+    def __init__(self, program, stack, capture, all_frames):
         self.stack = stack
         self.begun = time.monotonic()
-        self.networks = Networks(stack)
+        self.networks = Networks(program, stack)
         self.boxes = self.networks.boxes
         self.loop = Loop()
         if capture:
-            capture = pathlib.Path(capture)
             capture.mkdir(parents=True, exist_ok=True)
             stack.callback(self.keep_logs, capture)
         self.observer = Observer(self.networks, stack, capture, all_frames)
@@ -79,9 +77,9 @@ class Scene:
 
 
 @contextlib.contextmanager
-def scene(capture=None, all_frames=True):
+def scene(program, capture=None, all_frames=True):
     with contextlib.ExitStack() as stack:
-        yield Scene(stack, capture, all_frames)
+        yield Scene(program, stack, capture, all_frames)
 
 
 def show(title, heads, rows):

@@ -1,9 +1,8 @@
 """A thousand fresh flows, then the kill: each that had an answer keeps its outside port."""
 
-import pathlib
 import time
 
-from flows import Flows, verdict
+from flows import PATIENCE, Flows, verdict
 from scene import audit, scene, show
 
 # At most so many flows wait for their first answer at a time.
@@ -59,9 +58,9 @@ def try_new(current, flows):
 
 def try_condition(options, name):
     condition = CONDITIONS[name]
-    capture = options.capture and pathlib.Path(options.capture) / name
+    capture = options.capture and options.capture / name
     print(f"\n{condition.name}", flush=True)
-    with scene(capture) as current:
+    with scene(options.program, capture) as current:
         if condition.before:
             condition.before(current)
         flows = Flows(current.loop, current.networks.host, current.stack)
@@ -76,12 +75,12 @@ def try_condition(options, name):
             condition.afterwards(current)
         flows.ask(answered, 0)
         current.tell_takeover(1, killed)
-        flows.wait(answered, 30)
+        flows.wait(answered, PATIENCE)
         current.say("of those with an answer {} hold their port, {} have another, {} are silent"
                     .format(*verdict(answered)))
         late = sum(flow.answered > 0 for flow in waiting)
         soon, told = try_new(current, flows)
-        flows.ask(answered, 15)
+        flows.ask(answered, PATIENCE)
         held, moved, silent = verdict(answered)
         if silent:
             sent = sum(current.observer.sent_on(flow) for flow in answered
