@@ -142,12 +142,12 @@ class Flows:
         self.flows = []
         self.repeated = 0.0
 
-    def open(self, count, window, seconds, enough=None):
+    def open(self, count, window, seconds, left=0):
         """Opens so many fresh flows, half of them UDP, at most `window` unanswered at a time, and
-        waits for `enough` answers, or all. Gives the new ones."""
+        waits until at most `left` of them are unanswered. Gives the new ones."""
         new, answered = [], []
         end = time.monotonic() + seconds
-        while time.monotonic() < end and len(answered) < (enough or count):
+        while time.monotonic() < end and (len(new) < count or len(answered) + left < count):
             may_open = len(new) < count and len(new) - len(answered) < window
             if may_open:
                 new.append(self.open_one(answered.append))

@@ -36,10 +36,11 @@ CONDITIONS = {
 
 def open_flows(current, flows, condition, count):
     """Opens the flows. Where nothing happens half-way, a few are unanswered at the end."""
+    left = min(WINDOW, count // 2) // 2
     if condition.halfway is None:
-        flows.open(count, WINDOW, 60, count - WINDOW // 2)
+        flows.open(count, WINDOW, 60, left)
         return
-    flows.open(count // 2, WINDOW, 60, count // 2 - WINDOW // 2)
+    flows.open(count // 2, WINDOW, 60, left)
     condition.halfway(current)
     current.say(condition.name.removesuffix(" half-way"))
     flows.open(count - len(flows.flows), count, 5)
