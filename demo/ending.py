@@ -7,7 +7,7 @@ SIGNALS = (signal.SIGINT, signal.SIGTERM, signal.SIGHUP)
 
 
 def leave(number, _):
-    """Ends the demo by way of all that removes something, which a further signal doesn't disturb."""
+    """Ends the demo, all that it made being removed first. No further signal disturbs that."""
     for each in SIGNALS:
         signal.signal(each, signal.SIG_IGN)
     raise SystemExit(128 + number)
