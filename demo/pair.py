@@ -1,0 +1,200 @@
+"""The two networks, and the two boxes between them."""
+
+import pathlib
+import shutil
+import signal
+import subprocess
+import sys
+import tempfile
+import time
+import tomllib
+
+from ending import undisturbed
+from joiner import LINK_ADDRESSES
+from namespaces import Namespace
+
+FOLDER = pathlib.Path(__file__).resolve().parent
+SETTINGS = FOLDER / "natpair.toml"
+PYTHON = (sys.executable, "-B")
+
+HOSTS = ("192.168.1.10", "192.168.1.11", "192.168.1.12", "192.168.1.13")
+ROUTER = "192.0.2.254"
+BEYOND = "198.51.100.1"
+SERVER = "198.51.100.7"
+LINK_MTU = 4096
+# The rounds of a box that isn't to end by itself.
+ROUNDS = "4294967295"
+SIDES = ("inside", "outside")
+
+
+def wait_until(test, seconds, what):
+    """Waits until a test holds, and ends the demo where it doesn't come to hold."""
+    end = time.monotonic() + seconds
+    while not test():
+        if time.monotonic() > end:
+            raise SystemExit(f"demo: {what}: not within {seconds} s")
+        time.sleep(0.01)
+
+
+class Box:
+    """One of the two boxes: a namespace with three interfaces, and `natpair gate`."""
+
+    def __init__(self, number, program, folder):
+        self.number = number
+        self.program = str(program)
+        self.space = Namespace(f"box {number}")
+        self.folder = folder / f"box{number}"
+        self.folder.mkdir()
+        self.output = self.folder / "output"
+        self.starts = 0
+        self.boot = 0
+        self.gate = None
+        self.joiner = None
+
+    def natpair(self, *words):
+        return self.space.run(self.program, *words, cwd=self.folder)
+
+    def join(self):
+        """Plugs the box in: its interfaces have no address and answer nothing by themselves."""
+        for name in SIDES:
+            self.space.ip("link", "set", "dev", name, "arp", "off")
+        self.space.ip("link", "set", "dev", "link", "mtu", str(LINK_MTU))
+        address = f"{LINK_ADDRESSES[self.number]}/24"
+        self.space.ip("addr", "add", address, "dev", "link")
+        words = (*PYTHON, str(FOLDER / "joiner.py"), str(SETTINGS), str(self.number))
+        self.joiner = self.space.start(*words, stdout=subprocess.PIPE)
+        if self.joiner.stdout.readline() != b"joined\n":
+            raise SystemExit(f"demo: the joiner of box {self.number} doesn't run")
+
+    @property
+    def log(self):
+        """The file of the lines of the last start."""
+        return self.folder / f"box{self.number}.{self.starts}.log"
+
+    def start(self, *words):
+        """Starts `natpair gate`, and waits until it has printed its boot number."""
+        number = str(self.number)
+        self.starts += 1
+        line = (self.program, "gate", str(SETTINGS), "--id", number, "--rounds", ROUNDS, *words)
+        with open(self.output, "wb") as output, open(self.log, "wb") as log:
+            self.gate = self.space.start(*line, cwd=self.folder, stdout=output, stderr=log)
+        wait_until(lambda: self.output.read_text().endswith("\n"), 10, f"{line} prints its boot")
+        self.boot = int(self.output.read_text().split()[1])
+
+    def is_synced(self):
+        """Whether the box said so since its last start."""
+        return any(line.endswith(" synced") for line in self.log.read_text().splitlines())
+
+    def kill(self):
+        self.gate.send_signal(signal.SIGKILL)
+        moment = time.monotonic()
+        self.gate.wait()
+        return moment
+
+    def halt(self):
+        self.gate.send_signal(signal.SIGSTOP)
+
+    def go_on(self):
+        self.gate.send_signal(signal.SIGCONT)
+
+    def peer_off(self, boot):
+        """Says to this box that the other's boot of this number is off."""
+        words = ("--id", str(self.number), "--boot", str(boot))
+        self.natpair("peer-off", str(SETTINGS), *words)
+
+    def dropped(self):
+        """How often the box dropped something since its last start, by where and why."""
+        counts = {}
+        for line in self.log.read_text().splitlines():
+            words = line.split()
+            if "dropped" in words:
+                name = " ".join(words[2:])
+                counts[name] = counts.get(name, 0) + 1
+        return counts
+
+
+class Switch:
+    """A switch: a bridge of all interfaces of its namespace."""
+
+    def __init__(self, name):
+        self.space = Namespace(f"{name} switch")
+        self.space.ip("link", "add", "name", "bridge", "type", "bridge", "forward_delay", "0",
+                      "mcast_snooping", "0")
+        self.space.ip("link", "set", "dev", "bridge", "arp", "off", "up")
+
+    def plug(self, port, other, other_name):
+        self.space.cable(port, other, other_name)
+        self.space.ip("link", "set", "dev", port, "master", "bridge", "arp", "off")
+
+
+class Networks:
+    """Everything that is built: switches, hosts, router, server, boxes."""
+
+    def __init__(self, program, stack):
+        with undisturbed():
+            folder = pathlib.Path(tempfile.mkdtemp(prefix="natpair-demo-"))
+            stack.callback(shutil.rmtree, folder, ignore_errors=True)
+        self.folder = folder
+        with open(SETTINGS, "rb") as file:
+            self.settings = tomllib.load(file)
+        self.host = Namespace("host")
+        self.router = Namespace("router")
+        self.server = Namespace("server")
+        self.switches = {side: Switch(side) for side in SIDES}
+        self.boxes = (Box(0, program, folder), Box(1, program, folder))
+        for space in self.spaces():
+            stack.callback(space.close)
+        self.plug()
+        self.address()
+
+    def spaces(self):
+        ends = [self.host, self.router, self.server]
+        ends += [switch.space for switch in self.switches.values()]
+        return ends + [box.space for box in self.boxes]
+
+    def plug(self):
+        self.switches["inside"].plug("host", self.host, "eth0")
+        self.switches["outside"].plug("router", self.router, "eth0")
+        self.router.cable("eth1", self.server, "eth0")
+        for box in self.boxes:
+            for side, switch in self.switches.items():
+                switch.plug(f"box{box.number}", box.space, side)
+        self.boxes[0].space.cable("link", self.boxes[1].space, "link")
+
+    def address(self):
+        """The hosts' addresses and routes. They know the virtual addresses alone."""
+        for address in HOSTS:
+            self.host.ip("addr", "add", f"{address}/24", "dev", "eth0")
+        virtual = self.settings["inside"]["virtual"]
+        self.host.ip("route", "add", "default", "via", virtual)
+        self.router.ip("addr", "add", f"{ROUTER}/24", "dev", "eth0")
+        self.router.ip("addr", "add", f"{BEYOND}/24", "dev", "eth1")
+        self.router.sysctl("ipv4/ip_forward", 1)
+        self.server.ip("addr", "add", f"{SERVER}/24", "dev", "eth0")
+        self.server.ip("route", "add", "default", "via", BEYOND)
+        for box in self.boxes:
+            box.join()
+
+    def found(self):
+        """Makes both boot files, founds the pair on box 0, and waits until box 1 has its table."""
+        for box in self.boxes:
+            box.natpair("init", f"boot{box.number}")
+        self.boxes[0].start("--found")
+        self.boxes[1].start()
+        wait_until(self.boxes[1].is_synced, 10, "box 1 is synced")
+
+    def slow_link(self, rate):
+        """Lets so many bits a second through the link, each way, with a queue of half a second."""
+        for box in self.boxes:
+            box.space.run("tc", "qdisc", "add", "dev", "link", "root", "tbf", "rate", rate,
+                          "burst", "8kb", "latency", "500ms")
+
+    def cut_link(self):
+        self.boxes[0].space.ip("link", "set", "dev", "link", "down")
+
+    def down_interval(self, number):
+        """After how many seconds without an advertisement a box takes over: three intervals of the
+        Active box, and the skew of the own priority."""
+        own = self.settings[f"gateway_{number}"]
+        interval = self.settings[f"gateway_{1 - number}"]["interval"] / 100
+        return 3 * interval + (256 - own["priority"]) * interval / 256
