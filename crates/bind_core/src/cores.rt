@@ -482,6 +482,25 @@ impl Core {
     {
         books_keep();
         feed_works();
+        if link.wanted() > 0 {
+            self.draw_for(link);
+        }
+    }
+
+    /// Draws what the link wants of a promised batch, and hands it in. Its room is cleared for each call, so that it is
+    /// only called where some is wanted.
+    fn draw_for(&mut self, link: &mut Link)
+        requires promised { length self.old.coming ≡ link.old.promised }
+        ensures core { self.new ≡ record self.old {
+          coming = drop (wanted link.old) self.old.coming;
+        } }
+        ensures link { link.new ≡ with_fed link.old (take (wanted link.old) self.old.coming) }
+        ensures enough { wanted link.new ≡ 0 }
+        ensures works { (now : ℕ) (h : List Rec) (n : ℕ) → Stands (book_of self.old) link.old h
+            → Works now [] [] (book_of self.old) link.old n (book_of self.new) link.new n [] h }
+    {
+        books_keep();
+        feed_works();
         let mut records = ArrayVec::new();
         self.cursor.draw(&self.table, link.wanted(), &mut records);
         link.feed(records.as_slice());

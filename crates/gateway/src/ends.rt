@@ -58,6 +58,7 @@ pub(crate) fn end_other(forwarder: &mut Forwarder, page: &mut Page)
 {
     let synced = forwarder.core.is_synced();
     forwarder.core.hand_in(&mut forwarder.link);
-    let datagram = forwarder.link.answer(synced);
-    send(page, datagram);
+    if forwarder.link.is_due() {
+        send(page, forwarder.link.answer(synced));
+    }
 }

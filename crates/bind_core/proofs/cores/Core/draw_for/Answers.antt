@@ -3,7 +3,7 @@ use Rattle.resync.specs.Cursor.{coming}
 use Rattle.bind_core.specs.Cores.{book_of}
 use Rattle.bind_core.specs.View.{core_of}
 use Rattle.bind_core.proofs.Performing.{fed-works, drawn-first}
-use Rattle.bind_core.proofs.cores.Core.hand_in.Goals as goal
+use Rattle.bind_core.proofs.cores.Core.draw_for.Goals as goal
 
 pub returns-clause-works : goal.returns-clause-works
 returns-clause-works c = rw (← c.self.view_is) (λ now h n stands.
