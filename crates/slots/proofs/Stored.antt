@@ -1,11 +1,13 @@
 -- What the slots and their cells keep, and what single calls make of them.
-use Rattle.std.proofs.Common.{◌≡◌, ◌⊎◌, inl, inr, ℕ, zero, suc, ◌+◌, ◌<◌, ◌≤◌, Bool, true, false, nat_lt, count_by, Option, Some, None, List, [], ◌∷◌, length, get_or, set, refl, ap, sym, ◌∙◌, arith}
+use Rattle.std.proofs.Common.{◌≡◌, ◌⊎◌, inl, inr, ℕ, zero, suc, ◌+◌, ◌<◌, ◌≤◌, Bool, true, false, cond, nat_lt, count_by, Option, Some, None, List, [], ◌∷◌, length, get_or, set, refl, ap, sym, ◌∙◌, arith}
 use Rattle.std.specs.List.{find}
 use Rattle.std.specs.Option.{option_map, is_some, IfSome}
 use Rattle.std.proofs.lemmas.Bool.{cases_eq, lt-ltb, le-ltb}
 use Rattle.std.proofs.lemmas.List.{length-map, get_or-set_same, get_or-set_other, length-set}
 use Rattle.nat_types.specs.declared.pairs.Key.{Key}
-use Rattle.slab.specs.Slab.{Slab, Updates, slab_len}
+use Rattle.slab.specs.Slab.{Slab, Updates, slab_len, with_value}
+use Rattle.slab.proofs.SlabLemmas.{ContainsKey-within, Updates-with_value}
+use Rattle.std.proofs.lemmas.List.Sums.{sum_by-set}
 use Rattle.slab.specs.Slab.{get as slab_get}
 use Rattle.slots.specs.declared.numbers.SlotNumber.{SlotNumber}
 use Rattle.slots.specs.Rows.{Row, key_place, has_key, row_of, item_of, number_of, put_in, without, with_item, stands_behind}
@@ -205,6 +207,16 @@ module _ {T : Type 0} where
 
       made : rows_in slots2 cells ≡ with_item (key_at c) t (rows_in slots cells)
       made = old (item_at slots n) refl
+
+  -- a write through what `get_mut` lent
+  pub lent-stored : (slots : Slab T) (cells : List (Option SlotNumber)) (room c : ℕ) (n : SlotNumber) (w : T) → IsStored slots cells room → get_or cells c None ≡ Some n
+      → Changed (with_value slots n.0 w) cells room (with_item (key_at c) w (rows_in slots cells))
+  lent-stored slots cells room c n w s has =
+      let used = s.used c n has in
+      let within = ContainsKey-within slots n.0 used in
+      let count = sum_by-set (λ (o : Option T). cond (is_some o) 1 0) slots.slots n.0 (Some w) None within in
+      let one = ap (λ b. (let k : ℕ = cond b 1 0 in k)) used in
+      write-stored slots (with_value slots n.0 w) cells room c n w s has (Updates-with_value slots n.0 w used) (omega (arith, count, one)) refl
 
 -- what a clause says of a key that is there
 pub key-of : (last : Option Key) → IfSome last (λ key. key_at (cell_of key) ≡ key) → (key : Key) → last ≡ Some key → key_at (cell_of key) ≡ key

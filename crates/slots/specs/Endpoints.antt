@@ -1,5 +1,5 @@
 -- What callers see of an index from endpoints to slots.
-use Rattle.std.specs.Prelude.{ℕ, Bool, List, [], ◌∷◌, Option, None, Some, if◌then◌else◌}
+use Rattle.std.specs.Prelude.{ℕ, List, [], ◌∷◌, Option, None, Some, if◌then◌else◌}
 use Rattle.nat_types.specs.declared.pairs.Endpoint.{Endpoint}
 use Rattle.nat_types.specs.Same.{same_endpoint}
 use Rattle.slots.specs.declared.numbers.SlotNumber.{SlotNumber}

@@ -2,8 +2,10 @@
 #![tactic(auto)]
 
 mod cells;
+mod endpoints;
 mod numbers;
 mod port_slots;
 
+pub use endpoints::EndpointIndex;
 pub use numbers::SlotNumber;
 pub use port_slots::PortSlots;
