@@ -2,4 +2,4 @@ pub mod Places
 pub mod Rows
 pub mod Edits
 pub mod Stored
-pub mod Endpoints
+pub mod LookUps
