@@ -2,3 +2,4 @@ pub mod Rows
 pub mod Cells
 pub mod Endpoints
 pub mod Lends
+pub mod Hashers

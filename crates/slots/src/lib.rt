@@ -3,9 +3,11 @@
 
 mod cells;
 mod endpoints;
+mod hashers;
 mod numbers;
 mod port_slots;
 
 pub use endpoints::EndpointIndex;
+pub use hashers::Hashers;
 pub use numbers::SlotNumber;
 pub use port_slots::PortSlots;
