@@ -15,3 +15,4 @@ pub mod Unbroken
 pub mod Resting
 pub mod Rooms
 pub mod Uses
+pub mod Kept

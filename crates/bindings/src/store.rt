@@ -1,0 +1,312 @@
+//! The entries of a table in slots, each with its life. A slot is found by key and by endpoint.
+ghost use Rattle.std.specs.Prelude.{◌≡◌, ◌+◌, ◌<◌, ◌≤◌, [], Some, None, true, false, not, ◌&&◌, if◌then◌else◌, length, IfOk, OnOk};
+ghost use Rattle.nat_types.specs.declared.pairs.Endpoint.{Endpoint as InsidePort};
+ghost use Rattle.slots.specs.Endpoints.{slot_of as number_of_endpoint};
+ghost use Rattle.std.specs.List.{insert};
+ghost use Rattle.bindings.specs.declared.entries.Entry.{Entry as Row};
+ghost use Rattle.bindings.specs.Entries.{is_pair, serves, slot_of, entry_of, HasDistinctEndpoints};
+ghost use Rattle.bindings.specs.Lists.{put_in, place_in, without, with_state, after_key, RisesUp};
+ghost use Rattle.bindings.specs.Lives.{lives_with, lives_without, rests_at, is_unused_at};
+ghost use Rattle.lives.specs.Lives.{life_carried, life_renewed, looks_idle};
+ghost use Rattle.slots.specs.Rows.{item_of, with_item};
+ghost use Rattle.bindings.specs.declared.store.Item.{Item as Kept};
+
+use crate::Entry;
+use crate::entries::{endpoint_of_entry, is_pair_state, key_of_entry, restated, state_of_entry};
+use lives::{Life, Packet};
+use nat_types::{Endpoint, EntryState, Key};
+use slots::{EndpointIndex, Hashers, PortSlots, SlotNumber};
+use std::alloc::{AllocError, Global};
+use std::marker::Model;
+
+/// What a slot has.
+#[derive(Drop)]
+pub(crate) struct Item {
+    entry: Entry,
+    life: Life,
+}
+
+/// Entries by protocol (tcp first) and port, each with its life.
+#[derive(Drop)]
+pub(crate) struct Store {
+    slots: PortSlots<Item>,
+    // The slot of each pair, by its endpoint. A Doomed entry is none.
+    index: EndpointIndex<Hashers>,
+}
+
+impl Model for Store {
+    ghost use Rattle.bindings.specs.Stores.{Store as Seen};
+
+    ghost Value = { Seen };
+
+    ghost use Rattle.bindings.specs.Stores.{entries_of, lives_of, IsIndexed};
+
+    ghost view = { λ s. record {
+      entries = entries_of s.slots.rows;
+      lives = lives_of s.slots.rows;
+      room = s.slots.room;
+      spare = s.index.spare;
+    } };
+
+    ghost invariant = { λ s. IsIndexed s.slots.rows s.index };
+}
+
+fn entry_of_item(item: &Item) -> Entry
+    ensures { result ≡ item.now.entry }
+{
+    item.entry
+}
+
+fn item_with(entry: Entry, life: Life) -> Item
+    ensures { result ≡ record { entry = entry; life = life } }
+{
+    Item { entry, life }
+}
+
+/// An entry that comes in is found by its endpoint where it is a pair.
+fn list_entry(index: &mut EndpointIndex<Hashers>, entry: Entry, number: SlotNumber)
+    requires { 0 < index.old.spare }
+    ensures slots { (x : InsidePort) → number_of_endpoint index.new x ≡ (if serves x entry
+        then Some number else number_of_endpoint index.old x) }
+    ensures spare { index.old.spare ≤ index.new.spare + 1 }
+{
+    if is_pair_state(state_of_entry(entry)) {
+        index.put(endpoint_of_entry(entry), number);
+    }
+}
+
+/// An entry that goes is found no more.
+fn unlist(index: &mut EndpointIndex<Hashers>, entry: Entry)
+    ensures slots { (x : InsidePort) → number_of_endpoint index.new x ≡ (if serves x entry
+        then None else number_of_endpoint index.old x) }
+    ensures spare { index.old.spare ≤ index.new.spare }
+{
+    if is_pair_state(state_of_entry(entry)) {
+        index.remove(endpoint_of_entry(entry));
+    }
+}
+
+/// An entry that isn't a pair in its new state is found no more.
+fn unlist_turned(index: &mut EndpointIndex<Hashers>, entry: Entry, state: EntryState)
+    ensures slots { (x : InsidePort) → number_of_endpoint index.new x
+        ≡ (if serves x entry && not (is_pair state) then None
+        else number_of_endpoint index.old x) }
+    ensures spare { index.old.spare ≤ index.new.spare }
+{
+    if !is_pair_state(state) {
+        unlist(index, entry);
+    }
+}
+
+/// Puts another entry into a key's slot.
+fn put_entry(slots: &mut PortSlots<Item>, key: Key, entry: Entry)
+    ensures some { (item : Kept) → item_of slots.old.rows key ≡ Some item → slots.new
+        ≡ record slots.old { rows = with_item key (record item { entry = entry }) slots.old.rows } }
+    ensures none { item_of slots.old.rows key ≡ None → slots.new ≡ slots.old }
+{
+    if let Some(item) = slots.get_mut(key) {
+        item.entry = entry;
+    }
+}
+
+/// A packet is carried with a key's pair.
+fn put_packet(slots: &mut PortSlots<Item>, key: Key, packet: Packet)
+    ensures some { (item : Kept) → item_of slots.old.rows key ≡ Some item → slots.new
+        ≡ record slots.old {
+      rows = with_item key (record item {
+        life = life_carried key.protocol packet item.life;
+      }) slots.old.rows;
+    } }
+    ensures none { item_of slots.old.rows key ≡ None → slots.new ≡ slots.old }
+{
+    if let Some(item) = slots.get_mut(key) {
+        item.life.carried(key.protocol, packet);
+    }
+}
+
+/// The list of packets of a key's pair begins empty.
+fn put_renewal(slots: &mut PortSlots<Item>, key: Key, now: u64)
+    ensures some { (item : Kept) → item_of slots.old.rows key ≡ Some item → slots.new
+        ≡ record slots.old {
+      rows = with_item key (record item { life = life_renewed now item.life }) slots.old.rows;
+    } }
+    ensures none { item_of slots.old.rows key ≡ None → slots.new ≡ slots.old }
+{
+    if let Some(item) = slots.get_mut(key) {
+        item.life.renew(now);
+    }
+}
+
+impl Store {
+    /// No entries, and room for so many.
+    pub(crate) fn new(alloc: Global, room: usize, hashers: Hashers) -> Result<Store, AllocError>
+        ensures entries { IfOk result (λ s. s.entries ≡ []) }
+        ensures lives { IfOk result (λ s. s.lives ≡ []) }
+        ensures room { IfOk result (λ s. s.room ≡ room) }
+    {
+        let slots = PortSlots::new(alloc, room)?;
+        let index = EndpointIndex::new(alloc, hashers);
+        Ok(Store { slots, index })
+    }
+
+    /// Reminds the prover of the order of the entries; it does nothing when it runs.
+    pub(crate) fn recall(&self)
+        ensures order { RisesUp 0 self.now.entries }
+        ensures alike { length self.now.lives ≡ length self.now.entries }
+    {
+        self.slots.recall();
+    }
+
+    pub(crate) fn len(&self) -> usize
+        ensures { result ≡ length self.now.entries }
+    {
+        self.slots.len()
+    }
+
+    /// Makes room in the index for so many more pairs.
+    pub(crate) fn ready(&mut self, more: usize) -> Result<(), AllocError>
+        ensures ok { OnOk result (more ≤ self.new.spare) }
+        ensures spare { self.old.spare ≤ self.new.spare }
+        ensures same { self.new ≡ record self.old { spare = self.new.spare } }
+    {
+        self.index.ready(more)
+    }
+
+    /// The entry of a key.
+    pub(crate) fn entry(&self, key: Key) -> Option<Entry>
+        ensures { result ≡ slot_of self.now.entries key }
+    {
+        match self.slots.get(key) {
+            Some(item) => Some(entry_of_item(item)),
+            None => None,
+        }
+    }
+
+    /// The entry of an endpoint. A Doomed one doesn't count.
+    pub(crate) fn entry_of(&self, endpoint: Endpoint) -> Option<Entry>
+        ensures { result ≡ entry_of self.now.entries endpoint }
+    {
+        self.slots.recall();
+        let number = self.index.get(endpoint)?;
+        match self.slots.at(number) {
+            Some(item) => Some(entry_of_item(item)),
+            None => None,
+        }
+    }
+
+    /// The first entry behind a key in the order, or the first of all.
+    pub(crate) fn entry_after(&self, last: Option<Key>) -> Option<Entry>
+        ensures { result ≡ after_key last self.now.entries }
+    {
+        self.slots.recall();
+        let key = self.slots.key_after(last)?;
+        match self.slots.get(key) {
+            Some(item) => Some(entry_of_item(item)),
+            None => None,
+        }
+    }
+
+    /// One more entry, whose life begins.
+    pub(crate) fn add(&mut self, entry: Entry, life: Life)
+        requires vacant { slot_of self.old.entries entry.pair.key ≡ None }
+        requires free { is_pair entry.state ≡ true
+            → entry_of self.old.entries entry.pair.endpoint ≡ None }
+        requires room { length self.old.entries < self.old.room }
+        requires spare { 0 < self.old.spare }
+        ensures entries { self.new.entries ≡ put_in entry self.old.entries }
+        ensures lives { self.new.lives ≡ insert self.old.lives (place_in entry.pair
+            self.old.entries) life }
+        ensures room { self.new.room ≡ self.old.room }
+        ensures spare { self.old.spare ≤ self.new.spare + 1 }
+    {
+        let number = self
+            .slots
+            .insert(key_of_entry(entry), item_with(entry, life));
+        list_entry(&mut self.index, entry, number);
+    }
+
+    /// Gives a key's entry another state. None becomes a pair by it.
+    pub(crate) fn turn(&mut self, key: Key, state: EntryState)
+        requires pair { (e : Row) → slot_of self.old.entries key ≡ Some e → is_pair state ≡ true
+            → is_pair e.state ≡ true }
+        requires endpoints { (e : Row) → slot_of self.old.entries key ≡ Some e
+            → is_pair e.state ≡ true → is_pair state ≡ false → HasDistinctEndpoints
+            self.old.entries }
+        ensures entries { self.new.entries ≡ with_state key state self.old.entries }
+        ensures lives { self.new.lives ≡ self.old.lives }
+        ensures room { self.new.room ≡ self.old.room }
+        ensures spare { self.old.spare ≤ self.new.spare }
+    {
+        self.slots.recall();
+        if let Some(entry) = self.entry(key) {
+            unlist_turned(&mut self.index, entry, state);
+            put_entry(&mut self.slots, key, restated(entry, state));
+        }
+    }
+
+    /// Takes a key's entry out, and its life.
+    pub(crate) fn take_out(&mut self, key: Key)
+        requires { (e : Row) → slot_of self.old.entries key ≡ Some e → is_pair e.state ≡ true
+            → HasDistinctEndpoints self.old.entries }
+        ensures entries { self.new.entries ≡ without key self.old.entries }
+        ensures lives { self.new.lives ≡ lives_without key self.old.entries self.old.lives }
+        ensures room { self.new.room ≡ self.old.room }
+        ensures spare { self.old.spare ≤ self.new.spare }
+    {
+        self.slots.recall();
+        if let Some(item) = self.slots.remove(key) {
+            unlist(&mut self.index, entry_of_item(&item));
+        }
+    }
+
+    /// Takes all entries out.
+    pub(crate) fn clear(&mut self)
+        ensures entries { self.new.entries ≡ [] }
+        ensures lives { self.new.lives ≡ [] }
+        ensures room { self.new.room ≡ self.old.room }
+        ensures spare { self.old.spare ≤ self.new.spare }
+    {
+        self.slots.clear();
+        self.index.clear();
+    }
+
+    /// A packet is carried with a key's pair.
+    pub(crate) fn carry(&mut self, key: Key, packet: Packet)
+        ensures { self.new ≡ record self.old {
+          lives = lives_with (life_carried key.protocol packet) key self.old.entries self.old.lives;
+        } }
+    {
+        self.slots.recall();
+        put_packet(&mut self.slots, key, packet);
+    }
+
+    /// The list of packets of a key's pair begins empty.
+    pub(crate) fn renew(&mut self, key: Key, now: u64)
+        ensures { self.new ≡ record self.old {
+          lives = lives_with (life_renewed now) key self.old.entries self.old.lives;
+        } }
+    {
+        self.slots.recall();
+        put_renewal(&mut self.slots, key, now);
+    }
+
+    /// Whether a key's pair is idle.
+    pub(crate) fn is_idle(&self, key: Key, now: u64) -> bool
+        ensures { result ≡ rests_at self.now.entries self.now.lives key now }
+    {
+        match self.slots.get(key) {
+            Some(item) => item.life.is_idle(key.protocol, now),
+            None => false,
+        }
+    }
+
+    /// Whether a key's pair came by Install and carried nothing since.
+    pub(crate) fn is_unused(&self, key: Key) -> bool
+        ensures { result ≡ is_unused_at self.now.entries self.now.lives key }
+    {
+        match self.slots.get(key) {
+            Some(item) => item.life.is_unused(),
+            None => false,
+        }
+    }
+}
