@@ -172,7 +172,7 @@ entries-without key (x ∷ rows) k = by (same_key x.item.entry.pair.key key) (ap
     by true e ih = rw e ih
     by false e ih = rw e (ap (λ es. x.item.entry ∷ es) ih)
 
-rows-without_none : (key : Key) (rows : List (Row Item)) → slots.row_of rows key ≡ None → slots.without key rows ≡ rows
+pub rows-without_none : (key : Key) (rows : List (Row Item)) → slots.row_of rows key ≡ None → slots.without key rows ≡ rows
 rows-without_none key [] h = refl
 rows-without_none key (x ∷ rows) h = by (same_key x.key key) h (rows-without_none key rows)
   where

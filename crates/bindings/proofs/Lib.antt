@@ -16,3 +16,5 @@ pub mod Resting
 pub mod Rooms
 pub mod Uses
 pub mod Kept
+pub mod Changes
+pub mod Stored

@@ -1,6 +1,6 @@
 //! Entries of a table, and lists of them by protocol (tcp first) and port.
 ghost use Rattle.std.specs.Prelude.{◌≡◌, ◌+◌, ◌<◌, ◌≤◌, nat_lt, length, position, IfOk};
-ghost use Rattle.bindings.specs.Entries.{is_pair, translates, entry_in, has_key, serves, slot_of, entry_of, refusal_of, pairs_in, place_of};
+ghost use Rattle.bindings.specs.Entries.{is_pair, translates, has_key, serves, slot_of, entry_of, refusal_of, pairs_in, place_of};
 ghost use Rattle.bindings.specs.Lists.{place_in, key_place, stands_behind, after_key};
 ghost use Rattle.bindings.specs.Ports.{in_bounds, is_vacant};
 ghost use Rattle.bindings.specs.Revivals.{woken};
@@ -62,32 +62,16 @@ pub(crate) fn is_translating(state: EntryState) -> bool
     }
 }
 
-pub(crate) fn key_of_entry(entry: Entry) -> Key
-    ensures { result ≡ entry.pair.key }
+pub(crate) fn key_of(pair: Pair) -> Key
+    ensures { result ≡ pair.key }
 {
-    entry.pair.key
+    pair.key
 }
 
-pub(crate) fn endpoint_of_entry(entry: Entry) -> Endpoint
-    ensures { result ≡ entry.pair.endpoint }
+pub(crate) fn endpoint_of(pair: Pair) -> Endpoint
+    ensures { result ≡ pair.endpoint }
 {
-    entry.pair.endpoint
-}
-
-pub(crate) fn state_of_entry(entry: Entry) -> EntryState
-    ensures { result ≡ entry.state }
-{
-    entry.state
-}
-
-/// The entry in another state.
-pub(crate) fn restated(entry: Entry, state: EntryState) -> Entry
-    ensures { result ≡ entry_in state entry.pair }
-{
-    Entry {
-        pair: entry.pair,
-        state,
-    }
+    pair.endpoint
 }
 
 /// The state of a pair once the peer begins anew: what was proposed or asked to be closed translates.

@@ -4,17 +4,18 @@ ghost use Rattle.nat_types.specs.declared.pairs.Endpoint.{Endpoint as InsidePort
 ghost use Rattle.slots.specs.Endpoints.{slot_of as number_of_endpoint};
 ghost use Rattle.std.specs.List.{insert};
 ghost use Rattle.bindings.specs.declared.entries.Entry.{Entry as Row};
-ghost use Rattle.bindings.specs.Entries.{is_pair, serves, slot_of, entry_of, HasDistinctEndpoints};
+ghost use Rattle.bindings.specs.Entries.{is_pair, serves, slot_of, entry_of, entry_in, HasDistinctEndpoints};
 ghost use Rattle.bindings.specs.Lists.{put_in, place_in, without, with_state, after_key, RisesUp};
 ghost use Rattle.bindings.specs.Lives.{lives_with, lives_without, rests_at, is_unused_at};
 ghost use Rattle.lives.specs.Lives.{life_carried, life_renewed, looks_idle};
-ghost use Rattle.slots.specs.Rows.{item_of, with_item};
+ghost use Rattle.slots.specs.Rows.{item_of, number_of, with_item};
+ghost use Rattle.nat_types.specs.declared.pairs.Key.{Key as OutsidePort};
 ghost use Rattle.bindings.specs.declared.store.Item.{Item as Kept};
 
 use crate::Entry;
-use crate::entries::{endpoint_of_entry, is_pair_state, key_of_entry, restated, state_of_entry};
+use crate::entries::{endpoint_of, is_pair_state, key_of};
 use lives::{Life, Packet};
-use nat_types::{Endpoint, EntryState, Key};
+use nat_types::{Endpoint, EntryState, Key, Pair};
 use slots::{EndpointIndex, Hashers, PortSlots, SlotNumber};
 use std::alloc::{AllocError, Global};
 use std::marker::Model;
@@ -57,55 +58,79 @@ fn entry_of_item(item: &Item) -> Entry
     item.entry
 }
 
-fn item_with(entry: Entry, life: Life) -> Item
-    ensures { result ≡ record { entry = entry; life = life } }
+fn item_with(pair: Pair, state: EntryState, life: Life) -> Item
+    ensures { result ≡ record { entry = entry_in state pair; life = life } }
 {
+    let entry = Entry { pair, state };
     Item { entry, life }
 }
 
 /// An entry that comes in is found by its endpoint where it is a pair.
-fn list_entry(index: &mut EndpointIndex<Hashers>, entry: Entry, number: SlotNumber)
+fn list_pair(
+    index: &mut EndpointIndex<Hashers>,
+    pair: Pair,
+    state: EntryState,
+    number: SlotNumber,
+)
     requires { 0 < index.old.spare }
-    ensures slots { (x : InsidePort) → number_of_endpoint index.new x ≡ (if serves x entry
-        then Some number else number_of_endpoint index.old x) }
+    ensures slots { (x : InsidePort) → number_of_endpoint index.new x ≡ (if serves x (entry_in
+        state pair) then Some number else number_of_endpoint index.old x) }
     ensures spare { index.old.spare ≤ index.new.spare + 1 }
 {
-    if is_pair_state(state_of_entry(entry)) {
-        index.put(endpoint_of_entry(entry), number);
+    if is_pair_state(state) {
+        index.put(endpoint_of(pair), number);
     }
 }
 
 /// An entry that goes is found no more.
-fn unlist(index: &mut EndpointIndex<Hashers>, entry: Entry)
-    ensures slots { (x : InsidePort) → number_of_endpoint index.new x ≡ (if serves x entry
-        then None else number_of_endpoint index.old x) }
+fn unlist(index: &mut EndpointIndex<Hashers>, pair: Pair, state: EntryState)
+    ensures slots { (x : InsidePort) → number_of_endpoint index.new x ≡ (if serves x (entry_in
+        state pair) then None else number_of_endpoint index.old x) }
     ensures spare { index.old.spare ≤ index.new.spare }
 {
-    if is_pair_state(state_of_entry(entry)) {
-        index.remove(endpoint_of_entry(entry));
+    if is_pair_state(state) {
+        index.remove(endpoint_of(pair));
     }
 }
 
 /// An entry that isn't a pair in its new state is found no more.
-fn unlist_turned(index: &mut EndpointIndex<Hashers>, entry: Entry, state: EntryState)
+fn unlist_turned(
+    index: &mut EndpointIndex<Hashers>,
+    pair: Pair,
+    was: EntryState,
+    state: EntryState,
+)
     ensures slots { (x : InsidePort) → number_of_endpoint index.new x
-        ≡ (if serves x entry && not (is_pair state) then None
+        ≡ (if serves x (entry_in was pair) && not (is_pair state) then None
         else number_of_endpoint index.old x) }
     ensures spare { index.old.spare ≤ index.new.spare }
 {
     if !is_pair_state(state) {
-        unlist(index, entry);
+        unlist(index, pair, was);
     }
 }
 
-/// Puts another entry into a key's slot.
-fn put_entry(slots: &mut PortSlots<Item>, key: Key, entry: Entry)
+/// The entry in a slot that is in use.
+fn entry_at(slots: &PortSlots<Item>, number: SlotNumber) -> Option<Entry>
+    ensures { (key : OutsidePort) → (item : Kept) → number_of slots.now.rows key ≡ Some number
+        → item_of slots.now.rows key ≡ Some item → result ≡ Some item.entry }
+{
+    match slots.at(number) {
+        Some(item) => Some(entry_of_item(item)),
+        None => None,
+    }
+}
+
+/// Puts a pair in another state into a key's slot.
+fn put_state(slots: &mut PortSlots<Item>, key: Key, pair: Pair, state: EntryState)
     ensures some { (item : Kept) → item_of slots.old.rows key ≡ Some item → slots.new
-        ≡ record slots.old { rows = with_item key (record item { entry = entry }) slots.old.rows } }
+        ≡ record slots.old {
+      rows = with_item key (record item { entry = entry_in state pair }) slots.old.rows;
+    } }
     ensures none { item_of slots.old.rows key ≡ None → slots.new ≡ slots.old }
 {
     if let Some(item) = slots.get_mut(key) {
-        item.entry = entry;
+        item.entry = Entry { pair, state };
     }
 }
 
@@ -187,9 +212,8 @@ impl Store {
         ensures { result ≡ entry_of self.now.entries endpoint }
     {
         self.slots.recall();
-        let number = self.index.get(endpoint)?;
-        match self.slots.at(number) {
-            Some(item) => Some(entry_of_item(item)),
+        match self.index.get(endpoint) {
+            Some(number) => entry_at(&self.slots, number),
             None => None,
         }
     }
@@ -199,30 +223,28 @@ impl Store {
         ensures { result ≡ after_key last self.now.entries }
     {
         self.slots.recall();
-        let key = self.slots.key_after(last)?;
-        match self.slots.get(key) {
-            Some(item) => Some(entry_of_item(item)),
+        match self.slots.key_after(last) {
+            Some(key) => self.entry(key),
             None => None,
         }
     }
 
-    /// One more entry, whose life begins.
-    pub(crate) fn add(&mut self, entry: Entry, life: Life)
-        requires vacant { slot_of self.old.entries entry.pair.key ≡ None }
-        requires free { is_pair entry.state ≡ true
-            → entry_of self.old.entries entry.pair.endpoint ≡ None }
+    /// One more entry, with its life.
+    pub(crate) fn add(&mut self, pair: Pair, state: EntryState, life: Life)
+        requires vacant { slot_of self.old.entries pair.key ≡ None }
+        requires free { is_pair state ≡ true → entry_of self.old.entries pair.endpoint ≡ None }
         requires room { length self.old.entries < self.old.room }
         requires spare { 0 < self.old.spare }
-        ensures entries { self.new.entries ≡ put_in entry self.old.entries }
-        ensures lives { self.new.lives ≡ insert self.old.lives (place_in entry.pair
+        ensures entries { self.new.entries ≡ put_in (entry_in state pair) self.old.entries }
+        ensures lives { self.new.lives ≡ insert self.old.lives (place_in pair
             self.old.entries) life }
         ensures room { self.new.room ≡ self.old.room }
         ensures spare { self.old.spare ≤ self.new.spare + 1 }
     {
         let number = self
             .slots
-            .insert(key_of_entry(entry), item_with(entry, life));
-        list_entry(&mut self.index, entry, number);
+            .insert(key_of(pair), item_with(pair, state, life));
+        list_pair(&mut self.index, pair, state, number);
     }
 
     /// Gives a key's entry another state. None becomes a pair by it.
@@ -239,8 +261,9 @@ impl Store {
     {
         self.slots.recall();
         if let Some(entry) = self.entry(key) {
-            unlist_turned(&mut self.index, entry, state);
-            put_entry(&mut self.slots, key, restated(entry, state));
+            let Entry { pair, state: was } = entry;
+            unlist_turned(&mut self.index, pair, was, state);
+            put_state(&mut self.slots, key, pair, state);
         }
     }
 
@@ -255,7 +278,8 @@ impl Store {
     {
         self.slots.recall();
         if let Some(item) = self.slots.remove(key) {
-            unlist(&mut self.index, entry_of_item(&item));
+            let Entry { pair, state } = entry_of_item(&item);
+            unlist(&mut self.index, pair, state);
         }
     }
 
