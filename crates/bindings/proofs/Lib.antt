@@ -18,3 +18,4 @@ pub mod Uses
 pub mod Kept
 pub mod Changes
 pub mod Stored
+pub mod Walks

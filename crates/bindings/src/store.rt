@@ -6,8 +6,8 @@ ghost use Rattle.std.specs.List.{insert};
 ghost use Rattle.bindings.specs.declared.entries.Entry.{Entry as Row};
 ghost use Rattle.bindings.specs.Entries.{is_pair, serves, slot_of, entry_of, entry_in, HasDistinctEndpoints};
 ghost use Rattle.bindings.specs.Lists.{put_in, place_in, without, with_state, after_key, RisesUp};
-ghost use Rattle.bindings.specs.Lives.{lives_with, lives_without, rests_at, is_unused_at};
-ghost use Rattle.lives.specs.Lives.{life_carried, life_renewed, looks_idle};
+ghost use Rattle.bindings.specs.Lives.{life_in, lives_with, lives_without, rests_at, is_unused_at};
+ghost use Rattle.lives.specs.Lives.{Life as Lived, Past, Agrees, with_packet, renewed, life_carried, life_renewed};
 ghost use Rattle.slots.specs.Rows.{item_of, number_of, with_item};
 ghost use Rattle.nat_types.specs.declared.pairs.Key.{Key as OutsidePort};
 ghost use Rattle.bindings.specs.declared.store.Item.{Item as Kept};
@@ -143,6 +143,9 @@ fn put_packet(slots: &mut PortSlots<Item>, key: Key, packet: Packet)
       }) slots.old.rows;
     } }
     ensures none { item_of slots.old.rows key ≡ None → slots.new ≡ slots.old }
+    ensures agrees { (item : Kept) → (past : Past) → item_of slots.old.rows key ≡ Some item → Agrees
+        key.protocol past item.life → Agrees key.protocol (with_packet packet past)
+        (life_carried key.protocol packet item.life) }
 {
     if let Some(item) = slots.get_mut(key) {
         item.life.carried(key.protocol, packet);
@@ -156,6 +159,9 @@ fn put_renewal(slots: &mut PortSlots<Item>, key: Key, now: u64)
       rows = with_item key (record item { life = life_renewed now item.life }) slots.old.rows;
     } }
     ensures none { item_of slots.old.rows key ≡ None → slots.new ≡ slots.old }
+    ensures agrees { (item : Kept) → (past : Past) → item_of slots.old.rows key ≡ Some item → Agrees
+        key.protocol past item.life → Agrees key.protocol (renewed now past)
+        (life_renewed now item.life) }
 {
     if let Some(item) = slots.get_mut(key) {
         item.life.renew(now);
@@ -296,9 +302,12 @@ impl Store {
 
     /// A packet is carried with a key's pair.
     pub(crate) fn carry(&mut self, key: Key, packet: Packet)
-        ensures { self.new ≡ record self.old {
+        ensures lives { self.new ≡ record self.old {
           lives = lives_with (life_carried key.protocol packet) key self.old.entries self.old.lives;
         } }
+        ensures agrees { (life : Lived) → (past : Past) → life_in self.old.entries self.old.lives
+            key ≡ Some life → Agrees key.protocol past life → Agrees key.protocol (with_packet
+            packet past) (life_carried key.protocol packet life) }
     {
         self.slots.recall();
         put_packet(&mut self.slots, key, packet);
@@ -306,9 +315,12 @@ impl Store {
 
     /// The list of packets of a key's pair begins empty.
     pub(crate) fn renew(&mut self, key: Key, now: u64)
-        ensures { self.new ≡ record self.old {
+        ensures lives { self.new ≡ record self.old {
           lives = lives_with (life_renewed now) key self.old.entries self.old.lives;
         } }
+        ensures agrees { (life : Lived) → (past : Past) → life_in self.old.entries self.old.lives
+            key ≡ Some life → Agrees key.protocol past life → Agrees key.protocol (renewed
+            now past) (life_renewed now life) }
     {
         self.slots.recall();
         put_renewal(&mut self.slots, key, now);
