@@ -19,3 +19,4 @@ pub mod Kept
 pub mod Changes
 pub mod Stored
 pub mod Walks
+pub mod Dropping

@@ -271,3 +271,7 @@ length-behind_without last key (x ∷ xs) = by (not (has_key key x)) (stands_beh
     by true false f ih = (let s = ap (λ c. length (cond c (x ∷ behind last (without key xs)) (behind last (without key xs)))) f in omega (arith, ih, s))
     by false true f ih = omega (arith, ih)
     by false false f ih = ih
+
+pub one-more : {X : Type 0} (b : Bool) (x : X) (xs : List X) → length (cond b (x ∷ []) [] ++ xs) ≡ cond b 1 0 + length xs
+one-more true x xs = omega arith
+one-more false x xs = omega arith

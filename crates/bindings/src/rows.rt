@@ -96,6 +96,12 @@ fn is_idle_entry(store: &Store, key: Key, state: EntryState, now: u64) -> bool
     is_translating(state) && store.is_idle(key, now)
 }
 
+fn one_if(passes: bool) -> usize
+    ensures { result ≡ (if passes then 1 else 0) }
+{
+    if passes { 1 } else { 0 }
+}
+
 /// How many entries translate and are idle.
 pub(crate) fn count_idle(store: &Store, now: u64) -> usize
     ensures { result ≡ length (idle_keys_in now store.now.entries store.now.lives) }
@@ -107,9 +113,7 @@ pub(crate) fn count_idle(store: &Store, now: u64) -> usize
     while let Some(entry) = store.entry_after(last) {
         let Entry { pair, state } = entry;
         let key = key_of(pair);
-        if is_idle_entry(store, key, state, now) {
-            count += 1;
-        }
+        count += one_if(is_idle_entry(store, key, state, now));
         last = Some(key);
     }
     let _ = most;

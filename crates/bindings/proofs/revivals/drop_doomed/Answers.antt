@@ -1,0 +1,74 @@
+use Rattle.std.proofs.Common.{◌≡◌, ◌<◌, ◌≤◌, Option, Some, None, not, refl, sym, ap, ◌∙◌, cond, length, arith}
+use Rattle.std.specs.List.{find}
+use Rattle.port_range.specs.Ports.{is_within}
+use Rattle.nat_types.specs.declared.pairs.Key.{Key}
+use Rattle.lives.specs.Lives.{Life}
+use Rattle.bindings.specs.Entries.{is_pair, slot_of}
+use Rattle.bindings.specs.Lists.{without}
+use Rattle.bindings.specs.Lives.{lives_without}
+use Rattle.bindings.specs.Ports.{AreFree}
+use Rattle.bindings.proofs.Owning.{alike-same}
+use Rattle.bindings.proofs.Revived.{all-pairs, all-kept}
+use Rattle.bindings.proofs.Walks.{behind, behind-none, behind-end, next-held}
+use Rattle.bindings.proofs.Dropping.{first_doomed, step}
+use Rattle.bindings.proofs.revivals.drop_doomed.Goals as goal
+
+pub loop-entry-init : goal.loop-entry-init
+loop-entry-init c = record {
+    same = c.requires.same;
+    free = c.requires.free;
+    pairs = refl;
+    kept = refl;
+    first = sym (ap first_doomed (behind-none c.args.store.now.entries));
+    room = refl;
+    spare = omega arith;
+    owned = record { tcp = refl; udp = refl };
+    bounds = record { tcp_low = refl; tcp_high = refl; udp_low = refl; udp_high = refl };
+  }
+
+pub drop_if_doomed-requires-clause-held : goal.drop_if_doomed-requires-clause-held
+drop_if_doomed-requires-clause-held c = next-held 0 c.loop-entry.last c.loop-entry.store.entries c.in-Some.entry c.recall.ensures.order (sym c.in-Some.ensures)
+
+pub loop-entry-smaller : goal.loop-entry-smaller
+loop-entry-smaller c =
+    let s = c.loop-entry.store in
+    let one = step c.loop-entry.last c.in-Some.entry s.entries s.lives c.recall.ensures.order c.recall.ensures.alike (sym c.in-Some.ensures) c.loop-entry.invariant.first in
+    rw (c.key_of.ensures, c.drop_if_doomed.ensures.entries) one.less
+
+pub loop-entry-preserved : goal.loop-entry-preserved
+loop-entry-preserved c =
+    let s = c.loop-entry.store in
+    let i = c.loop-entry.invariant in
+    let d = c.drop_if_doomed.ensures in
+    let old = c.loop-entry.ports in
+    let low = c.args.ports.now.tcp.lowest in
+    let high = c.args.ports.now.tcp.highest in
+    let one = step c.loop-entry.last c.in-Some.entry s.entries s.lives c.recall.ensures.order c.recall.ensures.alike (sym c.in-Some.ensures) i.first in
+    record {
+      same = alike-same low high old c.drop_if_doomed.new.ports i.same d.bounds d.owned;
+      free = rw (← i.bounds.tcp_low, ← i.bounds.tcp_high) d.free;
+      pairs = rw d.entries (one.pairs ∙ i.pairs);
+      kept = rw (d.entries, d.lives) (one.kept ∙ i.kept);
+      first = rw (c.key_of.ensures, d.entries) one.first;
+      room = d.room ∙ i.room;
+      spare = (let a = d.spare in let b = i.spare in omega (arith, a, b));
+      owned = record { tcp = d.owned.tcp ∙ i.owned.tcp; udp = d.owned.udp ∙ i.owned.udp };
+      bounds = record {
+        tcp_low = d.bounds.tcp_low ∙ i.bounds.tcp_low;
+        tcp_high = d.bounds.tcp_high ∙ i.bounds.tcp_high;
+        udp_low = d.bounds.udp_low ∙ i.bounds.udp_low;
+        udp_high = d.bounds.udp_high ∙ i.bounds.udp_high;
+      };
+    }
+
+pub returns-clause-entries : goal.returns-clause-entries
+returns-clause-entries c =
+    let s = c.loop-entry.store in
+    let none = c.loop-entry.invariant.first ∙ ap first_doomed (behind-end c.loop-entry.last s.entries (sym c.entry_after.ensures ∙ c.in_default.is)) in
+    sym (all-pairs s.entries none) ∙ c.loop-entry.invariant.pairs
+
+pub returns-clause-lives : goal.returns-clause-lives
+returns-clause-lives c =
+    let s = c.loop-entry.store in
+    let none = c.loop-entry.invariant.first ∙ ap first_doomed (behind-end c.loop-entry.last s.entries (sym c.entry_after.ensures ∙ c.in_default.is)) in
+    sym (all-kept s.entries s.lives c.recall-2.ensures.alike none) ∙ c.loop-entry.invariant.kept
