@@ -20,3 +20,4 @@ pub mod Changes
 pub mod Stored
 pub mod Walks
 pub mod Dropping
+pub mod Lived

@@ -15,9 +15,9 @@ use Rattle.bindings.specs.declared.entries.Entry.{Entry}
 use Rattle.bindings.specs.declared.store.Item.{Item}
 use Rattle.bindings.specs.Entries.{is_pair, serves, slot_of, entry_of, entry_in, HasDistinctEndpoints}
 use Rattle.bindings.specs.Lists.{with_state, without, after_key}
-use Rattle.bindings.specs.Lives.{lives_with, lives_without}
+use Rattle.bindings.specs.Lives.{life_in, lives_with, lives_without}
 use Rattle.bindings.specs.Stores.{Store, entries_of, lives_of, AreKeyed, number_for, IsIndexed}
-use Rattle.bindings.proofs.Kept.{slot-is, entry-is, after-is, own-row, keyed-put, number-put, keyed-without, rows-without_none}
+use Rattle.bindings.proofs.Kept.{slot-is, life-is, entry-is, after-is, own-row, keyed-put, number-put, keyed-without, rows-without_none}
 use Rattle.bindings.proofs.Changes.{keyed-with, entries-turned, entries-same, lives-same, lives-changed, lives-nowhere, number-with, number-same, number-without}
 
 -- what callers see of slots and an index
@@ -178,3 +178,11 @@ put-rows old new key key2 n item item2 h e f =
 -- the entry of a key's item is the key's
 pub held-by : (rows : List (Row Item)) (key : Key) (i : Item) → AreKeyed rows → slots.item_of rows key ≡ Some i → slot_of (entries_of rows) key ≡ Some i.entry
 held-by rows key i k h = slot-is rows key k ∙ ap (option_map (λ (z : Item). z.entry)) h
+
+-- the item of a key's life
+pub item-of_life : (rows : List (Row Item)) (key : Key) (l : Life) → AreKeyed rows → life_in (entries_of rows) (lives_of rows) key ≡ Some l → (i : Item) × (slots.item_of rows key ≡ Some i) × (i.life ≡ l)
+item-of_life rows key l k h = by (slots.item_of rows key) refl
+  where
+    by : (o : Option Item) → slots.item_of rows key ≡ o → (i : Item) × (slots.item_of rows key ≡ Some i) × (i.life ≡ l)
+    by None f = (let none = life-is rows key k ∙ ap (option_map (λ (i : Item). i.life)) f in absurd (cc))
+    by (Some i) f = (let some = life-is rows key k ∙ ap (option_map (λ (j : Item). j.life)) f in (i, f, cc))
