@@ -7,4 +7,4 @@ pub returns-then-holds : goal.returns-then-holds
 returns-then-holds c =
     let i = c.self.inside in
     rw (← c.self.view_is)
-    (c.is_free.ensures ∙ vacant-is (lowest_of i.zero i.one) (highest_of i.zero i.one) i.entries.items i.ports c.args.port.0 c.self.invariant.free c.self.invariant.same (sym c.holds.ensures ∙ c.if-holds.true))
+    (c.is_free.ensures ∙ vacant-is (lowest_of i.zero i.one) (highest_of i.zero i.one) i.store.entries i.ports c.args.port.0 c.self.invariant.0.free c.self.invariant.0.same (sym c.holds.ensures ∙ c.if-holds.true))
