@@ -1,5 +1,5 @@
 -- What becomes of a store's entries, lives and look-up once a row goes, or has another item.
-use Rattle.std.proofs.Common.{◌≡◌, ℕ, suc, ◌<◌, ◌≤◌, Bool, true, false, not, cond, ◌&&◌, Option, Some, None, List, [], ◌∷◌, length, map, refl, sym, ap, subst, ◌∙◌, arith}
+use Rattle.std.proofs.Common.{◌≡◌, ℕ, suc, Bool, true, false, not, cond, ◌&&◌, Option, Some, None, List, [], ◌∷◌, refl, sym, ap, subst, ◌∙◌, arith}
 use Rattle.std.specs.List.{find}
 use Rattle.std.specs.Option.{option_map}
 use Rattle.std.proofs.lemmas.Bool.{and_parts, both_ways, not-true}
@@ -9,7 +9,6 @@ use Rattle.nat_types.specs.declared.pairs.EntryState.{EntryState}
 use Rattle.nat_types.specs.Same.{same_key, same_endpoint}
 use Rattle.nat_types.proofs.Equal.{key-eq, endpoint-eq}
 use Rattle.lives.specs.Lives.{Life}
-use Rattle.slots.specs.declared.numbers.SlotNumber.{SlotNumber}
 use Rattle.slots.specs.Rows.{Row}
 use Rattle.slots.specs.Rows as slots
 use Rattle.bindings.specs.declared.entries.Entry.{Entry}

@@ -1,11 +1,11 @@
 -- A walk that takes the Doomed entries out: what one step leaves.
-use Rattle.std.proofs.Common.{◌≡◌, ◌<◌, ◌≤◌, Bool, true, false, not, cond, Option, Some, None, List, ◌∷◌, length, refl, sym, ap, ◌∙◌, arith}
+use Rattle.std.proofs.Common.{◌≡◌, ◌<◌, Bool, true, false, not, cond, Option, Some, List, length, refl, ap, ◌∙◌, arith}
 use Rattle.std.specs.List.{find}
 use Rattle.std.proofs.lemmas.Bool.{cond-true}
 use Rattle.nat_types.specs.declared.pairs.Key.{Key}
 use Rattle.lives.specs.Lives.{Life}
 use Rattle.bindings.specs.declared.entries.Entry.{Entry}
-use Rattle.bindings.specs.Entries.{is_pair, slot_of}
+use Rattle.bindings.specs.Entries.{is_pair}
 use Rattle.bindings.specs.Lists.{after_key, without, RisesUp}
 use Rattle.bindings.specs.Lives.{lives_without}
 use Rattle.bindings.specs.Revivals.{lives_of_pairs}

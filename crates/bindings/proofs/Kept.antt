@@ -1,24 +1,19 @@
 -- The entries and lives of a store's rows, and what a change of the rows makes of them.
-use Rattle.std.proofs.Common.{◌≡◌, ℕ, suc, ◌<◌, ◌≤◌, Bool, true, false, not, cond, ◌&&◌, nat_lt, Option, Some, None, List, [], ◌∷◌, length, map, refl, sym, ap, ◌∙◌, arith}
-use Rattle.std.specs.List.{find, filter, insert}
+use Rattle.std.proofs.Common.{◌≡◌, ℕ, suc, ◌<◌, ◌≤◌, Bool, true, false, not, cond, nat_lt, Option, Some, None, List, [], ◌∷◌, refl, sym, ap, ◌∙◌, arith}
+use Rattle.std.specs.List.{find, insert}
 use Rattle.std.specs.Option.{option_map}
-use Rattle.std.proofs.lemmas.Bool.{cond-true, cond-false, and_parts, and_left, cases_Bool, both_ways, false_from_ne_true}
+use Rattle.std.proofs.lemmas.Bool.{cond-true, cond-false, and_parts, both_ways}
 use Rattle.nat_types.specs.declared.pairs.Endpoint.{Endpoint}
 use Rattle.nat_types.specs.declared.pairs.Key.{Key}
-use Rattle.nat_types.specs.declared.pairs.Pair.{Pair}
-use Rattle.nat_types.specs.declared.pairs.EntryState.{EntryState}
 use Rattle.nat_types.specs.Same.{same_key, same_endpoint}
-use Rattle.nat_types.proofs.Equal.{key-eq, key-true, key-false, key-self, endpoint-eq}
-use Rattle.lives.specs.Lives.{Life}
-use Rattle.slots.specs.declared.numbers.SlotNumber.{SlotNumber}
+use Rattle.nat_types.proofs.Equal.{key-eq, key-true, key-false, endpoint-eq}
 use Rattle.slots.specs.Rows.{Row}
 use Rattle.slots.specs.Rows as slots
-use Rattle.bindings.specs.declared.entries.Entry.{Entry}
 use Rattle.bindings.specs.declared.store.Item.{Item}
-use Rattle.bindings.specs.Entries.{is_pair, serves, has_key, slot_of, entry_of, entry_in, place_of, HasDistinctEndpoints}
-use Rattle.bindings.specs.Lists.{place_in, put_in, without, with_state, stands_behind, after_key, key_place, RisesUp}
-use Rattle.bindings.specs.Lives.{life_in, lives_with, lives_without}
-use Rattle.bindings.specs.Stores.{entries_of, lives_of, AreKeyed, number_for, IsIndexed}
+use Rattle.bindings.specs.Entries.{is_pair, serves, slot_of, entry_of, place_of}
+use Rattle.bindings.specs.Lists.{place_in, put_in, without, stands_behind, after_key, key_place, RisesUp}
+use Rattle.bindings.specs.Lives.{life_in, lives_without}
+use Rattle.bindings.specs.Stores.{entries_of, lives_of, AreKeyed, number_for}
 use Rattle.bindings.proofs.Found.{find-none}
 use Rattle.bindings.proofs.Slots.{swap_choices}
 

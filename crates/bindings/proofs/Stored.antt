@@ -1,6 +1,6 @@
 -- What single calls make of a store.
-use Rattle.std.proofs.Common.{◌≡◌, ℕ, Bool, true, false, not, cond, ◌&&◌, Option, Some, None, List, [], ◌∷◌, refl, sym, ap, ◌∙◌}
-use Rattle.std.specs.List.{find, insert}
+use Rattle.std.proofs.Common.{◌≡◌, true, false, not, cond, ◌&&◌, Option, Some, None, List, refl, sym, ap, ◌∙◌}
+use Rattle.std.specs.List.{find}
 use Rattle.std.specs.Option.{option_map}
 use Rattle.nat_types.specs.declared.pairs.Endpoint.{Endpoint}
 use Rattle.nat_types.specs.declared.pairs.Key.{Key}
@@ -14,9 +14,9 @@ use Rattle.slots.specs.Endpoints.{slot_of as number_of_endpoint}
 use Rattle.bindings.specs.declared.entries.Entry.{Entry}
 use Rattle.bindings.specs.declared.store.Item.{Item}
 use Rattle.bindings.specs.Entries.{is_pair, serves, slot_of, entry_of, entry_in, HasDistinctEndpoints}
-use Rattle.bindings.specs.Lists.{with_state, without, after_key}
-use Rattle.bindings.specs.Lives.{life_in, lives_with, lives_without}
-use Rattle.bindings.specs.Stores.{Store, entries_of, lives_of, AreKeyed, number_for, IsIndexed}
+use Rattle.bindings.specs.Lists.{with_state, after_key}
+use Rattle.bindings.specs.Lives.{life_in, lives_with}
+use Rattle.bindings.specs.Stores.{Store, entries_of, lives_of, AreKeyed, IsIndexed}
 use Rattle.bindings.proofs.Kept.{slot-is, life-is, entry-is, after-is, own-row, keyed-put, number-put, keyed-without, rows-without_none}
 use Rattle.bindings.proofs.Changes.{keyed-with, entries-turned, entries-same, lives-same, lives-changed, lives-nowhere, number-with, number-same, number-without}
 

@@ -1,19 +1,18 @@
 -- Entry after entry: what is left of a list behind a key.
 use Rattle.std.proofs.Common.{◌≡◌, ℕ, suc, ◌+◌, ◌<◌, ◌≤◌, Bool, true, false, not, cond, ◌&&◌, nat_lt, Option, Some, None, List, [], ◌∷◌, ◌++◌, length, map, refl, sym, ap, ◌∙◌, arith}
 use Rattle.std.specs.List.{find, filter}
-use Rattle.std.proofs.lemmas.Bool.{cond-true, cond-false, lt-ltb, le-ltb, ltb-true, ltb-false}
+use Rattle.std.proofs.lemmas.Bool.{cond-true, cond-false, lt-ltb, le-ltb, ltb-true}
 use Rattle.nat_types.specs.declared.pairs.EntryState.{EntryState}
 use Rattle.nat_types.specs.declared.pairs.Key.{Key}
-use Rattle.nat_types.specs.declared.pairs.Pair.{Pair}
 use Rattle.nat_types.specs.Same.{same_key}
-use Rattle.nat_types.proofs.Equal.{key-eq, key-true, key-false, key-self}
+use Rattle.nat_types.proofs.Equal.{key-true, key-false, key-self}
 use Rattle.lives.specs.Lives.{Life}
 use Rattle.bindings.specs.declared.entries.Entry.{Entry}
 use Rattle.bindings.specs.Entries.{is_pair, translates, has_key, slot_of, entry_in, place_of, pairs_in, HasDistinctKeys}
 use Rattle.bindings.specs.Lists.{stands_behind, after_key, key_place, without, with_state, RisesUp}
 use Rattle.bindings.specs.Lives.{life_in, is_idle_row, idle_keys_in, rests_at, rests_by}
 use Rattle.bindings.specs.Revivals.{woken, woken_entry}
-use Rattle.bindings.proofs.Found.{cond_none, find-none, find-some, find-passes}
+use Rattle.bindings.proofs.Found.{cond_none}
 use Rattle.bindings.proofs.Places.{turn-none, without-none}
 use Rattle.bindings.proofs.Slots.{found-slot}
 

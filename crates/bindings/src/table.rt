@@ -65,7 +65,7 @@ impl Model for Table {
     ghost use Rattle.std.specs.Prelude.{◌≤◌};
 
     ghost invariant = { λ t. IsStored t.store.entries t.store.lives t.ports t.zero t.one t.capacity
-        t.store.room t.store.room × (t.ready ≤ t.store.spare) };
+        t.store.room × (t.ready ≤ t.store.spare) };
 }
 
 fn port_count(bounds: PortBounds) -> usize
@@ -331,11 +331,7 @@ impl Table {
     pub fn is_vacant(&self, port: Port) -> bool
         ensures { result ≡ is_vacant self.now.entries port.0 }
     {
-        if self.ports.holds(port) {
-            self.ports.is_free(port)
-        } else {
-            is_vacant_port(&self.store, port)
-        }
+        is_vacant_port(&self.store, port)
     }
 
     /// Whether a port is owned and no entry has it, so that it may be given away.

@@ -1,15 +1,7 @@
-use Rattle.std.proofs.Common.{◌≡◌, ◌<◌, ◌≤◌, Option, Some, None, not, refl, sym, ap, ◌∙◌, cond, length, arith}
-use Rattle.std.specs.List.{find}
-use Rattle.port_range.specs.Ports.{is_within}
-use Rattle.nat_types.specs.declared.pairs.Key.{Key}
-use Rattle.lives.specs.Lives.{Life}
-use Rattle.bindings.specs.Entries.{is_pair, slot_of}
-use Rattle.bindings.specs.Lists.{without}
-use Rattle.bindings.specs.Lives.{lives_without}
-use Rattle.bindings.specs.Ports.{AreFree}
+use Rattle.std.proofs.Common.{refl, sym, ap, ◌∙◌, arith}
 use Rattle.bindings.proofs.Owning.{alike-same}
 use Rattle.bindings.proofs.Revived.{all-pairs, all-kept}
-use Rattle.bindings.proofs.Walks.{behind, behind-none, behind-end, next-held}
+use Rattle.bindings.proofs.Walks.{behind-none, behind-end, next-held}
 use Rattle.bindings.proofs.Dropping.{first_doomed, step}
 use Rattle.bindings.proofs.revivals.drop_doomed.Goals as goal
 

@@ -1,8 +1,7 @@
-use Rattle.std.proofs.Common.{◌≡◌, sym, ap, ◌∙◌, cond}
+use Rattle.std.proofs.Common.{ap, ◌∙◌, cond}
 use Rattle.port_range.specs.Ports.{is_within}
 use Rattle.nat_types.specs.declared.pairs.Key.{Key}
 use Rattle.nat_types.specs.Same.{same_key}
-use Rattle.bindings.specs.Entries.{slot_of}
 use Rattle.bindings.specs.Lists.{without}
 use Rattle.bindings.specs.Ports.{is_free_at}
 use Rattle.bindings.proofs.Edits.{slot-without}

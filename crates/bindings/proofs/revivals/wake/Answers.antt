@@ -1,4 +1,4 @@
-use Rattle.std.proofs.Common.{◌≡◌, ◌<◌, ◌≤◌, Option, Some, None, true, false, refl, sym, ap, ◌∙◌, length, arith}
+use Rattle.std.proofs.Common.{◌≡◌, Option, Some, refl, sym, ap, ◌∙◌, arith}
 use Rattle.std.proofs.lemmas.Bool.{both_ways}
 use Rattle.nat_types.specs.declared.pairs.Key.{Key}
 use Rattle.nat_types.specs.declared.pairs.EntryState.{EntryState}
@@ -7,7 +7,7 @@ use Rattle.bindings.specs.Entries.{is_pair, slot_of}
 use Rattle.bindings.specs.Lists.{with_state}
 use Rattle.bindings.specs.Revivals.{woken}
 use Rattle.bindings.proofs.Revived.{woken-pair}
-use Rattle.bindings.proofs.Walks.{behind, behind-less, next-held, wake-all, wake-end, wake-next, length-behind_turned, woken_behind}
+use Rattle.bindings.proofs.Walks.{behind-less, next-held, wake-all, wake-end, wake-next, length-behind_turned}
 use Rattle.bindings.proofs.revivals.wake.Goals as goal
 
 pub loop-entry-init : goal.loop-entry-init

@@ -1,7 +1,7 @@
-use Rattle.std.proofs.Common.{◌≡◌, ◌+◌, ◌<◌, ◌≤◌, ◌∷◌, ◌++◌, ◌&&◌, [], Bool, true, false, cond, Some, None, sym, ap, ◌∙◌, length, arith}
+use Rattle.std.proofs.Common.{◌&&◌, cond, Some, sym, ap, ◌∙◌, length, arith}
 use Rattle.nat_types.specs.declared.pairs.Key.{Key}
 use Rattle.bindings.specs.Entries.{translates}
-use Rattle.bindings.specs.Lives.{idle_keys_in, rests_at}
+use Rattle.bindings.specs.Lives.{rests_at}
 use Rattle.bindings.proofs.Resting.{few-idle}
 use Rattle.bindings.proofs.Walks.{behind, is_idle_at, idle_of, behind-none, behind-less, idle-is, idle-next, idle-end_of, one-more}
 use Rattle.bindings.proofs.rows.count_idle.Goals as goal

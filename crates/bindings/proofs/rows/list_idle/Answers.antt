@@ -1,7 +1,7 @@
-use Rattle.std.proofs.Common.{◌≡◌, ◌+◌, ◌<◌, ◌≤◌, ◌∷◌, ◌++◌, ◌&&◌, [], Bool, true, false, cond, Some, None, refl, sym, ap, ◌∙◌, length, arith, append_assoc, append-nil, length-append, vec_len}
+use Rattle.std.proofs.Common.{◌∷◌, ◌++◌, ◌&&◌, [], cond, Some, refl, sym, ap, ◌∙◌, length, arith, append_assoc, append-nil, length-append}
 use Rattle.nat_types.specs.declared.pairs.Key.{Key}
 use Rattle.bindings.specs.Entries.{translates}
-use Rattle.bindings.specs.Lives.{idle_keys_in, rests_at}
+use Rattle.bindings.specs.Lives.{rests_at}
 use Rattle.bindings.proofs.Walks.{behind, is_idle_at, idle_of, behind-none, behind-less, idle-is, idle-next, idle-end_of}
 use Rattle.bindings.proofs.rows.list_idle.Goals as goal
 

@@ -1,7 +1,5 @@
-use Rattle.std.proofs.Common.{◌≡◌, ◌<◌, Option, Some, None, [], ◌∷◌, ◌++◌, cond, sym, ap, ◌∙◌, append_assoc, append-nil, length, arith}
-use Rattle.nat_types.specs.declared.pairs.Key.{Key}
+use Rattle.std.proofs.Common.{Some, [], ◌∷◌, ◌++◌, cond, sym, ap, ◌∙◌, append_assoc, append-nil}
 use Rattle.bindings.specs.Entries.{is_pair, pairs_in}
-use Rattle.bindings.specs.Lists.{after_key}
 use Rattle.bindings.proofs.Walks.{behind, behind-none, behind-less, pairs-next, pairs-end}
 use Rattle.bindings.proofs.rows.pairs_of.Goals as goal
 

@@ -1,4 +1,4 @@
-use Rattle.std.proofs.Common.{◌≡◌, refl}
+use Rattle.std.proofs.Common.{refl}
 use Rattle.slots.specs.Rows.{Row}
 use Rattle.bindings.specs.declared.store.Item.{Item}
 use Rattle.bindings.specs.Entries.{entry_in}

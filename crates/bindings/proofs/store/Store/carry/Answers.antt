@@ -1,4 +1,4 @@
-use Rattle.std.proofs.Common.{◌≡◌, Option, Some, None, List, refl, sym, ap, subst, ◌∙◌}
+use Rattle.std.proofs.Common.{sym, subst}
 use Rattle.lives.specs.Lives.{Life, Agrees, with_packet, life_carried}
 use Rattle.bindings.proofs.Stored.{changed-life, item-of_life}
 use Rattle.bindings.proofs.store.Store.carry.Goals as goal

@@ -1,7 +1,6 @@
-use Rattle.std.proofs.Common.{◌≡◌, Option, Some, None, sym, ap, ◌∙◌}
+use Rattle.std.proofs.Common.{sym, ap, ◌∙◌}
 use Rattle.std.specs.Option.{option_map}
 use Rattle.bindings.specs.declared.store.Item.{Item}
-use Rattle.bindings.specs.Entries.{slot_of}
 use Rattle.bindings.proofs.Kept.{slot-is}
 use Rattle.bindings.proofs.Stored.{next-row, no-next_row}
 use Rattle.bindings.proofs.store.Store.entry_after.Goals as goal

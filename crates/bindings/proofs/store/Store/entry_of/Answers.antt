@@ -1,4 +1,4 @@
-use Rattle.std.proofs.Common.{◌≡◌, Option, Some, None, sym, ap, ◌∙◌}
+use Rattle.std.proofs.Common.{sym, ◌∙◌}
 use Rattle.bindings.proofs.Stored.{served, unserved}
 use Rattle.bindings.proofs.store.Store.entry_of.Goals as goal
 

@@ -1,6 +1,5 @@
-use Rattle.std.proofs.Common.{◌≡◌, Option, Some, None, sym, ap, ◌∙◌}
+use Rattle.std.proofs.Common.{Option, sym, ap, ◌∙◌}
 use Rattle.std.specs.Option.{option_map}
-use Rattle.lives.specs.Lives.{Life, looks_idle}
 use Rattle.bindings.specs.declared.store.Item.{Item}
 use Rattle.bindings.specs.Lives.{rests_by}
 use Rattle.bindings.proofs.Kept.{life-is}

@@ -1,7 +1,7 @@
-use Rattle.std.proofs.Common.{◌≡◌, None, Some, sym, ap, ◌∙◌}
+use Rattle.std.proofs.Common.{sym, ap, ◌∙◌}
 use Rattle.slots.specs.Rows.{PortSlots}
 use Rattle.bindings.specs.declared.store.Item.{Item}
-use Rattle.bindings.proofs.Kept.{slot-is, entries-without, lives-without}
+use Rattle.bindings.proofs.Kept.{entries-without, lives-without}
 use Rattle.bindings.proofs.Stored.{removed, none-removed, held-by}
 use Rattle.bindings.proofs.store.Store.take_out.Goals as goal
 

@@ -1,4 +1,4 @@
-use Rattle.std.proofs.Common.{◌≡◌, None, Some, sym, ap, ◌∙◌}
+use Rattle.std.proofs.Common.{◌≡◌, None, sym, ◌∙◌}
 use Rattle.bindings.specs.Entries.{slot_of}
 use Rattle.bindings.proofs.Places.{turn-none}
 use Rattle.bindings.proofs.Stored.{turned}

@@ -1,9 +1,9 @@
-use Rattle.std.proofs.Common.{◌≡◌, ◌<◌, None, false, cond, ap, sym, ◌∙◌, arith}
+use Rattle.std.proofs.Common.{false, cond, ap, sym, ◌∙◌, arith}
 use Rattle.std.specs.List.{insert}
 use Rattle.nat_types.specs.declared.pairs.Key.{Key}
 use Rattle.nat_types.specs.Same.{same_key}
 use Rattle.lives.specs.Lives.{came}
-use Rattle.bindings.specs.Entries.{entry_in, refusal_of}
+use Rattle.bindings.specs.Entries.{entry_in}
 use Rattle.bindings.specs.Lists.{place_in}
 use Rattle.bindings.specs.Ports.{is_free_at}
 use Rattle.bindings.proofs.Slots.{slot-put, welcome}
@@ -19,7 +19,7 @@ add-requires c =
     record {
       vacant = fits.key;
       free = fits.endpoint;
-      room = (let a = fits.room in let b = c.self.invariant.0.entries_fit in omega (arith, a, b));
+      room = (let a = fits.room in let b = c.self.invariant.0.fits in omega (arith, a, b));
       spare = (let a = c.self.invariant.1 in omega (arith, a, ready));
     }
 
@@ -30,8 +30,8 @@ invariant_of-self c =
     let taken = λ (q : Key). c.take.ensures.free q ∙ ap (λ (k : Key). cond (same_key k q) false (is_free_at i.ports q)) c.key_of.ensures in
     (
       rw (c.add.ensures.entries, c.add.ensures.lives, c.add.ensures.room)
-      (stored-put i.store.entries i.store.lives i.ports _ i.zero i.one i.capacity _ _ _ _ (entry_in c.args.state c.args.pair) c.begin.result c.self.invariant.0 fits
-      c.self.invariant.0.entries_fit c.self.invariant.0.lives_fit taken c.take.ensures.bounds c.take.ensures.owned),
+      (stored-put i.store.entries i.store.lives i.ports _ i.zero i.one i.capacity _ (entry_in c.args.state c.args.pair) c.begin.result c.self.invariant.0 fits
+      taken c.take.ensures.bounds c.take.ensures.owned),
       (let a = c.self.invariant.1 in let b = c.add.ensures.spare in omega (arith, a, b)),
     )
 

@@ -1,4 +1,3 @@
-use Rattle.std.proofs.Common.{◌≡◌}
 use Rattle.lives.specs.Lives.{with_packet, life_carried}
 use Rattle.lives.specs.declared.packets.Packet.{Packet}
 use Rattle.bindings.proofs.Holding.{stored-lives}
@@ -11,7 +10,7 @@ invariant_of-self c =
     let packet : Packet = record { remote = c.args.remote; way = c.args.way; flags = c.args.flags; at = c.args.now } in
     let g = life_carried c.args.key.protocol packet in
     rw c.carry.ensures.lives (
-      stored-lives i.store.entries i.store.lives _ i.ports i.zero i.one i.capacity _ _ _ c.self.invariant.0 (length-changed g c.args.key i.store.entries i.store.lives) c.self.invariant.0.lives_fit,
+      stored-lives i.store.entries i.store.lives _ i.ports i.zero i.one i.capacity _ c.self.invariant.0 (length-changed g c.args.key i.store.entries i.store.lives),
       c.self.invariant.1,
     )
 

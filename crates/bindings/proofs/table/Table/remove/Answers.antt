@@ -12,7 +12,7 @@ invariant_of-self c =
     let i = c.self.inside in
     (
       rw (c.take_out.ensures.entries, c.take_out.ensures.lives, c.take_out.ensures.room)
-      (stored-drop i.store.entries i.store.lives i.ports _ i.zero i.one i.capacity _ _ _ _ c.args.key c.self.invariant.0 c.self.invariant.0.entries_fit c.self.invariant.0.lives_fit
+      (stored-drop i.store.entries i.store.lives i.ports _ i.zero i.one i.capacity _ c.args.key c.self.invariant.0 
       c.put_back.ensures.free c.put_back.ensures.bounds c.put_back.ensures.owned),
       (let a = c.self.invariant.1 in let b = c.take_out.ensures.spare in omega (arith, a, b)),
     )

@@ -1,4 +1,3 @@
-use Rattle.std.proofs.Common.{◌≡◌}
 use Rattle.lives.specs.Lives.{renewed, life_renewed}
 use Rattle.bindings.proofs.Holding.{stored-lives}
 use Rattle.bindings.proofs.Lived.{goes-on, others-stay, length-changed}
@@ -9,7 +8,7 @@ invariant_of-self c =
     let i = c.self.inside in
     let g = life_renewed c.args.now in
     rw c.renew.ensures.lives (
-      stored-lives i.store.entries i.store.lives _ i.ports i.zero i.one i.capacity _ _ _ c.self.invariant.0 (length-changed g c.args.key i.store.entries i.store.lives) c.self.invariant.0.lives_fit,
+      stored-lives i.store.entries i.store.lives _ i.ports i.zero i.one i.capacity _ c.self.invariant.0 (length-changed g c.args.key i.store.entries i.store.lives),
       c.self.invariant.1,
     )
 

@@ -1,4 +1,4 @@
-use Rattle.std.proofs.Common.{◌∙◌, ap, sym}
+use Rattle.std.proofs.Common.{◌∙◌, ap}
 use Rattle.bindings.specs.Lives.{is_unused_by}
 use Rattle.bindings.proofs.table.Table.unused.Goals as goal
 
