@@ -49,10 +49,10 @@ length-changed g key (e ∷ es) (l ∷ ls) = by (has_key key e) (length-changed 
 pub goes-on : (g : Life → Life) (key : Key) (es : List Entry) (ls : List Life) (past past2 : Past) → ((life : Life) → life_in es ls key ≡ Some life → Agrees key.protocol past life → Agrees key.protocol past2 (g life))
     → HasPast es ls key past → HasPast es (lives_with g key es ls) key past2
 goes-on g key es ls past past2 agrees has = (
-    g has.0,
-    life-changed g key es ls key ∙ ap (λ b. cond b (option_map g (life_in es ls key)) (life_in es ls key)) (key-self key) ∙ ap (option_map g) has.1,
-    agrees has.0 has.1 has.2,
-  )
+  g has.0,
+  life-changed g key es ls key ∙ ap (λ b. cond b (option_map g (life_in es ls key)) (life_in es ls key)) (key-self key) ∙ ap (option_map g) has.1,
+  agrees has.0 has.1 has.2,
+)
 
 -- the others keep theirs
 pub others-stay : (g : Life → Life) (key : Key) (es : List Entry) (ls : List Life) → KeepsOthers key es ls es (lives_with g key es ls)

@@ -129,7 +129,7 @@ idle-is now low (x ∷ xs) [] r same = absurd (omega (arith, same))
 idle-is now low (x ∷ xs) (m ∷ ms) r same =
     let own : is_idle_at now (x ∷ xs) (m ∷ ms) x ≡ is_idle_row now x m = ap (λ b. translates x.state && rests_by x.pair.key now (cond b (Some m) (life_in xs ms x.pair.key))) (key-self x.pair.key) in
     let rest : idle_keys_in now xs ms ≡ idle_of (is_idle_at now (x ∷ xs) (m ∷ ms)) xs =
-      idle-is now (suc (place_of x.pair)) xs ms r.1 (omega (arith, same)) ∙ idle-alike (is_idle_at now xs ms) (is_idle_at now (x ∷ xs) (m ∷ ms)) (suc (place_of x.pair)) xs r.1 later in
+    idle-is now (suc (place_of x.pair)) xs ms r.1 (omega (arith, same)) ∙ idle-alike (is_idle_at now xs ms) (is_idle_at now (x ∷ xs) (m ∷ ms)) (suc (place_of x.pair)) xs r.1 later in
     by (is_idle_row now x m) rest ∙ sym (ap (λ b. map (λ (e : Entry). e.pair.key) (cond b (x ∷ filter (is_idle_at now (x ∷ xs) (m ∷ ms)) xs) (filter (is_idle_at now (x ∷ xs) (m ∷ ms)) xs))) own)
   where
     later : (e : Entry) → suc (place_of x.pair) ≤ place_of e.pair → is_idle_at now xs ms e ≡ is_idle_at now (x ∷ xs) (m ∷ ms) e

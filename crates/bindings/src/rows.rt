@@ -4,10 +4,9 @@ ghost use Rattle.bindings.specs.Entries.{is_pair, translates, entry_in, refusal_
 ghost use Rattle.bindings.specs.Lives.{rests_at, idle_keys_in};
 ghost use Rattle.bindings.specs.Ports.{is_vacant};
 
-use crate::TableFault;
-use crate::Entry;
 use crate::entries::{endpoint_of, is_pair_state, is_translating, key_of};
 use crate::store::Store;
+use crate::{Entry, TableFault};
 use addresses::{Port, Protocol};
 use nat_types::{EntryState, Key, Pair};
 use std::alloc::{AllocError, Global};

@@ -66,12 +66,7 @@ fn item_with(pair: Pair, state: EntryState, life: Life) -> Item
 }
 
 /// An entry that comes in is found by its endpoint where it is a pair.
-fn list_pair(
-    index: &mut EndpointIndex<Hashers>,
-    pair: Pair,
-    state: EntryState,
-    number: SlotNumber,
-)
+fn list_pair(index: &mut EndpointIndex<Hashers>, pair: Pair, state: EntryState, number: SlotNumber)
     requires { 0 < index.old.spare }
     ensures slots { (x : InsidePort) → number_of_endpoint index.new x ≡ (if serves x (entry_in
         state pair) then Some number else number_of_endpoint index.old x) }
@@ -94,12 +89,7 @@ fn unlist(index: &mut EndpointIndex<Hashers>, pair: Pair, state: EntryState)
 }
 
 /// An entry that isn't a pair in its new state is found no more.
-fn unlist_turned(
-    index: &mut EndpointIndex<Hashers>,
-    pair: Pair,
-    was: EntryState,
-    state: EntryState,
-)
+fn unlist_turned(index: &mut EndpointIndex<Hashers>, pair: Pair, was: EntryState, state: EntryState)
     ensures slots { (x : InsidePort) → number_of_endpoint index.new x
         ≡ (if serves x (entry_in was pair) && not (is_pair state) then None
         else number_of_endpoint index.old x) }
@@ -125,8 +115,8 @@ fn entry_at(slots: &PortSlots<Item>, number: SlotNumber) -> Option<Entry>
 fn put_state(slots: &mut PortSlots<Item>, key: Key, pair: Pair, state: EntryState)
     ensures some { (item : Kept) → item_of slots.old.rows key ≡ Some item → slots.new
         ≡ record slots.old {
-      rows = with_item key (record item { entry = entry_in state pair }) slots.old.rows;
-    } }
+          rows = with_item key (record item { entry = entry_in state pair }) slots.old.rows;
+        } }
     ensures none { item_of slots.old.rows key ≡ None → slots.new ≡ slots.old }
 {
     if let Some(item) = slots.get_mut(key) {
@@ -138,10 +128,10 @@ fn put_state(slots: &mut PortSlots<Item>, key: Key, pair: Pair, state: EntryStat
 fn put_packet(slots: &mut PortSlots<Item>, key: Key, packet: Packet)
     ensures some { (item : Kept) → item_of slots.old.rows key ≡ Some item → slots.new
         ≡ record slots.old {
-      rows = with_item key (record item {
-        life = life_carried key.protocol packet item.life;
-      }) slots.old.rows;
-    } }
+          rows = with_item key (record item {
+            life = life_carried key.protocol packet item.life;
+          }) slots.old.rows;
+        } }
     ensures none { item_of slots.old.rows key ≡ None → slots.new ≡ slots.old }
     ensures agrees { (item : Kept) → (past : Past) → item_of slots.old.rows key ≡ Some item → Agrees
         key.protocol past item.life → Agrees key.protocol (with_packet packet past)
@@ -156,8 +146,8 @@ fn put_packet(slots: &mut PortSlots<Item>, key: Key, packet: Packet)
 fn put_renewal(slots: &mut PortSlots<Item>, key: Key, now: u64)
     ensures some { (item : Kept) → item_of slots.old.rows key ≡ Some item → slots.new
         ≡ record slots.old {
-      rows = with_item key (record item { life = life_renewed now item.life }) slots.old.rows;
-    } }
+          rows = with_item key (record item { life = life_renewed now item.life }) slots.old.rows;
+        } }
     ensures none { item_of slots.old.rows key ≡ None → slots.new ≡ slots.old }
     ensures agrees { (item : Kept) → (past : Past) → item_of slots.old.rows key ≡ Some item → Agrees
         key.protocol past item.life → Agrees key.protocol (renewed now past)

@@ -22,9 +22,7 @@ ghost use Rattle.lives.specs.Lives.{life_begun, life_carried, life_renewed};
 use crate::entries::key_of;
 use crate::ports::{Ports, highest_port, lowest_port};
 use crate::revivals::{drop_doomed, wake};
-use crate::rows::{
-    count_idle, is_vacant_port, list_idle, pairs_of, refusal, translating_pairs_of,
-};
+use crate::rows::{count_idle, is_vacant_port, list_idle, pairs_of, refusal, translating_pairs_of};
 use crate::store::Store;
 use crate::{Entry, PortBounds, TableFault};
 use addresses::{Parity, Port, Protocol, TcpFlags};

@@ -1,12 +1,11 @@
 -- Cells and keys: each cell has a key of its own, and their order is that of the cells.
-use Rattle.std.proofs.Common.{◌≡◌, ℕ, suc, ◌+◌, ◌-◌, ◌<◌, ◌≤◌, Bool, true, false, cond, nat_lt, nat_eq, ◌⊎◌, inl, inr, refl, ap, sym, ◌∙◌, arith}
-use Rattle.std.proofs.lemmas.Bool.{ltb-true, ltb-false, lt-ltb, le-ltb, cases_Bool, cases_lt, cases_eq, false_from_ne_true, cond-true, cond-false}
+use Rattle.std.proofs.Common.{◌≡◌, ℕ, ◌+◌, ◌-◌, ◌<◌, ◌≤◌, Bool, true, false, cond, nat_lt, inl, inr, refl, ap, sym, ◌∙◌, arith}
+use Rattle.std.proofs.lemmas.Bool.{ltb-true, ltb-false, lt-ltb, le-ltb, cases_lt, cases_eq}
 use Rattle.addresses.specs.declared.transport.Protocol.TheVariants.{Tcp, Udp}
-use Rattle.nat_types.specs.declared.pairs.Key.{Key}
 use Rattle.nat_types.specs.Same.{same_key}
-use Rattle.nat_types.proofs.Equal.{key-eq, key-true, key-false}
+use Rattle.nat_types.proofs.Equal.{key-false}
 use Rattle.slots.specs.Rows.{key_place}
-use Rattle.slots.specs.Cells.{key_at, cell_of}
+use Rattle.slots.specs.Cells.{key_at}
 
 -- the place of a cell's key
 pub place_at : (c : ℕ) → key_place (key_at c) ≡ cond (nat_lt c 65536) (393216 + c) (1048576 + c)
@@ -46,9 +45,9 @@ one_key c d e =
     elim (cases_eq c d) [
       | inl same ↦ same
       | inr differs ↦ absurd (elim (cases_lt c d) [
-          | inl h ↦ (let f = places_rise c d h in let g = ap key_place e in omega (arith, f, g))
-          | inr h ↦ (let f = places_rise d c (omega (arith, h, differs)) in let g = ap key_place e in omega (arith, f, g))
-        ])
+        | inl h ↦ (let f = places_rise c d h in let g = ap key_place e in omega (arith, f, g))
+        | inr h ↦ (let f = places_rise d c (omega (arith, h, differs)) in let g = ap key_place e in omega (arith, f, g))
+      ])
     ]
 
 pub other_key : (c d : ℕ) → (c ≡ d → ⊥) → same_key (key_at c) (key_at d) ≡ false

@@ -1,14 +1,13 @@
 -- The rows of some cells: what each key finds, and their order.
-use Rattle.std.proofs.Common.{◌≡◌, ℕ, zero, suc, ◌+◌, ◌<◌, ◌≤◌, ◌⊎◌, inl, inr, Bool, true, false, cond, nat_lt, Option, Some, None, List, [], ◌∷◌, length, get_or, set, refl, ap, sym, ◌∙◌, arith}
+use Rattle.std.proofs.Common.{◌≡◌, ℕ, zero, suc, ◌+◌, ◌<◌, ◌≤◌, inl, inr, Bool, true, false, cond, Option, Some, None, List, [], ◌∷◌, get_or, refl, ap, sym, ◌∙◌, arith}
 use Rattle.std.specs.List.{find, cons_option}
 use Rattle.std.specs.Option.{option_map, is_some}
 use Rattle.std.proofs.lemmas.Bool.{cond-true, cond-false, cases_lt}
-use Rattle.nat_types.specs.declared.pairs.Key.{Key}
 use Rattle.nat_types.specs.Same.{same_key}
 use Rattle.nat_types.proofs.Equal.{key-self}
 use Rattle.slots.specs.declared.numbers.SlotNumber.{SlotNumber}
-use Rattle.slots.specs.Rows.{Row, key_place, has_key, row_of, stands_behind, Rises}
-use Rattle.slots.specs.Cells.{key_at, cell_of, row_in, rows_from}
+use Rattle.slots.specs.Rows.{Row, key_place, has_key, row_of, Rises}
+use Rattle.slots.specs.Cells.{key_at, row_in, rows_from}
 use Rattle.slots.proofs.Places.{places_rise, other_key}
 
 module _ {T : Type 0} where

@@ -1,5 +1,5 @@
 -- What the slots and their cells keep, and what single calls make of them.
-use Rattle.std.proofs.Common.{◌≡◌, ◌⊎◌, inl, inr, ℕ, zero, suc, ◌+◌, ◌<◌, ◌≤◌, Bool, true, false, cond, nat_lt, count_by, Option, Some, None, List, [], ◌∷◌, length, get_or, set, refl, ap, sym, ◌∙◌, arith}
+use Rattle.std.proofs.Common.{◌≡◌, ◌⊎◌, inl, inr, ℕ, suc, ◌+◌, ◌<◌, ◌≤◌, true, false, cond, nat_lt, count_by, Option, Some, None, List, [], length, get_or, set, refl, ap, sym, ◌∙◌, arith}
 use Rattle.std.specs.List.{find}
 use Rattle.std.specs.Option.{option_map, is_some, IfSome}
 use Rattle.std.proofs.lemmas.Bool.{cases_eq, lt-ltb, le-ltb}
@@ -13,7 +13,7 @@ use Rattle.slots.specs.declared.numbers.SlotNumber.{SlotNumber}
 use Rattle.slots.specs.Rows.{Row, key_place, has_key, row_of, item_of, number_of, put_in, without, with_item, stands_behind}
 use Rattle.slots.specs.Cells.{key_at, cell_of, cell_behind, item_at, row_in, rows_from, IsStored}
 use Rattle.slots.proofs.Places.{place_order}
-use Rattle.slots.proofs.Rows.{row-at, rows-same, rows-none, item-in, number-in, StandsIn, stands-in, first-from, none-from}
+use Rattle.slots.proofs.Rows.{row-at, rows-same, rows-none, item-in, number-in, stands-in, first-from, none-from}
 use Rattle.slots.proofs.Edits.{rows-put, length-put, rows-without, length-without, rows-with}
 
 module _ {T : Type 0} where
@@ -123,16 +123,16 @@ module _ {T : Type 0} where
   insert-stored slots slots2 cells room c n t s within vacant free updates len capacity =
       let empty : get_or cells c None ≡ None = number-at slots cells room c s ∙ ap (option_map (λ (r : Row T). r.number)) vacant in
       let kept : (i : ℕ) (m : SlotNumber) → get_or cells i None ≡ Some m → item_at slots2 m ≡ item_at slots m =
-        λ i m e. updates.others m.0 (λ same. (let used = s.used i m e in let no = ap (slab_get slots) same ∙ free in absurd (cc))) in
+      λ i m e. updates.others m.0 (λ same. (let used = s.used i m e in let no = ap (slab_get slots) same ∙ free in absurd (cc))) in
       let same = rows-same (item_at slots) (item_at slots2) 0 cells kept in
       let put = rows-put (item_at slots2) 0 cells c c n t (omega arith) (omega (arith, within, s.all)) empty updates.changed ∙ ap (put_in (record { key = key_at c; number = n; item = t })) same in
       let at-other : (i : ℕ) (m : SlotNumber) → get_or (set cells c (Some n)) i None ≡ Some m → ((i ≡ c) × (m ≡ n)) ⊎ ((i ≡ c → ⊥) × (get_or cells i None ≡ Some m)) =
-        λ i m e. elim (cases_eq i c) [
-          | inl z ↦ (let here = get_or-set_same cells c (Some n) None (omega (arith, within, s.all)) in let there = ap (λ j. get_or (set cells c (Some n)) j None) z in inl (z, cc))
-          | inr z ↦ inr (z, sym (get_or-set_other cells c i (Some n) None z) ∙ e)
-        ] in
+      λ i m e. elim (cases_eq i c) [
+        | inl z ↦ (let here = get_or-set_same cells c (Some n) None (omega (arith, within, s.all)) in let there = ap (λ j. get_or (set cells c (Some n)) j None) z in inl (z, cc))
+        | inr z ↦ inr (z, sym (get_or-set_other cells c i (Some n) None z) ∙ e)
+      ] in
       let clash : (i : ℕ) (m : SlotNumber) → m ≡ n → get_or cells i None ≡ Some m → ⊥ =
-        λ i m z e. (let used = s.used i m e in let no = ap (λ (x : SlotNumber). slab_get slots x.0) z ∙ free in cc) in
+      λ i m z e. (let used = s.used i m e in let no = ap (λ (x : SlotNumber). slab_get slots x.0) z ∙ free in cc) in
       record {
         made = put;
         stored = record {
@@ -142,8 +142,8 @@ module _ {T : Type 0} where
             | inr w ↦ ap is_some (kept i m w.1) ∙ s.used i m w.1
           ];
           distinct = λ i j m e f. elim (at-other i m e) [
-            | inl w ↦ elim (at-other j m f) [ | inl v ↦ w.0 ∙ sym v.0 | inr v ↦ absurd (clash j m w.1 v.1) ]
-            | inr w ↦ elim (at-other j m f) [ | inl v ↦ absurd (clash i m v.1 w.1) | inr v ↦ s.distinct i j m w.1 v.1 ]
+            | inl w ↦ elim (at-other j m f) [ inl v ↦ w.0 ∙ sym v.0 | inr v ↦ absurd (clash j m w.1 v.1) ]
+            | inr w ↦ elim (at-other j m f) [ inl v ↦ absurd (clash i m v.1 w.1) | inr v ↦ s.distinct i j m w.1 v.1 ]
           ];
           count = ap length put ∙ length-put _ (rows_in slots cells) ∙ (let k = s.count in omega (arith, k, len));
           room = (let r = s.room in omega (arith, r, capacity));
@@ -155,12 +155,12 @@ module _ {T : Type 0} where
       → Changed slots2 (set cells c None) room (without (key_at c) (rows_in slots cells))
   remove-stored slots slots2 cells room c n s within has updates len capacity =
       let at-other : (i : ℕ) (m : SlotNumber) → get_or (set cells c None) i None ≡ Some m → (i ≡ c → ⊥) × (get_or cells i None ≡ Some m) =
-        λ i m e. elim (cases_eq i c) [
-          | inl z ↦ (let here = get_or-set_same cells c None None (omega (arith, within, s.all)) in let there = ap (λ j. get_or (set cells c None) j None) z in absurd (cc))
-          | inr z ↦ (z, sym (get_or-set_other cells c i None None z) ∙ e)
-        ] in
+      λ i m e. elim (cases_eq i c) [
+        | inl z ↦ (let here = get_or-set_same cells c None None (omega (arith, within, s.all)) in let there = ap (λ j. get_or (set cells c None) j None) z in absurd (cc))
+        | inr z ↦ (z, sym (get_or-set_other cells c i None None z) ∙ e)
+      ] in
       let kept : (i : ℕ) (m : SlotNumber) → get_or (set cells c None) i None ≡ Some m → item_at slots2 m ≡ item_at slots m =
-        λ i m e. (let w = at-other i m e in updates.others m.0 (λ same. (let z : m ≡ n = ap (λ (k : ℕ). let x : SlotNumber = record { 0 = k } in x) same in w.0 (s.distinct i c n (w.1 ∙ ap Some z) has)))) in
+      λ i m e. (let w = at-other i m e in updates.others m.0 (λ same. (let z : m ≡ n = ap (λ (k : ℕ). let x : SlotNumber = record { 0 = k } in x) same in w.0 (s.distinct i c n (w.1 ∙ ap Some z) has)))) in
       let same = rows-same (item_at slots) (item_at slots2) 0 (set cells c None) kept in
       let made = same ∙ rows-without (item_at slots) 0 cells c c (omega arith) in
       record {
@@ -209,9 +209,10 @@ module _ {T : Type 0} where
       made = old (item_at slots n) refl
 
   -- a write through what `get_mut` lent
-  pub lent-stored : (slots : Slab T) (cells : List (Option SlotNumber)) (room c : ℕ) (n : SlotNumber) (w : T) → IsStored slots cells room → get_or cells c None ≡ Some n
+  pub lent-stored : (slots : Slab T) (cells : List (Option SlotNumber)) (room c : ℕ) (n : SlotNumber) (w : T) → IsStored slots cells room → Some n ≡ get_or cells c None
       → Changed (with_value slots n.0 w) cells room (with_item (key_at c) w (rows_in slots cells))
-  lent-stored slots cells room c n w s has =
+  lent-stored slots cells room c n w s is =
+      let has = sym is in
       let used = s.used c n has in
       let within = ContainsKey-within slots n.0 used in
       let count = sum_by-set (λ (o : Option T). cond (is_some o) 1 0) slots.slots n.0 (Some w) None within in

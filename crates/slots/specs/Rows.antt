@@ -1,5 +1,5 @@
 -- What callers see of slots: items under keys, by protocol (tcp first) and port, each with the number of its slot.
-use Rattle.std.specs.Prelude.{◌≡◌, ℕ, suc, ◌+◌, ◌*◌, ◌≤◌, Bool, true, not, nat_lt, refl, List, [], ◌∷◌, map, Option, None, Some, cond, if◌then◌else◌}
+use Rattle.std.specs.Prelude.{ℕ, suc, ◌+◌, ◌*◌, ◌≤◌, Bool, true, not, nat_lt, List, [], ◌∷◌, map, Option, None, Some, cond, if◌then◌else◌}
 use Rattle.std.specs.List.{find, filter}
 use Rattle.std.specs.Option.{option_map}
 use Rattle.addresses.specs.Transport.{protocol_number}

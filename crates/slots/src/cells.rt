@@ -24,7 +24,8 @@ impl Model for Cells {
 
     ghost view = { λ c. c.numbers.items };
 
-    ghost invariant = { λ c. AreMarked c.numbers.items c.marks.items × HasBlocks c.numbers.items c.marks.items × (length c.numbers.items ≤ 131072) };
+    ghost invariant = { λ c. AreMarked c.numbers.items c.marks.items
+        × HasBlocks c.numbers.items c.marks.items × (length c.numbers.items ≤ 131072) };
 }
 
 fn empty_cells(alloc: Global, count: usize) -> Result<Vec<Option<SlotNumber>>, AllocError>

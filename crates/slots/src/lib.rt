@@ -6,6 +6,8 @@ mod endpoints;
 mod hashers;
 mod numbers;
 mod port_slots;
+#[cfg(test)]
+mod tests;
 
 pub use endpoints::EndpointIndex;
 pub use hashers::Hashers;

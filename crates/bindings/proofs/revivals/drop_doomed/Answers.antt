@@ -7,16 +7,16 @@ use Rattle.bindings.proofs.revivals.drop_doomed.Goals as goal
 
 pub loop-entry-init : goal.loop-entry-init
 loop-entry-init c = record {
-    same = c.requires.same;
-    free = c.requires.free;
-    pairs = refl;
-    kept = refl;
-    first = sym (ap first_doomed (behind-none c.args.store.now.entries));
-    room = refl;
-    spare = omega arith;
-    owned = record { tcp = refl; udp = refl };
-    bounds = record { tcp_low = refl; tcp_high = refl; udp_low = refl; udp_high = refl };
-  }
+  same = c.requires.same;
+  free = c.requires.free;
+  pairs = refl;
+  kept = refl;
+  first = sym (ap first_doomed (behind-none c.args.store.now.entries));
+  room = refl;
+  spare = omega arith;
+  owned = record { tcp = refl; udp = refl };
+  bounds = record { tcp_low = refl; tcp_high = refl; udp_low = refl; udp_high = refl };
+}
 
 pub drop_if_doomed-requires-clause-held : goal.drop_if_doomed-requires-clause-held
 drop_if_doomed-requires-clause-held c = next-held 0 c.loop-entry.last c.loop-entry.store.entries c.in-Some.entry c.recall.ensures.order (sym c.in-Some.ensures)

@@ -9,16 +9,16 @@ use Rattle.bindings.proofs.revivals.drop_doomed.Given as goal
 -- the pairs and their lives stay, and no Doomed entry is left that isn't behind the last one seen
 abbrev pub invariant-loop-entry : goal.invariant-loop-entry
 invariant-loop-entry l = record {
-    same : AreAlike l.fn.ports.tcp.lowest l.fn.ports.tcp.highest l.ports;
-    free : AreFree l.fn.ports.tcp.lowest l.fn.ports.tcp.highest l.store.entries l.ports;
-    pairs : filter (λ e. is_pair e.state) l.store.entries ≡ filter (λ e. is_pair e.state) l.fn.store.entries;
-    kept : lives_of_pairs l.store.entries l.store.lives ≡ lives_of_pairs l.fn.store.entries l.fn.store.lives;
-    first : find (λ e. not (is_pair e.state)) l.store.entries ≡ find (λ e. not (is_pair e.state)) (behind l.last l.store.entries);
-    room : l.store.room ≡ l.fn.store.room;
-    spare : l.fn.store.spare ≤ l.store.spare;
-    owned : SameOwned l.fn.ports l.ports;
-    bounds : SameBounds l.fn.ports l.ports;
-  }
+  same : AreAlike l.fn.ports.tcp.lowest l.fn.ports.tcp.highest l.ports;
+  free : AreFree l.fn.ports.tcp.lowest l.fn.ports.tcp.highest l.store.entries l.ports;
+  pairs : filter (λ e. is_pair e.state) l.store.entries ≡ filter (λ e. is_pair e.state) l.fn.store.entries;
+  kept : lives_of_pairs l.store.entries l.store.lives ≡ lives_of_pairs l.fn.store.entries l.fn.store.lives;
+  first : find (λ e. not (is_pair e.state)) l.store.entries ≡ find (λ e. not (is_pair e.state)) (behind l.last l.store.entries);
+  room : l.store.room ≡ l.fn.store.room;
+  spare : l.fn.store.spare ≤ l.store.spare;
+  owned : SameOwned l.fn.ports l.ports;
+  bounds : SameBounds l.fn.ports l.ports;
+}
 
 abbrev pub decreases-loop-entry : goal.decreases-loop-entry
 decreases-loop-entry l = length (behind l.last l.store.entries)

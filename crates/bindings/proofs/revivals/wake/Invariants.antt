@@ -6,11 +6,11 @@ use Rattle.bindings.proofs.revivals.wake.Given as goal
 -- those that are left wake up, and then all have
 abbrev pub invariant-loop-entry : goal.invariant-loop-entry
 invariant-loop-entry l = record {
-    woken : woken_behind l.last l.store.entries ≡ map woken_entry l.fn.store.entries;
-    lives : l.store.lives ≡ l.fn.store.lives;
-    room : l.store.room ≡ l.fn.store.room;
-    spare : l.fn.store.spare ≤ l.store.spare;
-  }
+  woken : woken_behind l.last l.store.entries ≡ map woken_entry l.fn.store.entries;
+  lives : l.store.lives ≡ l.fn.store.lives;
+  room : l.store.room ≡ l.fn.store.room;
+  spare : l.fn.store.spare ≤ l.store.spare;
+}
 
 abbrev pub decreases-loop-entry : goal.decreases-loop-entry
 decreases-loop-entry l = length (behind l.last l.store.entries)

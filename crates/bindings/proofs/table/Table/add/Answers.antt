@@ -27,11 +27,10 @@ pub invariant_of-self : goal.invariant_of-self
 invariant_of-self c =
     let i = c.self.inside in
     let fits = welcome i.capacity i.store.entries (entry_in c.args.state c.args.pair) (sym c.refusal.ensures ∙ c.in_default.is) in
-    let taken = λ (q : Key). c.take.ensures.free q ∙ ap (λ (k : Key). cond (same_key k q) false (is_free_at i.ports q)) c.key_of.ensures in
-    (
+    let taken = λ (q : Key). c.take.ensures.free q ∙ ap (λ (k : Key). cond (same_key k q) false (is_free_at i.ports q)) c.key_of.ensures in (
       rw (c.add.ensures.entries, c.add.ensures.lives, c.add.ensures.room)
-      (stored-put i.store.entries i.store.lives i.ports _ i.zero i.one i.capacity _ (entry_in c.args.state c.args.pair) c.begin.result c.self.invariant.0 fits
-      taken c.take.ensures.bounds c.take.ensures.owned),
+          (stored-put i.store.entries i.store.lives i.ports _ i.zero i.one i.capacity _ (entry_in c.args.state c.args.pair) c.begin.result c.self.invariant.0 fits
+          taken c.take.ensures.bounds c.take.ensures.owned),
       (let a = c.self.invariant.1 in let b = c.add.ensures.spare in omega (arith, a, b)),
     )
 

@@ -9,11 +9,10 @@ take_out-requires c = λ x held pair. c.self.invariant.0.endpoints
 
 pub invariant_of-self : goal.invariant_of-self
 invariant_of-self c =
-    let i = c.self.inside in
-    (
+    let i = c.self.inside in (
       rw (c.take_out.ensures.entries, c.take_out.ensures.lives, c.take_out.ensures.room)
-      (stored-drop i.store.entries i.store.lives i.ports _ i.zero i.one i.capacity _ c.args.key c.self.invariant.0 
-      c.put_back.ensures.free c.put_back.ensures.bounds c.put_back.ensures.owned),
+          (stored-drop i.store.entries i.store.lives i.ports _ i.zero i.one i.capacity _ c.args.key c.self.invariant.0
+          c.put_back.ensures.free c.put_back.ensures.bounds c.put_back.ensures.owned),
       (let a = c.self.invariant.1 in let b = c.take_out.ensures.spare in omega (arith, a, b)),
     )
 

@@ -17,10 +17,9 @@ turn-requires c =
 pub invariant_of-self : goal.invariant_of-self
 invariant_of-self c =
     let i = c.self.inside in
-    let pair : IsPairAt c.args.key i.store.entries = λ x held. c.requires x (ap (λ t. slot_of t.entries c.args.key) (sym c.self.view_is) ∙ held) in
-    (
+    let pair : IsPairAt c.args.key i.store.entries = λ x held. c.requires x (ap (λ t. slot_of t.entries c.args.key) (sym c.self.view_is) ∙ held) in (
       rw (c.turn.ensures.entries, c.turn.ensures.lives, c.turn.ensures.room)
-      (stored-turn i.store.entries i.store.lives i.ports i.zero i.one i.capacity _ c.args.key c.args.state c.self.invariant.0 pair),
+          (stored-turn i.store.entries i.store.lives i.ports i.zero i.one i.capacity _ c.args.key c.args.state c.self.invariant.0 pair),
       (let a = c.self.invariant.1 in let b = c.turn.ensures.spare in omega (arith, a, b)),
     )
 

@@ -1,4 +1,4 @@
-use Rattle.std.proofs.Common.{◌≡◌, ◌∙◌}
+use Rattle.std.proofs.Common.{◌∙◌}
 use Rattle.slots.proofs.LookUps.{looked-up}
 use Rattle.slots.proofs.endpoints.EndpointIndex.get.Goals as goal
 

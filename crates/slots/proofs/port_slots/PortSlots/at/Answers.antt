@@ -1,4 +1,4 @@
-use Rattle.std.proofs.Common.{◌≡◌, ◌∙◌}
+use Rattle.std.proofs.Common.{◌∙◌}
 use Rattle.slots.proofs.Stored.{item-by}
 use Rattle.slots.proofs.port_slots.PortSlots.at.Goals as goal
 

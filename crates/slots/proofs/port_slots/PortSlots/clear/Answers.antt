@@ -1,4 +1,4 @@
-use Rattle.std.proofs.Common.{◌≡◌, ◌∙◌, ap, arith}
+use Rattle.std.proofs.Common.{◌∙◌, ap, arith}
 use Rattle.slots.proofs.Stored.{empty-stored}
 use Rattle.slots.proofs.port_slots.PortSlots.clear.Goals as goal
 

@@ -1,4 +1,4 @@
-use Rattle.std.proofs.Common.{◌≡◌, None, Some, sym, ap, ◌∙◌}
+use Rattle.std.proofs.Common.{sym, ap, ◌∙◌}
 use Rattle.slots.proofs.Stored.{item-some, item-none, rows_in}
 use Rattle.slots.specs.Rows.{item_of}
 use Rattle.slots.proofs.port_slots.PortSlots.get.Goals as goal

@@ -1,6 +1,5 @@
-use Rattle.std.proofs.Common.{◌≡◌, Some, List, sym, ap, ◌∙◌, set}
-use Rattle.slots.specs.Rows.{Row, PortSlots, row_of, put_in}
-use Rattle.slots.proofs.Stored.{rows_in, Changed, insert-stored, fresh-number}
+use Rattle.std.proofs.Common.{ap}
+use Rattle.slots.proofs.Stored.{insert-stored, fresh-number}
 use Rattle.slots.proofs.port_slots.PortSlots.insert.Goals as goal
 
 pub invariant_of-self : goal.invariant_of-self

@@ -1,6 +1,4 @@
-use Rattle.std.proofs.Common.{◌≡◌, ◌≤◌, ◌<◌, ℕ, None, Some, sym, ap, ◌∙◌}
-use Rattle.nat_types.specs.declared.pairs.Key.{Key}
-use Rattle.slots.specs.Cells.{key_at, cell_of, cell_behind}
+use Rattle.std.proofs.Common.{Some, sym, ap, ◌∙◌}
 use Rattle.slots.proofs.Stored.{behind-some, behind-none, key-of}
 use Rattle.slots.proofs.port_slots.PortSlots.key_after.Goals as goal
 

@@ -1,4 +1,3 @@
-use Rattle.std.proofs.Common.{◌≡◌, ◌∙◌, ap, arith}
 use Rattle.slots.proofs.Stored.{empty-stored}
 use Rattle.slots.proofs.port_slots.PortSlots.new.Goals as goal
 

@@ -1,4 +1,4 @@
-use Rattle.std.proofs.Common.{◌≡◌, sym, ap, ◌∙◌}
+use Rattle.std.proofs.Common.{ap, ◌∙◌}
 use Rattle.slots.proofs.Stored.{number-at, rows_in}
 use Rattle.slots.specs.Rows.{number_of}
 use Rattle.slots.proofs.port_slots.PortSlots.number_of.Goals as goal

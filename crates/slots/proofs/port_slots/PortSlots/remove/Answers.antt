@@ -1,6 +1,5 @@
-use Rattle.std.proofs.Common.{◌≡◌, None, Some, ap, sym, ◌∙◌, arith}
-use Rattle.slots.specs.Rows.{item_of, without}
-use Rattle.slots.proofs.Stored.{rows_in, remove-stored, item-some, item-none, vacant-row}
+use Rattle.std.proofs.Common.{ap, sym, ◌∙◌}
+use Rattle.slots.proofs.Stored.{remove-stored, item-some, item-none, vacant-row}
 use Rattle.slots.proofs.Edits.{without-absent}
 use Rattle.slots.proofs.port_slots.PortSlots.remove.Goals as goal
 
