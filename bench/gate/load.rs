@@ -1,4 +1,6 @@
 //! Sends one frame again and again to a port, as fast as it comes back at another, and prints how many a second came.
+//! It never sleeps: else what is measured would have to wake it for each frame as soon as it is the slower of the two,
+//! and its time would be that of the wake-ups.
 //! usage: load TO FROM BACK SECONDS WINDOW FRAME        (ports; FRAME in hexadecimal)
 use std::net::{Ipv4Addr, UdpSocket};
 use std::time::{Duration, Instant};
