@@ -2,11 +2,11 @@
 # Frames a second that one gateway passes on loopback, beside a bare loop in plain Rust that only passes frames between
 # the same sockets; and the ratio of the two.   usage: bench/gate.sh [SECONDS [WINDOW]]
 # It needs crates/natpair/out/natpair (cd crates/natpair && rt run -- --help builds it) and rustc. The two take turns,
-# three times each; what is compared is the best of each. A benchmark and no test: nothing compares its numbers.
+# nine times each; the medians are compared. A benchmark and no test: nothing compares its numbers.
 set -euo pipefail
 here="$(cd "$(dirname "$0")" && pwd)"
 natpair="$here/../crates/natpair/out/natpair"
-seconds="${1:-3}"
+seconds="${1:-2}"
 window="${2:-64}"
 [ -x "$natpair" ] || { echo "build natpair first: cd crates/natpair && rt run -- --help"; exit 1; }
 # A UDP packet of an inside host to 198.51.100.7, port 53, at the virtual hardware address of the inside.
@@ -19,9 +19,9 @@ rustc -O -o "$made/bare" "$here/gate/bare.rs"
 rustc -O -o "$made/load" "$here/gate/load.rs"
 cp "$here/../examples/S.toml" "$made/S.toml"
 cd "$made"
-best() { sort -n -r | head -n 1; }
+median() { sort -n | sed -n 5p; }
 measure() { ./load 7011 7101 7102 "$seconds" "$window" "$frame"; }
-for turn in 1 2 3; do
+for turn in 1 2 3 4 5 6 7 8 9; do
     rm -f boot0
     "$natpair" init boot0
     "$natpair" gate S.toml --id 0 --rounds 4294967295 --found > gate.out 2> gate.err &
@@ -37,6 +37,6 @@ for turn in 1 2 3; do
     stop
     sleep 0.2
 done 2>/dev/null
-gate="$(cut -d' ' -f1 gate.lines | best)"
-bare="$(cut -d' ' -f1 bare.lines | best)"
+gate="$(cut -d' ' -f1 gate.lines | median)"
+bare="$(cut -d' ' -f1 bare.lines | median)"
 echo "gateway $gate frames a second, bare loop $bare: ratio $(awk "BEGIN { printf \"%.2f\", $gate / $bare }")"

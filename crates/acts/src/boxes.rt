@@ -1,10 +1,12 @@
 //! What is done at a box: its rounds, and the operator's word.
-ghost use Rattle.std.specs.Prelude.{◌≡◌, ◌⊎◌, ◌<◌, IsTrue};
+ghost use Rattle.std.specs.Prelude.{◌≡◌, ◌⊎◌, ◌<◌, ◌↔◌, IfOk, IsTrue, Ok};
 ghost use Rattle.nat_types.specs.declared.gateways.GatewayId.TheVariants.{Zero};
+ghost use Rattle.boot_store.specs.Crash.{Decides, Keeps, Rises, Since};
+ghost use Rattle.acts.specs.Boots.{HasBoot};
 
 use crate::faults::BoxFault;
 use boot_file::Uncached;
-use boot_store::next_boot;
+use boot_store::{Disk, next_boot};
 use gateway::{Gateway, NoMemory};
 use nat_types::GatewayId;
 use runs::text_of;
@@ -83,14 +85,38 @@ where
 {
     let file = settings.gateway(id).boot_file.as_str();
     let mut disk = boot_file::open(rt, file)?;
-    let boot = next_boot(&mut disk, found)?;
-    let gateway = begun(rt.alloc(), settings, id, boot, found)?;
+    let (boot, gateway) = booted(rt.alloc(), &mut disk, settings, id, found)?;
     writeln!(output, "boot {boot}")?;
     output.flush()?;
     Ok(gateway)
 }
 
-/// A gateway in this boot. What it shows is nothing to its caller here.
+/// The next boot number of a disk, and a gateway in just that boot. Once it is answered, the number
+/// is on the disk.
+fn booted<D: Disk>(
+    alloc: Global,
+    disk: &mut D,
+    settings: &Settings,
+    id: GatewayId,
+    found: bool,
+) -> Result<(u64, Gateway), BoxFault>
+    requires found { IsTrue found → id ≡ Zero }
+    ensures own { IfOk result (λ start. HasBoot start.0 start.1) }
+    ensures above_zero { IfOk result (λ start. 0 < start.0) }
+    ensures rises { D.honest disk.old
+        → IfOk result (λ start. Rises (D.now disk.old) (D.now disk.new) (Ok start.0)) }
+    ensures decided { D.honest disk.old
+        → IfOk result (λ start. Decides found (D.now disk.old) (D.now disk.new) (Ok start.0)) }
+    ensures any_moment { D.honest disk.old
+        → Since (D.past disk.old) (D.past disk.new) (Keeps (D.now disk.old) (D.now disk.new)) }
+    ensures honesty { D.honest disk.old ↔ D.honest disk.new }
+{
+    let boot = next_boot(disk, found)?;
+    let gateway = begun(alloc, settings, id, boot, found)?;
+    Ok((boot, gateway))
+}
+
+/// A gateway in this boot. Of what it shows its caller here is told its boot alone.
 fn begun(
     alloc: Global,
     settings: &Settings,
@@ -100,6 +126,7 @@ fn begun(
 ) -> Result<Gateway, NoMemory>
     requires boot { 0 < boot }
     requires found { IsTrue found → id ≡ Zero }
+    ensures { IfOk result (HasBoot boot) }
 {
     Gateway::new(alloc, settings, id, boot, found)
 }

@@ -34,6 +34,6 @@ impl<R: Clock, E: Write> Progress for Meter<'_, R, E> {
             return;
         }
         self.next = moment.saturating_add(PATIENCE);
-        let _left_out = writeln!(self.errors, "natpair: {taken} of {all} events are done");
+        let _left_out = writeln!(self.errors, "{taken} of {all} events are done");
     }
 }

@@ -1,5 +1,5 @@
 -- A run whose events have all had their turns.
-use Rattle.std.proofs.Common.{◌≡◌, ◌∙◌, ℕ, Bool, List, IfOk, Result, Ok, Err, ap, subst, if◌then◌else◌}
+use Rattle.std.proofs.Common.{◌≡◌, refl, ◌∙◌, ℕ, Bool, List, IfOk, Result, Ok, Err, ap, subst, if◌then◌else◌}
 use Rattle.settings.specs.declared.whole.Settings.{Settings}
 use Rattle.frame_sim.specs.declared.events.WorldEvent.{WorldEvent}
 use Rattle.frame_sim.specs.World.{World, founding}
@@ -26,6 +26,7 @@ loop_from passes settings w p events w2 p2 status new h =
         answers = steps_of_turns passes (founding settings) p events h.had.turns w2 p2 taken;
         refusals = h.is ∙ ap (λ (b : Bool). if b then 3 else 0) h.had.refusals;
       };
+      steps = refl;
       taken = taken;
     }
 

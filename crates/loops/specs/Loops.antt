@@ -10,13 +10,14 @@ use Rattle.runs.specs.declared.faults.Fault.TheVariants.{NoSocket}
 use Rattle.runs.specs.declared.plans.Plan.{Plan}
 use Rattle.runs.specs.Script.{first_bad_line}
 use Rattle.runs.specs.Status.{IsPlanOf, IsRun, TellsRun}
-use Rattle.loops.specs.Turns.{AreTurns, Passes, Turn, left}
+use Rattle.loops.specs.Turns.{AreTurns, Passes, Turn, left, steps_in}
 
 -- A run of these events on a new world of these settings, with a passage before and after: each event has its turn, and
--- the run, its world and its status are those of the events that weren't lost.
+-- the run, its world and its status are those of the events that weren't lost; its steps are those of their turns.
 pub record IsLoop {P : Type 0} (passes : Passes P) (settings : Settings) (events : List WorldEvent) (before after : P) (status : ℕ) : Type 0 where
   pub turns : List Turn
   pub run : IsRun settings (left events turns) status
+  pub steps : run.steps ≡ steps_in turns
   pub taken : AreTurns passes (founding settings) before events turns run.world after
 
 -- such a run of a script's events, with the settings that a text holds, for which the passage had its ports

@@ -1,5 +1,5 @@
 -- The grammar of a script, on its bytes.
-use Rattle.std.specs.Prelude.{ℕ, ◌+◌, ◌-◌, ◌*◌, ◌^◌, ◌==◌, ◌&&◌, ◌||◌, nat_le, nat_lt, nat_eq, Bool, if◌then◌else◌, List, [], ◌∷◌, length, codes, Option, Some, None, is_none, option_map}
+use Rattle.std.specs.Prelude.{ℕ, ◌+◌, ◌-◌, ◌*◌, ◌^◌, ◌==◌, ◌&&◌, ◌||◌, nat_le, nat_lt, nat_eq, Bool, if◌then◌else◌, List, [], ◌∷◌, length, codes, Option, Some, None, is_none}
 use Rattle.std.specs.List.{slice_split, starts_with, list_all, filter_map}
 use Rattle.std.specs.Result.{result_ok}
 use Rattle.std.specs.Char.{is_ascii_digit}

@@ -1,6 +1,6 @@
 //! A wire in memory, and a clock that goes by steps.
 
-ghost use Rattle.std.specs.Prelude.{◌≤◌};
+ghost use Rattle.std.specs.Prelude.{◌≡◌, ◌≤◌};
 
 use anyhow::Result as Checked;
 use nat_types::Side;
@@ -141,6 +141,8 @@ pub(crate) struct Steps {
 }
 
 impl Clockwork for Steps {
+    ghost reads = { λ _ moment clock. clock.moment ≡ moment };
+
     fn moment(&mut self) -> u64 {
         self.moment = self.moment.saturating_add(self.pace);
         self.moment

@@ -7,7 +7,7 @@ use Rattle.told.specs.Told.{Told, none_told}
 use Rattle.step_parts.specs.declared.events.Event.{Event}
 use Rattle.step_parts.specs.Shown.{Shown, scene}
 use Rattle.step_parts.specs.Steps.{IsStepOn}
-use Rattle.serving.specs.Rounds.{AreRounds, Box, Brings, IsRound, Takes, TakesAll, TakesNew, box}
+use Rattle.serving.specs.Rounds.{AreRounds, Box, Brings, IsRound, Reads, Takes, TakesAll, TakesNew, box}
 
 -- a step
 pub by_step : (g : Shown) (event : Event) (g2 : Shown) (before after : Told) (left : ℕ) → before ≡ none_told
@@ -42,5 +42,6 @@ joined a b c one two = record {
 }
 
 -- one round more
-pub one_round_more : (n : ℕ) (a b c : Box) → AreRounds n a b → IsRound b c → AreRounds (n + 1) a c
-one_round_more n a b c before last = rw add-one (b, (before, last))
+pub one_round_more : {C : Type 0} (reads : Reads C) (n : ℕ) (a b c : Box) (x y z : C)
+    → AreRounds reads n a x b y → IsRound reads b y c z → AreRounds reads (n + 1) a x c z
+one_round_more reads n a b c x y z before last = rw add-one (b, (y, (before, last)))

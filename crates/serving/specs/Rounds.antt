@@ -48,15 +48,21 @@ pub record TakesNew (b b2 : Box) : Type 0 where
   pub new : b2.received ≡ b.received ++ letters
   pub taken : TakesAll b.shown b.left_out letters b2.shown b2.left_out
 
--- a round: what was received, and then one tick
-pub record IsRound (b b2 : Box) : Type 0 where
+-- what a clock may read, and what it is then
+abbrev pub Reads : Type 0 → Type 1
+Reads C = C → ℕ → C → Type 0
+
+-- a round: what was received, and then one tick, with the moment that the clock reads
+pub record IsRound {C : Type 0} (reads : Reads C) (b : Box) (c : C) (b2 : Box) (c2 : C) : Type 0 where
   pub between : Box
   pub moment : ℕ
   pub letters : TakesNew b between
+  pub read : reads c moment c2
   pub tick : Takes between.shown between.left_out (Tick moment) b2.shown b2.left_out
   pub no_more : b2.received ≡ between.received
 
 -- so many rounds
-abbrev pub AreRounds : ℕ → Box → Box → Type 0
-AreRounds zero b b2 = b2 ≡ b
-AreRounds (suc n) b b2 = (middle : Box) × (AreRounds n b middle × IsRound middle b2)
+abbrev pub AreRounds : {C : Type 0} → Reads C → ℕ → Box → C → Box → C → Type 0
+AreRounds reads zero b c b2 c2 = (b2 ≡ b) × (c2 ≡ c)
+AreRounds {C = C} reads (suc n) b c b2 c2 =
+    (middle : Box) × ((then : C) × (AreRounds reads n b c middle then × IsRound reads middle then b2 c2))

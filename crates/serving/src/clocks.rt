@@ -1,12 +1,17 @@
 //! The clock of a box.
+ghost use Rattle.std.specs.Prelude.{ℕ};
 
 use std::rt::Clock;
 use std::time::Instant;
 
 /// What says how much time has passed since a box was started.
 pub trait Clockwork {
+    /// What a reading may be, and what the clock is then.
+    ghost reads: { Self → ℕ → Self → Type 0 };
+
     /// The centiseconds since the start.
-    fn moment(&mut self) -> u64;
+    fn moment(&mut self) -> u64
+        ensures { reads self.old result self.new };
 }
 
 /// The centiseconds on the system's monotonic clock. Where it can't be read, the last reading
@@ -36,6 +41,8 @@ impl<'a, R: Clock> Stopwatch<'a, R> {
 }
 
 impl<R: Clock> Clockwork for Stopwatch<'_, R> {
+    ghost reads = { λ _ _ _. Unit {0} };
+
     fn moment(&mut self) -> u64 {
         self.last = self.passed().unwrap_or(self.last);
         self.last

@@ -1,5 +1,6 @@
 //! The rounds of a box.
-ghost use Rattle.std.specs.Prelude.{◌≡◌, IfOk};
+ghost use Rattle.std.specs.Prelude.{◌≡◌, IfOk, OnOk, codes};
+ghost use Rattle.std.specs.Io.KnownBytes.{Appends};
 ghost use Rattle.serving.specs.Rounds.{AreRounds, IsRound, Takes, TakesNew, box};
 
 use crate::Clockwork;
@@ -48,8 +49,11 @@ pub fn serve<W: Wire, C: Clockwork, O: Write, E: Write>(
     output: &mut O,
     errors: &mut E,
 ) -> io::Result<LeftOut>
-    ensures { IfOk result (λ left. AreRounds rounds (box gateway.old (W.received wire.old) 0)
-        (box gateway.new (W.received wire.new) left)) }
+    ensures rounds { IfOk result (λ left. AreRounds C.reads rounds
+        (box gateway.old (W.received wire.old) 0) clock.old
+        (box gateway.new (W.received wire.new) left) clock.new) }
+    ensures ended { OnOk result
+        (Appends (O.contents output.old) (O.contents output.new) (codes "end\n")) }
 {
     let mut desk = Desk {
         out: Out::new(alloc),
@@ -60,7 +64,7 @@ pub fn serve<W: Wire, C: Clockwork, O: Write, E: Write>(
     for _ in 0..rounds {
         round(gateway, wire, clock, &mut room, &mut desk, errors);
     }
-    writeln!(output, "end")?;
+    output.write_all(b"end\n")?;
     output.flush()?;
     Ok(desk.left)
 }
@@ -74,8 +78,8 @@ fn round<W: Wire, C: Clockwork, E: Write>(
     desk: &mut Desk,
     errors: &mut E,
 )
-    ensures { IsRound (box gateway.old (W.received wire.old) desk.old.left)
-        (box gateway.new (W.received wire.new) desk.new.left) }
+    ensures { IsRound C.reads (box gateway.old (W.received wire.old) desk.old.left) clock.old
+        (box gateway.new (W.received wire.new) desk.new.left) clock.new }
 {
     take_what_comes(gateway, wire, room, desk, errors);
     let tick = Event::Tick(clock.moment());

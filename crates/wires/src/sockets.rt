@@ -1,5 +1,5 @@
 //! The three sockets of a box on the loopback address, all waited for at once.
-ghost use Rattle.std.specs.Prelude.{◌≤◌, IfOk, IfSome};
+ghost use Rattle.std.specs.Prelude.{◌≡◌, ◌≤◌, [], IfOk, IfSome};
 
 use crate::wire::{LONGEST, Wire, WireFault};
 use crate::{Place, Ports, Received};
@@ -210,7 +210,9 @@ impl Sockets {
     /// # Errors
     ///
     /// `NoSocket` where a port can't be had, `NoMemory`.
-    pub fn bind<R: Net>(net: &R, alloc: Global, ports: Ports) -> Result<Sockets, SocketFault> {
+    pub fn bind<R: Net>(net: &R, alloc: Global, ports: Ports) -> Result<Sockets, SocketFault>
+        ensures { IfOk result (λ s. ⟦<Sockets as Wire>⟧.received s ≡ []) }
+    {
         Ok(Sockets {
             trio: Trio::bind(net, alloc, ports)?,
             received: Received::none(),

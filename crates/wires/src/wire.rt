@@ -1,8 +1,9 @@
 //! What a box sends datagrams to and receives them from.
-ghost use Rattle.std.specs.Prelude.{◌≡◌, ◌≤◌, ◌++◌, List, IfOk, OnErr, IfSome};
+ghost use Rattle.std.specs.Prelude.{◌≡◌, ◌≤◌, ◌++◌, ◌-◌, ◌==◌, List, IfOk, OnErr, IfSome};
 ghost use Rattle.wires.specs.Letters.{Letter, letters_in};
 
 use crate::Place;
+use std::marker::Model;
 use std::time::Duration;
 
 /// The bytes that a receiver has room for. A link datagram has at most 2,214 bytes and a frame 1,514; of a longer
@@ -43,15 +44,29 @@ pub struct Failing<'a, W> {
     left: u64,
 }
 
+impl<'a, W> Model for Failing<'a, W> {
+    ghost use Rattle.std.specs.Prelude.{ℕ};
+    ghost use Rattle.std.specs.Borrow.{MutBor};
+
+    /// The wire below, and how many calls there are up to the one that fails.
+    ghost Value = { MutBor W × ℕ };
+
+    ghost view = { λ f. (f.wire, f.left) };
+}
+
 impl<'a, W: Wire> Failing<'a, W> {
     /// Fails at the call with this number; at none where it is 0.
-    pub fn new(wire: &'a mut W, number: u64) -> Failing<'a, W> {
+    pub fn new(wire: &'a mut W, number: u64) -> Failing<'a, W>
+        ensures { result ≡ (wire.entry, number) }
+    {
         Failing { wire, left: number }
     }
 
     /// Counts a call, and says whether it is the one that fails.
     fn fails(&mut self) -> bool
-        ensures { self.new.wire ≡ self.old.wire }
+        ensures wire { self.new.0 ≡ self.old.0 }
+        ensures fails { result ≡ (self.old.1 == 1) }
+        ensures left { self.new.1 ≡ self.old.1 - 1 }
     {
         let fails = self.left == 1;
         self.left = self.left.saturating_sub(1);
@@ -60,7 +75,7 @@ impl<'a, W: Wire> Failing<'a, W> {
 }
 
 impl<W: Wire> Wire for Failing<'_, W> {
-    ghost received = { λ f. W.received f.wire.now };
+    ghost received = { λ f. W.received f.0.now };
 
     fn send(&mut self, to: Place, bytes: &[u8]) -> Result<(), WireFault> {
         if self.fails() {

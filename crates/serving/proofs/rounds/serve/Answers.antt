@@ -2,4 +2,4 @@ use Rattle.serving.proofs.Taking.{one_round_more}
 use Rattle.serving.proofs.rounds.serve.Goals as goal
 
 pub loop-preserved : goal.loop-preserved
-loop-preserved g c = one_round_more _ _ _ _ c.loop.invariant c.round.ensures
+loop-preserved g c = one_round_more _ _ _ _ _ _ _ _ c.loop.invariant c.round.ensures

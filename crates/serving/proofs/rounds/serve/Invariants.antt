@@ -3,4 +3,5 @@ use Rattle.serving.proofs.rounds.serve.Given as goal
 
 abbrev pub invariant-loop : goal.invariant-loop
 invariant-loop g l =
-    AreRounds l.counter (box l.fn.gateway (g.W.Wire.received l.fn.wire) 0) (box l.gateway (g.W.Wire.received l.wire) l.desk.left)
+    AreRounds g.C.Clockwork.reads l.counter (box l.fn.gateway (g.W.Wire.received l.fn.wire) 0) l.fn.clock
+    (box l.gateway (g.W.Wire.received l.wire) l.desk.left) l.clock
