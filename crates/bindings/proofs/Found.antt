@@ -1,8 +1,7 @@
 -- What `find` finds.
-use Rattle.std.proofs.Common.{◌≡◌, Bool, true, false, cond, Option, Some, None, ◌⊎◌, inl, inr, List, [], ◌∷◌, ◌++◌, refl, ap, ◌∙◌, sym}
+use Rattle.std.proofs.Common.{◌≡◌, Bool, true, false, cond, Option, Some, None, ◌⊎◌, inl, inr, List, [], ◌∷◌, refl, ap, ◌∙◌, sym}
 use Rattle.std.specs.List.{find}
 use Rattle.std.specs.Option.{is_some, is_none}
-use Rattle.std.proofs.lemmas.Bool.{cond-false}
 
 -- a choice of something is nothing only where the other is chosen
 pub cond_none : {X : Type 0} (b : Bool) (x : X) (o : Option X) → cond b (Some x) o ≡ None → (b ≡ false) × (o ≡ None)
@@ -24,16 +23,6 @@ find-none p x xs h = cond_none (p x) x (find p xs) h
 past : {X : Type 0} (b : Bool) (x : X) (o o2 r : Option X) → (o ≡ None → o2 ≡ r) → cond b (Some x) o ≡ None → cond b (Some x) o2 ≡ r
 past true x o o2 r f h = cc
 past false x o o2 r f h = f h
-
--- one more element, where nothing was found
-pub find-push_none : {X : Type 0} (p : X → Bool) (xs : List X) (y : X) → find p xs ≡ None → find p (xs ++ y ∷ []) ≡ cond (p y) (Some y) None
-find-push_none p [] y h = refl
-find-push_none p (x ∷ xs) y h = past (p x) x (find p xs) (find p (xs ++ y ∷ [])) (cond (p y) (Some y) None) (find-push_none p xs y) h
-
--- one more element that doesn't pass
-pub find-push_other : {X : Type 0} (p : X → Bool) (xs : List X) (y : X) → p y ≡ false → find p (xs ++ y ∷ []) ≡ find p xs
-find-push_other p [] y h = cond-false (p y) (Some y) None h
-find-push_other p (x ∷ xs) y h = ap (λ o. cond (p x) (Some x) o) (find-push_other p xs y h)
 
 -- the first of a list is found, or it doesn't pass
 pub find-some : {X : Type 0} (b : Bool) (x : X) (o : Option X) (y : X) → cond b (Some x) o ≡ Some y → ((b ≡ true) × (x ≡ y)) ⊎ ((b ≡ false) × (o ≡ Some y))

@@ -1,8 +1,8 @@
 -- What a table keeps, after each change.
-use Rattle.std.proofs.Common.{◌≡◌, ℕ, zero, suc, ◌<◌, ◌≤◌, ◌==◌, Bool, true, false, cond, ◌||◌, not, is_none, nat_le, nat_lt, Option, Some, None, List, [], ◌∷◌, length, get_or, refl, sym, ap, ◌∙◌, arith}
+use Rattle.std.proofs.Common.{◌≡◌, ℕ, zero, suc, ◌<◌, ◌≤◌, Bool, true, false, cond, ◌||◌, not, is_none, nat_le, nat_lt, Option, Some, None, List, [], ◌∷◌, length, get_or, refl, sym, ap, ◌∙◌, arith}
 use Rattle.std.specs.List.{insert}
 use Rattle.std.specs.Option.{option_map}
-use Rattle.std.proofs.lemmas.Bool.{eqb-true, and_parts, and_from, le-leb, leb-true, ltb-true, ltb-false}
+use Rattle.std.proofs.lemmas.Bool.{and_parts, and_from, le-leb, leb-true, ltb-true, ltb-false}
 use Rattle.std.proofs.lemmas.List.{length-map}
 use Rattle.addresses.specs.declared.transport.Protocol.{Protocol}
 use Rattle.addresses.specs.declared.transport.Protocol.TheVariants.{Tcp, Udp}
@@ -10,7 +10,7 @@ use Rattle.nat_types.specs.declared.pairs.EntryState.{EntryState}
 use Rattle.nat_types.specs.declared.pairs.Key.{Key}
 use Rattle.nat_types.specs.Same.{same_key}
 use Rattle.lives.specs.Lives.{Life}
-use Rattle.port_range.specs.Ports.{is_free, is_owned, is_within, is_listed, AreRising}
+use Rattle.port_range.specs.Ports.{is_free, is_within, is_listed, AreRising}
 use Rattle.bindings.specs.declared.entries.Entry.{Entry}
 use Rattle.bindings.specs.declared.entries.PortBounds.{PortBounds}
 use Rattle.bindings.specs.declared.ports.Ports.{Ports}
@@ -27,7 +27,7 @@ use Rattle.bindings.proofs.Revived.{pairs_of, none-kept, endpoints-woken, length
 use Rattle.bindings.proofs.Places.{length-put, length-keep}
 use Rattle.bindings.proofs.Turned.{IsPairAt, keys-turn, endpoints-turn, length-turn}
 use Rattle.bindings.proofs.Pasts.{length-lives_without}
-use Rattle.bindings.proofs.Owning.{IsSetAt, free-taken, free-put_back, free-same, alike-same}
+use Rattle.bindings.proofs.Owning.{free-taken, free-put_back, free-same, alike-same}
 
 pub length-insert : {A : Type 0} (xs : List A) (n : ℕ) (y : A) → length (insert xs n y) ≡ suc (length xs)
 length-insert [] zero y = refl
@@ -36,16 +36,15 @@ length-insert (x ∷ xs) zero y = refl
 length-insert (x ∷ xs) (suc n) y = ap suc (length-insert xs n y)
 
 -- one more entry
-pub stored-put : (es : List Entry) (ls : List Life) (ports ports2 : Ports) (low high : PortBounds) (cap er lr er2 lr2 : ℕ) (e : Entry) (l : Life) → IsStored es ls ports low high cap er lr → IsWelcome cap es e → cap ≤ er2 → cap ≤ lr2 → ((q : Key) → is_free_at ports2 q ≡ cond (same_key e.pair.key q) false (is_free_at ports q)) → SameBounds ports ports2 → SameOwned ports ports2 → IsStored (put_in e es) (insert ls (place_in e.pair es) l) ports2 low high cap er2 lr2
-stored-put es ls ports ports2 low high cap er lr er2 lr2 e l s w fits more taken bounds owns = record {
+pub stored-put : (es : List Entry) (ls : List Life) (ports ports2 : Ports) (low high : PortBounds) (cap places : ℕ) (e : Entry) (l : Life) → IsStored es ls ports low high cap places → IsWelcome cap es e → ((q : Key) → is_free_at ports2 q ≡ cond (same_key e.pair.key q) false (is_free_at ports q)) → SameBounds ports ports2 → SameOwned ports ports2 → IsStored (put_in e es) (insert ls (place_in e.pair es) l) ports2 low high cap places
+stored-put es ls ports ports2 low high cap places e l s w taken bounds owns = record {
   order = order-put e es s.order;
   keys = keys-put e es s.keys w.key;
   endpoints = endpoints-put e es s.endpoints w.endpoint;
   alike = length-insert ls (place_in e.pair es) l ∙ ap suc s.alike ∙ sym (length-put e es);
   within = (let h = w.room in let n = length-put e es in omega arith);
   room = s.room;
-  entries_fit = fits;
-  lives_fit = more;
+  fits = s.fits;
   same = alike-same (lowest_of low high) (highest_of low high) ports ports2 s.same bounds owns;
   free = free-taken (lowest_of low high) (highest_of low high) es (put_in e es) ports ports2 e.pair.key e s.free taken (λ q. slot-put e es q w.key);
   owned = λ port h. s.owned port (ap (is_listed port) (sym owns.tcp) ∙ h);
@@ -57,32 +56,30 @@ none-mapped true f (Some x) = refl
 none-mapped false f o = refl
 
 -- an entry in another state
-pub stored-turn : (es : List Entry) (ls : List Life) (ports : Ports) (low high : PortBounds) (cap er lr er2 : ℕ) (key : Key) (state : EntryState) → IsStored es ls ports low high cap er lr → IsPairAt key es → cap ≤ er2 → IsStored (with_state key state es) ls ports low high cap er2 lr
-stored-turn es ls ports low high cap er lr er2 key state s pair fits = record {
+pub stored-turn : (es : List Entry) (ls : List Life) (ports : Ports) (low high : PortBounds) (cap places : ℕ) (key : Key) (state : EntryState) → IsStored es ls ports low high cap places → IsPairAt key es → IsStored (with_state key state es) ls ports low high cap places
+stored-turn es ls ports low high cap places key state s pair = record {
   order = order-turn key state es s.order;
   keys = keys-turn key state es s.keys;
   endpoints = endpoints-turn key state es s.keys pair s.endpoints;
   alike = s.alike ∙ sym (length-turn key state es);
   within = (let n = length-turn key state es in let h = s.within in omega arith);
   room = s.room;
-  entries_fit = fits;
-  lives_fit = s.lives_fit;
+  fits = s.fits;
   same = s.same;
   free = free-same (lowest_of low high) (highest_of low high) es (with_state key state es) ports s.free (λ q. ap is_none (either_slot key state es q) ∙ none-mapped (same_key key q) (restated state) (slot_of es q));
   owned = s.owned;
 }
 
 -- an entry less
-pub stored-drop : (es : List Entry) (ls : List Life) (ports ports2 : Ports) (low high : PortBounds) (cap er lr er2 lr2 : ℕ) (key : Key) → IsStored es ls ports low high cap er lr → cap ≤ er2 → cap ≤ lr2 → ((q : Key) → is_free_at ports2 q ≡ cond (same_key key q) (is_within ports.tcp.lowest ports.tcp.highest key.port.0) (is_free_at ports q)) → SameBounds ports ports2 → SameOwned ports ports2 → IsStored (without key es) (lives_without key es ls) ports2 low high cap er2 lr2
-stored-drop es ls ports ports2 low high cap er lr er2 lr2 key s fits more freed bounds owns = record {
+pub stored-drop : (es : List Entry) (ls : List Life) (ports ports2 : Ports) (low high : PortBounds) (cap places : ℕ) (key : Key) → IsStored es ls ports low high cap places → ((q : Key) → is_free_at ports2 q ≡ cond (same_key key q) (is_within ports.tcp.lowest ports.tcp.highest key.port.0) (is_free_at ports q)) → SameBounds ports ports2 → SameOwned ports ports2 → IsStored (without key es) (lives_without key es ls) ports2 low high cap places
+stored-drop es ls ports ports2 low high cap places key s freed bounds owns = record {
   order = order-drop key es s.order;
   keys = keys-filter (λ e. not (has_key key e)) es s.keys;
   endpoints = endpoints-filter (λ e. not (has_key key e)) es s.endpoints;
   alike = length-lives_without key es ls s.keys s.alike;
   within = (let n = length-keep (λ e. not (has_key key e)) es in let h = s.within in omega arith);
   room = s.room;
-  entries_fit = fits;
-  lives_fit = more;
+  fits = s.fits;
   same = alike-same (lowest_of low high) (highest_of low high) ports ports2 s.same bounds owns;
   free = free-put_back (lowest_of low high) (highest_of low high) es (without key es) ports ports2 key s.free here (λ q. slot-without key es q);
   owned = λ port h. s.owned port (ap (is_listed port) (sym owns.tcp) ∙ h);
@@ -92,16 +89,15 @@ stored-drop es ls ports ports2 low high cap er lr er2 lr2 key s fits more freed 
     here q = freed q ∙ ap (λ n. cond (same_key key q) (is_within n ports.tcp.highest key.port.0) (is_free_at ports q)) s.same.tcp_low ∙ ap (λ n. cond (same_key key q) (is_within (lowest_of low high) n key.port.0) (is_free_at ports q)) s.same.tcp_high
 
 -- other lives, as many
-pub stored-lives : (es : List Entry) (ls ls2 : List Life) (ports : Ports) (low high : PortBounds) (cap er lr lr2 : ℕ) → IsStored es ls ports low high cap er lr → length ls2 ≡ length ls → cap ≤ lr2 → IsStored es ls2 ports low high cap er lr2
-stored-lives es ls ls2 ports low high cap er lr lr2 s same more = record {
+pub stored-lives : (es : List Entry) (ls ls2 : List Life) (ports : Ports) (low high : PortBounds) (cap places : ℕ) → IsStored es ls ports low high cap places → length ls2 ≡ length ls → IsStored es ls2 ports low high cap places
+stored-lives es ls ls2 ports low high cap places s same = record {
   order = s.order;
   keys = s.keys;
   endpoints = s.endpoints;
   alike = same ∙ s.alike;
   within = s.within;
   room = s.room;
-  entries_fit = s.entries_fit;
-  lives_fit = more;
+  fits = s.fits;
   same = s.same;
   free = s.free;
   owned = s.owned;
@@ -114,62 +110,31 @@ free-kept old new f q = at q.protocol
     at Tcp = ap (is_listed q.port.0) f.tcp
     at Udp = ap (is_listed q.port.0) f.udp
 
-set-both : (c b x y : Bool) → x ≡ y → cond c b x ≡ cond c b y
-set-both c b x y e = ap (cond c b) e
-
-owned-kept : (c b : Bool) (o : Bool) (P : Type 0) → (c ≡ true → b ≡ true → P) → (o ≡ true → P) → cond c b o ≡ true → P
-owned-kept true b o P here there h = here refl h
-owned-kept false b o P here there h = there h
-
--- other owned ports
-pub stored-owned : (es : List Entry) (ls : List Life) (ports ports2 : Ports) (low high : PortBounds) (cap er lr port : ℕ) (b : Bool) → IsStored es ls ports low high cap er lr → IsSetAt (is_owned ports2.tcp) (is_owned ports.tcp) port b → IsSetAt (is_owned ports2.udp) (is_owned ports.udp) port b → SameFree ports ports2 → SameBounds ports ports2 → (b ≡ true → in_either low high port ≡ true) → IsStored es ls ports2 low high cap er lr
-stored-owned es ls ports ports2 low high cap er lr port b s tcp udp free bounds inside = record {
-  order = s.order;
-  keys = s.keys;
-  endpoints = s.endpoints;
-  alike = s.alike;
-  within = s.within;
-  room = s.room;
-  entries_fit = s.entries_fit;
-  lives_fit = s.lives_fit;
-  same = record {
-    tcp_low = bounds.tcp_low ∙ s.same.tcp_low;
-    tcp_high = bounds.tcp_high ∙ s.same.tcp_high;
-    udp_low = bounds.udp_low ∙ s.same.udp_low;
-    udp_high = bounds.udp_high ∙ s.same.udp_high;
-    owned = λ p. udp p ∙ set-both (p == port) b (is_owned ports.udp p) (is_owned ports.tcp p) (s.same.owned p) ∙ sym (tcp p);
-  };
-  free = λ q. free-kept ports ports2 free q ∙ s.free q;
-  owned = λ p h. owned-kept (p == port) b (is_owned ports.tcp p) (in_either low high p ≡ true) (λ here is. ap (in_either low high) (eqb-true p port here) ∙ inside is) (λ old. s.owned p old) (sym (tcp p) ∙ h);
-}
-
 -- any owned ports of the ranges
-pub stored-all : (es : List Entry) (ls : List Life) (ports ports2 : Ports) (low high : PortBounds) (cap er lr : ℕ) → IsStored es ls ports low high cap er lr → AreAlike (lowest_of low high) (highest_of low high) ports2 → SameFree ports ports2 → ((port : ℕ) → is_listed port ports2.tcp.owned ≡ true → in_either low high port ≡ true) → IsStored es ls ports2 low high cap er lr
-stored-all es ls ports ports2 low high cap er lr s alike free inside = record {
+pub stored-all : (es : List Entry) (ls : List Life) (ports ports2 : Ports) (low high : PortBounds) (cap places : ℕ) → IsStored es ls ports low high cap places → AreAlike (lowest_of low high) (highest_of low high) ports2 → SameFree ports ports2 → ((port : ℕ) → is_listed port ports2.tcp.owned ≡ true → in_either low high port ≡ true) → IsStored es ls ports2 low high cap places
+stored-all es ls ports ports2 low high cap places s alike free inside = record {
   order = s.order;
   keys = s.keys;
   endpoints = s.endpoints;
   alike = s.alike;
   within = s.within;
   room = s.room;
-  entries_fit = s.entries_fit;
-  lives_fit = s.lives_fit;
+  fits = s.fits;
   same = alike;
   free = λ q. free-kept ports ports2 free q ∙ s.free q;
   owned = inside;
 }
 
 -- the pairs and their lives once the peer begins anew
-pub stored-revived : (es : List Entry) (ls : List Life) (ports ports2 : Ports) (low high : PortBounds) (cap er lr er2 lr2 : ℕ) → IsStored es ls ports low high cap er lr → cap ≤ er2 → cap ≤ lr2 → AreFree (lowest_of low high) (highest_of low high) (pairs_of es) ports2 → SameBounds ports ports2 → SameOwned ports ports2 → IsStored (revived_entries es) (lives_of_pairs es ls) ports2 low high cap er2 lr2
-stored-revived es ls ports ports2 low high cap er lr er2 lr2 s fits more freed bounds owns = record {
+pub stored-revived : (es : List Entry) (ls : List Life) (ports ports2 : Ports) (low high : PortBounds) (cap places : ℕ) → IsStored es ls ports low high cap places → AreFree (lowest_of low high) (highest_of low high) (pairs_of es) ports2 → SameBounds ports ports2 → SameOwned ports ports2 → IsStored (revived_entries es) (lives_of_pairs es ls) ports2 low high cap places
+stored-revived es ls ports ports2 low high cap places s freed bounds owns = record {
   order = rises-map 0 woken_entry (pairs_of es) (λ x. refl) (rises-filter 0 (λ x. is_pair x.state) es s.order);
   keys = keys-map woken_entry (pairs_of es) (λ x. refl) (keys-filter (λ x. is_pair x.state) es s.keys);
   endpoints = endpoints-woken (pairs_of es) (endpoints-filter (λ x. is_pair x.state) es s.endpoints);
   alike = length-revived es ls s.alike;
   within = (let n = length-keep (λ x. is_pair x.state) es in let m = length-map (pairs_of es) woken_entry in let h = s.within in omega (arith, n, m, h));
   room = s.room;
-  entries_fit = fits;
-  lives_fit = more;
+  fits = s.fits;
   same = alike-same (lowest_of low high) (highest_of low high) ports ports2 s.same bounds owns;
   free = free-same (lowest_of low high) (highest_of low high) (pairs_of es) (revived_entries es) ports2 freed (none-kept (pairs_of es));
   owned = λ port h. s.owned port (ap (is_listed port) (sym owns.tcp) ∙ h);
@@ -210,8 +175,8 @@ in-both low high port h =
     (λ a. between high.lowest.0 high.highest.0 port (lowest_of low high) (highest_of low high) l.1 g.1 a) h
 
 -- what callers see keeps it
-pub table-is : (es : List Entry) (ls : List Life) (ports : Ports) (low high : PortBounds) (cap er lr ready : ℕ) → IsStored es ls ports low high cap er lr → AreRising ports.tcp.owned → IsTable (record { entries = es; lives = ls; owned = ports.tcp.owned; zero = low; one = high; capacity = cap; ready = ready })
-table-is es ls ports low high cap er lr ready s rises = record {
+pub table-is : (es : List Entry) (ls : List Life) (ports : Ports) (low high : PortBounds) (cap places ready : ℕ) → IsStored es ls ports low high cap places → AreRising ports.tcp.owned → IsTable (record { entries = es; lives = ls; owned = ports.tcp.owned; zero = low; one = high; capacity = cap; ready = ready })
+table-is es ls ports low high cap places ready s rises = record {
   order = s.order;
   keys = s.keys;
   endpoints = s.endpoints;

@@ -15,3 +15,9 @@ pub mod Unbroken
 pub mod Resting
 pub mod Rooms
 pub mod Uses
+pub mod Kept
+pub mod Changes
+pub mod Stored
+pub mod Walks
+pub mod Dropping
+pub mod Lived

@@ -16,7 +16,7 @@ use Rattle.addresses.proofs.Equal.{protocol-eq, protocol-self}
 use Rattle.bindings.specs.declared.entries.Entry.{Entry}
 use Rattle.bindings.specs.declared.entries.PortBounds.{PortBounds}
 use Rattle.bindings.specs.Entries.{slot_of, set_at}
-use Rattle.bindings.specs.Ports.{range_of, is_free_at, is_free_in, is_open_in, is_vacant, lowest_of, highest_of, chosen_port, AreAlike, SameBounds, SameOwned, AreFree, key_of}
+use Rattle.bindings.specs.Ports.{range_of, is_free_at, is_free_in, is_open_in, lowest_of, highest_of, chosen_port, AreAlike, SameBounds, SameOwned, AreFree, key_of}
 
 -- a test of ports that is written at one of them
 abbrev pub IsSetAt : (ℕ → Bool) → (ℕ → Bool) → ℕ → Bool → Type 0
@@ -105,17 +105,6 @@ free-put_back low high es es2 ports ports2 key free ports-are slots q =
 -- where no slot changes its being free
 pub free-same : (low high : ℕ) (es es2 : List Entry) (ports : Ports) → AreFree low high es ports → ((q : Key) → is_none (slot_of es2 q) ≡ is_none (slot_of es q)) → AreFree low high es2 ports
 free-same low high es es2 ports free same q = free q ∙ ap (λ b. is_within low high q.port.0 && b) (sym (same q))
-
--- a port between the lowest and the highest of both ranges has no entry where it is free for both protocols
-pub vacant-is : (low high : ℕ) (es : List Entry) (ports : Ports) (port : ℕ) → AreFree low high es ports → AreAlike low high ports → is_within ports.tcp.lowest ports.tcp.highest port ≡ true → (is_free ports.tcp port && is_free ports.udp port) ≡ is_vacant es port
-vacant-is low high es ports port free alike within =
-    ap (λ b. b && is_free ports.udp port) (one Tcp) ∙ ap (λ b. is_free_in es Tcp port && b) (one Udp)
-  where
-    inside : is_within low high port ≡ true
-    inside = ap (λ n. is_within n high port) (sym alike.tcp_low) ∙ ap (λ n. is_within ports.tcp.lowest n port) (sym alike.tcp_high) ∙ within
-
-    one : (x : Protocol) → is_free (range_of ports x) port ≡ is_free_in es x port
-    one x = free (key_of x port) ∙ ap (λ b. b && is_free_in es x port) inside
 
 -- ---- the port that is chosen
 

@@ -1,6 +1,6 @@
 -- The lives of the entries after a change of the list.
-use Rattle.std.proofs.Common.{◌≡◌, ℕ, zero, suc, Bool, true, false, cond, not, nat_lt, Some, None, List, [], ◌∷◌, length, get_or, set, refl, sym, ap, ◌∙◌, arith}
-use Rattle.std.specs.List.{insert, remove}
+use Rattle.std.proofs.Common.{◌≡◌, ℕ, zero, suc, Bool, true, false, cond, not, nat_lt, Some, None, List, [], ◌∷◌, length, get_or, refl, sym, ap, ◌∙◌, arith}
+use Rattle.std.specs.List.{insert}
 use Rattle.std.proofs.lemmas.Bool.{cond-true, cond-false, both_ways}
 use Rattle.nat_types.specs.declared.pairs.EntryState.{EntryState}
 use Rattle.nat_types.specs.declared.pairs.Key.{Key}
@@ -11,8 +11,7 @@ use Rattle.lives.specs.Lives.{Life, Past, Agrees}
 use Rattle.bindings.specs.declared.entries.Entry.{Entry}
 use Rattle.bindings.specs.Entries.{has_key, slot_of, place_of, HasDistinctKeys}
 use Rattle.bindings.specs.Lists.{place_in, put_in, without, with_state}
-use Rattle.lives.specs.Places.{changed_at}
-use Rattle.bindings.specs.Lives.{life_in, lives_with, lives_without, HasPast, KeepsOthers}
+use Rattle.bindings.specs.Lives.{life_in, lives_without, HasPast, KeepsOthers}
 use Rattle.bindings.proofs.Found.{find-none}
 use Rattle.bindings.proofs.Slots.{swap_choices}
 use Rattle.bindings.proofs.Orders.{turned-pair}
@@ -46,37 +45,7 @@ no-life key (x ∷ xs) (l ∷ ls) h = let parts = find-none (has_key key) x xs h
 
 -- ---- a life changed
 
-pub lives-changed : (f : Life → Life) (key : Key) (es : List Entry) (ls : List Life) (i : ℕ) (d : Entry) → IsAt key es i d → length ls ≡ length es → changed_at i f ls ≡ lives_with f key es ls
-lives-changed f key [] ls i d at same = absurd (let h = at.low in omega (arith, h))
-lives-changed f key (x ∷ xs) [] i d at same = absurd (omega (arith, same))
-lives-changed f key (x ∷ xs) (l ∷ ls) zero d at same = sym (cond-true (has_key key x) (f l ∷ ls) (l ∷ lives_with f key xs ls) at.here)
-lives-changed f key (x ∷ xs) (l ∷ ls) (suc i) d at same =
-    ap (λ zs. l ∷ zs) (lives-changed f key xs ls i d (at-rest key x xs i d at) (omega (arith, same)))
-    ∙ sym (cond-false (has_key key x) (f l ∷ ls) (l ∷ lives_with f key xs ls) (at-not_first key x xs i d at))
-
-pub lives-unchanged : (f : Life → Life) (key : Key) (es : List Entry) (ls : List Life) → slot_of es key ≡ None → length ls ≡ length es → lives_with f key es ls ≡ ls
-lives-unchanged f key [] ls h same = refl
-lives-unchanged f key (x ∷ xs) [] h same = refl
-lives-unchanged f key (x ∷ xs) (l ∷ ls) h same =
-    let parts = find-none (has_key key) x xs h in
-    cond-false (has_key key x) (f l ∷ ls) (l ∷ lives_with f key xs ls) parts.0 ∙ ap (λ zs. l ∷ zs) (lives-unchanged f key xs ls parts.1 (omega (arith, same)))
-
 -- ---- an entry less
-
-pub lives-remove : (key : Key) (es : List Entry) (ls : List Life) (i : ℕ) (d : Entry) → IsAt key es i d → length ls ≡ length es → remove ls i ≡ lives_without key es ls
-lives-remove key [] ls i d at same = absurd (let h = at.low in omega (arith, h))
-lives-remove key (x ∷ xs) [] i d at same = absurd (omega (arith, same))
-lives-remove key (x ∷ xs) (l ∷ ls) zero d at same = sym (cond-true (has_key key x) ls (l ∷ lives_without key xs ls) at.here)
-lives-remove key (x ∷ xs) (l ∷ ls) (suc i) d at same =
-    ap (λ zs. l ∷ zs) (lives-remove key xs ls i d (at-rest key x xs i d at) (omega (arith, same)))
-    ∙ sym (cond-false (has_key key x) ls (l ∷ lives_without key xs ls) (at-not_first key x xs i d at))
-
-pub lives-without_none : (key : Key) (es : List Entry) (ls : List Life) → slot_of es key ≡ None → length ls ≡ length es → lives_without key es ls ≡ ls
-lives-without_none key [] ls h same = refl
-lives-without_none key (x ∷ xs) [] h same = refl
-lives-without_none key (x ∷ xs) (l ∷ ls) h same =
-    let parts = find-none (has_key key) x xs h in
-    cond-false (has_key key x) ls (l ∷ lives_without key xs ls) parts.0 ∙ ap (λ zs. l ∷ zs) (lives-without_none key xs ls parts.1 (omega (arith, same)))
 
 pub life-without : (key : Key) (es : List Entry) (ls : List Life) (q : Key) → HasDistinctKeys es → length ls ≡ length es → same_key key q ≡ false → life_in (without key es) (lives_without key es ls) q ≡ life_in es ls q
 life-without key [] ls q keys same other = refl
@@ -118,23 +87,6 @@ life-at key (x ∷ xs) (l ∷ ls) (suc i) d m at same =
     cond-false (has_key key x) (Some l) (life_in xs ls key) (at-not_first key x xs i d at)
     ∙ life-at key xs ls i d m (at-rest key x xs i d at) (omega (arith, same))
 
-pub life-set : (key : Key) (es : List Entry) (ls : List Life) (i : ℕ) (d : Entry) (m : Life) (q : Key) → IsAt key es i d → length ls ≡ length es → life_in es (set ls i m) q ≡ cond (same_key key q) (Some m) (life_in es ls q)
-life-set key [] ls i d m q at same = absurd (let h = at.low in omega (arith, h))
-life-set key (x ∷ xs) [] i d m q at same = absurd (omega (arith, same))
-life-set key (x ∷ xs) (l ∷ ls) zero d m q at same =
-    let one : x.pair.key ≡ key = key-eq x.pair.key key at.here in
-    here (same_key x.pair.key q) ∙ ap (λ k. cond (same_key k q) (Some m) (cond (same_key x.pair.key q) (Some l) (life_in xs ls q))) one
-  where
-    here : (b : Bool) → cond b (Some m) (life_in xs ls q) ≡ cond b (Some m) (cond b (Some l) (life_in xs ls q))
-    here true = refl
-    here false = refl
-life-set key (x ∷ xs) (l ∷ ls) (suc i) d m q at same =
-    ap (cond (same_key x.pair.key q) (Some l)) (life-set key xs ls i d m q (at-rest key x xs i d at) (omega (arith, same)))
-    ∙ swap_choices (same_key x.pair.key q) (same_key key q) (Some l) (Some m) (life_in xs ls q) clash
-  where
-    clash : same_key x.pair.key q ≡ true → same_key key q ≡ true → ⊥
-    clash a b = both_ways (same_key x.pair.key key) (at-not_first key x xs i d at) (key-true x.pair.key key (key-eq x.pair.key q a ∙ sym (key-eq key q b)))
-
 -- ---- pasts
 
 -- where the lives at other keys stay, their pasts do
@@ -150,23 +102,6 @@ put-begins e l es ls past same h agrees = (l, life-put e l es ls e.pair.key same
 pub without-keeps : (key : Key) (es : List Entry) (ls : List Life) → HasDistinctKeys es → length ls ≡ length es → KeepsOthers key es ls (without key es) (lives_without key es ls)
 without-keeps key es ls keys same = others-keep key es ls (without key es) (lives_without key es ls) (λ q other. life-without key es ls q keys same other)
 
-pub set-keeps : (key : Key) (es : List Entry) (ls : List Life) (i : ℕ) (d : Entry) (m : Life) → IsAt key es i d → length ls ≡ length es → KeepsOthers key es ls es (set ls i m)
-set-keeps key es ls i d m at same = others-keep key es ls es (set ls i m) (λ q other. life-set key es ls i d m q at same ∙ cond-false (same_key key q) (Some m) (life_in es ls q) other)
-
--- the past of the key, where its life is written
-pub set-past : (key : Key) (es : List Entry) (ls : List Life) (i : ℕ) (d : Entry) (o m : Life) (past past2 : Past) → IsAt key es i d → length ls ≡ length es → (Agrees key.protocol past (get_or ls i o) → Agrees key.protocol past2 m) → HasPast es ls key past → HasPast es (set ls i m) key past2
-set-past key es ls i d o m past past2 at same goes has =
-    let found : Some has.0 ≡ Some (get_or ls i o) = sym has.1 ∙ life-at key es ls i d o at same in
-    let one : has.0 ≡ get_or ls i o = cc in
-    (m, life-set key es ls i d m key at same ∙ cond-true (same_key key key) (Some m) (life_in es ls key) (key-self key), goes (rw (sym one) has.2))
-
 -- the past of a key with no entry
 pub no-past : (key : Key) (es : List Entry) (ls : List Life) (past : Past) → slot_of es key ≡ None → HasPast es ls key past → ⊥
 no-past key es ls past h has = let none : None ≡ Some has.0 = sym (no-life key es ls h) ∙ has.1 in cc
-
--- the past speaks of the life that is there
-pub past-at : (key : Key) (es : List Entry) (ls : List Life) (i : ℕ) (d : Entry) (o : Life) (past : Past) → IsAt key es i d → length ls ≡ length es → HasPast es ls key past → Agrees key.protocol past (get_or ls i o)
-past-at key es ls i d o past at same has =
-    let found : Some has.0 ≡ Some (get_or ls i o) = sym has.1 ∙ life-at key es ls i d o at same in
-    let one : has.0 ≡ get_or ls i o = cc in
-    rw (sym one) has.2

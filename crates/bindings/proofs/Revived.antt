@@ -1,5 +1,5 @@
 -- What is left of a table's lists once the peer begins anew.
-use Rattle.std.proofs.Common.{◌≡◌, suc, ◌<◌, ◌≤◌, Bool, true, false, cond, ◌&&◌, not, is_none, Some, None, List, [], ◌∷◌, map, length, refl, sym, ap, ◌∙◌, arith}
+use Rattle.std.proofs.Common.{◌≡◌, suc, Bool, true, false, cond, ◌&&◌, not, is_none, Some, None, List, [], ◌∷◌, map, length, refl, sym, ap, ◌∙◌, arith}
 use Rattle.std.specs.List.{find, filter}
 use Rattle.std.proofs.lemmas.Bool.{both_ways, cond-true, cond-false}
 use Rattle.nat_types.specs.declared.pairs.EntryState.{EntryState}
@@ -13,7 +13,7 @@ use Rattle.bindings.specs.Entries.{is_pair, has_key, serves, slot_of, entry_of, 
 use Rattle.bindings.specs.Lists.{without}
 use Rattle.bindings.specs.Lives.{life_in, lives_without}
 use Rattle.bindings.specs.Revivals.{woken, woken_entry, revived_entries, revived_slot, lives_of_pairs}
-use Rattle.bindings.proofs.Found.{find-none, find-passes}
+use Rattle.bindings.proofs.Found.{find-none}
 use Rattle.bindings.proofs.Places.{rest-none, without-none}
 
 abbrev pub pairs_of : List Entry → List Entry
@@ -46,27 +46,6 @@ kept-without key (e ∷ es) (l ∷ ls) x keys same held doomed = at (has_key key
         ∙ sym (cond-false (is_pair e.state) (l ∷ lives_of_pairs es ls) (lives_of_pairs es ls) (ap (λ (y : Entry). is_pair y.state) one ∙ doomed))
     at false other held ih = ap (λ zs. cond (is_pair e.state) (l ∷ zs) zs) (ih held)
 
-shorter : (b : Bool) (e : Entry) (zs es : List Entry) → length zs ≤ length es → (b ≡ true → length zs < length es) → length (cond b (e ∷ zs) zs) < length (e ∷ es)
-shorter true e zs es le lt = let h = lt refl in omega arith
-shorter false e zs es le lt = omega arith
-
-no-longer : (key : Key) (es : List Entry) → length (without key es) ≤ length es
-no-longer key [] = omega arith
-no-longer key (e ∷ es) = at (not (has_key key e)) (no-longer key es)
-  where
-    at : (b : Bool) → length (without key es) ≤ length es → length (cond b (e ∷ without key es) (without key es)) ≤ suc (length es)
-    at true ih = omega arith
-    at false ih = omega arith
-
--- the list is shorter
-pub fewer : (key : Key) (es : List Entry) (x : Entry) → slot_of es key ≡ Some x → length (without key es) < length es
-fewer key [] x held = cc
-fewer key (e ∷ es) x held = at (has_key key e) held (λ rest. fewer key es x rest)
-  where
-    at : (b : Bool) → cond b (Some e) (slot_of es key) ≡ Some x → (slot_of es key ≡ Some x → length (without key es) < length es) → length (cond (not b) (e ∷ without key es) (without key es)) < suc (length es)
-    at true held ih = let le = no-longer key es in omega arith
-    at false held ih = let lt = ih held in omega arith
-
 not-doomed : (b : Bool) → not b ≡ false → b ≡ true
 not-doomed true h = refl
 not-doomed false h = cc
@@ -86,14 +65,6 @@ all-kept (e ∷ es) (l ∷ ls) same h =
     let parts = find-none (λ x. not (is_pair x.state)) e es h in
     cond-true (is_pair e.state) (l ∷ lives_of_pairs es ls) (lives_of_pairs es ls) (not-doomed (is_pair e.state) parts.0)
     ∙ ap (λ zs. l ∷ zs) (all-kept es ls (omega (arith, same)) parts.1)
-
--- a Doomed entry that is found
-pub doomed-state : (es : List Entry) (x : Entry) → find (λ e. not (is_pair e.state)) es ≡ Some x → is_pair x.state ≡ false
-doomed-state es x h = at (is_pair x.state) (find-passes (λ e. not (is_pair e.state)) es x h)
-  where
-    at : (b : Bool) → not b ≡ true → b ≡ false
-    at true h = cc
-    at false h = refl
 
 -- ---- all entries once they are woken
 

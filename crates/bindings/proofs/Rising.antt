@@ -202,16 +202,6 @@ one-further false i p port =
     here false true = refl
     here false false = refl
 
-pub none-yet : (low high : PortBounds) (o : Bool) (p : ℕ) → o ≡ (o || (nat_lt p (lowest_of low high) && in_either low high p))
-none-yet low high true p = refl
-none-yet low high false p = at (in_either low high p) refl
-  where
-    at : (b : Bool) → in_either low high p ≡ b → false ≡ (nat_lt p (lowest_of low high) && b)
-    at true is =
-        let from : lowest_of low high ≤ p = leb-true (lowest_of low high) p (and_parts (nat_le (lowest_of low high) p) (nat_le p (highest_of low high)) (in-both low high p is)).0 in
-        sym (and_left (nat_lt p (lowest_of low high)) true (le-ltb p (lowest_of low high) from))
-    at false is = sym (and_right (nat_lt p (lowest_of low high)) false refl)
-
 pub all-of-them : (low high : PortBounds) (o : Bool) (p port : ℕ) → (o ≡ true → in_either low high p ≡ true) → highest_of low high < port → (o || (nat_lt p port && in_either low high p)) ≡ in_either low high p
 all-of-them low high true p port inside end = sym (inside refl)
 all-of-them low high false p port inside end = at (in_either low high p) refl

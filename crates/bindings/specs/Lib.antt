@@ -5,3 +5,4 @@ pub mod Ports
 pub mod Revivals
 pub mod Runs
 pub mod Table
+pub mod Stores

@@ -31,6 +31,11 @@ abbrev pub Rises : ℕ → List Entry → Type 0
 Rises low [] = Unit {0}
 Rises low (x ∷ xs) = (low ≤ place_of x.pair) × Rises (place_of x.pair) xs
 
+-- each entry stands from this place on, and behind the one in front of it
+abbrev pub RisesUp : ℕ → List Entry → Type 0
+RisesUp low [] = Unit {0}
+RisesUp low (x ∷ xs) = (low ≤ place_of x.pair) × RisesUp (suc (place_of x.pair)) xs
+
 -- by protocol (tcp first) and port
 abbrev pub AreInOrder : List Entry → Type 0
 AreInOrder es = Rises 0 es

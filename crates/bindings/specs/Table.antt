@@ -76,16 +76,15 @@ with_entry_state t key state = record t { entries = with_state key state t.entri
 abbrev pub without_entry : Table → Key → Table
 without_entry t key = record t { entries = without key t.entries; lives = lives_without key t.entries t.lives }
 
--- The fields keep the same, with room in the lists for all that may come.
-pub record IsStored (entries : List Entry) (lives : List Life) (ports : Ports) (zero one : PortBounds) (capacity entry_room life_room : ℕ) : Type 0 where
+-- The fields keep the same, with room for all that may come.
+pub record IsStored (entries : List Entry) (lives : List Life) (ports : Ports) (zero one : PortBounds) (capacity places : ℕ) : Type 0 where
   pub order : AreInOrder entries
   pub keys : HasDistinctKeys entries
   pub endpoints : HasDistinctEndpoints entries
   pub alike : length lives ≡ length entries
   pub within : length entries ≤ capacity
   pub room : capacity ≡ key_count zero one
-  pub entries_fit : capacity ≤ entry_room
-  pub lives_fit : capacity ≤ life_room
+  pub fits : capacity ≤ places
   pub same : AreAlike (lowest_of zero one) (highest_of zero one) ports
   pub free : AreFree (lowest_of zero one) (highest_of zero one) entries ports
   pub owned : (port : ℕ) → is_listed port ports.tcp.owned ≡ true → in_either zero one port ≡ true

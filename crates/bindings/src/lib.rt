@@ -7,6 +7,7 @@ mod ports;
 mod revivals;
 mod rows;
 mod runs;
+mod store;
 mod table;
 
 pub use entries::{Entry, PortBounds, TableFault};

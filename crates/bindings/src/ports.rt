@@ -244,20 +244,6 @@ impl Ports {
         list_owned(alloc, &self.tcp, lowest, highest)
     }
 
-    /// Whether a port lies between the lowest and the highest of the ranges.
-    pub(crate) fn holds(&self, port: Port) -> bool
-        ensures { result ≡ is_within self.now.tcp.lowest self.now.tcp.highest port.0 }
-    {
-        self.tcp.holds(port)
-    }
-
-    /// Whether a port is free for both protocols.
-    pub(crate) fn is_free(&self, port: Port) -> bool
-        ensures { result ≡ (is_free self.now.tcp port.0 && is_free self.now.udp port.0) }
-    {
-        self.tcp.is_free(port) && self.udp.is_free(port)
-    }
-
     pub(crate) fn owns(&self, port: Port) -> bool
         ensures { result ≡ is_owned self.now.tcp port.0 }
     {

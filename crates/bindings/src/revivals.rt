@@ -1,56 +1,75 @@
-//! What becomes of a table's lists once the peer begins anew.
-ghost use Rattle.std.specs.Prelude.{◌≡◌, length, vec_capacity, map, not};
-ghost use Rattle.std.specs.List.{filter, find};
-ghost use Rattle.bindings.specs.Entries.{is_pair, HasDistinctKeys};
+//! What becomes of a table's entries once the peer begins anew.
+ghost use Rattle.std.specs.Prelude.{◌≡◌, ◌≤◌, Some, map, if◌then◌else◌};
+ghost use Rattle.std.specs.List.{filter};
+ghost use Rattle.bindings.specs.Entries.{is_pair, entry_in, slot_of};
+ghost use Rattle.bindings.specs.Lists.{without};
+ghost use Rattle.bindings.specs.Lives.{lives_without};
 ghost use Rattle.bindings.specs.Ports.{AreAlike, AreFree, SameBounds, SameOwned};
 ghost use Rattle.bindings.specs.Revivals.{woken_entry, lives_of_pairs};
 
 use crate::Entry;
-use crate::entries::{is_pair_state, woken_state};
+use crate::entries::{is_pair_state, key_of, woken_state};
 use crate::ports::Ports;
-use crate::rows::{key_of_entry, take_out};
-use lives::Life;
+use crate::store::Store;
+use nat_types::{EntryState, Pair};
 
-fn first_doomed(entries: &[Entry]) -> Option<Entry>
-    ensures { result ≡ find (λ e. not (is_pair e.state)) entries.now }
-{
-    entries
-        .iter()
-        .copied()
-        .find(|entry| !is_pair_state(entry.state))
-}
-
-/// Takes the Doomed entries out, and their lives, and makes their keys free.
-pub(crate) fn drop_doomed(entries: &mut Vec<Entry>, lives: &mut Vec<Life>, ports: &mut Ports)
-    requires keys { HasDistinctKeys entries.old.items }
-    requires alike { length lives.old.items ≡ length entries.old.items }
+/// Takes an entry out where it is Doomed, and makes its key free.
+fn drop_if_doomed(store: &mut Store, ports: &mut Ports, pair: Pair, state: EntryState)
+    requires held { slot_of store.old.entries pair.key ≡ Some (entry_in state pair) }
     requires same { AreAlike ports.old.tcp.lowest ports.old.tcp.highest ports.old }
-    requires free { AreFree ports.old.tcp.lowest ports.old.tcp.highest entries.old.items ports.old }
-    ensures entries { entries.new.items ≡ filter (λ e. is_pair e.state) entries.old.items }
-    ensures lives { lives.new.items ≡ lives_of_pairs entries.old.items lives.old.items }
-    ensures entries_capacity { vec_capacity entries.new ≡ vec_capacity entries.old }
-    ensures lives_capacity { vec_capacity lives.new ≡ vec_capacity lives.old }
-    ensures free { AreFree ports.old.tcp.lowest ports.old.tcp.highest entries.new.items ports.new }
+    requires free { AreFree ports.old.tcp.lowest ports.old.tcp.highest store.old.entries ports.old }
+    ensures entries { store.new.entries ≡ (if is_pair state then store.old.entries
+        else without pair.key store.old.entries) }
+    ensures lives { store.new.lives ≡ (if is_pair state then store.old.lives
+        else lives_without pair.key store.old.entries store.old.lives) }
+    ensures room { store.new.room ≡ store.old.room }
+    ensures spare { store.old.spare ≤ store.new.spare }
+    ensures free { AreFree ports.old.tcp.lowest ports.old.tcp.highest store.new.entries ports.new }
     ensures owned { SameOwned ports.old ports.new }
     ensures bounds { SameBounds ports.old ports.new }
 {
-    while let Some(entry) = first_doomed(entries) {
-        let key = key_of_entry(entry);
-        take_out(entries, lives, key);
+    if !is_pair_state(state) {
+        let key = key_of(pair);
+        store.take_out(key);
         ports.put_back(key);
     }
 }
 
-/// What was proposed or asked to be closed translates.
-pub(crate) fn wake(entries: &mut Vec<Entry>)
-    ensures items { entries.new.items ≡ map woken_entry entries.old.items }
-    ensures capacity { vec_capacity entries.new ≡ vec_capacity entries.old }
+/// Takes the Doomed entries out, and their lives, and makes their keys free.
+pub(crate) fn drop_doomed(store: &mut Store, ports: &mut Ports)
+    requires same { AreAlike ports.old.tcp.lowest ports.old.tcp.highest ports.old }
+    requires free { AreFree ports.old.tcp.lowest ports.old.tcp.highest store.old.entries ports.old }
+    ensures entries { store.new.entries ≡ filter (λ e. is_pair e.state) store.old.entries }
+    ensures lives { store.new.lives ≡ lives_of_pairs store.old.entries store.old.lives }
+    ensures room { store.new.room ≡ store.old.room }
+    ensures spare { store.old.spare ≤ store.new.spare }
+    ensures free { AreFree ports.old.tcp.lowest ports.old.tcp.highest store.new.entries ports.new }
+    ensures owned { SameOwned ports.old ports.new }
+    ensures bounds { SameBounds ports.old ports.new }
 {
-    for i in 0..entries.len() {
-        let entry = entries[i];
-        entries[i] = Entry {
-            pair: entry.pair,
-            state: woken_state(entry.state),
-        };
+    let mut last = None;
+    while let Some(entry) = store.entry_after(last) {
+        store.recall();
+        let Entry { pair, state } = entry;
+        drop_if_doomed(store, ports, pair, state);
+        last = Some(key_of(pair));
+    }
+    store.recall();
+}
+
+/// What was proposed or asked to be closed translates.
+pub(crate) fn wake(store: &mut Store)
+    ensures entries { store.new.entries ≡ map woken_entry store.old.entries }
+    ensures lives { store.new.lives ≡ store.old.lives }
+    ensures room { store.new.room ≡ store.old.room }
+    ensures spare { store.old.spare ≤ store.new.spare }
+{
+    let mut last = None;
+    while let Some(entry) = store.entry_after(last) {
+        store.recall();
+        let Entry { pair, state } = entry;
+        let key = key_of(pair);
+        store.turn(key, woken_state(state));
+        last = Some(key);
     }
 }

@@ -1,141 +1,150 @@
-//! Changes of a table's two lists, of which one has the life of each entry of the other.
-ghost use Rattle.std.specs.Prelude.{◌≡◌, ◌+◌, ◌<◌, ◌≤◌, ◌++◌, length, slice_index_or, vec_len, vec_capacity};
-ghost use Rattle.std.specs.List.{insert};
-ghost use Rattle.bindings.specs.Entries.{HasDistinctKeys, slot_of};
-ghost use Rattle.bindings.specs.Lists.{without, with_state};
-ghost use Rattle.bindings.specs.Lives.{lives_without, IsLifeSet, is_idle_row, idle_keys_in};
-ghost use Rattle.lives.specs.Lives.{Life as Seen, with_packet, renewed, looks_idle, life_carried, life_renewed};
-ghost use Rattle.lives.specs.Places.{changed_at};
+//! Passes over the entries of a store, and questions about them.
+ghost use Rattle.std.specs.Prelude.{◌≡◌, ◌+◌, ◌≤◌, ◌++◌, [], ◌∷◌, ◌&&◌, if◌then◌else◌, length, vec_len, vec_capacity, IfOk, OnOk};
+ghost use Rattle.bindings.specs.Entries.{is_pair, translates, entry_in, refusal_of, pairs_in};
+ghost use Rattle.bindings.specs.Lives.{rests_at, idle_keys_in};
+ghost use Rattle.bindings.specs.Ports.{is_vacant};
 
-use crate::Entry;
-use crate::entries::{is_translating, position_of};
-use addresses::Protocol;
-use lives::{Life, Packet};
-use nat_types::{EntryState, Key};
+use crate::entries::{endpoint_of, is_pair_state, is_translating, key_of};
+use crate::store::Store;
+use crate::{Entry, TableFault};
+use addresses::{Port, Protocol};
+use nat_types::{EntryState, Key, Pair};
+use std::alloc::{AllocError, Global};
 
-/// Puts an item at its place in a list that has room for it.
-pub(crate) fn insert_reserved<T>(list: &mut Vec<T>, place: usize, item: T)
-    requires place { place ≤ vec_len list.old }
-    requires room { vec_len list.old < vec_capacity list.old }
-    ensures items { list.new.items ≡ insert list.old.items place item }
-    ensures len { vec_len list.new ≡ vec_len list.old + 1 }
-    ensures capacity { vec_capacity list.old ≤ vec_capacity list.new }
+/// Why an entry can't come in: the first reason that holds.
+pub(crate) fn refusal(
+    store: &Store,
+    capacity: usize,
+    pair: Pair,
+    state: EntryState,
+) -> Option<TableFault>
+    ensures { result ≡ refusal_of capacity store.now.entries (entry_in state pair) }
 {
-    match list.insert(place, item) {
-        Ok(()) => {}
-        Err(_full) => unreachable!(),
+    if store.len() >= capacity {
+        return Some(TableFault::Full);
     }
-}
-
-/// Gives a key's entry another state.
-pub(crate) fn turn(entries: &mut Vec<Entry>, key: Key, state: EntryState)
-    requires { HasDistinctKeys entries.old.items }
-    ensures items { entries.new.items ≡ with_state key state entries.old.items }
-    ensures capacity { vec_capacity entries.new ≡ vec_capacity entries.old }
-{
-    if let Some(i) = position_of(entries, key) {
-        let pair = entries[i].pair;
-        entries[i] = Entry { pair, state };
+    if store.entry(key_of(pair)).is_some() {
+        return Some(TableFault::PortTaken);
     }
-}
-
-/// Takes a key's entry out, and its life.
-pub(crate) fn take_out(entries: &mut Vec<Entry>, lives: &mut Vec<Life>, key: Key)
-    requires keys { HasDistinctKeys entries.old.items }
-    requires alike { length lives.old.items ≡ length entries.old.items }
-    ensures entries { entries.new.items ≡ without key entries.old.items }
-    ensures lives { lives.new.items ≡ lives_without key entries.old.items lives.old.items }
-    ensures entries_capacity { vec_capacity entries.new ≡ vec_capacity entries.old }
-    ensures lives_capacity { vec_capacity lives.new ≡ vec_capacity lives.old }
-{
-    if let Some(i) = position_of(entries, key) {
-        entries.remove(i);
-        lives.remove(i);
+    if is_pair_state(state) && store.entry_of(endpoint_of(pair)).is_some() {
+        return Some(TableFault::EndpointTaken);
     }
+    None
 }
 
-/// A packet is carried with the pair there.
-pub(crate) fn carry(lives: &mut Vec<Life>, i: usize, protocol: Protocol, packet: Packet)
-    requires { i < length lives.old.items }
-    ensures life { IsLifeSet protocol (with_packet packet) lives.old.items lives.new.items i }
-    ensures exact { lives.new.items ≡ changed_at i (life_carried protocol packet) lives.old.items }
-    ensures capacity { vec_capacity lives.new ≡ vec_capacity lives.old }
+/// Whether no entry of either protocol has the port.
+pub(crate) fn is_vacant_port(store: &Store, port: Port) -> bool
+    ensures { result ≡ is_vacant store.now.entries port.0 }
 {
-    let life = &mut lives[i];
-    life.carried(protocol, packet);
+    let tcp = Key {
+        protocol: Protocol::Tcp,
+        port,
+    };
+    let udp = Key {
+        protocol: Protocol::Udp,
+        port,
+    };
+    store.entry(tcp).is_none() && store.entry(udp).is_none()
 }
 
-/// The list of packets of the pair there begins empty.
-pub(crate) fn renew(lives: &mut Vec<Life>, i: usize, protocol: Protocol, now: u64)
-    requires { i < length lives.old.items }
-    ensures life { IsLifeSet protocol (renewed now) lives.old.items lives.new.items i }
-    ensures exact { lives.new.items ≡ changed_at i (life_renewed now) lives.old.items }
-    ensures capacity { vec_capacity lives.new ≡ vec_capacity lives.old }
+fn push_if(pairs: &mut Vec<Pair>, passes: bool, pair: Pair) -> Result<(), AllocError>
+    ensures { OnOk result (pairs.new.items
+        ≡ pairs.old.items ++ (if passes then pair ∷ [] else [])) }
 {
-    let _ = protocol;
-    let life = &mut lives[i];
-    life.renew(now);
+    if passes {
+        pairs.push(pair)?;
+    }
+    Ok(())
 }
 
-/// Whether the pair there is idle.
-pub(crate) fn is_idle_at(lives: &[Life], i: usize, protocol: Protocol, now: u64) -> bool
-    requires { i < length lives.now }
-    ensures { (life : Seen) → life ≡ slice_index_or lives.now i life → result
-        ≡ looks_idle protocol life now }
+/// The pairs but Doomed ones, in order.
+pub(crate) fn pairs_of(alloc: Global, store: &Store) -> Result<Vec<Pair>, AllocError>
+    ensures { IfOk result (λ v. v.items ≡ pairs_in is_pair store.now.entries) }
 {
-    let life = &lives[i];
-    life.is_idle(protocol, now)
+    store.recall();
+    let mut pairs = Vec::new(alloc);
+    let mut last = None;
+    while let Some(entry) = store.entry_after(last) {
+        let Entry { pair, state } = entry;
+        push_if(&mut pairs, is_pair_state(state), pair)?;
+        last = Some(key_of(pair));
+    }
+    Ok(pairs)
 }
 
-/// Whether the pair there came by Install and carried nothing since.
-pub(crate) fn is_unused_at(lives: &[Life], i: usize) -> bool
-    requires { i < length lives.now }
-    ensures { (life : Seen) → life ≡ slice_index_or lives.now i life → result ≡ life.is_unused }
+/// The pairs that translate, in order.
+pub(crate) fn translating_pairs_of(alloc: Global, store: &Store) -> Result<Vec<Pair>, AllocError>
+    ensures { IfOk result (λ v. v.items ≡ pairs_in translates store.now.entries) }
 {
-    let life = &lives[i];
-    life.is_unused()
+    store.recall();
+    let mut pairs = Vec::new(alloc);
+    let mut last = None;
+    while let Some(entry) = store.entry_after(last) {
+        let Entry { pair, state } = entry;
+        push_if(&mut pairs, is_translating(state), pair)?;
+        last = Some(key_of(pair));
+    }
+    Ok(pairs)
 }
 
-/// Whether the entry there translates and is idle.
-fn is_idle_entry(entry: Entry, lives: &[Life], i: usize, now: u64) -> bool
-    requires { i < length lives.now }
-    ensures { (life : Seen) → life ≡ slice_index_or lives.now i life → result
-        ≡ is_idle_row now entry life }
+/// Whether an entry with that key and state translates and is idle.
+fn is_idle_entry(store: &Store, key: Key, state: EntryState, now: u64) -> bool
+    ensures { result
+        ≡ (translates state && rests_at store.now.entries store.now.lives key now) }
 {
-    is_translating(entry.state) && is_idle_at(lives, i, entry.pair.key.protocol, now)
+    is_translating(state) && store.is_idle(key, now)
+}
+
+fn one_if(passes: bool) -> usize
+    ensures { result ≡ (if passes then 1 else 0) }
+{
+    if passes { 1 } else { 0 }
 }
 
 /// How many entries translate and are idle.
-pub(crate) fn count_idle(entries: &[Entry], lives: &[Life], now: u64) -> usize
-    requires { length lives.now ≡ length entries.now }
-    ensures { result ≡ length (idle_keys_in now entries.now lives.now) }
+pub(crate) fn count_idle(store: &Store, now: u64) -> usize
+    ensures { result ≡ length (idle_keys_in now store.now.entries store.now.lives) }
 {
+    store.recall();
     let mut count = 0;
-    for (i, entry) in entries.iter().enumerate() {
-        if is_idle_entry(*entry, lives, i, now) {
-            count += 1;
-        }
+    let mut last = None;
+    let most = store.len();
+    while let Some(entry) = store.entry_after(last) {
+        let Entry { pair, state } = entry;
+        let key = key_of(pair);
+        count += one_if(is_idle_entry(store, key, state, now));
+        last = Some(key);
     }
+    let _ = most;
     count
 }
 
-pub(crate) fn key_of_entry(entry: Entry) -> Key
-    ensures { result ≡ entry.pair.key }
+fn list_if(keys: &mut Vec<Key>, passes: bool, key: Key)
+    requires { vec_len keys.old + length (if passes then key ∷ [] else []) ≤ vec_capacity keys.old }
+    ensures items { keys.new.items ≡ keys.old.items ++ (if passes then key ∷ [] else []) }
+    ensures len { vec_len keys.new
+        ≡ vec_len keys.old + length (if passes then key ∷ [] else []) }
+    ensures capacity { vec_capacity keys.new ≡ vec_capacity keys.old }
 {
-    entry.pair.key
+    if passes {
+        keys.push_reserved(key);
+    }
 }
 
 /// Lists the keys of the entries that translate and are idle.
-pub(crate) fn list_idle(entries: &[Entry], lives: &[Life], now: u64, out: &mut Vec<Key>)
-    requires alike { length lives.now ≡ length entries.now }
-    requires room { vec_len out.old + length (idle_keys_in now entries.now lives.now) ≤ vec_capacity
-        out.old }
-    ensures items { out.new.items ≡ out.old.items ++ idle_keys_in now entries.now lives.now }
+pub(crate) fn list_idle(store: &Store, now: u64, out: &mut Vec<Key>)
+    requires { vec_len out.old + length (idle_keys_in now store.now.entries store.now.lives)
+        ≤ vec_capacity out.old }
+    ensures items { out.new.items
+        ≡ out.old.items ++ idle_keys_in now store.now.entries store.now.lives }
     ensures capacity { vec_capacity out.new ≡ vec_capacity out.old }
 {
-    for (i, entry) in entries.iter().enumerate() {
-        if is_idle_entry(*entry, lives, i, now) {
-            out.push_reserved(key_of_entry(*entry));
-        }
+    store.recall();
+    let mut last = None;
+    while let Some(entry) = store.entry_after(last) {
+        let Entry { pair, state } = entry;
+        let key = key_of(pair);
+        list_if(out, is_idle_entry(store, key, state, now), key);
+        last = Some(key);
     }
 }

@@ -19,27 +19,25 @@ ghost use Rattle.std.specs.List.{insert};
 ghost use Rattle.port_range.specs.Ports.{IsChosen};
 ghost use Rattle.lives.specs.Lives.{life_begun, life_carried, life_renewed};
 
-use crate::entries::{
-    find_after, find_endpoint, find_key, is_vacant_port, pairs_of, place_among, position_of,
-    refusal, translating_pairs_of,
-};
+use crate::entries::key_of;
 use crate::ports::{Ports, highest_port, lowest_port};
 use crate::revivals::{drop_doomed, wake};
-use crate::rows::{
-    carry, count_idle, insert_reserved, is_idle_at, is_unused_at, list_idle, renew, take_out, turn,
-};
+use crate::rows::{count_idle, is_vacant_port, list_idle, pairs_of, refusal, translating_pairs_of};
+use crate::store::Store;
 use crate::{Entry, PortBounds, TableFault};
 use addresses::{Parity, Port, Protocol, TcpFlags};
 use lives::{Life, Packet, Remote, Way};
 use nat_types::{Endpoint, EntryState, Key, Pair};
+use slots::Hashers;
 use std::alloc::{AllocError, Global};
+use std::hash::BuildHasherDefault;
 use std::marker::Model;
 
 /// Entries by protocol (tcp first) and port: distinct keys, and distinct endpoints except Doomed ones.
 #[derive(Drop)]
 pub struct Table {
-    entries: Vec<Entry>,
-    lives: Vec<Life>,
+    alloc: Global,
+    store: Store,
     ports: Ports,
     zero: PortBounds,
     one: PortBounds,
@@ -53,20 +51,19 @@ impl Model for Table {
     ghost Value = { Seen };
 
     ghost view = { λ t. record {
-      entries = t.entries.items;
-      lives = t.lives.items;
-      owned =
-          t.ports.tcp.owned;
+      entries = t.store.entries;
+      lives = t.store.lives;
+      owned = t.ports.tcp.owned;
       zero = t.zero;
       one = t.one;
       capacity = t.capacity;
       ready = t.ready;
     } };
 
-    ghost use Rattle.std.specs.Prelude.{vec_capacity};
+    ghost use Rattle.std.specs.Prelude.{◌≤◌};
 
-    ghost invariant = { λ t. IsStored t.entries.items t.lives.items t.ports t.zero t.one t.capacity
-        (vec_capacity t.entries) (vec_capacity t.lives) };
+    ghost invariant = { λ t. IsStored t.store.entries t.store.lives t.ports t.zero t.one t.capacity
+        t.store.room × (t.ready ≤ t.store.spare) };
 }
 
 fn port_count(bounds: PortBounds) -> usize
@@ -89,12 +86,12 @@ impl Table {
         ensures empty { IfOk result (λ t. t ≡ empty_table zero one) }
     {
         let capacity = 2 * (port_count(zero) + port_count(one));
-        let entries = Vec::with_capacity(alloc, capacity)?;
-        let lives = Vec::with_capacity(alloc, capacity)?;
+        let hashers = Hashers::Fixed(BuildHasherDefault::new());
+        let store = Store::new(alloc, capacity, hashers)?;
         let ports = Ports::new(alloc, lowest_port(zero, one), highest_port(zero, one))?;
         Ok(Table {
-            entries,
-            lives,
+            alloc,
+            store,
             ports,
             zero,
             one,
@@ -114,14 +111,14 @@ impl Table {
     pub fn pair_of_port(&self, key: Key) -> Option<Entry>
         ensures { result ≡ slot_of self.now.entries key }
     {
-        find_key(&self.entries, key)
+        self.store.entry(key)
     }
 
     /// How many entries there are, whatever their state.
     pub fn len(&self) -> usize
         ensures { result ≡ length self.now.entries }
     {
-        self.entries.len()
+        self.store.len()
     }
 
     /// The entry that follows a key in the order by protocol (tcp first) and port, whatever its state; of `None` the
@@ -129,14 +126,14 @@ impl Table {
     pub fn entry_after(&self, last: Option<Key>) -> Option<Entry>
         ensures { result ≡ after_key last self.now.entries }
     {
-        find_after(&self.entries, last)
+        self.store.entry_after(last)
     }
 
     /// The entry of an endpoint. A Doomed one doesn't count.
     pub fn port_of(&self, endpoint: Endpoint) -> Option<Entry>
         ensures { result ≡ entry_of self.now.entries endpoint }
     {
-        find_endpoint(&self.entries, endpoint)
+        self.store.entry_of(endpoint)
     }
 
     /// Makes the table ready for as many adds as there are endpoints, until the next call. Each later `add` that succeeds
@@ -146,7 +143,9 @@ impl Table {
         ensures ok { OnOk result (self.new ≡ record self.old { ready = length endpoints.now }) }
         ensures err { OnErr result (self.new ≡ self.old) }
     {
-        self.ready = endpoints.len();
+        let more = endpoints.len();
+        self.store.ready(more)?;
+        self.ready = more;
         Ok(())
     }
 
@@ -180,14 +179,11 @@ impl Table {
         }) }
         ensures err { OnErr result (self.new ≡ self.old) }
     {
-        let entry = Entry { pair, state };
-        if let Some(fault) = refusal(&self.entries, self.capacity, entry) {
+        if let Some(fault) = refusal(&self.store, self.capacity, pair, state) {
             return Err(fault);
         }
-        let place = place_among(&self.entries, pair);
-        insert_reserved(&mut self.entries, place, Entry { pair, state });
-        insert_reserved(&mut self.lives, place, Life::begin(by_install, now));
-        self.ports.take(pair.key);
+        self.store.add(pair, state, Life::begin(by_install, now));
+        self.ports.take(key_of(pair));
         self.ready -= 1;
         Ok(())
     }
@@ -203,7 +199,7 @@ impl Table {
         ensures pasts { (q : OutsidePort) → (past : Past) → IsPast self.old q past
             → IsPast self.new q past }
     {
-        turn(&mut self.entries, key, state);
+        self.store.turn(key, state);
     }
 
     /// Takes a key's entry out. A key without an entry changes nothing.
@@ -214,7 +210,7 @@ impl Table {
         ensures others { KeepsOthers key self.old.entries self.old.lives self.new.entries
             self.new.lives }
     {
-        take_out(&mut self.entries, &mut self.lives, key);
+        self.store.take_out(key);
         self.ports.put_back(key);
     }
 
@@ -233,16 +229,15 @@ impl Table {
           lives = self.new.lives;
         } }
     {
-        drop_doomed(&mut self.entries, &mut self.lives, &mut self.ports);
-        wake(&mut self.entries);
+        drop_doomed(&mut self.store, &mut self.ports);
+        wake(&mut self.store);
     }
 
     /// Takes all entries out, and gives all ports up. It stays ready for as many adds as it was.
     pub fn clear(&mut self)
         ensures { self.new ≡ record self.old { entries = []; lives = []; owned = [] } }
     {
-        self.entries.clear();
-        self.lives.clear();
+        self.store.clear();
         self.ports.reset();
     }
 
@@ -250,14 +245,14 @@ impl Table {
     pub fn pairs(&self) -> Result<Vec<Pair>, AllocError>
         ensures { IfOk result (λ v. v.items ≡ pairs_in is_pair self.now.entries) }
     {
-        pairs_of(*self.entries.allocator(), &self.entries)
+        pairs_of(self.alloc, &self.store)
     }
 
     /// The Live and Held pairs, by protocol (tcp first) and port.
     pub fn translating(&self) -> Result<Vec<Pair>, AllocError>
         ensures { IfOk result (λ v. v.items ≡ pairs_in translates self.now.entries) }
     {
-        translating_pairs_of(*self.entries.allocator(), &self.entries)
+        translating_pairs_of(self.alloc, &self.store)
     }
 
     /// The lowest owned free port with that parity, else the lowest owned free one (RFC 4787, section 4.2.2).
@@ -316,7 +311,7 @@ impl Table {
     pub fn owned(&self) -> Result<Vec<Port>, AllocError>
         ensures { IfOk result (λ v. v.items ≡ map port_at self.now.owned) }
     {
-        let alloc = *self.entries.allocator();
+        let alloc = self.alloc;
         let lowest = lowest_port(self.zero, self.one);
         self.ports
             .owned(alloc, lowest, highest_port(self.zero, self.one))
@@ -334,11 +329,7 @@ impl Table {
     pub fn is_vacant(&self, port: Port) -> bool
         ensures { result ≡ is_vacant self.now.entries port.0 }
     {
-        if self.ports.holds(port) {
-            self.ports.is_free(port)
-        } else {
-            is_vacant_port(&self.entries, port)
-        }
+        is_vacant_port(&self.store, port)
     }
 
     /// Whether a port is owned and no entry has it, so that it may be given away.
@@ -372,15 +363,13 @@ impl Table {
         ensures same { self.new ≡ record self.old { lives = self.new.lives } }
     {
         let at = now;
-        if let Some(i) = position_of(&self.entries, key) {
-            let packet = Packet {
-                remote,
-                way,
-                flags,
-                at,
-            };
-            carry(&mut self.lives, i, key.protocol, packet);
-        }
+        let packet = Packet {
+            remote,
+            way,
+            flags,
+            at,
+        };
+        self.store.carry(key, packet);
     }
 
     /// The list of packets of a key's pair begins empty. A key without an entry changes nothing.
@@ -393,9 +382,7 @@ impl Table {
             self.new.lives }
         ensures same { self.new ≡ record self.old { lives = self.new.lives } }
     {
-        if let Some(i) = position_of(&self.entries, key) {
-            renew(&mut self.lives, i, key.protocol, now);
-        }
+        self.store.renew(key, now);
     }
 
     /// Whether a key's pair is idle at a moment. A key without an entry isn't.
@@ -404,10 +391,7 @@ impl Table {
             ≡ is_idle key.protocol past now }
         ensures exact { result ≡ rests_at self.now.entries self.now.lives key now }
     {
-        match position_of(&self.entries, key) {
-            Some(i) => is_idle_at(&self.lives, i, key.protocol, now),
-            None => false,
-        }
+        self.store.is_idle(key, now)
     }
 
     /// Whether a key's pair came by Install and carried nothing since. A key without an entry didn't.
@@ -415,10 +399,7 @@ impl Table {
         ensures unused { (past : Past) → IsPast self.now key past → result ≡ is_unused past }
         ensures exact { result ≡ is_unused_at self.now.entries self.now.lives key }
     {
-        match position_of(&self.entries, key) {
-            Some(i) => is_unused_at(&self.lives, i),
-            None => false,
-        }
+        self.store.is_unused(key)
     }
 
     /// Appends the keys of the idle Live and Held entries, each once, by protocol (tcp first) and port.
@@ -436,8 +417,8 @@ impl Table {
             → IsOk result }
         ensures capacity { vec_capacity out.old ≤ vec_capacity out.new }
     {
-        out.reserve(count_idle(&self.entries, &self.lives, now))?;
-        list_idle(&self.entries, &self.lives, now, out);
+        out.reserve(count_idle(&self.store, now))?;
+        list_idle(&self.store, now, out);
         Ok(())
     }
 }

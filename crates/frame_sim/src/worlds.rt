@@ -334,7 +334,13 @@ impl<'a> World<'a> {
             at: 0,
             what: Happening::Booted(number),
         };
-        note_both(&mut self.trace, out, &note)?;
+        match note_both(&mut self.trace, out, &note) {
+            Ok(()) => {}
+            Err(NoMemory) => {
+                drop(gateway);
+                return Err(WorldFault::NoMemory);
+            }
+        }
         match id {
             GatewayId::Zero => self.zero.start(gateway, number),
             GatewayId::One => self.one.start(gateway, number),

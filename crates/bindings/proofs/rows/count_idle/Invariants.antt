@@ -1,10 +1,11 @@
-use Rattle.std.proofs.Common.{◌≡◌, ◌+◌, ◌≤◌, drop, length}
+use Rattle.std.proofs.Common.{◌≡◌, ◌+◌, length}
 use Rattle.bindings.specs.Lives.{idle_keys_in}
+use Rattle.bindings.proofs.Walks.{behind, is_idle_at, idle_of}
 use Rattle.bindings.proofs.rows.count_idle.Given as goal
 
 -- those so far, and what is left
-abbrev pub invariant-loop-i : goal.invariant-loop-i
-invariant-loop-i l = record {
-  few : l.count ≤ l.i;
-  found : l.count + length (idle_keys_in l.now (drop l.i l.entries) (drop l.i l.lives)) ≡ length (idle_keys_in l.now l.entries l.lives);
-}
+abbrev pub invariant-loop-entry : goal.invariant-loop-entry
+invariant-loop-entry l = l.count + length (idle_of (is_idle_at l.now l.store.entries l.store.lives) (behind l.last l.store.entries)) ≡ length (idle_keys_in l.now l.store.entries l.store.lives)
+
+abbrev pub decreases-loop-entry : goal.decreases-loop-entry
+decreases-loop-entry l = length (behind l.last l.store.entries)

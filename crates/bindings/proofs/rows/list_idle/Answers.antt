@@ -1,39 +1,59 @@
-use Rattle.std.proofs.Common.{◌+◌, ◌++◌, ◌∷◌, [], length, drop, sym, ap, ◌∙◌, cond, arith, append_assoc}
-use Rattle.bindings.specs.Lives.{idle_keys_in}
-use Rattle.bindings.proofs.Resting.{idle-step}
+use Rattle.std.proofs.Common.{◌∷◌, ◌++◌, ◌&&◌, [], cond, Some, refl, sym, ap, ◌∙◌, length, arith, append_assoc, append-nil, length-append}
+use Rattle.nat_types.specs.declared.pairs.Key.{Key}
+use Rattle.bindings.specs.Entries.{translates}
+use Rattle.bindings.specs.Lives.{rests_at}
+use Rattle.bindings.proofs.Walks.{behind, is_idle_at, idle_of, behind-none, behind-less, idle-is, idle-next, idle-end_of}
 use Rattle.bindings.proofs.rows.list_idle.Goals as goal
-use Rattle.bindings.proofs.rows.list_idle.Goals.{then-is_idle_entry, else-is_idle_entry}
 
-pub push_reserved-requires : goal.push_reserved-requires
-push_reserved-requires c =
-    let i = c.loop-i.i in
-    let step = idle-step c.args.now c.args.entries.now c.args.lives.now i c.index-entries-i.result c.is_idle_entry.result c.loop-i-test.true c.requires.alike c.index-entries-i.is c.is_idle_entry.ensures in
-    let rest = idle_keys_in c.args.now (drop (i + 1) c.args.entries.now) (drop (i + 1) c.args.lives.now) in
-    let more = ap length (step ∙ ap (λ b. cond b (c.index-entries-i.result.pair.key ∷ rest) rest) c.if-is_idle_entry.true) in
-    let room = c.loop-i.invariant.room in
-    omega (arith, more)
+pub loop-entry-init : goal.loop-entry-init
+loop-entry-init c =
+    let s = c.args.store.now in
+    let test = is_idle_at c.args.now s.entries s.lives in
+    let same = ap (idle_of test) (behind-none s.entries) ∙ sym (idle-is c.args.now 0 s.entries s.lives c.recall.ensures.order c.recall.ensures.alike) in
+    record {
+      room = rw same c.requires;
+      same = refl;
+      found = ap (λ ks. c.args.out.now.items ++ ks) same;
+    }
 
-pub loop-i-preserved : goal.loop-i-preserved
-loop-i-preserved c =
-    let i = c.loop-i.i in
-    let step = idle-step c.args.now c.args.entries.now c.args.lives.now i c.index-entries-i.result c.is_idle_entry.result c.loop-i-test.true c.requires.alike c.index-entries-i.is c.is_idle_entry.ensures in
-    let rest = idle_keys_in c.args.now (drop (i + 1) c.args.entries.now) (drop (i + 1) c.args.lives.now) in
-    elim c.if-is_idle_entry.branch [
-      | then-is_idle_entry w ↦
-          (let more = step ∙ ap (λ b. cond b (c.index-entries-i.result.pair.key ∷ rest) rest) w.if-is_idle_entry.true in
-          let fewer = ap length more in
-          let out = c.loop-i.out.items in
-          rw (w.out-is) (record {
-            room = (let len = w.push_reserved.ensures.len in let same = w.push_reserved.ensures.capacity in let room = c.loop-i.invariant.room in omega (arith, fewer));
-            same = w.push_reserved.ensures.capacity ∙ c.loop-i.invariant.same;
-            found = ap (λ xs. xs ++ rest) w.push_reserved.ensures.items ∙ append_assoc out (w.key_of_entry.result ∷ []) rest
-                ∙ ap (λ k. out ++ (k ∷ rest)) w.key_of_entry.ensures ∙ ap (λ r. out ++ r) (sym more) ∙ c.loop-i.invariant.found;
-          }))
-      | else-is_idle_entry w ↦
-          (let more = step ∙ ap (λ b. cond b (c.index-entries-i.result.pair.key ∷ rest) rest) w.if-is_idle_entry.false in
-          rw (w.out-is) (record {
-            room = rw (← more) c.loop-i.invariant.room;
-            same = c.loop-i.invariant.same;
-            found = ap (λ r. c.loop-i.out.items ++ r) (sym more) ∙ c.loop-i.invariant.found;
-          }))
-    ]
+pub list_if-requires : goal.list_if-requires
+list_if-requires c =
+    let s = c.args.store.now in
+    let test = is_idle_at c.args.now s.entries s.lives in
+    let e = c.in-Some.entry in
+    let idle = c.is_idle_entry.ensures ∙ ap (λ (k : Key). translates e.state && rests_at s.entries s.lives k c.args.now) c.key_of-key.ensures in
+    let rest = idle_of test (behind (Some e.pair.key) s.entries) in
+    let next = ap length (idle-next test 0 c.loop-entry.last s.entries e c.recall.ensures.order (sym c.in-Some.ensures)) ∙ length-append (cond (test e) (e.pair.key ∷ []) []) rest in
+    let room = c.loop-entry.invariant.room in
+    rw (idle, c.key_of-key.ensures) (omega (arith, next, room))
+
+pub loop-entry-preserved : goal.loop-entry-preserved
+loop-entry-preserved c =
+    let s = c.args.store.now in
+    let test = is_idle_at c.args.now s.entries s.lives in
+    let e = c.in-Some.entry in
+    let idle = c.is_idle_entry.ensures ∙ ap (λ (k : Key). translates e.state && rests_at s.entries s.lives k c.args.now) c.key_of-key.ensures in
+    let rest = idle_of test (behind (Some e.pair.key) s.entries) in
+    let more = cond (test e) (e.pair.key ∷ []) [] in
+    let next = idle-next test 0 c.loop-entry.last s.entries e c.recall.ensures.order (sym c.in-Some.ensures) in
+    let long = ap length next ∙ length-append more rest in
+    let out = c.loop-entry.out.items in
+    let listed = rw (idle, c.key_of-key.ensures) at c.list_if.ensures.items in
+    let len = rw (idle, c.key_of-key.ensures) at c.list_if.ensures.len in
+    let i = c.loop-entry.invariant in
+    rw c.key_of-key.ensures (record {
+      room = (let room = i.room in let capacity = c.list_if.ensures.capacity in omega (arith, len, long, room, capacity));
+      same = c.list_if.ensures.capacity ∙ i.same;
+      found = ap (λ ks. ks ++ rest) listed ∙ append_assoc out more rest ∙ ap (λ ks. out ++ ks) (sym next) ∙ i.found;
+    })
+
+pub loop-entry-smaller : goal.loop-entry-smaller
+loop-entry-smaller c =
+    rw c.key_of-key.ensures (behind-less 0 c.loop-entry.last c.args.store.now.entries c.in-Some.entry c.recall.ensures.order (sym c.in-Some.ensures))
+
+pub returns-clause-items : goal.returns-clause-items
+returns-clause-items c =
+    let s = c.args.store.now in
+    let test = is_idle_at c.args.now s.entries s.lives in
+    let end = idle-end_of test c.loop-entry.last s.entries (sym c.entry_after.ensures ∙ c.in_default.is) in
+    sym (append-nil c.loop-entry.out.items) ∙ ap (λ ks. c.loop-entry.out.items ++ ks) (sym end) ∙ c.loop-entry.invariant.found

@@ -6,20 +6,20 @@ pub returns-in_err-reserve-clause-listed : goal.returns-in_err-reserve-clause-li
 returns-in_err-reserve-clause-listed c =
     let i = c.self.inside in
     rw (← c.self.view_is)
-    (λ key entry past held has. listed-is c.args.now i.entries.items i.lives.items key entry past c.self.invariant.keys held (slot-key i.entries.items key entry held) has)
+    (λ key entry past held has. listed-is c.args.now i.store.entries i.store.lives key entry past c.self.invariant.0.keys held (slot-key i.store.entries key entry held) has)
 
 pub returns-clause-listed : goal.returns-clause-listed
 returns-clause-listed c =
     let i = c.self.inside in
     rw (← c.self.view_is)
-    (λ key entry past held has. listed-is c.args.now i.entries.items i.lives.items key entry past c.self.invariant.keys held (slot-key i.entries.items key entry held) has)
+    (λ key entry past held has. listed-is c.args.now i.store.entries i.store.lives key entry past c.self.invariant.0.keys held (slot-key i.store.entries key entry held) has)
 
 pub returns-in_err-reserve-clause-few : goal.returns-in_err-reserve-clause-few
 returns-in_err-reserve-clause-few c =
     let i = c.self.inside in
-    rw (← c.self.view_is) (few-idle c.args.now i.entries.items i.lives.items)
+    rw (← c.self.view_is) (few-idle c.args.now i.store.entries i.store.lives)
 
 pub returns-clause-few : goal.returns-clause-few
 returns-clause-few c =
     let i = c.self.inside in
-    rw (← c.self.view_is) (few-idle c.args.now i.entries.items i.lives.items)
+    rw (← c.self.view_is) (few-idle c.args.now i.store.entries i.store.lives)

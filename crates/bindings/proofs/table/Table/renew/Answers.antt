@@ -1,41 +1,24 @@
-use Rattle.std.proofs.Common.{◌≡◌, Some, None, sym, ap, ◌∙◌, position}
-use Rattle.bindings.specs.Entries.{has_key}
-use Rattle.bindings.proofs.Places.{any_entry, at-position, no-position}
-use Rattle.bindings.proofs.Pasts.{no-past, set-past, set-keeps, lives-changed, lives-unchanged}
+use Rattle.lives.specs.Lives.{renewed, life_renewed}
+use Rattle.bindings.proofs.Holding.{stored-lives}
+use Rattle.bindings.proofs.Lived.{goes-on, others-stay, length-changed}
 use Rattle.bindings.proofs.table.Table.renew.Goals as goal
 
-pub returns-in-Some-clause-renewed : goal.returns-in-Some-clause-renewed
-returns-in-Some-clause-renewed c =
+pub invariant_of-self : goal.invariant_of-self
+invariant_of-self c =
     let i = c.self.inside in
-    let found : position (has_key c.args.key) i.entries.items ≡ Some c.in-Some.i = ap (position (has_key c.args.key)) (sym c.deref.ensures.value) ∙ sym c.in-Some.ensures in
-    let at = at-position c.args.key i.entries.items c.in-Some.i any_entry found in
-    let life = c.renew.ensures.life in
-    rw (life.written, ← c.self.view_is)
-    (λ past has. set-past c.args.key i.entries.items i.lives.items c.in-Some.i any_entry life.life life.life past _ at c.self.invariant.alike (life.agrees past) has)
+    let g = life_renewed c.args.now in
+    rw c.renew.ensures.lives (
+      stored-lives i.store.entries i.store.lives _ i.ports i.zero i.one i.capacity _ c.self.invariant.0 (length-changed g c.args.key i.store.entries i.store.lives),
+      c.self.invariant.1,
+    )
 
-pub returns-in-Some-clause-others : goal.returns-in-Some-clause-others
-returns-in-Some-clause-others c =
+pub returns-clause-renewed : goal.returns-clause-renewed
+returns-clause-renewed c =
     let i = c.self.inside in
-    let found : position (has_key c.args.key) i.entries.items ≡ Some c.in-Some.i = ap (position (has_key c.args.key)) (sym c.deref.ensures.value) ∙ sym c.in-Some.ensures in
-    let at = at-position c.args.key i.entries.items c.in-Some.i any_entry found in
-    let life = c.renew.ensures.life in
-    rw (life.written, ← c.self.view_is) (set-keeps c.args.key i.entries.items i.lives.items c.in-Some.i any_entry life.life at c.self.invariant.alike)
+    rw (c.renew.ensures.lives, ← c.self.view_is)
+    (λ past has. goes-on (life_renewed c.args.now) c.args.key i.store.entries i.store.lives past (renewed c.args.now past) (λ life h a. c.renew.ensures.agrees life past h a) has)
 
-pub returns-in_default-clause-renewed : goal.returns-in_default-clause-renewed
-returns-in_default-clause-renewed c =
+pub returns-clause-others : goal.returns-clause-others
+returns-clause-others c =
     let i = c.self.inside in
-    let none : position (has_key c.args.key) i.entries.items ≡ None = ap (position (has_key c.args.key)) (sym c.deref.ensures.value) ∙ sym c.position_of.ensures ∙ c.in_default.is in
-    rw (← c.self.view_is) (λ past has. absurd (no-past c.args.key i.entries.items i.lives.items past (no-position c.args.key i.entries.items none) has))
-
-pub returns-in-Some-clause-lives : goal.returns-in-Some-clause-lives
-returns-in-Some-clause-lives c =
-    let i = c.self.inside in
-    let found : position (has_key c.args.key) i.entries.items ≡ Some c.in-Some.i = ap (position (has_key c.args.key)) (sym c.deref.ensures.value) ∙ sym c.in-Some.ensures in
-    let at = at-position c.args.key i.entries.items c.in-Some.i any_entry found in
-    rw (← c.self.view_is) (c.renew.ensures.exact ∙ lives-changed _ c.args.key i.entries.items i.lives.items c.in-Some.i any_entry at c.self.invariant.alike)
-
-pub returns-in_default-clause-lives : goal.returns-in_default-clause-lives
-returns-in_default-clause-lives c =
-    let i = c.self.inside in
-    let none : position (has_key c.args.key) i.entries.items ≡ None = ap (position (has_key c.args.key)) (sym c.deref.ensures.value) ∙ sym c.position_of.ensures ∙ c.in_default.is in
-    rw (← c.self.view_is) (sym (lives-unchanged _ c.args.key i.entries.items i.lives.items (no-position c.args.key i.entries.items none) c.self.invariant.alike))
+    rw (c.renew.ensures.lives, ← c.self.view_is) (others-stay (life_renewed c.args.now) c.args.key i.store.entries i.store.lives)

@@ -11,27 +11,34 @@ pub invariant_of-self : goal.invariant_of-self
 invariant_of-self c =
     let i = c.self.inside in
     let d = c.drop_doomed.ensures in
-    let woken : c.wake.new.entries.items ≡ revived_entries i.entries.items = c.wake.ensures.items ∙ ap (map woken_entry) d.entries in
-    let freed : AreFree (lowest_of i.zero i.one) (highest_of i.zero i.one) (pairs_of i.entries.items) c.drop_doomed.new.ports = λ q.
+    let w = c.wake.ensures in
+    let woken : c.wake.new.store.entries ≡ revived_entries i.store.entries = w.entries ∙ ap (map woken_entry) d.entries in
+    let freed : AreFree (lowest_of i.zero i.one) (highest_of i.zero i.one) (pairs_of i.store.entries) c.drop_doomed.new.ports = λ q.
     d.free q
     ∙ ap (λ es. is_within i.ports.tcp.lowest i.ports.tcp.highest q.port.0 && is_none (slot_of es q)) d.entries
-    ∙ ap (λ n. is_within n i.ports.tcp.highest q.port.0 && is_none (slot_of (pairs_of i.entries.items) q)) c.self.invariant.same.tcp_low
-    ∙ ap (λ n. is_within (lowest_of i.zero i.one) n q.port.0 && is_none (slot_of (pairs_of i.entries.items) q)) c.self.invariant.same.tcp_high in
-    rw (woken, d.lives)
-    (stored-revived i.entries.items i.lives.items i.ports c.drop_doomed.new.ports i.zero i.one i.capacity _ _ _ _ c.self.invariant
-    (let a = c.self.invariant.entries_fit in let b = d.entries_capacity in let e = c.wake.ensures.capacity in omega arith)
-    (let a = c.self.invariant.lives_fit in let b = d.lives_capacity in omega arith)
-    freed d.bounds d.owned)
+    ∙ ap (λ n. is_within n i.ports.tcp.highest q.port.0 && is_none (slot_of (pairs_of i.store.entries) q)) c.self.invariant.0.same.tcp_low
+    ∙ ap (λ n. is_within (lowest_of i.zero i.one) n q.port.0 && is_none (slot_of (pairs_of i.store.entries) q)) c.self.invariant.0.same.tcp_high in (
+      rw (woken, w.lives ∙ d.lives, w.room ∙ d.room)
+          (stored-revived i.store.entries i.store.lives i.ports c.drop_doomed.new.ports i.zero i.one i.capacity _ c.self.invariant.0
+          freed d.bounds d.owned),
+      (let a = c.self.invariant.1 in let b = d.spare in let e = w.spare in omega (arith, a, b, e)),
+    )
+
+pub returns-clause-entries : goal.returns-clause-entries
+returns-clause-entries c = rw (← c.self.view_is) (c.wake.ensures.entries ∙ ap (map woken_entry) c.drop_doomed.ensures.entries)
+
+pub returns-clause-lives : goal.returns-clause-lives
+returns-clause-lives c = rw (← c.self.view_is) (c.wake.ensures.lives ∙ c.drop_doomed.ensures.lives)
 
 pub returns-clause-slots : goal.returns-clause-slots
 returns-clause-slots c =
     let i = c.self.inside in
-    let woken : c.wake.new.entries.items ≡ revived_entries i.entries.items = c.wake.ensures.items ∙ ap (map woken_entry) c.drop_doomed.ensures.entries in
-    rw (woken, ← c.self.view_is) (λ q. slot-revived i.entries.items q c.self.invariant.keys)
+    let woken : c.wake.new.store.entries ≡ revived_entries i.store.entries = c.wake.ensures.entries ∙ ap (map woken_entry) c.drop_doomed.ensures.entries in
+    rw (woken, ← c.self.view_is) (λ q. slot-revived i.store.entries q c.self.invariant.0.keys)
 
 pub returns-clause-pasts : goal.returns-clause-pasts
 returns-clause-pasts c =
     let i = c.self.inside in
-    let woken : c.wake.new.entries.items ≡ revived_entries i.entries.items = c.wake.ensures.items ∙ ap (map woken_entry) c.drop_doomed.ensures.entries in
-    rw (woken, c.drop_doomed.ensures.lives, ← c.self.view_is)
-    (λ q entry past held pair has. (has.0, life-revived i.entries.items i.lives.items q entry c.self.invariant.keys c.self.invariant.alike held pair ∙ has.1, has.2))
+    let woken : c.wake.new.store.entries ≡ revived_entries i.store.entries = c.wake.ensures.entries ∙ ap (map woken_entry) c.drop_doomed.ensures.entries in
+    rw (woken, c.wake.ensures.lives ∙ c.drop_doomed.ensures.lives, ← c.self.view_is)
+    (λ q entry past held pair has. (has.0, life-revived i.store.entries i.store.lives q entry c.self.invariant.0.keys c.self.invariant.0.alike held pair ∙ has.1, has.2))

@@ -6,19 +6,28 @@ use Rattle.bindings.proofs.Pasts.{life-turned}
 use Rattle.bindings.proofs.Holding.{stored-turn}
 use Rattle.bindings.proofs.table.Table.set_state.Goals as goal
 
+pub turn-requires : goal.turn-requires
+turn-requires c =
+    let pair = rw (← c.self.view_is) at c.requires in
+    record {
+      pair = λ x held state. pair x held;
+      endpoints = λ x held was is. c.self.invariant.0.endpoints;
+    }
+
 pub invariant_of-self : goal.invariant_of-self
 invariant_of-self c =
     let i = c.self.inside in
-    let pair : IsPairAt c.args.key i.entries.items = λ x held. c.requires x (ap (λ t. slot_of t.entries c.args.key) (sym c.self.view_is) ∙ held) in
-    rw c.turn.ensures.items
-    (stored-turn i.entries.items i.lives.items i.ports i.zero i.one i.capacity _ _ _ c.args.key c.args.state c.self.invariant pair
-    (let a = c.self.invariant.entries_fit in let b = c.turn.ensures.capacity in omega arith))
+    let pair : IsPairAt c.args.key i.store.entries = λ x held. c.requires x (ap (λ t. slot_of t.entries c.args.key) (sym c.self.view_is) ∙ held) in (
+      rw (c.turn.ensures.entries, c.turn.ensures.lives, c.turn.ensures.room)
+          (stored-turn i.store.entries i.store.lives i.ports i.zero i.one i.capacity _ c.args.key c.args.state c.self.invariant.0 pair),
+      (let a = c.self.invariant.1 in let b = c.turn.ensures.spare in omega (arith, a, b)),
+    )
 
 pub returns-clause-slots : goal.returns-clause-slots
 returns-clause-slots c =
-    rw (c.turn.ensures.items, ← c.self.view_is) (λ entry held q. slot-with_state c.args.key c.args.state c.self.inside.entries.items entry q held)
+    rw (c.turn.ensures.entries, ← c.self.view_is) (λ entry held q. slot-with_state c.args.key c.args.state c.self.inside.store.entries entry q held)
 
 pub returns-clause-pasts : goal.returns-clause-pasts
 returns-clause-pasts c =
-    rw (c.turn.ensures.items, ← c.self.view_is)
-    (λ q past has. (has.0, life-turned c.args.key c.args.state c.self.inside.entries.items c.self.inside.lives.items q ∙ has.1, has.2))
+    rw (c.turn.ensures.entries, c.turn.ensures.lives, ← c.self.view_is)
+    (λ q past has. (has.0, life-turned c.args.key c.args.state c.self.inside.store.entries c.self.inside.store.lives q ∙ has.1, has.2))

@@ -1,0 +1,42 @@
+use Rattle.std.proofs.Common.{◌≡◌, None, sym, ◌∙◌}
+use Rattle.bindings.specs.Entries.{slot_of}
+use Rattle.bindings.proofs.Places.{turn-none}
+use Rattle.bindings.proofs.Stored.{turned}
+use Rattle.bindings.proofs.store.Store.turn.Goals as goal
+
+pub invariant_of-self : goal.invariant_of-self
+invariant_of-self c =
+    let i = c.self.inside in
+    let held = rw (← c.self.view_is) at (sym c.in-Some.ensures) in
+    let pair = rw (← c.self.view_is) at c.requires.pair in
+    let endpoints = rw (← c.self.view_is) at c.requires.endpoints in
+    (turned i.slots c.put_state.new.slots i.index c.unlist_turned.new.index c.args.key c.args.state c.in-Some.entry c.self.invariant c.recall.ensures.order held (pair c.in-Some.entry held) (endpoints c.in-Some.entry held) c.put_state.ensures.some c.unlist_turned.ensures.slots).0
+
+pub returns-in-Some-clause-entries : goal.returns-in-Some-clause-entries
+returns-in-Some-clause-entries c =
+    let i = c.self.inside in
+    let held = rw (← c.self.view_is) at (sym c.in-Some.ensures) in
+    let pair = rw (← c.self.view_is) at c.requires.pair in
+    let endpoints = rw (← c.self.view_is) at c.requires.endpoints in
+    rw (← c.self.view_is) (turned i.slots c.put_state.new.slots i.index c.unlist_turned.new.index c.args.key c.args.state c.in-Some.entry c.self.invariant c.recall.ensures.order held (pair c.in-Some.entry held) (endpoints c.in-Some.entry held) c.put_state.ensures.some c.unlist_turned.ensures.slots).1
+
+pub returns-in-Some-clause-lives : goal.returns-in-Some-clause-lives
+returns-in-Some-clause-lives c =
+    let i = c.self.inside in
+    let held = rw (← c.self.view_is) at (sym c.in-Some.ensures) in
+    let pair = rw (← c.self.view_is) at c.requires.pair in
+    let endpoints = rw (← c.self.view_is) at c.requires.endpoints in
+    rw (← c.self.view_is) (turned i.slots c.put_state.new.slots i.index c.unlist_turned.new.index c.args.key c.args.state c.in-Some.entry c.self.invariant c.recall.ensures.order held (pair c.in-Some.entry held) (endpoints c.in-Some.entry held) c.put_state.ensures.some c.unlist_turned.ensures.slots).2
+
+pub returns-in-Some-clause-room : goal.returns-in-Some-clause-room
+returns-in-Some-clause-room c =
+    let i = c.self.inside in
+    let held = rw (← c.self.view_is) at (sym c.in-Some.ensures) in
+    let pair = rw (← c.self.view_is) at c.requires.pair in
+    let endpoints = rw (← c.self.view_is) at c.requires.endpoints in
+    rw (← c.self.view_is) (turned i.slots c.put_state.new.slots i.index c.unlist_turned.new.index c.args.key c.args.state c.in-Some.entry c.self.invariant c.recall.ensures.order held (pair c.in-Some.entry held) (endpoints c.in-Some.entry held) c.put_state.ensures.some c.unlist_turned.ensures.slots).3
+
+pub returns-in_default-clause-entries : goal.returns-in_default-clause-entries
+returns-in_default-clause-entries c =
+    let none : slot_of c.args.self.now.entries c.args.key ≡ None = sym c.entry.ensures ∙ c.in_default.is in
+    sym (turn-none c.args.key c.args.state c.args.self.now.entries none)

@@ -1,0 +1,338 @@
+//! The entries of a table in slots, each with its life. A slot is found by key and by endpoint.
+ghost use Rattle.std.specs.Prelude.{◌≡◌, ◌+◌, ◌<◌, ◌≤◌, [], Some, None, true, false, not, ◌&&◌, if◌then◌else◌, length, IfOk, OnOk};
+ghost use Rattle.nat_types.specs.declared.pairs.Endpoint.{Endpoint as InsidePort};
+ghost use Rattle.slots.specs.Endpoints.{slot_of as number_of_endpoint};
+ghost use Rattle.std.specs.List.{insert};
+ghost use Rattle.bindings.specs.declared.entries.Entry.{Entry as Row};
+ghost use Rattle.bindings.specs.Entries.{is_pair, serves, slot_of, entry_of, entry_in, HasDistinctEndpoints};
+ghost use Rattle.bindings.specs.Lists.{put_in, place_in, without, with_state, after_key, RisesUp};
+ghost use Rattle.bindings.specs.Lives.{life_in, lives_with, lives_without, rests_at, is_unused_at};
+ghost use Rattle.lives.specs.Lives.{Life as Lived, Past, Agrees, with_packet, renewed, life_carried, life_renewed};
+ghost use Rattle.slots.specs.Rows.{item_of, number_of, with_item};
+ghost use Rattle.nat_types.specs.declared.pairs.Key.{Key as OutsidePort};
+ghost use Rattle.bindings.specs.declared.store.Item.{Item as Kept};
+
+use crate::Entry;
+use crate::entries::{endpoint_of, is_pair_state, key_of};
+use lives::{Life, Packet};
+use nat_types::{Endpoint, EntryState, Key, Pair};
+use slots::{EndpointIndex, Hashers, PortSlots, SlotNumber};
+use std::alloc::{AllocError, Global};
+use std::marker::Model;
+
+/// What a slot has.
+#[derive(Drop)]
+pub(crate) struct Item {
+    entry: Entry,
+    life: Life,
+}
+
+/// Entries by protocol (tcp first) and port, each with its life.
+#[derive(Drop)]
+pub(crate) struct Store {
+    slots: PortSlots<Item>,
+    // The slot of each pair, by its endpoint. A Doomed entry is none.
+    index: EndpointIndex<Hashers>,
+}
+
+impl Model for Store {
+    ghost use Rattle.bindings.specs.Stores.{Store as Seen};
+
+    ghost Value = { Seen };
+
+    ghost use Rattle.bindings.specs.Stores.{entries_of, lives_of, IsIndexed};
+
+    ghost view = { λ s. record {
+      entries = entries_of s.slots.rows;
+      lives = lives_of s.slots.rows;
+      room = s.slots.room;
+      spare = s.index.spare;
+    } };
+
+    ghost invariant = { λ s. IsIndexed s.slots.rows s.index };
+}
+
+fn entry_of_item(item: &Item) -> Entry
+    ensures { result ≡ item.now.entry }
+{
+    item.entry
+}
+
+fn item_with(pair: Pair, state: EntryState, life: Life) -> Item
+    ensures { result ≡ record { entry = entry_in state pair; life = life } }
+{
+    let entry = Entry { pair, state };
+    Item { entry, life }
+}
+
+/// An entry that comes in is found by its endpoint where it is a pair.
+fn list_pair(index: &mut EndpointIndex<Hashers>, pair: Pair, state: EntryState, number: SlotNumber)
+    requires { 0 < index.old.spare }
+    ensures slots { (x : InsidePort) → number_of_endpoint index.new x ≡ (if serves x (entry_in
+        state pair) then Some number else number_of_endpoint index.old x) }
+    ensures spare { index.old.spare ≤ index.new.spare + 1 }
+{
+    if is_pair_state(state) {
+        index.put(endpoint_of(pair), number);
+    }
+}
+
+/// An entry that goes is found no more.
+fn unlist(index: &mut EndpointIndex<Hashers>, pair: Pair, state: EntryState)
+    ensures slots { (x : InsidePort) → number_of_endpoint index.new x ≡ (if serves x (entry_in
+        state pair) then None else number_of_endpoint index.old x) }
+    ensures spare { index.old.spare ≤ index.new.spare }
+{
+    if is_pair_state(state) {
+        index.remove(endpoint_of(pair));
+    }
+}
+
+/// An entry that isn't a pair in its new state is found no more.
+fn unlist_turned(index: &mut EndpointIndex<Hashers>, pair: Pair, was: EntryState, state: EntryState)
+    ensures slots { (x : InsidePort) → number_of_endpoint index.new x
+        ≡ (if serves x (entry_in was pair) && not (is_pair state) then None
+        else number_of_endpoint index.old x) }
+    ensures spare { index.old.spare ≤ index.new.spare }
+{
+    if !is_pair_state(state) {
+        unlist(index, pair, was);
+    }
+}
+
+/// The entry in a slot that is in use.
+fn entry_at(slots: &PortSlots<Item>, number: SlotNumber) -> Option<Entry>
+    ensures { (key : OutsidePort) → (item : Kept) → number_of slots.now.rows key ≡ Some number
+        → item_of slots.now.rows key ≡ Some item → result ≡ Some item.entry }
+{
+    match slots.at(number) {
+        Some(item) => Some(entry_of_item(item)),
+        None => None,
+    }
+}
+
+/// Puts a pair in another state into a key's slot.
+fn put_state(slots: &mut PortSlots<Item>, key: Key, pair: Pair, state: EntryState)
+    ensures some { (item : Kept) → item_of slots.old.rows key ≡ Some item → slots.new
+        ≡ record slots.old {
+          rows = with_item key (record item { entry = entry_in state pair }) slots.old.rows;
+        } }
+    ensures none { item_of slots.old.rows key ≡ None → slots.new ≡ slots.old }
+{
+    if let Some(item) = slots.get_mut(key) {
+        item.entry = Entry { pair, state };
+    }
+}
+
+/// A packet is carried with a key's pair.
+fn put_packet(slots: &mut PortSlots<Item>, key: Key, packet: Packet)
+    ensures some { (item : Kept) → item_of slots.old.rows key ≡ Some item → slots.new
+        ≡ record slots.old {
+          rows = with_item key (record item {
+            life = life_carried key.protocol packet item.life;
+          }) slots.old.rows;
+        } }
+    ensures none { item_of slots.old.rows key ≡ None → slots.new ≡ slots.old }
+    ensures agrees { (item : Kept) → (past : Past) → item_of slots.old.rows key ≡ Some item → Agrees
+        key.protocol past item.life → Agrees key.protocol (with_packet packet past)
+        (life_carried key.protocol packet item.life) }
+{
+    if let Some(item) = slots.get_mut(key) {
+        item.life.carried(key.protocol, packet);
+    }
+}
+
+/// The list of packets of a key's pair begins empty.
+fn put_renewal(slots: &mut PortSlots<Item>, key: Key, now: u64)
+    ensures some { (item : Kept) → item_of slots.old.rows key ≡ Some item → slots.new
+        ≡ record slots.old {
+          rows = with_item key (record item { life = life_renewed now item.life }) slots.old.rows;
+        } }
+    ensures none { item_of slots.old.rows key ≡ None → slots.new ≡ slots.old }
+    ensures agrees { (item : Kept) → (past : Past) → item_of slots.old.rows key ≡ Some item → Agrees
+        key.protocol past item.life → Agrees key.protocol (renewed now past)
+        (life_renewed now item.life) }
+{
+    if let Some(item) = slots.get_mut(key) {
+        item.life.renew(now);
+    }
+}
+
+impl Store {
+    /// No entries, and room for so many.
+    pub(crate) fn new(alloc: Global, room: usize, hashers: Hashers) -> Result<Store, AllocError>
+        ensures entries { IfOk result (λ s. s.entries ≡ []) }
+        ensures lives { IfOk result (λ s. s.lives ≡ []) }
+        ensures room { IfOk result (λ s. s.room ≡ room) }
+    {
+        let slots = PortSlots::new(alloc, room)?;
+        let index = EndpointIndex::new(alloc, hashers);
+        Ok(Store { slots, index })
+    }
+
+    /// Reminds the prover of the order of the entries; it does nothing when it runs.
+    pub(crate) fn recall(&self)
+        ensures order { RisesUp 0 self.now.entries }
+        ensures alike { length self.now.lives ≡ length self.now.entries }
+    {
+        self.slots.recall();
+    }
+
+    pub(crate) fn len(&self) -> usize
+        ensures { result ≡ length self.now.entries }
+    {
+        self.slots.len()
+    }
+
+    /// Makes room in the index for so many more pairs.
+    pub(crate) fn ready(&mut self, more: usize) -> Result<(), AllocError>
+        ensures ok { OnOk result (more ≤ self.new.spare) }
+        ensures spare { self.old.spare ≤ self.new.spare }
+        ensures same { self.new ≡ record self.old { spare = self.new.spare } }
+    {
+        self.index.ready(more)
+    }
+
+    /// The entry of a key.
+    pub(crate) fn entry(&self, key: Key) -> Option<Entry>
+        ensures { result ≡ slot_of self.now.entries key }
+    {
+        match self.slots.get(key) {
+            Some(item) => Some(entry_of_item(item)),
+            None => None,
+        }
+    }
+
+    /// The entry of an endpoint. A Doomed one doesn't count.
+    pub(crate) fn entry_of(&self, endpoint: Endpoint) -> Option<Entry>
+        ensures { result ≡ entry_of self.now.entries endpoint }
+    {
+        self.slots.recall();
+        match self.index.get(endpoint) {
+            Some(number) => entry_at(&self.slots, number),
+            None => None,
+        }
+    }
+
+    /// The first entry behind a key in the order, or the first of all.
+    pub(crate) fn entry_after(&self, last: Option<Key>) -> Option<Entry>
+        ensures { result ≡ after_key last self.now.entries }
+    {
+        self.slots.recall();
+        match self.slots.key_after(last) {
+            Some(key) => self.entry(key),
+            None => None,
+        }
+    }
+
+    /// One more entry, with its life.
+    pub(crate) fn add(&mut self, pair: Pair, state: EntryState, life: Life)
+        requires vacant { slot_of self.old.entries pair.key ≡ None }
+        requires free { is_pair state ≡ true → entry_of self.old.entries pair.endpoint ≡ None }
+        requires room { length self.old.entries < self.old.room }
+        requires spare { 0 < self.old.spare }
+        ensures entries { self.new.entries ≡ put_in (entry_in state pair) self.old.entries }
+        ensures lives { self.new.lives ≡ insert self.old.lives (place_in pair
+            self.old.entries) life }
+        ensures room { self.new.room ≡ self.old.room }
+        ensures spare { self.old.spare ≤ self.new.spare + 1 }
+    {
+        let number = self
+            .slots
+            .insert(key_of(pair), item_with(pair, state, life));
+        list_pair(&mut self.index, pair, state, number);
+    }
+
+    /// Gives a key's entry another state. None becomes a pair by it.
+    pub(crate) fn turn(&mut self, key: Key, state: EntryState)
+        requires pair { (e : Row) → slot_of self.old.entries key ≡ Some e → is_pair state ≡ true
+            → is_pair e.state ≡ true }
+        requires endpoints { (e : Row) → slot_of self.old.entries key ≡ Some e
+            → is_pair e.state ≡ true → is_pair state ≡ false → HasDistinctEndpoints
+            self.old.entries }
+        ensures entries { self.new.entries ≡ with_state key state self.old.entries }
+        ensures lives { self.new.lives ≡ self.old.lives }
+        ensures room { self.new.room ≡ self.old.room }
+        ensures spare { self.old.spare ≤ self.new.spare }
+    {
+        self.slots.recall();
+        if let Some(entry) = self.entry(key) {
+            let Entry { pair, state: was } = entry;
+            unlist_turned(&mut self.index, pair, was, state);
+            put_state(&mut self.slots, key, pair, state);
+        }
+    }
+
+    /// Takes a key's entry out, and its life.
+    pub(crate) fn take_out(&mut self, key: Key)
+        requires { (e : Row) → slot_of self.old.entries key ≡ Some e → is_pair e.state ≡ true
+            → HasDistinctEndpoints self.old.entries }
+        ensures entries { self.new.entries ≡ without key self.old.entries }
+        ensures lives { self.new.lives ≡ lives_without key self.old.entries self.old.lives }
+        ensures room { self.new.room ≡ self.old.room }
+        ensures spare { self.old.spare ≤ self.new.spare }
+    {
+        self.slots.recall();
+        if let Some(item) = self.slots.remove(key) {
+            let Entry { pair, state } = entry_of_item(&item);
+            unlist(&mut self.index, pair, state);
+        }
+    }
+
+    /// Takes all entries out.
+    pub(crate) fn clear(&mut self)
+        ensures entries { self.new.entries ≡ [] }
+        ensures lives { self.new.lives ≡ [] }
+        ensures room { self.new.room ≡ self.old.room }
+        ensures spare { self.old.spare ≤ self.new.spare }
+    {
+        self.slots.clear();
+        self.index.clear();
+    }
+
+    /// A packet is carried with a key's pair.
+    pub(crate) fn carry(&mut self, key: Key, packet: Packet)
+        ensures lives { self.new ≡ record self.old {
+          lives = lives_with (life_carried key.protocol packet) key self.old.entries self.old.lives;
+        } }
+        ensures agrees { (life : Lived) → (past : Past) → life_in self.old.entries self.old.lives
+            key ≡ Some life → Agrees key.protocol past life → Agrees key.protocol (with_packet
+            packet past) (life_carried key.protocol packet life) }
+    {
+        self.slots.recall();
+        put_packet(&mut self.slots, key, packet);
+    }
+
+    /// The list of packets of a key's pair begins empty.
+    pub(crate) fn renew(&mut self, key: Key, now: u64)
+        ensures lives { self.new ≡ record self.old {
+          lives = lives_with (life_renewed now) key self.old.entries self.old.lives;
+        } }
+        ensures agrees { (life : Lived) → (past : Past) → life_in self.old.entries self.old.lives
+            key ≡ Some life → Agrees key.protocol past life → Agrees key.protocol (renewed
+            now past) (life_renewed now life) }
+    {
+        self.slots.recall();
+        put_renewal(&mut self.slots, key, now);
+    }
+
+    /// Whether a key's pair is idle.
+    pub(crate) fn is_idle(&self, key: Key, now: u64) -> bool
+        ensures { result ≡ rests_at self.now.entries self.now.lives key now }
+    {
+        match self.slots.get(key) {
+            Some(item) => item.life.is_idle(key.protocol, now),
+            None => false,
+        }
+    }
+
+    /// Whether a key's pair came by Install and carried nothing since.
+    pub(crate) fn is_unused(&self, key: Key) -> bool
+        ensures { result ≡ is_unused_at self.now.entries self.now.lives key }
+    {
+        match self.slots.get(key) {
+            Some(item) => item.life.is_unused(),
+            None => false,
+        }
+    }
+}

@@ -1,0 +1,5 @@
+pub mod Places
+pub mod Rows
+pub mod Edits
+pub mod Stored
+pub mod LookUps

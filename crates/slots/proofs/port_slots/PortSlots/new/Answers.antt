@@ -1,0 +1,8 @@
+use Rattle.slots.proofs.Stored.{empty-stored}
+use Rattle.slots.proofs.port_slots.PortSlots.new.Goals as goal
+
+pub invariant_of-result : goal.invariant_of-result
+invariant_of-result g c = (empty-stored c.in_ok-slots.slots c.in_ok-cells.cells c.args.room c.in_ok-slots.ensures.empty c.in_ok-cells.ensures.length c.in_ok-cells.ensures.none c.in_ok-slots.ensures.capacity).stored
+
+pub returns-clause-rows : goal.returns-clause-rows
+returns-clause-rows g c = (empty-stored c.in_ok-slots.slots c.in_ok-cells.cells c.args.room c.in_ok-slots.ensures.empty c.in_ok-cells.ensures.length c.in_ok-cells.ensures.none c.in_ok-slots.ensures.capacity).made

@@ -1,0 +1,5 @@
+pub mod Rows
+pub mod Cells
+pub mod Endpoints
+pub mod Lends
+pub mod Hashers

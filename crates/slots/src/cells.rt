@@ -1,0 +1,138 @@
+//! Cells by protocol and port, each with the number of a slot or empty.
+ghost use Rattle.std.specs.Prelude.{◌≡◌, ℕ, ◌+◌, ◌*◌, ◌<◌, ◌≤◌, None, Some, false, true, length, replicate, slice_set, IsSome, IfOk, IfSome, IfNone, OnOk};
+ghost use Rattle.std.proofs.Common.{get_or};
+ghost use Rattle.slots.specs.Cells.{AreMarked, HasBlocks};
+
+use crate::SlotNumber;
+use std::alloc::{AllocError, Global};
+use std::marker::Model;
+
+/// A cell for each protocol and port. Cells are found in blocks of 256, of which those without a number are passed over.
+#[derive(Drop)]
+pub(crate) struct Cells {
+    numbers: Vec<Option<SlotNumber>>,
+    // Which blocks had a number since the last `clear`.
+    marks: Vec<bool>,
+}
+
+impl Model for Cells {
+    ghost use Rattle.std.specs.Prelude.{◌≤◌, List, Option, length};
+    ghost use Rattle.slots.specs.declared.numbers.SlotNumber.{SlotNumber as Number};
+    ghost use Rattle.slots.specs.Cells.{AreMarked, HasBlocks};
+
+    ghost Value = { List (Option Number) };
+
+    ghost view = { λ c. c.numbers.items };
+
+    ghost invariant = { λ c. AreMarked c.numbers.items c.marks.items
+        × HasBlocks c.numbers.items c.marks.items × (length c.numbers.items ≤ 131072) };
+}
+
+fn empty_cells(alloc: Global, count: usize) -> Result<Vec<Option<SlotNumber>>, AllocError>
+    ensures { IfOk result (λ v. v.items ≡ replicate count None) }
+{
+    vec![in alloc; None; count]
+}
+
+fn unmarked(alloc: Global, count: usize) -> Result<Vec<bool>, AllocError>
+    ensures { IfOk result (λ v. v.items ≡ replicate count false) }
+{
+    vec![in alloc; false; count]
+}
+
+/// The first cell from one on that has a number.
+fn next_used(numbers: &[Option<SlotNumber>], marks: &[bool], from: usize) -> Option<usize>
+    requires marked { AreMarked numbers.now marks.now }
+    requires blocks { HasBlocks numbers.now marks.now }
+    requires count { length numbers.now ≤ 131072 }
+    ensures within { IfSome result (λ i. (from ≤ i) × (i < length numbers.now)) }
+    ensures used { IfSome result (λ i. IsSome (get_or numbers.now i None)) }
+    ensures before { IfSome result (λ i. (k : ℕ) → from ≤ k → k < i
+        → get_or numbers.now k None ≡ None) }
+    ensures none { IfNone result ((k : ℕ) → from ≤ k → get_or numbers.now k None ≡ None) }
+{
+    let mut cell = from;
+    while cell < numbers.len() {
+        if !marks[cell / 256] {
+            cell = 256 * (cell / 256) + 256;
+        } else if numbers[cell].is_some() {
+            return Some(cell);
+        } else {
+            cell += 1;
+        }
+    }
+    None
+}
+
+fn empty_all(numbers: &mut [Option<SlotNumber>])
+    ensures length { length numbers.new ≡ length numbers.old }
+    ensures none { (k : ℕ) → get_or numbers.new k None ≡ None }
+{
+    for number in numbers.iter_mut() {
+        *number = None;
+    }
+}
+
+fn unmark_all(marks: &mut [bool])
+    ensures { length marks.new ≡ length marks.old }
+{
+    for mark in marks.iter_mut() {
+        *mark = false;
+    }
+}
+
+impl Cells {
+    /// So many empty cells, in so many blocks of 256.
+    pub(crate) fn new(alloc: Global, count: usize, blocks: usize) -> Result<Cells, AllocError>
+        requires blocks { count ≤ 256 * blocks }
+        requires count { count ≤ 131072 }
+        ensures length { IfOk result (λ c. length c ≡ count) }
+        ensures none { IfOk result (λ c. (k : ℕ) → get_or c k None ≡ None) }
+    {
+        let numbers = empty_cells(alloc, count)?;
+        let marks = unmarked(alloc, blocks)?;
+        Ok(Cells { numbers, marks })
+    }
+
+    pub(crate) fn get(&self, cell: usize) -> Option<SlotNumber>
+        requires { cell < length self.now }
+        ensures { result ≡ get_or self.now cell None }
+    {
+        self.numbers[cell]
+    }
+
+    pub(crate) fn fill(&mut self, cell: usize, number: SlotNumber)
+        requires { cell < length self.old }
+        ensures { self.new ≡ slice_set self.old cell (Some number) }
+    {
+        self.numbers[cell] = Some(number);
+        self.marks[cell / 256] = true;
+    }
+
+    pub(crate) fn empty(&mut self, cell: usize)
+        requires { cell < length self.old }
+        ensures { self.new ≡ slice_set self.old cell None }
+    {
+        self.numbers[cell] = None;
+    }
+
+    /// The first cell from one on that has a number.
+    pub(crate) fn next(&self, from: usize) -> Option<usize>
+        ensures within { IfSome result (λ i. (from ≤ i) × (i < length self.now)) }
+        ensures used { IfSome result (λ i. IsSome (get_or self.now i None)) }
+        ensures before { IfSome result (λ i. (k : ℕ) → from ≤ k → k < i
+            → get_or self.now k None ≡ None) }
+        ensures none { IfNone result ((k : ℕ) → from ≤ k → get_or self.now k None ≡ None) }
+    {
+        next_used(&self.numbers, &self.marks, from)
+    }
+
+    /// Empties all cells.
+    pub(crate) fn clear(&mut self)
+        ensures length { length self.new ≡ length self.old }
+        ensures none { (k : ℕ) → get_or self.new k None ≡ None }
+    {
+        empty_all(&mut self.numbers);
+        unmark_all(&mut self.marks);
+    }
+}

@@ -1,0 +1,15 @@
+//! Items in slots by protocol and port, and an index from endpoint to slot.
+#![tactic(auto)]
+
+mod cells;
+mod endpoints;
+mod hashers;
+mod numbers;
+mod port_slots;
+#[cfg(test)]
+mod tests;
+
+pub use endpoints::EndpointIndex;
+pub use hashers::Hashers;
+pub use numbers::SlotNumber;
+pub use port_slots::PortSlots;

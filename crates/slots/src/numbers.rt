@@ -1,0 +1,5 @@
+//! The numbers of slots.
+
+/// The number of a slot.
+#[derive(Clone, Copy, Debug, PartialEq, Eq)]
+pub struct SlotNumber(pub(crate) usize);

@@ -1,0 +1,201 @@
+//! Items in slots, with a cell for each protocol and port.
+ghost use Rattle.std.specs.Prelude.{◌≡◌, ◌+◌, ◌<◌, [], None, Some, length, IfOk, IfSome, option_copied};
+ghost use Rattle.std.specs.List.{find};
+ghost use Rattle.std.specs.Borrow.{sem};
+ghost use Rattle.std.specs.Option.{option_map, option_copied_mut};
+ghost use Rattle.nat_types.specs.declared.pairs.Key.{Key as OutsidePort};
+ghost use Rattle.slots.specs.Cells.{cell_of, cell_behind, first_cell, key_at};
+ghost use Rattle.slots.specs.Rows.{row_of, item_of, number_of, put_in, without, stands_behind, Rises};
+
+use crate::SlotNumber;
+use crate::cells::Cells;
+use addresses::{Port, Protocol};
+use nat_types::Key;
+use slab::Slab;
+use std::alloc::{AllocError, Global};
+use std::marker::Model;
+
+/// How many cells there are: one for each port of both protocols.
+const CELLS: usize = 131_072;
+
+/// How many blocks of 256 cells these are.
+const BLOCKS: usize = 512;
+
+/// Items in slots, by protocol (tcp first) and port.
+#[derive(Drop)]
+pub struct PortSlots<T> {
+    slots: Slab<T>,
+    cells: Cells,
+    room: usize,
+}
+
+impl<T> Model for PortSlots<T> {
+    ghost use Rattle.slots.specs.Rows.{PortSlots as Seen};
+
+    ghost Value = { Seen T };
+
+    ghost use Rattle.slots.specs.Cells.{rows_from, item_at, IsStored};
+
+    ghost view = { λ s. record { rows = rows_from (item_at s.slots) 0 s.cells; room = s.room } };
+
+    ghost invariant = { λ s. IsStored s.slots s.cells s.room };
+}
+
+/// Where a protocol's cells begin.
+fn first_cell_of(protocol: Protocol) -> usize
+    ensures { result ≡ first_cell protocol }
+{
+    match protocol {
+        Protocol::Tcp => 0,
+        Protocol::Udp => 65536,
+    }
+}
+
+fn cell_of_key(key: Key) -> usize
+    ensures cell { result ≡ cell_of key }
+    ensures within { result < 131072 }
+    ensures key { key_at result ≡ key }
+{
+    first_cell_of(key.protocol) + usize::from(key.port.0)
+}
+
+fn key_of_cell(cell: usize) -> Key
+    requires { cell < 131072 }
+    ensures { result ≡ key_at cell }
+{
+    if cell < 65536 {
+        Key {
+            protocol: Protocol::Tcp,
+            port: Port(cell as u16),
+        }
+    } else {
+        Key {
+            protocol: Protocol::Udp,
+            port: Port((cell - 65536) as u16),
+        }
+    }
+}
+
+/// The cell behind a key's, or the first of all.
+fn first_cell_behind(last: Option<Key>) -> usize
+    ensures cell { result ≡ cell_behind last }
+    ensures key { IfSome last (λ key. key_at (cell_of key) ≡ key) }
+{
+    match last {
+        Some(key) => cell_of_key(key) + 1,
+        None => 0,
+    }
+}
+
+impl<T: Drop> PortSlots<T> {
+    /// No items, and room for so many.
+    pub fn new(alloc: Global, room: usize) -> Result<PortSlots<T>, AllocError>
+        ensures rows { IfOk result (λ s. s.rows ≡ []) }
+        ensures room { IfOk result (λ s. s.room ≡ room) }
+    {
+        let slots = Slab::with_capacity(alloc, room)?;
+        let cells = Cells::new(alloc, CELLS, BLOCKS)?;
+        Ok(PortSlots { slots, cells, room })
+    }
+
+    /// Takes all items out.
+    pub fn clear(&mut self)
+        ensures { self.new ≡ record self.old { rows = [] } }
+    {
+        self.slots.clear();
+        self.cells.clear();
+    }
+}
+
+impl<T> PortSlots<T> {
+    ghost use Rattle.slots.specs.Lends.{lends_item};
+
+    /// Reminds the prover of the order of the items; it does nothing when it runs.
+    pub fn recall(&self)
+        ensures order { Rises 0 self.now.rows }
+    {
+        let _ = &self.room;
+    }
+
+    /// How many items there are.
+    pub fn len(&self) -> usize
+        ensures { result ≡ length self.now.rows }
+    {
+        self.slots.len()
+    }
+
+    /// The slot of a key.
+    pub fn number_of(&self, key: Key) -> Option<SlotNumber>
+        ensures { result ≡ number_of self.now.rows key }
+    {
+        self.cells.get(cell_of_key(key))
+    }
+
+    /// The item of a key.
+    pub fn get(&self, key: Key) -> Option<&T>
+        ensures { option_copied result ≡ item_of self.now.rows key }
+    {
+        match self.cells.get(cell_of_key(key)) {
+            Some(number) => self.slots.get(number.0),
+            None => None,
+        }
+    }
+
+    /// The item in a slot that is in use.
+    pub fn at(&self, number: SlotNumber) -> Option<&T>
+        ensures { (key : OutsidePort) → number_of self.now.rows key ≡ Some number
+            → option_copied result ≡ item_of self.now.rows key }
+    {
+        self.slots.get(number.0)
+    }
+
+    /// The first key behind another one that has an item, or the first of all. The other key needs no item of its own.
+    pub fn key_after(&self, last: Option<Key>) -> Option<Key>
+        ensures { result ≡ option_map (λ r. r.key) (find (stands_behind last) self.now.rows) }
+    {
+        match self.cells.next(first_cell_behind(last)) {
+            Some(cell) => Some(key_of_cell(cell)),
+            None => None,
+        }
+    }
+
+    /// Puts an item under a key that has none, into a slot that no other key has.
+    pub fn insert(&mut self, key: Key, item: T) -> SlotNumber
+        requires vacant { row_of self.old.rows key ≡ None }
+        requires room { length self.old.rows < self.old.room }
+        ensures rows { self.new ≡ record self.old {
+          rows = put_in (record { key = key; number = result; item = item }) self.old.rows;
+        } }
+        ensures fresh { (q : OutsidePort) → number_of self.old.rows q ≡ Some result → ⊥ }
+    {
+        let number = SlotNumber(self.slots.insert_reserved(item));
+        self.cells.fill(cell_of_key(key), number);
+        number
+    }
+
+    /// The item of a key for writing.
+    pub fn get_mut(&mut self, key: Key) -> Option<&mut T>
+        ensures* writes_back { sem 𝓛 (lends_item T.row self.entry key result) }
+        ensures value { option_copied_mut result ≡ item_of self.old.rows key }
+    {
+        match self.cells.get(cell_of_key(key)) {
+            Some(number) => self.slots.get_mut(number.0),
+            None => None,
+        }
+    }
+
+    /// Takes a key's item out. A key without an item changes nothing.
+    pub fn remove(&mut self, key: Key) -> Option<T>
+        ensures item { result ≡ item_of self.old.rows key }
+        ensures rows { self.new ≡ record self.old { rows = without key self.old.rows } }
+    {
+        let cell = cell_of_key(key);
+        match self.cells.get(cell) {
+            Some(number) => {
+                self.cells.empty(cell);
+                Some(self.slots.remove(number.0))
+            }
+            None => None,
+        }
+    }
+}
