@@ -4,7 +4,7 @@
 use crate::packets::{HEADER, Kind, LONGEST, PORTS, frame_of, set_pair};
 use addresses::Protocol;
 use anyhow::{Result, bail};
-use gateway::{Event, Gateway, Out, Outcome};
+use gateway::{Event, Gateway, Hashers, Out, Outcome};
 use nat_types::{GatewayId, Side};
 use settings::Settings;
 use std::alloc::Global;
@@ -29,8 +29,9 @@ impl Station {
             bail!("boots are counted from 1, and the second gateway isn't founded");
         }
         let settings = Settings::sample(alloc)?;
+        let hashers = Hashers::fixed();
         Ok(Station {
-            gateway: Gateway::new(alloc, &settings, id, boot, found)?,
+            gateway: Gateway::new(alloc, &settings, id, boot, found, hashers)?,
             out: Out::new(alloc),
         })
     }
