@@ -48,26 +48,46 @@ fn tick_both_hear(own: &mut Station, other: &mut Station, moment: u64) -> Result
     own.take(other)
 }
 
-/// Ticks of both gateways until the second one is synced; how many.
-fn load(zero: &mut Station, one: &mut Station) -> Result<u32> {
-    for ticks in 1..PATIENCE {
-        tick_both_hear(zero, one, ACTIVE + u64::from(ticks))?;
-        tick_both_hear(one, zero, u64::from(ticks))?;
-        if one.is_synced() {
-            return Ok(ticks);
-        }
+/// A gateway with pairs, and one that starts with an empty table.
+#[derive(Drop)]
+struct Both {
+    zero: Station,
+    one: Station,
+}
+
+impl Both {
+    fn ready(alloc: Global, pairs: u32) -> Result<Both> {
+        let zero = Station::ready(alloc, Protocol::Udp, pairs)?;
+        let one = Station::new(alloc, GatewayId::One, 1, false)?;
+        Ok(Both { zero, one })
     }
-    bail!("the second gateway isn't synced");
+
+    /// Ticks of both until the second one is synced; how many.
+    fn load(&mut self) -> Result<u32> {
+        for ticks in 1..PATIENCE {
+            let moment = u64::from(ticks);
+            tick_both_hear(&mut self.zero, &mut self.one, ACTIVE + moment)?;
+            tick_both_hear(&mut self.one, &mut self.zero, moment)?;
+            if self.one.is_synced() {
+                return Ok(ticks);
+            }
+        }
+        bail!("the second gateway isn't synced");
+    }
+
+    /// Both have as many pairs.
+    fn is_alike(&self) -> Result<bool> {
+        Ok(self.zero.count()? == self.one.count()?)
+    }
 }
 
 /// Loads so many pairs into a gateway that starts.
 fn loaded<R: Clock + AllocGlobal>(rt: &R, pairs: u32) -> Result<(Duration, u32)> {
-    let mut zero = Station::ready(rt.alloc(), Protocol::Udp, pairs)?;
-    let mut one = Station::new(rt.alloc(), GatewayId::One, 1, false)?;
+    let mut both = Both::ready(rt.alloc(), pairs)?;
     let start = Instant::now(rt)?;
-    let ticks = load(&mut zero, &mut one)?;
+    let ticks = both.load()?;
     let spent = start.elapsed(rt)?;
-    if one.count()? != zero.count()? {
+    if !both.is_alike()? {
         bail!("the second gateway's table isn't the first one's");
     }
     Ok((spent, ticks))
