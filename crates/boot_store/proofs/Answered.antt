@@ -76,8 +76,7 @@ module _ (t : Moment) (a b : Option ℕ) (steady : left_by_crash (bytes_of t) �
   writes_once start p q r n shows first second =
       let calls : Moment → Option ℕ → Option ℕ → List Moment = λ s x y. looked start ++ s ∷ within_write (next_place x y) 16 s ∷ written (next_place x y) (slot_bytes n) s ∷ [] in
       let slots : calls (left_by_crash (bytes_of t)) a b ≡ calls (left_by_crash (bytes_of t)) (slot_at 0 (bytes_of t)) (slot_at 16 (bytes_of t)) =
-      ap₂ (calls (left_by_crash (bytes_of t))) first_slot second_slot in
-      (
+      ap₂ (calls (left_by_crash (bytes_of t))) first_slot second_slot in (
         calls t a b,
         second ∙ ap (λ (l : List Moment). l ++ t ∷ within_write (next_place a b) 16 t ∷ written (next_place a b) (slot_bytes n) t ∷ []) first ∙ append_assoc p (looked start) _,
         (bytes_of t, shows, ap (λ (s : Moment). calls s a b) (sym steady) ∙ slots, file_with n),

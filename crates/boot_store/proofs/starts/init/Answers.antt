@@ -1,9 +1,9 @@
-use Rattle.std.proofs.Common.{◌≡◌, ⊎_elim, ℕ, List, ◌∷◌, [], ◌++◌, length, take, drop, sym, ◌∙◌, ap, subst, append_assoc}
+use Rattle.std.proofs.Common.{⊎_elim, ℕ, ◌∷◌, [], ◌++◌, length, take, drop, sym, ◌∙◌, ap, subst}
 use Rattle.boot_store.specs.Moment.{Moment, bytes_of, written, within_write, synced, StillKept}
 use Rattle.boot_store.specs.BootFile.{zero_file}
-use Rattle.boot_store.specs.Crash.{LeavesFirst, LeavesNumber, zero_past}
+use Rattle.boot_store.specs.Crash.{LeavesFirst, LeavesNumber}
 use Rattle.boot_store.proofs.Crashes.{same_still}
-use Rattle.boot_store.proofs.Joins.{on_err}
+use Rattle.boot_store.proofs.Joins.{on_err, stored_past}
 use Rattle.boot_store.proofs.Leaves.{drop_still, drop-written}
 use Rattle.boot_store.proofs.Stored.{length-zero, zero_bytes, zero_first, zero_number}
 use Rattle.boot_store.proofs.starts.init.Goals as goal
@@ -27,11 +27,9 @@ returns-clause-passes g c h =
     let bytes = c.zero_file.ensures in
     let size = ap length bytes ∙ length-zero in
     let last = c.in_ok-write_at.ensures.written h ∙ ap (λ x. written 0 x start) bytes in
-    c.sync.ensures.passes (c.write_at.ensures.honesty.0 h)
-    ∙ ap (λ (l : List Moment). l ++ g.D.Disk.now c.write_at.new.self ∷ []) (c.write_at.ensures.passes h)
-    ∙ append_assoc (g.D.Disk.past c.args.disk.now) _ _
-    ∙ ap (λ (s : Moment). g.D.Disk.past c.args.disk.now ++ start ∷ within_write 0 (length c.zero_file.result) start ∷ s ∷ []) last
-    ∙ ap (λ (n : ℕ). g.D.Disk.past c.args.disk.now ++ start ∷ within_write 0 n start ∷ written 0 zero_file start ∷ []) size
+    stored_past _ _ _ start _ _ (within_write 0 32 start)
+    (c.write_at.ensures.passes h) (ap (λ (n : ℕ). within_write 0 n start) size) (c.sync.ensures.passes (c.write_at.ensures.honesty.0 h))
+    ∙ ap (λ (s : Moment). g.D.Disk.past c.args.disk.now ++ start ∷ within_write 0 32 start ∷ s ∷ []) last
 
 pub returns-in_err-write_at-clause-behind : goal.returns-in_err-write_at-clause-behind
 returns-in_err-write_at-clause-behind g c h =

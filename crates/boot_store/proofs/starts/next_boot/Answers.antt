@@ -1,7 +1,7 @@
 use Rattle.std.proofs.Common.{rules, ◌≡◌, sym, ◌∙◌, ap, subst}
-use Rattle.boot_store.specs.Moment.{Moment, bytes_of, left_by_crash, synced, written, within_write}
-use Rattle.boot_store.specs.BootFile.{number_of, boot_answer, slot_bytes}
-use Rattle.boot_store.specs.Crash.{LeavesAtLeast, WholeFile, AfterWrite, AfterFailure, Since, WritesOnce}
+use Rattle.boot_store.specs.Moment.{bytes_of, left_by_crash}
+use Rattle.boot_store.specs.BootFile.{number_of, boot_answer}
+use Rattle.boot_store.specs.Crash.{LeavesAtLeast, WholeFile}
 use Rattle.boot_store.proofs.Joins.{then_passed}
 use Rattle.boot_store.proofs.Answered.{follows, unchanged, slots_read, number_read, is_ready, file_with, rises_to, write_failed, writes_once}
 use Rattle.boot_store.proofs.starts.next_boot.Goals as goal

@@ -1,5 +1,5 @@
-use Rattle.std.proofs.Common.{◌≡◌, ⊎_elim, inl, inr, ℕ, List, ◌∷◌, [], ◌++◌, length, refl, sym, ◌∙◌, ap, subst}
-use Rattle.boot_store.specs.Moment.{Moment, written, within_write, synced, StillKept}
+use Rattle.std.proofs.Common.{⊎_elim, inl, inr, ℕ, ◌∷◌, [], ◌++◌, length, sym, ◌∙◌, ap, subst}
+use Rattle.boot_store.specs.Moment.{Moment, written, within_write, synced}
 use Rattle.boot_store.specs.Crash.{AfterWrite, LeavesAtLeast}
 use Rattle.boot_store.proofs.Joins.{one_passed, two_passed, then_passed, stored_past, on_err}
 use Rattle.boot_store.proofs.Crashes.{same_still}
