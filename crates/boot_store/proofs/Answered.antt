@@ -1,12 +1,12 @@
 -- From the bytes that were read to the answer.
-use Rattle.std.proofs.Common.{◌≡◌, inl, inr, ⊎_elim, ℕ, ◌+◌, ◌<◌, ◌≤◌, ◌^◌, Bool, true, false, ◌&&◌, not, ◌==◌, if◌then◌else◌, List, length, take, drop, Option, Some, None, Result, Ok, Err, refl, sym, ◌∙◌, ap, arith}
+use Rattle.std.proofs.Common.{◌≡◌, inl, inr, ⊎_elim, ℕ, ◌+◌, ◌<◌, ◌≤◌, ◌^◌, Bool, true, false, ◌&&◌, not, ◌==◌, if◌then◌else◌, List, length, take, drop, [], ◌∷◌, ◌++◌, Option, Some, None, Result, Ok, Err, refl, sym, ◌∙◌, ap, arith, append_assoc}
 use Rattle.std.proofs.Math.Path.{ap₂}
 use Rattle.std.proofs.lemmas.List.{take-take, drop-take, length-map}
 use Rattle.boot_store.specs.declared.faults.BootFault.{BootFault}
 use Rattle.boot_store.specs.declared.faults.BootFault.TheVariants.{BootsUsedUp, FoundTwice}
-use Rattle.boot_store.specs.Moment.{Moment, bytes_of, put, left_by_crash, written, synced}
+use Rattle.boot_store.specs.Moment.{Moment, MayShow, bytes_of, put, left_by_crash, written, within_write, synced}
 use Rattle.boot_store.specs.BootFile.{slot_number, slot_at, greater, number_of, boot_answer, next_place, slot_bytes, with_number}
-use Rattle.boot_store.specs.Crash.{LeavesAtLeast, IsReady, answered_file}
+use Rattle.boot_store.specs.Crash.{LeavesAtLeast, IsReady, AfterFailure, AfterWrite, Since, WritesOnce, answered_file, looked}
 use Rattle.boot_store.proofs.Leaves.{as_read, synced-written}
 use Rattle.boot_store.proofs.Numbers.{number_is, kept_slot}
 use Rattle.boot_store.proofs.Stored.{new_number}
@@ -33,10 +33,10 @@ slots_read bytes file is = (
   ap (λ (f : List ℕ). slot_number (take 16 (drop 16 f))) is ∙ ap (λ (f : List ℕ). slot_number (take 16 f)) (drop-take 16 16 bytes) ∙ ap slot_number (take-take 16 16 (drop 16 bytes) (omega arith)),
 )
 
-module _ (t : Moment) (a b : Option ℕ) (steady : left_by_crash (bytes_of t) ≡ t) (long : 32 ≤ length (bytes_of t)) (first : a ≡ slot_at 0 (bytes_of t)) (second : b ≡ slot_at 16 (bytes_of t)) where
+module _ (t : Moment) (a b : Option ℕ) (steady : left_by_crash (bytes_of t) ≡ t) (long : 32 ≤ length (bytes_of t)) (first_slot : a ≡ slot_at 0 (bytes_of t)) (second_slot : b ≡ slot_at 16 (bytes_of t)) where
   -- the number is that of the two slots
   pub number_read : number_of (bytes_of t) ≡ greater a b
-  number_read = number_is (bytes_of t) long ∙ sym (ap₂ greater first second)
+  number_read = number_is (bytes_of t) long ∙ sym (ap₂ greater first_slot second_slot)
 
   -- the disk is ready for the next one
   pub is_ready : (n : ℕ) → greater a b ≡ Some n → IsReady (next_place a b) t
@@ -46,8 +46,8 @@ module _ (t : Moment) (a b : Option ℕ) (steady : left_by_crash (bytes_of t) �
         steady = steady;
         long = omega (arith, length-map t (λ cell. cell.byte), long);
         beside = ⊎_elim
-            (λ low. inl (low.0, sym second ∙ low.1 ∙ sym number))
-            (λ high. inr (high.0, sym first ∙ high.1 ∙ sym number))
+            (λ low. inl (low.0, sym second_slot ∙ low.1 ∙ sym number))
+            (λ high. inr (high.0, sym first_slot ∙ high.1 ∙ sym number))
             (kept_slot a b n is);
       }
 
@@ -55,7 +55,7 @@ module _ (t : Moment) (a b : Option ℕ) (steady : left_by_crash (bytes_of t) �
   pub file_with : (n : ℕ) → synced (written (next_place a b) (slot_bytes n) t) ≡ left_by_crash (with_number n (bytes_of t))
   file_with n =
       synced-written (next_place a b) (slot_bytes n) t steady
-      ∙ ap₂ (λ x y. left_by_crash (put (next_place x y) (slot_bytes n) (bytes_of t))) first second
+      ∙ ap₂ (λ x y. left_by_crash (put (next_place x y) (slot_bytes n) (bytes_of t))) first_slot second_slot
 
   -- an answered number is above what a crash could leave before, and then a crash leaves it
   pub rises_to : (found : Bool) (boot : ℕ) → boot < 2 ^ 64 → boot_answer found (greater a b) ≡ Ok boot → (m : ℕ) → LeavesAtLeast m t
@@ -68,3 +68,21 @@ module _ (t : Moment) (a b : Option ℕ) (steady : left_by_crash (bytes_of t) �
     where
       some_same : (x y : ℕ) → Some x ≡ Some y → x ≡ y
       some_same x y e = cc
+
+  -- it is written over one slot, once
+  pub writes_once : (start : Moment) (p q r : List Moment) (n : ℕ) → MayShow start (bytes_of t)
+      → q ≡ p ++ looked start → r ≡ q ++ t ∷ within_write (next_place a b) 16 t ∷ written (next_place a b) (slot_bytes n) t ∷ []
+      → Since p r (WritesOnce start (synced (written (next_place a b) (slot_bytes n) t)) n)
+  writes_once start p q r n shows first second =
+      let calls : Moment → Option ℕ → Option ℕ → List Moment = λ s x y. looked start ++ s ∷ within_write (next_place x y) 16 s ∷ written (next_place x y) (slot_bytes n) s ∷ [] in
+      let slots : calls (left_by_crash (bytes_of t)) a b ≡ calls (left_by_crash (bytes_of t)) (slot_at 0 (bytes_of t)) (slot_at 16 (bytes_of t)) =
+      ap₂ (calls (left_by_crash (bytes_of t))) first_slot second_slot in (
+        calls t a b,
+        second ∙ ap (λ (l : List Moment). l ++ t ∷ within_write (next_place a b) 16 t ∷ written (next_place a b) (slot_bytes n) t ∷ []) first ∙ append_assoc p (looked start) _,
+        (bytes_of t, shows, ap (λ (s : Moment). calls s a b) (sym steady) ∙ slots, file_with n),
+      )
+
+  -- or the write fails
+  pub write_failed : (start end : Moment) → MayShow start (bytes_of t) → AfterWrite (next_place a b) t end → AfterFailure start end
+  write_failed start end shows after =
+      inr (bytes_of t, shows, rw (← first_slot, ← second_slot, steady) after)

@@ -163,3 +163,29 @@ pub take-put : {X : Type 0} (at : ℕ) (xs old : List X) → at ≤ length old �
 take-put at xs old h =
     let size : length (take at old) ≡ at = omega (arith, length-take at old) in
     ap (take at) (append_assoc (take at old) xs (drop (at + length xs) old)) ∙ take_at (take at old) (xs ++ drop (at + length xs) old) at size
+
+-- a call that left what was kept, after a sync
+synced_cell_still : (h : Hold) (byte : ℕ) (after : Cell) → (synced_hold h ≡ Kept → after ≡ record { byte = byte; hold = synced_hold h }) → h ≡ Kept → after ≡ record { byte = byte; hold = h }
+synced_cell_still Kept byte after same is = same refl
+synced_cell_still Loose byte after same is = cc
+synced_cell_still Lost byte after same is = cc
+
+pub synced_still : (s t : Moment) → StillKept (synced s) t → StillKept s t
+synced_still [] [] k = tt
+synced_still [] (after ∷ t) k = absurd k
+synced_still (cell ∷ s) [] k = absurd k
+synced_still (cell ∷ s) (after ∷ t) k = (synced_cell_still cell.hold cell.byte after k.0, synced_still s t k.1)
+
+pub drop_still : (n : ℕ) (s t : Moment) → StillKept s t → StillKept (drop n s) (drop n t)
+drop_still zero s t k = k
+drop_still (suc n) [] [] k = tt
+drop_still (suc n) [] (after ∷ t) k = absurd k
+drop_still (suc n) (cell ∷ s) [] k = absurd k
+drop_still (suc n) (cell ∷ s) (after ∷ t) k = drop_still n s t k.1
+
+-- behind a write at the beginning
+pub drop-written : (xs : List ℕ) (s : Moment) (n : ℕ) → length xs ≡ n → drop n (written 0 xs s) ≡ drop n s
+drop-written xs s n size =
+    let same : length (map loose_cell xs) ≡ n = length-map xs loose_cell ∙ size in
+    let behind : 0 + length (map loose_cell xs) ≡ n = omega (arith, same) in
+    drop_at (map loose_cell xs) (drop (0 + length (map loose_cell xs)) s) n same ∙ ap (λ k. drop k s) behind

@@ -1,10 +1,10 @@
 -- A write over the slot that doesn't have the file's number.
-use Rattle.std.proofs.Common.{◌≡◌, ⊎_elim, ℕ, ◌+◌, ◌<◌, ◌≤◌, ◌^◌, List, [], ◌++◌, length, take, drop, map, Some, sym, ◌∙◌, ap, subst, arith, append_assoc, length-append, length-drop}
+use Rattle.std.proofs.Common.{◌≡◌, ⊎_elim, ℕ, ◌+◌, ◌<◌, ◌≤◌, ◌^◌, List, [], ◌++◌, length, take, drop, map, Some, refl, sym, ◌∙◌, ap, subst, arith, append_assoc, length-append, length-drop}
 use Rattle.std.proofs.Math.Path.{ap₂}
 use Rattle.std.proofs.lemmas.List.{append-nil, drop-map, take-map, length-map, length-take, take_at, drop_at}
 use Rattle.boot_store.specs.Moment.{Moment, bytes_of, MayLeave, StillKept, AfterRead, put, loose_cell, kept_cell, left_by_crash, written, within_write, synced}
-use Rattle.boot_store.specs.BootFile.{slot_number, slot_at, greater, slot_bytes}
-use Rattle.boot_store.specs.Crash.{LeavesAtLeast, LeavesNumber, IsReady}
+use Rattle.boot_store.specs.BootFile.{slot_number, slot_at, greater, slot_bytes, zero_file}
+use Rattle.boot_store.specs.Crash.{LeavesAtLeast, LeavesFirst, LeavesNumber, IsReady}
 use Rattle.boot_store.proofs.Leaves.{as_read, leaves_length, leaves_take, leaves_drop, leaves_front, kept_leaves, synced_leaves, still_leaves, read_keeps, steady_leaves, synced-loose, synced-written, map-put, length-put, drop-put, take-put}
 use Rattle.boot_store.proofs.Numbers.{number_is, has_first, has_second, length-slot, slot_reads}
 
@@ -91,14 +91,29 @@ new_number place n s fits ready c l =
         let front : length (take 16 file) ≡ 16 = omega (arith, length-take 16 file) in
         ap (λ (f : List ℕ). slot_number (take 16 f)) (ap (λ (f : List ℕ). drop 16 f) (append_assoc (take 16 file) (slot_bytes n) rest) ∙ drop_at (take 16 file) (slot_bytes n ++ rest) 16 front) ∙ cut_reads n rest fits
 
--- the file of number 0, written over whatever there was
-pub zero_number : (s : Moment) → LeavesNumber 0 (synced (written 0 (slot_bytes 0 ++ slot_bytes 0) s))
+-- a new file, written over whatever there was
+zero_left : (s : Moment) (c : List ℕ) → MayLeave (synced (written 0 zero_file s)) c → (rest : List ℕ) × (c ≡ zero_file ++ rest)
+zero_left s c l =
+    let front : synced (written 0 zero_file s) ≡ left_by_crash zero_file ++ _ =
+    map-put _ 0 (map loose_cell zero_file) s ∙ ap (λ (t : Moment). put 0 t (synced s)) (synced-loose zero_file) in
+    leaves_front zero_file _ c (subst (λ t. MayLeave t c) front l)
+
+pub length-zero : length zero_file ≡ 32
+length-zero = omega (arith, length-append (slot_bytes 0) (slot_bytes 0), length-slot 0)
+
+pub zero_first : (s : Moment) → LeavesFirst zero_file (synced (written 0 zero_file s))
+zero_first s c l =
+    let left = zero_left s c l in
+    ap (take (length zero_file)) left.1 ∙ take_at zero_file left.0 (length zero_file) refl
+
+pub zero_bytes : (s : Moment) → take 32 (bytes_of (synced (written 0 zero_file s))) ≡ zero_file
+zero_bytes s = ap (λ n. take n (bytes_of (synced (written 0 zero_file s)))) (sym length-zero) ∙ zero_first s _ (as_read (synced (written 0 zero_file s)))
+
+pub zero_number : (s : Moment) → LeavesNumber 0 (synced (written 0 zero_file s))
 zero_number s c l =
     let zero_slot = slot_bytes 0 in
     let size = length-slot 0 in
-    let front : synced (written 0 (zero_slot ++ zero_slot) s) ≡ left_by_crash (zero_slot ++ zero_slot) ++ _ =
-    map-put _ 0 (map loose_cell (zero_slot ++ zero_slot)) s ∙ ap (λ (t : Moment). put 0 t (synced s)) (synced-loose (zero_slot ++ zero_slot)) in
-    let left = leaves_front (zero_slot ++ zero_slot) _ c (subst (λ t. MayLeave t c) front l) in
+    let left = zero_left s c l in
     let rest = left.0 in
     let is : c ≡ zero_slot ++ (zero_slot ++ rest) = left.1 ∙ append_assoc zero_slot zero_slot rest in
     let long : 32 ≤ length c = omega (arith, ap length is, length-append zero_slot (zero_slot ++ rest), length-append zero_slot rest, size) in

@@ -1,9 +1,9 @@
 -- What crashes leave of a boot file's number.
-use Rattle.std.specs.Prelude.{◌≡◌, ◌⊎◌, ◌≤◌, ◌<◌, ℕ, List, Bool, ◌++◌, length, Option, Some, None, take, Result, Ok, Err, IfOk}
+use Rattle.std.specs.Prelude.{◌≡◌, ◌⊎◌, ◌≤◌, ◌<◌, ℕ, List, [], ◌∷◌, Bool, ◌++◌, length, Option, Some, None, take, Result, Ok, Err, IfOk}
 use Rattle.std.specs.List.{AllByRecursion}
 use Rattle.boot_store.specs.declared.faults.BootFault.{BootFault}
-use Rattle.boot_store.specs.Moment.{Moment, MayLeave, MayShow, bytes_of, left_by_crash}
-use Rattle.boot_store.specs.BootFile.{number_of, slot_at, boot_answer, with_number}
+use Rattle.boot_store.specs.Moment.{Moment, MayLeave, MayShow, StillKept, FailedWrite, bytes_of, left_by_crash, synced, within_write, written}
+use Rattle.boot_store.specs.BootFile.{number_of, slot_at, boot_answer, next_place, slot_bytes, with_number, zero_file}
 
 -- the file's number is at least m
 abbrev pub HasAtLeast : ℕ → List ℕ → Type 0
@@ -16,6 +16,10 @@ LeavesAtLeast m moment = (file : List ℕ) → MayLeave moment file → HasAtLea
 -- a crash at that moment leaves this number
 abbrev pub LeavesNumber : ℕ → Moment → Type 0
 LeavesNumber n moment = (file : List ℕ) → MayLeave moment file → number_of file ≡ Some n
+
+-- a crash at that moment leaves a file that begins with these bytes
+abbrev pub LeavesFirst : List ℕ → Moment → Type 0
+LeavesFirst bytes moment = (file : List ℕ) → MayLeave moment file → take (length bytes) file ≡ bytes
 
 -- the moments that have passed from one past to a later one
 abbrev pub Since : List Moment → List Moment → (List Moment → Type 0) → Type 0
@@ -40,6 +44,36 @@ answered_file (Err fault) file = file
 abbrev pub Decides : Bool → Moment → Moment → Result ℕ BootFault → Type 0
 Decides found start end answer =
     (file : List ℕ) × MayShow start file × (answer ≡ boot_answer found (number_of file)) × (end ≡ left_by_crash (answered_file answer file))
+
+-- the moments of a new file's write and sync
+abbrev pub zero_past : Moment → List Moment
+zero_past start = start ∷ within_write 0 32 start ∷ written 0 zero_file start ∷ []
+
+-- the moments of a sync and a read: nothing is written
+abbrev pub looked : Moment → List Moment
+looked start = start ∷ synced start ∷ []
+
+-- the moments of a start that reads this file and answers n: a sync, a read, the write of the one slot, and a sync
+abbrev pub answered_past : Moment → List ℕ → ℕ → List Moment
+answered_past start file n =
+    let place = next_place (slot_at 0 file) (slot_at 16 file) in
+    looked start ++ left_by_crash file ∷ within_write place 16 (left_by_crash file)
+    ∷ written place (slot_bytes n) (left_by_crash file) ∷ []
+
+-- a start that answers n writes over one slot of the file that it read, once, and nothing else
+abbrev pub WritesOnce : Moment → Moment → ℕ → List Moment → Type 0
+WritesOnce start end n since =
+    (file : List ℕ) × MayShow start file × (since ≡ answered_past start file n) × (end ≡ left_by_crash (with_number n file))
+
+-- a write over the slot at that place failed, or the sync after it
+abbrev pub AfterWrite : ℕ → Moment → Moment → Type 0
+AfterWrite place start end = (torn : Moment) × FailedWrite place 16 start torn × StillKept torn end
+
+-- where the device failed, what was kept still is; or the file was read, and the write over its one slot failed, or the
+-- sync after it
+abbrev pub AfterFailure : Moment → Moment → Type 0
+AfterFailure start end = StillKept start end
+    ⊎ ((file : List ℕ) × MayShow start file × AfterWrite (next_place (slot_at 0 file) (slot_at 16 file)) (left_by_crash file) end)
 
 -- the disk once it was synced and read: all of it is kept
 abbrev pub Settled : Moment → Moment → Type 0

@@ -1,5 +1,5 @@
 //! A disk in memory, which stops, tears writes and fails as it is told.
-ghost use Rattle.std.specs.Prelude.{◌≡◌, ◌+◌};
+ghost use Rattle.std.specs.Prelude.{◌≡◌, ◌+◌, []};
 ghost use Rattle.boot_store.specs.Moment.{MayLeave, bytes_of, left_by_crash};
 
 use crate::cells::{crash_cells, lose_cells, read_cells, show_cells, sync_cells, write_cells};
@@ -40,9 +40,12 @@ pub struct ModelDisk {
 }
 
 impl ModelDisk {
-    /// A disk with these bytes, all of them kept, with which nothing goes wrong.
+    /// A disk with these bytes, all of them kept, with which nothing goes wrong. No call was made
+    /// of it yet, and none has failed.
     pub fn new(file: &[u8; 32]) -> Self
-        ensures { ⟦<ModelDisk as Disk>⟧.now result ≡ left_by_crash file.now }
+        ensures now { ⟦<ModelDisk as Disk>⟧.now result ≡ left_by_crash file.now }
+        ensures past { ⟦<ModelDisk as Disk>⟧.past result ≡ [] }
+        ensures failures { ⟦<ModelDisk as Disk>⟧.failures result ≡ 0 }
     {
         let mut cells = [Cell {
             byte: 0,
@@ -75,6 +78,7 @@ impl ModelDisk {
     }
 
     /// A crash, after which nothing goes wrong. Where a byte isn't kept, the one in `any` is left.
+    /// It is no call, and none that failed.
     pub fn crash(&mut self, any: &[u8; 32])
         ensures may { MayLeave (⟦<ModelDisk as Disk>⟧.now self.old)
             (bytes_of (⟦<ModelDisk as Disk>⟧.now self.new)) }
@@ -82,6 +86,9 @@ impl ModelDisk {
             → bytes_of (⟦<ModelDisk as Disk>⟧.now self.new) ≡ any.now }
         ensures kept { ⟦<ModelDisk as Disk>⟧.now self.new
             ≡ left_by_crash (bytes_of (⟦<ModelDisk as Disk>⟧.now self.new)) }
+        ensures past { ⟦<ModelDisk as Disk>⟧.past self.new ≡ ⟦<ModelDisk as Disk>⟧.past self.old }
+        ensures failures { ⟦<ModelDisk as Disk>⟧.failures self.new
+            ≡ ⟦<ModelDisk as Disk>⟧.failures self.old }
     {
         crash_cells(&mut self.cells, any);
         self.trouble = Trouble::None;

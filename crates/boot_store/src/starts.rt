@@ -1,16 +1,26 @@
 // A start reads the boot file and writes the next number, so that a crash at any moment leaves one.
-ghost use Rattle.std.specs.Prelude.{◌≡◌, ◌≢◌, ◌≤◌, ◌<◌, ◌+◌, ◌↔◌, ◌++◌, OnOk, OnErr, IfOk, IfErr, IsErrOf};
-ghost use Rattle.boot_store.specs.Moment.{MayShow, bytes_of, written, synced};
-ghost use Rattle.boot_store.specs.BootFile.{slot_bytes};
-ghost use Rattle.boot_store.specs.Crash.{LeavesNumber, Since, Keeps, Rises, Decides, Settled, IsReady, WholeFile};
+ghost use Rattle.std.specs.Prelude.{◌≡◌, ◌≢◌, ◌≤◌, ◌<◌, ◌+◌, ◌↔◌, ◌++◌, [], ◌∷◌, take, drop, OnOk, OnErr, IfOk, IfErr, IsErrOf};
+ghost use Rattle.boot_store.specs.Moment.{MayShow, StillKept, bytes_of, written, within_write, synced};
+ghost use Rattle.boot_store.specs.BootFile.{slot_bytes, zero_file};
+ghost use Rattle.boot_store.specs.Crash.{LeavesNumber, LeavesFirst, Since, Keeps, Rises, Decides, Settled, IsReady, WholeFile, zero_past, looked, WritesOnce, AfterWrite, AfterFailure};
 
 use crate::slots::{next_number, next_place, slot_number, slot_of};
 use crate::{BootFault, DeviceFault, Disk};
 
-/// Writes a boot file of number 0, on which a gateway can be founded.
+/// Writes a boot file on which a gateway can be founded: both slots have the number 0, and once it
+/// is answered a crash leaves them so. After Device any bytes may stand in their place.
 pub fn init<D: Disk>(disk: &mut D) -> Result<(), BootFault>
     ensures only_device { OnErr result (IsErrOf result BootFault.Device) }
+    ensures bytes { D.honest disk.old
+        → OnOk result (take 32 (bytes_of (D.now disk.new)) ≡ zero_file) }
+    ensures left { D.honest disk.old → OnOk result (LeavesFirst zero_file (D.now disk.new)) }
     ensures zero { D.honest disk.old → OnOk result (LeavesNumber 0 (D.now disk.new)) }
+    ensures end { D.honest disk.old
+        → OnOk result (D.now disk.new ≡ synced (written 0 zero_file (D.now disk.old))) }
+    ensures passes { D.honest disk.old
+        → OnOk result (D.past disk.new ≡ D.past disk.old ++ zero_past (D.now disk.old)) }
+    ensures behind { D.honest disk.old
+        → OnErr result (StillKept (drop 32 (D.now disk.old)) (drop 32 (D.now disk.new))) }
     ensures honesty { D.honest disk.old ↔ D.honest disk.new }
     ensures ok { OnOk result (D.failures disk.new ≡ D.failures disk.old) }
     ensures device { OnErr result (D.failures disk.old < D.failures disk.new) }
@@ -23,7 +33,7 @@ pub fn init<D: Disk>(disk: &mut D) -> Result<(), BootFault>
 /// Both slots of number 0.
 #[tactic(auto, unfolding(crate::specs::BootFile::slot_bytes))]
 fn zero_file() -> [u8; 32]
-    ensures { result ≡ slot_bytes 0 ++ slot_bytes 0 }
+    ensures { result ≡ zero_file }
 {
     let slot = slot_of(0);
     let mut file = [0; 32];
@@ -37,6 +47,10 @@ fn settled_file<D: Disk>(disk: &mut D) -> Result<Option<[u8; 32]>, DeviceFault>
     ensures any_moment { D.honest disk.old
         → Since (D.past disk.old) (D.past disk.new) (Keeps (D.now disk.old) (D.now disk.new)) }
     ensures settled { D.honest disk.old → OnOk result (Settled (D.now disk.old) (D.now disk.new)) }
+    ensures looked { D.honest disk.old
+        → OnOk result (D.past disk.new ≡ D.past disk.old ++ looked (D.now disk.old)) }
+    ensures unsettled { D.honest disk.old
+        → OnErr result (StillKept (D.now disk.old) (D.now disk.new)) }
     ensures whole { D.honest disk.old → IfOk result (WholeFile (bytes_of (D.now disk.new))) }
     ensures honesty { D.honest disk.old ↔ D.honest disk.new }
     ensures ok { OnOk result (D.failures disk.new ≡ D.failures disk.old) }
@@ -59,6 +73,11 @@ fn store<D: Disk>(disk: &mut D, place: usize, boot: u64) -> Result<(), DeviceFau
         → Since (D.past disk.old) (D.past disk.new) (Keeps (D.now disk.old) (D.now disk.new)) }
     ensures stored { D.honest disk.old
         → OnOk result (D.now disk.new ≡ synced (written place (slot_bytes boot) (D.now disk.old))) }
+    ensures passes { D.honest disk.old → OnOk result (D.past disk.new ≡ D.past disk.old
+        ++ D.now disk.old ∷ within_write place 16 (D.now disk.old)
+        ∷ written place (slot_bytes boot) (D.now disk.old) ∷ []) }
+    ensures torn { D.honest disk.old
+        → OnErr result (AfterWrite place (D.now disk.old) (D.now disk.new)) }
     ensures honesty { D.honest disk.old ↔ D.honest disk.new }
     ensures ok { OnOk result (D.failures disk.new ≡ D.failures disk.old) }
     ensures failed { OnErr result (D.failures disk.old < D.failures disk.new) }
@@ -69,8 +88,13 @@ fn store<D: Disk>(disk: &mut D, place: usize, boot: u64) -> Result<(), DeviceFau
 }
 
 /// The next boot number, once it is on the disk: above 0, and greater than each that was answered
-/// before. `found` is the founding of a pair, which wants a file of number 0. A refusal other than
-/// Device writes nothing.
+/// before. `found` is the founding of a pair, which wants a file of number 0.
+///
+/// # Errors
+/// After Damaged, BootsUsedUp or FoundTwice the file has been synced and read, and none of it was
+/// written: what was kept stands as before, and what had been written and not synced is kept now.
+/// After Device the file may have been synced too, and any bytes may stand in the place of the slot
+/// over which the next number goes; the other slot stands as it was.
 pub fn next_boot<D: Disk>(disk: &mut D, found: bool) -> Result<u64, BootFault>
     ensures rises { D.honest disk.old → Rises (D.now disk.old) (D.now disk.new) result }
     ensures any_moment { D.honest disk.old
@@ -80,6 +104,12 @@ pub fn next_boot<D: Disk>(disk: &mut D, found: bool) -> Result<u64, BootFault>
         → Decides found (D.now disk.old) (D.now disk.new) result }
     ensures err { D.honest disk.old → IfErr result (λ fault. fault ≢ BootFault.Device
         → MayShow (D.now disk.old) (bytes_of (D.now disk.new))) }
+    ensures looks { D.honest disk.old → IfErr result (λ fault. fault ≢ BootFault.Device
+        → D.past disk.new ≡ D.past disk.old ++ looked (D.now disk.old)) }
+    ensures writes { D.honest disk.old → IfOk result (λ n. Since (D.past disk.old)
+        (D.past disk.new) (WritesOnce (D.now disk.old) (D.now disk.new) n)) }
+    ensures leaves { D.honest disk.old → IsErrOf result BootFault.Device
+        → AfterFailure (D.now disk.old) (D.now disk.new) }
     ensures device { D.failures disk.old < D.failures disk.new → IsErrOf result BootFault.Device }
     ensures failed { IsErrOf result BootFault.Device → D.failures disk.old < D.failures disk.new }
     ensures later { D.failures disk.old ≤ D.failures disk.new }

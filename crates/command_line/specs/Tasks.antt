@@ -1,12 +1,12 @@
 -- The task that words ask for.
-use Rattle.std.specs.Prelude.{◌≡◌, ◌⊎◌, ◌<◌, ◌^◌, ◌==◌, ℕ, Bool, true, false, List, [], codes, Option, Some, None, unwrap_or, if◌then◌else◌, string_bytes}
+use Rattle.std.specs.Prelude.{◌≡◌, ◌⊎◌, ◌<◌, ◌^◌, ℕ, Bool, true, false, List, [], codes, Option, Some, None, unwrap_or, string_bytes}
 use Rattle.std.specs.Str.{bytes_eq}
 use Rattle.std.specs.Str.Parse.{IsNumeral, digits_value, without_leading_plus}
 use Rattle.std.specs.Option.{option_map_or}
 use Rattle.clap.specs.Words.{Row, Text, first_of, one_of}
 use Rattle.command_line.specs.Line.{Takes, entered_by}
 use Rattle.command_line.specs.declared.faults.LineFault.{LineFault}
-use Rattle.command_line.specs.declared.faults.LineFault.TheVariants.{Refused, FoundNeedsIdZero, NoMemory}
+use Rattle.command_line.specs.declared.faults.LineFault.TheVariants.{Refused, FoundNeedsIdZero, NoNumber, NoMemory}
 use Rattle.nat_types.specs.declared.gateways.GatewayId.{GatewayId}
 use Rattle.nat_types.specs.declared.gateways.GatewayId.TheVariants.{Zero, One}
 use Rattle.command_line.specs.declared.tasks.Task.{Task}
@@ -20,29 +20,48 @@ word_of name rows = unwrap_or (first_of name rows) []
 abbrev pub IsNumeralOf : ℕ → Text → Type 0
 IsNumeralOf bits text = IsNumeral 10 text × (digits_value 10 text < 2 ^ bits)
 
--- n is the number of a numeral, and 0 where the text is none
+-- the text is a numeral of so many bits, and n its number
 abbrev pub IsRead : ℕ → Text → ℕ → Type 0
-IsRead bits text n = (IsNumeralOf bits text × (n ≡ digits_value 10 text)) ⊎ (¬ (IsNumeralOf bits text) × (n ≡ 0))
+IsRead bits text n = IsNumeralOf bits text × (n ≡ digits_value 10 text)
 
--- the same of a text that may be absent, and may begin with a plus
+-- there is a text, which may begin with a plus, and n is its number
 abbrev pub IsReadFrom : ℕ → Option Text → ℕ → Type 0
-IsReadFrom bits None n = n ≡ 0
+IsReadFrom bits None n = ⊥
 IsReadFrom bits (Some text) n = IsRead bits (without_leading_plus text) n
 
--- n is the number at a name
+-- n is the number at a name: one of so many bits stands there
 abbrev pub IsNumber : ℕ → Text → List Row → ℕ → Type 0
 IsNumber bits name rows n = IsReadFrom bits (one_of name rows) n
+
+-- no number of so many bits stands there
+abbrev pub LacksNumber : ℕ → Text → List Row → Type 0
+LacksNumber bits name rows = (n : ℕ) → ¬ (IsNumber bits name rows n)
+
+-- the number at a name, or none where it lacks one
+abbrev pub ReadsNumber : ℕ → Text → List Row → Option ℕ → Type 0
+ReadsNumber bits name rows (Some n) = IsNumber bits name rows n
+ReadsNumber bits name rows None = LacksNumber bits name rows
 
 -- the flag at a name is set
 abbrev pub flag_of : Text → List Row → Bool
 flag_of name rows = option_map_or (λ text. bytes_eq text (codes "true")) (first_of name rows) false
 
-abbrev pub gateway_numbered : ℕ → GatewayId
-gateway_numbered n = if n == 1 then One else Zero
+abbrev pub number_of : GatewayId → ℕ
+number_of Zero = 0
+number_of One = 1
 
 -- the gateway that `--id` names
 abbrev pub IsId : List Row → GatewayId → Type 0
-IsId rows id = (n : ℕ) × IsNumber 8 (codes "id") rows n × (id ≡ gateway_numbered n)
+IsId rows id = IsNumber 8 (codes "id") rows (number_of id)
+
+-- it names none
+abbrev pub LacksId : List Row → Type 0
+LacksId rows = (id : GatewayId) → ¬ (IsId rows id)
+
+-- the gateway that `--id` names, or none
+abbrev pub ReadsId : List Row → Option GatewayId → Type 0
+ReadsId rows (Some id) = IsId rows id
+ReadsId rows None = LacksId rows
 
 -- the task of a command, by the values that the words give it
 abbrev pub IsTask : Text → List Row → Task → Type 0
@@ -84,15 +103,32 @@ Enters (Some entered) = IsNamed entered.0
 abbrev pub FoundsAtOne : List Row → Type 0
 FoundsAtOne rows = (flag_of (codes "found") rows ≡ true) × IsId rows One
 
+-- a number of `gate` is missing, or beyond its limits
+abbrev pub LacksOfGate : List Row → Type 0
+LacksOfGate rows = LacksId rows ⊎ LacksNumber 32 (codes "rounds") rows
+
+-- a number of `peer-off` is
+abbrev pub LacksOfPeerOff : List Row → Type 0
+LacksOfPeerOff rows = LacksId rows ⊎ LacksNumber 64 (codes "boot") rows
+
 -- why the values of `gate` are refused
 abbrev pub RefusesGate : List Row → LineFault → Type 0
 RefusesGate rows FoundNeedsIdZero = FoundsAtOne rows
+RefusesGate rows NoNumber = LacksOfGate rows
 RefusesGate rows NoMemory = Unit {0}
 RefusesGate rows _ = ⊥
+
+-- why those of `peer-off` are
+abbrev pub RefusesPeerOff : List Row → LineFault → Type 0
+RefusesPeerOff rows NoNumber = LacksOfPeerOff rows
+RefusesPeerOff rows NoMemory = Unit {0}
+RefusesPeerOff rows _ = ⊥
 
 -- why a command with its values is refused
 abbrev pub RefusesValues : Text → List Row → LineFault → Type 0
 RefusesValues name rows FoundNeedsIdZero = (name ≡ codes "gate") × FoundsAtOne rows
+RefusesValues name rows NoNumber =
+    ((name ≡ codes "gate") × LacksOfGate rows) ⊎ ((name ≡ codes "peer-off") × LacksOfPeerOff rows)
 RefusesValues name rows NoMemory = Unit {0}
 RefusesValues name rows _ = ⊥
 
@@ -106,8 +142,10 @@ RefusesWords words (Refused error) = ¬ (Takes words)
 RefusesWords words NoMemory = Unit {0}
 RefusesWords words _ = ⊥
 
--- why words are no task: where clap takes them, only for want of memory, or for `--found` at gateway 1
+-- why words are no task: where clap takes them, only for want of memory, for `--found` at gateway 1, or where an option
+-- has no number within its limits
 abbrev pub Refuses : List Text → LineFault → Type 0
 Refuses words (Refused error) = ¬ (Takes words)
 Refuses words FoundNeedsIdZero = RefusesEntered (entered_by words) FoundNeedsIdZero
+Refuses words NoNumber = RefusesEntered (entered_by words) NoNumber
 Refuses words NoMemory = Unit {0}

@@ -41,7 +41,7 @@ pub(crate) fn rounds<'a>(alloc: Global) -> Arg<'a>
         .required(true)
         .action(ArgAction::Set)
         .value_parser(ValueParser::Signed(0, 4_294_967_295))
-        .help("How many rounds it runs, each of at most 10 ms, as in --rounds 1000")
+        .help("How many rounds it runs, each waiting at most 10 ms, as in --rounds 1000")
 }
 
 /// `--found`.

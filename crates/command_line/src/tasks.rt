@@ -2,7 +2,7 @@
 ghost use Rattle.std.specs.Prelude.{◌≡◌, codes, string_bytes, map, option_map, IfOk, IfErr};
 ghost use Rattle.clap.specs.Words.{found_of, rows_of, subcommand_rows_of};
 ghost use Rattle.command_line.specs.Line.{Takes, entered_by};
-ghost use Rattle.command_line.specs.Tasks.{IsTask, Asks, FoundsAtZero, IsNamed, Enters, RefusesGate, RefusesValues, RefusesEntered, RefusesWords, Refuses};
+ghost use Rattle.command_line.specs.Tasks.{IsTask, Asks, FoundsAtZero, IsNamed, Enters, RefusesGate, RefusesPeerOff, RefusesValues, RefusesEntered, RefusesWords, Refuses};
 
 use crate::faults::LineFault;
 use crate::{commands, values};
@@ -55,22 +55,31 @@ fn gate(alloc: Global, matches: &ArgMatches<'_>) -> Result<Task, LineFault>
     ensures zero { IfOk result FoundsAtZero }
     ensures err { IfErr result (RefusesGate (rows_of (found_of matches.now))) }
 {
-    let id = values::id(matches);
+    let Some(id) = values::id(matches) else {
+        return Err(LineFault::NoNumber);
+    };
     let found = values::flag(matches, "found");
     if found && id == GatewayId::One {
         return Err(LineFault::FoundNeedsIdZero);
     }
+    let Some(rounds) = values::short(matches, "rounds") else {
+        return Err(LineFault::NoNumber);
+    };
     let settings = values::word(alloc, matches, "SETTINGS")?;
-    let rounds = values::short(matches, "rounds");
     Ok(Task::Gate(settings, id, rounds, found))
 }
 
-fn peer_off(alloc: Global, matches: &ArgMatches<'_>) -> Result<Task, AllocError>
-    ensures { IfOk result (IsTask (codes "peer-off") (rows_of (found_of matches.now))) }
+fn peer_off(alloc: Global, matches: &ArgMatches<'_>) -> Result<Task, LineFault>
+    ensures ok { IfOk result (IsTask (codes "peer-off") (rows_of (found_of matches.now))) }
+    ensures err { IfErr result (RefusesPeerOff (rows_of (found_of matches.now))) }
 {
+    let Some(id) = values::id(matches) else {
+        return Err(LineFault::NoNumber);
+    };
+    let Some(boot) = values::long(matches, "boot") else {
+        return Err(LineFault::NoNumber);
+    };
     let settings = values::word(alloc, matches, "SETTINGS")?;
-    let id = values::id(matches);
-    let boot = values::long(matches, "boot");
     Ok(Task::PeerOff(settings, id, boot))
 }
 
@@ -93,7 +102,7 @@ fn named(alloc: Global, name: &str, matches: &ArgMatches<'_>) -> Result<Task, Li
         "sim" => Ok(sim(alloc, matches)?),
         "loop" => Ok(repeat(alloc, matches)?),
         "gate" => gate(alloc, matches),
-        "peer-off" => Ok(peer_off(alloc, matches)?),
+        "peer-off" => peer_off(alloc, matches),
         _ => unreachable!(),
     }
 }
@@ -130,7 +139,8 @@ fn parse<'a>(alloc: Global, words: &'a [String]) -> Result<ArgMatches<'a>, LineF
 ///
 /// # Errors
 /// What `clap` refuses, a request for help too, is `Refused` with its text; `--found` beside `--id 1` is
-/// `FoundNeedsIdZero`.
+/// `FoundNeedsIdZero`; an option without a number within its limits is `NoNumber`, where `clap` hasn't
+/// refused it.
 pub fn command(alloc: Global, words: &[String]) -> Result<Task, LineFault>
     ensures taken { IfOk result (λ _. Takes (map string_bytes words.now)) }
     ensures task { IfOk result (Asks (entered_by (map string_bytes words.now))) }

@@ -1,7 +1,7 @@
 //! The values that clap gives the options of a command.
 ghost use Rattle.std.specs.Prelude.{◌≡◌, string_bytes, IfOk};
 ghost use Rattle.clap.specs.Words.{found_of, rows_of};
-ghost use Rattle.command_line.specs.Tasks.{word_of, flag_of, IsNumber, IsId};
+ghost use Rattle.command_line.specs.Tasks.{word_of, flag_of, ReadsNumber, ReadsId};
 
 use clap::ArgMatches;
 use nat_types::GatewayId;
@@ -30,34 +30,34 @@ pub(crate) fn flag(matches: &ArgMatches<'_>, name: &str) -> bool
     }
 }
 
-/// A number of 8 bits.
-fn byte(matches: &ArgMatches<'_>, name: &str) -> u8
-    ensures { IsNumber 8 name.now (rows_of (found_of matches.now)) result }
+/// The number of 8 bits at a name.
+fn byte(matches: &ArgMatches<'_>, name: &str) -> Option<u8>
+    ensures { ReadsNumber 8 name.now (rows_of (found_of matches.now)) result }
 {
-    matches.get_one::<u8>(name).unwrap_or(0)
+    matches.get_one::<u8>(name)
 }
 
-/// A number of 32 bits.
-pub(crate) fn short(matches: &ArgMatches<'_>, name: &str) -> u32
-    ensures { IsNumber 32 name.now (rows_of (found_of matches.now)) result }
+/// The number of 32 bits at a name.
+pub(crate) fn short(matches: &ArgMatches<'_>, name: &str) -> Option<u32>
+    ensures { ReadsNumber 32 name.now (rows_of (found_of matches.now)) result }
 {
-    matches.get_one::<u32>(name).unwrap_or(0)
+    matches.get_one::<u32>(name)
 }
 
-/// A number of 64 bits.
-pub(crate) fn long(matches: &ArgMatches<'_>, name: &str) -> u64
-    ensures { IsNumber 64 name.now (rows_of (found_of matches.now)) result }
+/// The number of 64 bits at a name.
+pub(crate) fn long(matches: &ArgMatches<'_>, name: &str) -> Option<u64>
+    ensures { ReadsNumber 64 name.now (rows_of (found_of matches.now)) result }
 {
-    matches.get_one::<u64>(name).unwrap_or(0)
+    matches.get_one::<u64>(name)
 }
 
 /// The gateway that `--id` names.
-pub(crate) fn id(matches: &ArgMatches<'_>) -> GatewayId
-    ensures { IsId (rows_of (found_of matches.now)) result }
+pub(crate) fn id(matches: &ArgMatches<'_>) -> Option<GatewayId>
+    ensures { ReadsId (rows_of (found_of matches.now)) result }
 {
-    if byte(matches, "id") == 1 {
-        GatewayId::One
-    } else {
-        GatewayId::Zero
+    match byte(matches, "id") {
+        Some(0) => Some(GatewayId::Zero),
+        Some(1) => Some(GatewayId::One),
+        _ => None,
     }
 }

@@ -1,9 +1,9 @@
 use Rattle.std.proofs.Common.{◌≡◌, ◌<◌, ◌≤◌, ℕ, List, length, take, sym, ◌∙◌, ap, subst, arith}
 use Rattle.std.proofs.lemmas.List.{length-take, take_all}
-use Rattle.boot_store.specs.Moment.{AfterRead}
+use Rattle.boot_store.specs.Moment.{AfterRead, StillKept}
 use Rattle.boot_store.specs.Crash.{LeavesAtLeast}
-use Rattle.boot_store.proofs.Joins.{one_passed, then_passed}
-use Rattle.boot_store.proofs.Leaves.{settled_shows, settled_kept}
+use Rattle.boot_store.proofs.Joins.{one_passed, then_passed, looked_past, on_err}
+use Rattle.boot_store.proofs.Leaves.{settled_shows, settled_kept, synced_still}
 use Rattle.boot_store.proofs.Stored.{keeps_synced, keeps_still, keeps_read}
 use Rattle.boot_store.proofs.starts.settled_file.Goals as goal
 
@@ -56,3 +56,15 @@ returns-clause-whole g c h =
     whole : (n : ℕ) (room file : List ℕ) → 32 ≤ n → n ≤ 32 → length room ≡ 32 → take n room ≡ take 32 file → (32 ≤ length file) × (room ≡ take 32 file)
     whole n room file all most long filled =
         (omega (arith, ap length filled, length-take n room, length-take 32 file), sym (take_all n room (omega (arith, all, long))) ∙ filled)
+
+pub returns-then-count-lt32-clause-looked : goal.returns-then-count-lt32-clause-looked
+returns-then-count-lt32-clause-looked g c h =
+    looked_past _ _ _ _ _ (c.sync.ensures.passes h) (c.in_ok-sync.ensures.synced h) (c.read.ensures.passes (c.sync.ensures.honesty.0 h))
+
+pub returns-clause-looked : goal.returns-clause-looked
+returns-clause-looked g c h =
+    looked_past _ _ _ _ _ (c.sync.ensures.passes h) (c.in_ok-sync.ensures.synced h) (c.read.ensures.passes (c.sync.ensures.honesty.0 h))
+
+pub returns-in_err-count-clause-unsettled : goal.returns-in_err-count-clause-unsettled
+returns-in_err-count-clause-unsettled g c h =
+    on_err _ (synced_still _ _ (subst (λ s. StillKept s (g.D.Disk.now c.read.new.self)) (c.in_ok-sync.ensures.synced h) (c.in_err-count.ensures.unread (c.sync.ensures.honesty.0 h))))

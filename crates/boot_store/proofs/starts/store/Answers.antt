@@ -1,7 +1,8 @@
-use Rattle.std.proofs.Common.{⊎_elim, length, sym, ◌∙◌, ap, subst}
-use Rattle.boot_store.specs.Moment.{written, synced}
-use Rattle.boot_store.specs.Crash.{LeavesAtLeast}
-use Rattle.boot_store.proofs.Joins.{one_passed, two_passed, then_passed}
+use Rattle.std.proofs.Common.{⊎_elim, inl, inr, ℕ, ◌∷◌, [], ◌++◌, length, sym, ◌∙◌, ap, subst}
+use Rattle.boot_store.specs.Moment.{Moment, written, within_write, synced}
+use Rattle.boot_store.specs.Crash.{AfterWrite, LeavesAtLeast}
+use Rattle.boot_store.proofs.Joins.{one_passed, two_passed, then_passed, stored_past, on_err}
+use Rattle.boot_store.proofs.Crashes.{same_still}
 use Rattle.boot_store.proofs.Numbers.{length-slot}
 use Rattle.boot_store.proofs.Stored.{keeps_synced, keeps_still, keeps_written, keeps_within}
 use Rattle.boot_store.proofs.starts.store.Goals as goal
@@ -37,3 +38,28 @@ pub returns-clause-stored : goal.returns-clause-stored
 returns-clause-stored g c h =
     let h2 = c.write_at.ensures.honesty.0 h in
     c.in_ok-sync.ensures.synced h2 ∙ ap synced (c.in_ok-write_at.ensures.written h ∙ ap (λ x. written c.args.place x (g.D.Disk.now c.args.disk.now)) c.slot_of.ensures)
+
+pub returns-clause-passes : goal.returns-clause-passes
+returns-clause-passes g c h =
+    let start = g.D.Disk.now c.args.disk.now in
+    let slot = c.slot_of.ensures in
+    let size = ap length slot ∙ length-slot c.args.boot in
+    let last = c.in_ok-write_at.ensures.written h ∙ ap (λ x. written c.args.place x start) slot in
+    stored_past _ _ _ start _ _ (within_write c.args.place 16 start)
+    (c.write_at.ensures.passes h) (ap (λ (n : ℕ). within_write c.args.place n start) size) (c.sync.ensures.passes (c.write_at.ensures.honesty.0 h))
+    ∙ ap (λ (s : Moment). g.D.Disk.past c.args.disk.now ++ start ∷ within_write c.args.place 16 start ∷ s ∷ []) last
+
+pub returns-in_err-write_at-clause-torn : goal.returns-in_err-write_at-clause-torn
+returns-in_err-write_at-clause-torn g c h =
+    let size = ap length c.slot_of.ensures ∙ length-slot c.args.boot in
+    let end = g.D.Disk.now c.write_at.new.self in
+    let after : AfterWrite c.args.place (g.D.Disk.now c.args.disk.now) end =
+    (end, ⊎_elim (λ as_before. inl as_before) (λ torn. inr (torn.0, torn.1 ∙ size, torn.2)) (c.in_err-write_at.ensures.torn h), same_still end) in
+    on_err _ after
+
+pub returns-in_err-sync-clause-torn : goal.returns-in_err-sync-clause-torn
+returns-in_err-sync-clause-torn g c h =
+    let size = ap length c.slot_of.ensures ∙ length-slot c.args.boot in
+    let after : AfterWrite c.args.place (g.D.Disk.now c.args.disk.now) (g.D.Disk.now c.sync.new.self) =
+    (g.D.Disk.now c.write_at.new.self, inr (c.slot_of.result, size, c.in_ok-write_at.ensures.written h), c.in_err-sync.ensures.unsynced (c.write_at.ensures.honesty.0 h)) in
+    on_err _ after

@@ -3,5 +3,5 @@ use Rattle.boot_store.specs.Moment.{synced}
 use Rattle.boot_store.proofs.Loops.{synced_whole}
 use Rattle.boot_store.proofs.model.ModelDisk.new.Goals as goal
 
-pub returns : goal.returns
-returns c = c.sync_cells.ensures ∙ ap synced c.write_cells.ensures ∙ synced_whole c.args.file.now _ (omega (arith, c.told-file))
+pub returns-clause-now : goal.returns-clause-now
+returns-clause-now c = c.sync_cells.ensures ∙ ap synced c.write_cells.ensures ∙ synced_whole c.args.file.now _ (omega (arith, c.told-file))
