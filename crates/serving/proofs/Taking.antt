@@ -1,8 +1,7 @@
 -- What is taken, one part after another.
-use Rattle.std.proofs.Common.{◌≡◌, ◌∙◌, ◌+◌, ◌<◌, ◌++◌, ◌||◌, ℕ, Bool, true, false, not, List, [], ◌∷◌, length, take, Option, Some, None, Ok, refl, sym, ap, subst, inl, inr, add-one, length-append}
+use Rattle.std.proofs.Common.{◌≡◌, ◌∙◌, ◌+◌, ◌<◌, ◌++◌, ℕ, Bool, true, false, not, List, [], ◌∷◌, take, Option, Some, None, Ok, refl, sym, ap, subst, inl, inr, add-one, length-append}
 use Rattle.std.proofs.lemmas.List.{append-nil, append_assoc}
 use Rattle.std.proofs.lemmas.List.Folds.{list_any-append}
-use Rattle.std.specs.List.{list_any}
 use Rattle.wires.specs.Letters.{Answer, Letter, answer_of, came, failed, is_nothing, letters_of, nothing}
 use Rattle.wires.specs.declared.places.Place.{Place}
 use Rattle.wires.specs.declared.wire.WireFault.{WireFault}
