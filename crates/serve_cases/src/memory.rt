@@ -1,6 +1,6 @@
 //! A wire in memory, and a clock that goes by steps.
 
-ghost use Rattle.std.specs.Prelude.{◌≡◌, ◌≤◌};
+ghost use Rattle.std.specs.Prelude.{◌≡◌, ◌≤◌, IfSome};
 
 use anyhow::Result as Checked;
 use nat_types::Side;
@@ -8,7 +8,7 @@ use serving::Clockwork;
 use std::alloc::Global;
 use std::io::{self, Write};
 use std::time::Duration;
-use wires::{LONGEST, Place, Received, Wire, WireFault};
+use wires::{Answers, LONGEST, Place, Wire, WireFault};
 
 /// A datagram, and where it came from or went to.
 #[derive(Drop)]
@@ -24,7 +24,7 @@ pub(crate) struct Memory {
     pub(crate) coming: Vec<Letter>,
     /// How many of them have come.
     pub(crate) come: usize,
-    received: Received,
+    answers: Answers,
     pub(crate) sent: Vec<Letter>,
 }
 
@@ -34,7 +34,7 @@ impl Memory {
             alloc,
             coming: Vec::new(alloc),
             come: 0,
-            received: Received::none(),
+            answers: Answers::none(),
             sent: Vec::new(alloc),
         }
     }
@@ -50,6 +50,16 @@ impl Memory {
             }
         }
         Ok(letters)
+    }
+
+    /// The next datagram that is to come, if one is.
+    fn next(&mut self, room: &mut [u8; LONGEST]) -> Option<(Place, usize)>
+        ensures { IfSome result (λ datagram. datagram.1 ≤ 4096) }
+    {
+        let letter = self.coming.get(self.come)?;
+        self.come = self.come.saturating_add(1);
+        let count = copied(letter.bytes.as_slice(), room);
+        Some((letter.place, count))
     }
 
     /// These datagrams come, after those that are to come already.
@@ -101,7 +111,7 @@ fn show_letter<O: Write>(letter: &Letter, output: &mut O) -> io::Result<()> {
 }
 
 impl Wire for Memory {
-    ghost received = { λ m. m.received };
+    ghost answers = { λ m. m.answers };
 
     fn send(&mut self, to: Place, bytes: &[u8]) -> Result<(), WireFault> {
         let bytes = Vec::from_slice(self.alloc, bytes).map_err(|_| WireFault)?;
@@ -114,13 +124,9 @@ impl Wire for Memory {
         _limit: Duration,
         room: &mut [u8; LONGEST],
     ) -> Result<Option<(Place, usize)>, WireFault> {
-        let Some(letter) = self.coming.get(self.come) else {
-            return Ok(None);
-        };
-        self.come = self.come.saturating_add(1);
-        let count = copied(letter.bytes.as_slice(), room);
-        self.received.keep(letter.place, count, room);
-        Ok(Some((letter.place, count)))
+        let found = Ok(self.next(room));
+        self.answers.keep(found, room);
+        found
     }
 }
 

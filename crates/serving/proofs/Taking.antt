@@ -1,44 +1,118 @@
 -- What is taken, one part after another.
-use Rattle.std.proofs.Common.{◌≡◌, ◌∙◌, ◌+◌, ◌++◌, ℕ, List, [], ◌∷◌, take, Option, Some, refl, sym, ap, subst, inl, add-one}
+use Rattle.std.proofs.Common.{◌≡◌, ◌∙◌, ◌+◌, ◌<◌, ◌++◌, ℕ, Bool, true, false, not, List, [], ◌∷◌, take, Option, Some, None, Ok, refl, sym, ap, subst, inl, inr, add-one, length-append}
 use Rattle.std.proofs.lemmas.List.{append-nil, append_assoc}
-use Rattle.wires.specs.Letters.{Letter, letters_in}
+use Rattle.std.proofs.lemmas.List.Folds.{list_any-append}
+use Rattle.wires.specs.Letters.{Answer, Letter, answer_of, came, failed, is_nothing, letters_of, nothing}
 use Rattle.wires.specs.declared.places.Place.{Place}
-use Rattle.told.specs.Told.{Told, none_told}
+use Rattle.wires.specs.declared.wire.WireFault.{WireFault}
 use Rattle.step_parts.specs.declared.events.Event.{Event}
-use Rattle.step_parts.specs.Shown.{Shown, scene}
-use Rattle.step_parts.specs.Steps.{IsStepOn}
-use Rattle.serving.specs.Rounds.{AreRounds, Box, Brings, IsRound, Reads, Takes, TakesAll, TakesNew, box}
+use Rattle.serving.specs.Rounds.{AreRounds, Box, Brings, IsRound, Reads, State, Takes, TakesAll, TakesNew}
+use Rattle.serving.specs.Polls.{Asks, HasAsked, HasPolled}
 
--- a step
-pub by_step : (g : Shown) (event : Event) (g2 : Shown) (before after : Told) (left : ℕ) → before ≡ none_told
-    → IsStepOn (scene g before) event (scene g2 after) → Takes g left event g2 left
-by_step g event g2 before after left none step = inl (after, (subst (λ (t : Told). IsStepOn (scene g t) event (scene g2 after)) none step, refl))
+-- ---- what an answer brings
 
--- nothing came
-pub none_new : (b : Box) (g : Shown) (received : List Letter) (left : ℕ) → g ≡ b.shown → received ≡ b.received → left ≡ b.left_out → TakesNew b (box g received left)
-none_new b g received left e f h = record { letters = []; new = f ∙ sym (append-nil b.received); taken = (e, h) }
-
--- one letter came: so many bytes of a receiver's room
-pub one_new : (b b2 : Box) (place : Place) (count : ℕ) (room : List ℕ) (found : Option (Place × ℕ)) (event : Event)
-    → found ≡ Some (place, count) → b2.received ≡ b.received ++ letters_in found room
-    → Brings (record { place = place; bytes = take count room }) event → Takes b.shown b.left_out event b2.shown b2.left_out → TakesNew b b2
-one_new b b2 place count room found event is e brings takes = record {
-  letters = (record { place = place; bytes = take count room }) ∷ [];
-  new = subst (λ (o : Option (Place × ℕ)). b2.received ≡ b.received ++ letters_in o room) is e;
-  taken = (b2.shown, (b2.left_out, (record { event = event; brings = brings; taken = takes }, (refl, refl))));
+-- a letter came, so many bytes of a receiver's room, and was taken
+pub one_came : (b b2 : Box) (place : Place) (count : ℕ) (room : List ℕ) (found : Option (Place × ℕ)) (event : Event)
+    → found ≡ Some (place, count) → b2.answers ≡ b.answers ++ answer_of {E = WireFault} (Ok found) room ∷ []
+    → Brings (record { place = place; bytes = take count room }) event → Takes b.state event b2.state → Asks b true b2
+one_came b b2 place count room found event is new brings takes = record {
+  answer = came (record { place = place; bytes = take count room });
+  is_more = refl;
+  taken = record {
+    new = subst (λ (o : Option (Place × ℕ)). b2.answers ≡ b.answers ++ answer_of {E = WireFault} (Ok o) room ∷ []) is new;
+    taken = (b2.state, (record { event = event; brings = brings; taken = takes }, refl));
+  };
 }
 
-all_joined : (g : Shown) (l : ℕ) (h : Shown) (m : ℕ) (k : Shown) (n : ℕ) (xs ys : List Letter) → TakesAll g l xs h m → TakesAll h m ys k n → TakesAll g l (xs ++ ys) k n
-all_joined g l h m k n [] ys one two = subst (λ (x : Shown). TakesAll x l ys k n) one.0 (subst (λ (x : ℕ). TakesAll h x ys k n) one.1 two)
-all_joined g l h m k n (x ∷ xs) ys one two =
-    (one.0, (one.1.0, (one.1.1.0, all_joined one.0 one.1.0 h m k n xs ys one.1.1.1 two)))
+-- nothing was there
+pub none_came : (b b2 : Box) (room : List ℕ) (found : Option (Place × ℕ)) → found ≡ None
+    → b2.answers ≡ b.answers ++ answer_of {E = WireFault} (Ok found) room ∷ [] → b2.state ≡ b.state → Asks b false b2
+none_came b b2 room found is new same = record {
+  answer = nothing;
+  is_more = refl;
+  taken = record {
+    new = subst (λ (o : Option (Place × ℕ)). b2.answers ≡ b.answers ++ answer_of {E = WireFault} (Ok o) room ∷ []) is new;
+    taken = same;
+  };
+}
 
--- what came first, and then more
-pub joined : (a b c : Box) → TakesNew a b → TakesNew b c → TakesNew a c
-joined a b c one two = record {
-  letters = one.letters ++ two.letters;
-  new = two.new ∙ (ap (λ (x : List Letter). x ++ two.letters) one.new ∙ append_assoc a.received one.letters two.letters);
-  taken = all_joined a.shown a.left_out b.shown b.left_out c.shown c.left_out one.letters two.letters one.taken two.taken;
+-- to receive failed
+pub one_failed : (b b2 : Box) → b2.answers ≡ b.answers ++ failed ∷ [] → b2.state ≡ b.state → Asks b true b2
+one_failed b b2 new same = record { answer = failed; is_more = refl; taken = record { new = new; taken = same } }
+
+-- ---- one answer after another
+
+letters_joined : (xs ys : List Answer) → letters_of (xs ++ ys) ≡ letters_of xs ++ letters_of ys
+letters_joined [] ys = refl
+letters_joined (came letter ∷ xs) ys = ap (λ (x : List Letter). letter ∷ x) (letters_joined xs ys)
+letters_joined (nothing ∷ xs) ys = letters_joined xs ys
+letters_joined (failed ∷ xs) ys = letters_joined xs ys
+
+all_joined : (s t u : State) (xs ys : List Letter) → TakesAll s xs t → TakesAll t ys u → TakesAll s (xs ++ ys) u
+all_joined s t u [] ys one two = subst (λ (x : State). TakesAll x ys u) one two
+all_joined s t u (x ∷ xs) ys one two = (one.0, (one.1.0, all_joined one.0 t u xs ys one.1.1 two))
+
+joined : (a b c : Box) (xs ys : List Answer) → TakesNew a xs b → TakesNew b ys c → TakesNew a (xs ++ ys) c
+joined a b c xs ys one two = record {
+  new = two.new ∙ (ap (λ (x : List Answer). x ++ ys) one.new ∙ append_assoc a.answers xs ys);
+  taken = subst (λ (x : List Letter). TakesAll a.state x c.state) (sym (letters_joined xs ys))
+      (all_joined a.state b.state c.state (letters_of xs) (letters_of ys) one.taken two.taken);
+}
+
+-- ---- a poll
+
+-- the wire wasn't asked yet
+pub none_asked : (b b2 : Box) → b2 ≡ b → HasAsked 0 b b2
+none_asked b b2 same = record {
+  answers = [];
+  count = refl;
+  not_yet = refl;
+  taken = record { new = ap (λ (x : Box). x.answers) same ∙ sym (append-nil b.answers); taken = ap (λ (x : Box). x.state) same };
+}
+
+not_true : (x y : Bool) → x ≡ true → x ≡ not y → y ≡ false
+not_true x true is e = absurd (cc)
+not_true x false is e = refl
+
+not_false : (x y : Bool) → x ≡ false → x ≡ not y → y ≡ true
+not_false x true is e = refl
+not_false x false is e = absurd (cc)
+
+-- it was asked once more, and there may be more
+pub asked_on : (n : ℕ) (a b c : Box) (more : Bool) → HasAsked n a b → Asks b more c → more ≡ true → HasAsked (n + 1) a c
+asked_on n a b c more had one is = record {
+  answers = had.answers ++ one.answer ∷ [];
+  count = length-append had.answers (one.answer ∷ []) ∙ ap (λ (k : ℕ). k + 1) had.count;
+  not_yet = let last = not_true more (is_nothing one.answer) is one.is_more in
+      list_any-append is_nothing had.answers (one.answer ∷ []) ∙ cc;
+  taken = joined a b c had.answers (one.answer ∷ []) had.taken one.taken;
+}
+
+is_end : (answer : Answer) → is_nothing answer ≡ true → answer ≡ nothing
+is_end (came letter) is = absurd (cc)
+is_end nothing is = refl
+is_end failed is = absurd (cc)
+
+-- it was asked once more, and nothing was there
+pub polled_out : (n most : ℕ) (a b c : Box) (more : Bool) → HasAsked n a b → Asks b more c → more ≡ false → n < most → HasPolled most a c
+polled_out n most a b c more had one is below =
+    let last = is_end one.answer (not_false more (is_nothing one.answer) is one.is_more) in
+    record {
+      answers = had.answers ++ one.answer ∷ [];
+      poll = record {
+        before = had.answers;
+        not_yet = had.not_yet;
+        ends = inl (ap (λ (x : Answer). had.answers ++ x ∷ []) last, subst (λ (k : ℕ). k < most) (sym had.count) below);
+      };
+      taken = joined a b c had.answers (one.answer ∷ []) had.taken one.taken;
+    }
+
+-- it was asked as often as it may be
+pub polled_most : (n most : ℕ) (a b : Box) → HasAsked n a b → n ≡ most → HasPolled most a b
+polled_most n most a b had is = record {
+  answers = had.answers;
+  poll = record { before = had.answers; not_yet = had.not_yet; ends = inr (refl, had.count ∙ is) };
+  taken = had.taken;
 }
 
 -- one round more

@@ -2,3 +2,4 @@ pub mod Letters
 pub mod Views
 pub mod Rounds
 pub mod LeftOut
+pub mod Polls

@@ -1,7 +1,8 @@
--- The rounds of a box, by what its gateway shows, what its wire has received, and how many events were left out.
-use Rattle.std.specs.Prelude.{◌≡◌, ◌⊎◌, ◌+◌, ◌++◌, ℕ, zero, suc, List, [], ◌∷◌}
+-- The rounds of a box, by what its gateway shows, what its wire has answered, and how many events were left out.
+use Rattle.std.specs.Prelude.{◌≡◌, ◌<◌, ◌⊎◌, ◌+◌, ◌++◌, ℕ, zero, suc, false, List, [], ◌∷◌, length}
 use Rattle.std.specs.Borrow.{Bor}
-use Rattle.wires.specs.Letters.{Letter}
+use Rattle.std.specs.List.{list_any}
+use Rattle.wires.specs.Letters.{Answer, Letter, is_nothing, letters_of, nothing}
 use Rattle.told.specs.Told.{Told, none_told}
 use Rattle.step_parts.specs.declared.events.Event.{Event}
 use Rattle.step_parts.specs.declared.events.Event.TheVariants.{Tick}
@@ -9,14 +10,21 @@ use Rattle.step_parts.specs.Shown.{Shown, scene}
 use Rattle.step_parts.specs.Steps.{IsStepOn}
 use Rattle.serving.specs.Letters.{event_of}
 
--- a gateway, the letters that its wire has received, and how many events were left out
-pub record Box : Type 0 where
+-- what an event changes: a gateway, and how many events were left out
+pub record State : Type 0 where
   pub shown : Shown
-  pub received : List Letter
   pub left_out : ℕ
 
-abbrev pub box : Shown → List Letter → ℕ → Box
-box g received left_out = record { shown = g; received = received; left_out = left_out }
+abbrev pub state : Shown → ℕ → State
+state g left_out = record { shown = g; left_out = left_out }
+
+-- the same, and what its wire has answered
+pub record Box : Type 0 where
+  pub state : State
+  pub answers : List Answer
+
+abbrev pub box : Shown → List Answer → ℕ → Box
+box g answers left_out = record { state = state g left_out; answers = answers }
 
 -- the event that a letter is to a gateway
 pub record Brings (letter : Letter) (event : Event) : Type 0 where
@@ -25,41 +33,47 @@ pub record Brings (letter : Letter) (event : Event) : Type 0 where
   pub is : event ≡ event_of letter.place bytes
 
 -- an event is taken by a step; or memory was refused, nothing has changed, and one event more was left out
-abbrev pub Takes : Shown → ℕ → Event → Shown → ℕ → Type 0
-Takes g left event g2 left2 =
-    ((told : Told) × (IsStepOn (scene g none_told) event (scene g2 told) × (left2 ≡ left)))
-    ⊎ ((g2 ≡ g) × (left2 ≡ left + 1))
+abbrev pub Takes : State → Event → State → Type 0
+Takes s event s2 =
+    ((told : Told) × (IsStepOn (scene s.shown none_told) event (scene s2.shown told) × (s2.left_out ≡ s.left_out)))
+    ⊎ ((s2.shown ≡ s.shown) × (s2.left_out ≡ s.left_out + 1))
 
 -- a letter is taken as its event
-pub record TakesLetter (g : Shown) (left : ℕ) (letter : Letter) (g2 : Shown) (left2 : ℕ) : Type 0 where
+pub record TakesLetter (s : State) (letter : Letter) (s2 : State) : Type 0 where
   pub event : Event
   pub brings : Brings letter event
-  pub taken : Takes g left event g2 left2
+  pub taken : Takes s event s2
 
 -- letters are taken one after the other
-abbrev pub TakesAll : Shown → ℕ → List Letter → Shown → ℕ → Type 0
-TakesAll g left [] g2 left2 = (g2 ≡ g) × (left2 ≡ left)
-TakesAll g left (letter ∷ rest) g2 left2 =
-    (middle : Shown) × ((count : ℕ) × (TakesLetter g left letter middle count × TakesAll middle count rest g2 left2))
+abbrev pub TakesAll : State → List Letter → State → Type 0
+TakesAll s [] s2 = s2 ≡ s
+TakesAll s (letter ∷ rest) s2 = (middle : State) × (TakesLetter s letter middle × TakesAll middle rest s2)
 
--- of what was received, just the new letters are taken, in order
-pub record TakesNew (b b2 : Box) : Type 0 where
-  pub letters : List Letter
-  pub new : b2.received ≡ b.received ++ letters
-  pub taken : TakesAll b.shown b.left_out letters b2.shown b2.left_out
+-- these are the wire's new answers, and just the letters among them are taken, in order
+pub record TakesNew (b : Box) (answers : List Answer) (b2 : Box) : Type 0 where
+  pub new : b2.answers ≡ b.answers ++ answers
+  pub taken : TakesAll b.state (letters_of answers) b2.state
+
+-- the answers of a wire that is asked until nothing is there, but at most so often
+pub record IsPoll (most : ℕ) (answers : List Answer) : Type 0 where
+  pub before : List Answer
+  pub not_yet : list_any is_nothing before ≡ false
+  pub ends : ((answers ≡ before ++ nothing ∷ []) × (length before < most)) ⊎ ((answers ≡ before) × (length before ≡ most))
 
 -- what a clock may read, and what it is then
 abbrev pub Reads : Type 0 → Type 1
 Reads C = C → ℕ → C → Type 0
 
--- a round: what was received, and then one tick, with the moment that the clock reads
+-- a round: a poll of its wire, and then one tick, with the moment that the clock reads
 pub record IsRound {C : Type 0} (reads : Reads C) (b : Box) (c : C) (b2 : Box) (c2 : C) : Type 0 where
+  pub answers : List Answer
+  pub poll : IsPoll 256 answers
   pub between : Box
+  pub letters : TakesNew b answers between
   pub moment : ℕ
-  pub letters : TakesNew b between
   pub read : reads c moment c2
-  pub tick : Takes between.shown between.left_out (Tick moment) b2.shown b2.left_out
-  pub no_more : b2.received ≡ between.received
+  pub tick : Takes between.state (Tick moment) b2.state
+  pub no_more : b2.answers ≡ between.answers
 
 -- so many rounds
 abbrev pub AreRounds : {C : Type 0} → Reads C → ℕ → Box → C → Box → C → Type 0

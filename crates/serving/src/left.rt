@@ -2,6 +2,7 @@
 //! bound.
 ghost use Rattle.std.specs.Prelude.{◌≡◌, ◌+◌};
 
+use gateway::NoMemory;
 use std::marker::Model;
 use std::snapshot::Snapshot;
 
@@ -30,8 +31,8 @@ impl LeftOut {
         LeftOut { before: None }
     }
 
-    /// One more.
-    pub(crate) fn count(&mut self)
+    /// One more, for a growth that was refused.
+    pub(crate) fn count(&mut self, _refusal: NoMemory)
         ensures { self.new ≡ self.old + 1 }
     {
         let before = Some(Snapshot::of(self));

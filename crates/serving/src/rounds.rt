@@ -1,7 +1,8 @@
 //! The rounds of a box.
 ghost use Rattle.std.specs.Prelude.{◌≡◌, IfOk, OnOk, codes};
 ghost use Rattle.std.specs.Io.KnownBytes.{Appends};
-ghost use Rattle.serving.specs.Rounds.{AreRounds, IsRound, Takes, TakesNew, box};
+ghost use Rattle.serving.specs.Rounds.{AreRounds, IsRound, Takes, box, state};
+ghost use Rattle.serving.specs.Polls.{Asks, HasPolled};
 
 use crate::Clockwork;
 use crate::left::LeftOut;
@@ -50,8 +51,8 @@ pub fn serve<W: Wire, C: Clockwork, O: Write, E: Write>(
     errors: &mut E,
 ) -> io::Result<LeftOut>
     ensures rounds { IfOk result (λ left. AreRounds C.reads rounds
-        (box gateway.old (W.received wire.old) 0) clock.old
-        (box gateway.new (W.received wire.new) left) clock.new) }
+        (box gateway.old (W.answers wire.old) 0) clock.old
+        (box gateway.new (W.answers wire.new) left) clock.new) }
     ensures ended { OnOk result
         (Appends (O.contents output.old) (O.contents output.new) (codes "end\n")) }
 {
@@ -78,8 +79,8 @@ fn round<W: Wire, C: Clockwork, E: Write>(
     desk: &mut Desk,
     errors: &mut E,
 )
-    ensures { IsRound C.reads (box gateway.old (W.received wire.old) desk.old.left) clock.old
-        (box gateway.new (W.received wire.new) desk.new.left) clock.new }
+    ensures { IsRound C.reads (box gateway.old (W.answers wire.old) desk.old.left) clock.old
+        (box gateway.new (W.answers wire.new) desk.new.left) clock.new }
 {
     take_what_comes(gateway, wire, room, desk, errors);
     let tick = Event::Tick(clock.moment());
@@ -94,8 +95,8 @@ fn take_what_comes<W: Wire, E: Write>(
     desk: &mut Desk,
     errors: &mut E,
 )
-    ensures { TakesNew (box gateway.old (W.received wire.old) desk.old.left)
-        (box gateway.new (W.received wire.new) desk.new.left) }
+    ensures { HasPolled 256 (box gateway.old (W.answers wire.old) desk.old.left)
+        (box gateway.new (W.answers wire.new) desk.new.left) }
 {
     let mut limit = Duration::from_millis(WAIT);
     for _ in 0..MOST {
@@ -115,8 +116,8 @@ fn take_next<W: Wire, E: Write>(
     desk: &mut Desk,
     errors: &mut E,
 ) -> bool
-    ensures { TakesNew (box gateway.old (W.received wire.old) desk.old.left)
-        (box gateway.new (W.received wire.new) desk.new.left) }
+    ensures { Asks (box gateway.old (W.answers wire.old) desk.old.left) result
+        (box gateway.new (W.answers wire.new) desk.new.left) }
 {
     match wire.receive(limit, room) {
         Ok(Some((place, count))) => {
@@ -137,13 +138,14 @@ fn hand_in<W: Wire, E: Write>(
     desk: &mut Desk,
     errors: &mut E,
 )
-    ensures taken { Takes gateway.old desk.old.left event.entry gateway.new desk.new.left }
-    ensures received { W.received wire.new ≡ W.received wire.old }
+    ensures taken { Takes (state gateway.old desk.old.left) event.entry
+        (state gateway.new desk.new.left) }
+    ensures answers { W.answers wire.new ≡ W.answers wire.old }
 {
     desk.out.clear();
     let outcome = gateway.step(event, &mut desk.out);
-    if outcome.is_err() {
-        desk.left.count();
+    if let Err(refusal) = outcome {
+        desk.left.count(refusal);
     }
     send_all(wire, &desk.out);
     let view = view_of(gateway);
@@ -153,7 +155,7 @@ fn hand_in<W: Wire, E: Write>(
 
 /// Sends what was told: the frames by the wires of their sides, the datagrams by the link.
 fn send_all<W: Wire>(wire: &mut W, out: &Out)
-    ensures { W.received wire.new ≡ W.received wire.old }
+    ensures { W.answers wire.new ≡ W.answers wire.old }
 {
     for frame in out.frames() {
         let _lost = wire.send(Place::Side(frame.side), frame.bytes);

@@ -1,5 +1,5 @@
 -- What comes by a wire.
-use Rattle.std.specs.Prelude.{ℕ, List, [], ◌∷◌, take, Option, Some, None}
+use Rattle.std.specs.Prelude.{ℕ, Bool, true, false, List, [], ◌∷◌, take, Option, Some, None, Result, Ok, Err}
 use Rattle.wires.specs.declared.places.Place.{Place}
 
 -- a datagram, and the place that it came from
@@ -7,7 +7,26 @@ pub record Letter : Type 0 where
   pub place : Place
   pub bytes : List ℕ
 
--- what a receiver gets: a place, and so many bytes of its room
-abbrev pub letters_in : Option (Place × ℕ) → List ℕ → List Letter
-letters_in None room = []
-letters_in (Some found) room = record { place = found.0; bytes = take found.1 room } ∷ []
+-- what a wire that is asked for the next datagram answers
+pub data Answer : Type 0 where
+  came : Letter → Answer
+  nothing : Answer
+  failed : Answer
+
+-- what a receiver gets: a place, and so many bytes of its room; or nothing; or an error
+abbrev pub answer_of : {E : Type 0} → Result (Option (Place × ℕ)) E → List ℕ → Answer
+answer_of (Ok (Some found)) room = came (record { place = found.0; bytes = take found.1 room })
+answer_of (Ok None) room = nothing
+answer_of (Err fault) room = failed
+
+-- the datagrams among answers
+abbrev pub letters_of : List Answer → List Letter
+letters_of [] = []
+letters_of (came letter ∷ rest) = letter ∷ letters_of rest
+letters_of (nothing ∷ rest) = letters_of rest
+letters_of (failed ∷ rest) = letters_of rest
+
+abbrev pub is_nothing : Answer → Bool
+is_nothing (came letter) = false
+is_nothing nothing = true
+is_nothing failed = false

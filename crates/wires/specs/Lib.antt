@@ -1,3 +1,4 @@
 pub mod Ports
 pub mod Letters
-pub mod Received
+pub mod Answers
+pub mod Failing

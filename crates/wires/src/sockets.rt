@@ -2,7 +2,7 @@
 ghost use Rattle.std.specs.Prelude.{◌≡◌, ◌≤◌, [], IfOk, IfSome};
 
 use crate::wire::{LONGEST, Wire, WireFault};
-use crate::{Place, Ports, Received};
+use crate::{Answers, Place, Ports};
 use mio::net::UdpSocket;
 use mio::{Events, Interest, Poll, Token};
 use nat_types::Side;
@@ -201,7 +201,7 @@ fn after(place: Place) -> Place {
 #[derive(Drop)]
 pub struct Sockets {
     trio: Trio,
-    received: Received,
+    answers: Answers,
 }
 
 impl Sockets {
@@ -211,17 +211,17 @@ impl Sockets {
     ///
     /// `NoSocket` where a port can't be had, `NoMemory`.
     pub fn bind<R: Net>(net: &R, alloc: Global, ports: Ports) -> Result<Sockets, SocketFault>
-        ensures { IfOk result (λ s. ⟦<Sockets as Wire>⟧.received s ≡ []) }
+        ensures { IfOk result (λ s. ⟦<Sockets as Wire>⟧.answers s ≡ []) }
     {
         Ok(Sockets {
             trio: Trio::bind(net, alloc, ports)?,
-            received: Received::none(),
+            answers: Answers::none(),
         })
     }
 }
 
 impl Wire for Sockets {
-    ghost received = { λ s. s.received };
+    ghost answers = { λ s. s.answers };
 
     fn send(&mut self, to: Place, bytes: &[u8]) -> Result<(), WireFault> {
         self.trio.send(to, bytes).map_err(|_| WireFault)
@@ -232,10 +232,8 @@ impl Wire for Sockets {
         limit: Duration,
         room: &mut [u8; LONGEST],
     ) -> Result<Option<(Place, usize)>, WireFault> {
-        let found = self.trio.receive(limit, room)?;
-        if let Some((place, count)) = found {
-            self.received.keep(place, count, room);
-        }
-        Ok(found)
+        let result = self.trio.receive(limit, room);
+        self.answers.keep(result, room);
+        result
     }
 }

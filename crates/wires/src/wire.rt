@@ -1,8 +1,8 @@
 //! What a box sends datagrams to and receives them from.
-ghost use Rattle.std.specs.Prelude.{◌≡◌, ◌≤◌, ◌++◌, ◌-◌, ◌==◌, List, IfOk, OnErr, IfSome};
-ghost use Rattle.wires.specs.Letters.{Letter, letters_in};
+ghost use Rattle.std.specs.Prelude.{◌≡◌, ◌≤◌, ◌++◌, ◌∷◌, [], ◌-◌, ◌==◌, List, IfOk, IfSome};
+ghost use Rattle.wires.specs.Letters.{Answer, answer_of};
 
-use crate::Place;
+use crate::{Answers, Place};
 use std::marker::Model;
 use std::time::Duration;
 
@@ -16,12 +16,12 @@ pub struct WireFault;
 
 /// What a box sends datagrams to and receives them from.
 pub trait Wire {
-    /// The datagrams that were received, in order.
-    ghost received: { Self → List Letter };
+    /// What was answered each time that a datagram was asked for, in order.
+    ghost answers: { Self → List Answer };
 
     /// Sends a datagram. After an Err it is lost.
     fn send(&mut self, to: Place, bytes: &[u8]) -> Result<(), WireFault>
-        ensures received { received self.new ≡ received self.old };
+        ensures answers { answers self.new ≡ answers self.old };
 
     /// The next datagram of any place: where it came from, and how many bytes of `room` it has. Where none is there, one
     /// is waited for until `limit` has passed; a limit of 0 doesn't wait. After an Err nothing was received.
@@ -31,9 +31,8 @@ pub trait Wire {
         room: &mut [u8; LONGEST],
     ) -> Result<Option<(Place, usize)>, WireFault>
         ensures within { IfOk result (λ found. IfSome found (λ datagram. datagram.1 ≤ 4096)) }
-        ensures received { IfOk result (λ found. received self.new
-            ≡ received self.old ++ letters_in found room.new) }
-        ensures nothing { OnErr result (received self.new ≡ received self.old) };
+        ensures answers { answers self.new
+            ≡ answers self.old ++ answer_of result room.new ∷ [] };
 }
 
 /// A wire whose call with a given number, counted from 1 over both its calls, fails; all others are those of the
@@ -42,40 +41,57 @@ pub trait Wire {
 pub struct Failing<'a, W> {
     wire: &'a mut W,
     left: u64,
+    answers: Answers,
 }
 
 impl<'a, W> Model for Failing<'a, W> {
-    ghost use Rattle.std.specs.Prelude.{ℕ};
-    ghost use Rattle.std.specs.Borrow.{MutBor};
+    ghost use Rattle.wires.specs.Failing.{Faulty};
 
-    /// The wire below, and how many calls there are up to the one that fails.
-    ghost Value = { MutBor W × ℕ };
+    ghost Value = { Faulty W };
 
-    ghost view = { λ f. (f.wire, f.left) };
+    ghost view = { λ f. record { wire = f.wire; left = f.left; answers = f.answers } };
 }
 
 impl<'a, W: Wire> Failing<'a, W> {
     /// Fails at the call with this number; at none where it is 0.
     pub fn new(wire: &'a mut W, number: u64) -> Failing<'a, W>
-        ensures { result ≡ (wire.entry, number) }
+        ensures { result ≡ record { wire = wire.entry; left = number; answers = [] } }
     {
-        Failing { wire, left: number }
+        Failing {
+            wire,
+            left: number,
+            answers: Answers::none(),
+        }
     }
 
     /// Counts a call, and says whether it is the one that fails.
     fn fails(&mut self) -> bool
-        ensures wire { self.new.0 ≡ self.old.0 }
-        ensures fails { result ≡ (self.old.1 == 1) }
-        ensures left { self.new.1 ≡ self.old.1 - 1 }
+        ensures fails { result ≡ (self.old.left == 1) }
+        ensures counted { self.new ≡ record self.old { left = self.old.left - 1 } }
     {
         let fails = self.left == 1;
         self.left = self.left.saturating_sub(1);
         fails
     }
+
+    /// What is answered, where this call isn't the one that fails.
+    fn asked(
+        &mut self,
+        limit: Duration,
+        room: &mut [u8; LONGEST],
+    ) -> Result<Option<(Place, usize)>, WireFault>
+        ensures within { IfOk result (λ found. IfSome found (λ datagram. datagram.1 ≤ 4096)) }
+        ensures answers { self.new.answers ≡ self.old.answers }
+    {
+        if self.fails() {
+            return Err(WireFault);
+        }
+        self.wire.receive(limit, room)
+    }
 }
 
 impl<W: Wire> Wire for Failing<'_, W> {
-    ghost received = { λ f. W.received f.0.now };
+    ghost answers = { λ f. f.answers };
 
     fn send(&mut self, to: Place, bytes: &[u8]) -> Result<(), WireFault> {
         if self.fails() {
@@ -89,9 +105,8 @@ impl<W: Wire> Wire for Failing<'_, W> {
         limit: Duration,
         room: &mut [u8; LONGEST],
     ) -> Result<Option<(Place, usize)>, WireFault> {
-        if self.fails() {
-            return Err(WireFault);
-        }
-        self.wire.receive(limit, room)
+        let result = self.asked(limit, room);
+        self.answers.keep(result, room);
+        result
     }
 }
