@@ -2,9 +2,10 @@
 #![tactic(auto)]
 
 mod files;
+mod listening;
 
 use acts::act;
-use anyhow::Result;
+use anyhow::{Context, Result};
 use std::alloc::Global;
 use std::fs;
 use std::io::{self, BufWriter, Write};
@@ -27,10 +28,19 @@ fn acted<O: Write>(rt: &HostRuntime, line: &str, output: &mut O) -> Result<()> {
     Ok(())
 }
 
+/// The same, with the first datagram that came to a port meanwhile; `text` is the port and the words.
+fn heard<O: Write>(rt: &HostRuntime, text: &str, output: &mut O) -> Result<()> {
+    let (port, line) = text.split_once(' ').context("no words")?;
+    let socket = listening::bind(rt, port)?;
+    acted(rt, line, output)?;
+    listening::show_first(&socket, output)
+}
+
 /// A line of the cases is empty, a `#` comment, the words of a command line, or one of these:
 ///
 /// - `+ NAME;OLD;NEW` writes the file NAME: S.toml with its first line OLD replaced by NEW
 /// - `= NAME` prints the bytes of the file NAME
+/// - `? PORT WORDS` is the words, and then the bytes of the first datagram that came to a UDP port on the loopback address
 fn main(rt: HostRuntime) -> Result<()> {
     let cases = fs::read_to_string(&rt, "acts.cases")?;
     let mut output = BufWriter::new(rt.alloc(), io::writer(&rt))?;
@@ -42,6 +52,7 @@ fn main(rt: HostRuntime) -> Result<()> {
         match case.split_once(' ') {
             Some(("+", rest)) => files::write(&rt, rest)?,
             Some(("=", name)) => files::show(&rt, name, &mut output)?,
+            Some(("?", rest)) => heard(&rt, rest, &mut output)?,
             _ => acted(&rt, case, &mut output)?,
         }
     }

@@ -45,13 +45,13 @@ fn measure<R: Clock>(
 }
 
 /// A line for each kind of a protocol's packets, at a gateway with so many pairs.
-fn report<R: Print + Clock + AllocGlobal>(
+fn report_kinds<R: Print + Clock>(
     rt: &R,
+    station: &mut Station,
     protocol: Protocol,
     pairs: u32,
     count: u32,
 ) -> Result<()> {
-    let mut station = Station::ready(rt.alloc(), protocol, pairs)?;
     for (side, size) in [
         (Side::Inside, 44),
         (Side::Outside, 44),
@@ -63,12 +63,25 @@ fn report<R: Print + Clock + AllocGlobal>(
             protocol,
             size,
         };
-        let (each, sent) = measure(rt, &mut station, kind, pairs, count)?;
+        let (each, sent) = measure(rt, station, kind, pairs, count)?;
         println!(rt;
             "{pairs} pairs, {protocol} {size} bytes from {side}: {each} ns, {sent} of {count} sent"
         )?;
     }
     Ok(())
+}
+
+/// The lines of a gateway with so many pairs of a protocol.
+fn report<R: Print + Clock + AllocGlobal>(
+    rt: &R,
+    protocol: Protocol,
+    pairs: u32,
+    count: u32,
+) -> Result<()> {
+    let mut station = Station::ready(rt.alloc(), protocol, pairs)?;
+    let reported = report_kinds(rt, &mut station, protocol, pairs, count);
+    drop(station);
+    reported
 }
 
 /// A line for what so many pairs cost at once.

@@ -27,18 +27,25 @@ pub(crate) struct Costs {
     pub(crate) ticks: u32,
 }
 
-/// Opens so many pairs, and lets them idle.
-fn open_and_idle<R: Clock + AllocGlobal>(rt: &R, pairs: u32) -> Result<(Duration, Duration)> {
-    let start = Instant::now(rt)?;
-    let mut station = Station::ready(rt.alloc(), Protocol::Udp, pairs)?;
-    let opened = start.elapsed(rt)?;
+/// The tick at which all pairs of a gateway are idle.
+fn idle<R: Clock>(rt: &R, station: &mut Station) -> Result<Duration> {
     let start = Instant::now(rt)?;
     station.tick(ACTIVE + REST)?;
     let idled = start.elapsed(rt)?;
     if station.count()? > 0 {
         bail!("pairs are left after the tick at which all were idle");
     }
-    Ok((opened, idled))
+    Ok(idled)
+}
+
+/// Opens so many pairs, and lets them idle.
+fn open_and_idle<R: Clock + AllocGlobal>(rt: &R, pairs: u32) -> Result<(Duration, Duration)> {
+    let start = Instant::now(rt)?;
+    let mut station = Station::ready(rt.alloc(), Protocol::Udp, pairs)?;
+    let opened = start.elapsed(rt);
+    let idled = idle(rt, &mut station);
+    drop(station);
+    Ok((opened?, idled?))
 }
 
 /// A gateway's clock goes on; the other takes what it tells, and it what the other answers.
@@ -58,8 +65,13 @@ struct Both {
 impl Both {
     fn ready(alloc: Global, pairs: u32) -> Result<Both> {
         let zero = Station::ready(alloc, Protocol::Udp, pairs)?;
-        let one = Station::new(alloc, GatewayId::One, 1, false)?;
-        Ok(Both { zero, one })
+        match Station::new(alloc, GatewayId::One, 1, false) {
+            Ok(one) => Ok(Both { zero, one }),
+            Err(fault) => {
+                drop(zero);
+                Err(fault)
+            }
+        }
     }
 
     /// Ticks of both until the second one is synced; how many.
@@ -75,22 +87,24 @@ impl Both {
         bail!("the second gateway isn't synced");
     }
 
-    /// Both have as many pairs.
-    fn is_alike(&self) -> Result<bool> {
-        Ok(self.zero.count()? == self.one.count()?)
+    /// The seconds of the load, and its ticks. Then both have as many pairs.
+    fn load_timed<R: Clock>(&mut self, rt: &R) -> Result<(Duration, u32)> {
+        let start = Instant::now(rt)?;
+        let ticks = self.load()?;
+        let spent = start.elapsed(rt)?;
+        if self.zero.count()? != self.one.count()? {
+            bail!("the second gateway's table isn't the first one's");
+        }
+        Ok((spent, ticks))
     }
 }
 
 /// Loads so many pairs into a gateway that starts.
 fn loaded<R: Clock + AllocGlobal>(rt: &R, pairs: u32) -> Result<(Duration, u32)> {
     let mut both = Both::ready(rt.alloc(), pairs)?;
-    let start = Instant::now(rt)?;
-    let ticks = both.load()?;
-    let spent = start.elapsed(rt)?;
-    if !both.is_alike()? {
-        bail!("the second gateway's table isn't the first one's");
-    }
-    Ok((spent, ticks))
+    let loaded = both.load_timed(rt);
+    drop(both);
+    loaded
 }
 
 /// What so many pairs cost, at most as many as the gateway has ports.

@@ -40,10 +40,20 @@ impl Station {
     /// protocol while it has ports, the others of the other one.
     pub(crate) fn ready(alloc: Global, protocol: Protocol, pairs: u32) -> Result<Station> {
         let mut station = Station::new(alloc, GatewayId::Zero, 1, true)?;
-        station.tick(ACTIVE)?;
-        station.open(protocol, pairs.min(PORTS))?;
-        station.open(other(protocol), pairs.saturating_sub(PORTS))?;
-        Ok(station)
+        match station.fill(protocol, pairs) {
+            Ok(()) => Ok(station),
+            Err(fault) => {
+                drop(station);
+                Err(fault)
+            }
+        }
+    }
+
+    /// Becomes Active, and opens so many pairs.
+    fn fill(&mut self, protocol: Protocol, pairs: u32) -> Result<()> {
+        self.tick(ACTIVE)?;
+        self.open(protocol, pairs.min(PORTS))?;
+        self.open(other(protocol), pairs.saturating_sub(PORTS))
     }
 
     /// The clock goes on.
