@@ -1,8 +1,9 @@
 //! The datagram at the end of a step.
 ghost use Rattle.std.specs.Prelude.{◌≡◌, ◌≤◌, length, ⊤};
 ghost use Rattle.link.specs.Grammar.{spelling};
-ghost use Rattle.step_parts.specs.Parts.{link_answered, link_ticked};
-ghost use Rattle.forwarder.specs.Forwarder.{scene_on};
+ghost use Rattle.link.specs.Link.{wanted};
+ghost use Rattle.step_parts.specs.Parts.{answer_sent, link_answered, link_ticked};
+ghost use Rattle.forwarder.specs.Forwarder.{scene_on, shown_of};
 ghost use Rattle.gateway.specs.Ends.{with_letter};
 
 use forwarder::Forwarder;
@@ -50,15 +51,27 @@ pub(crate) fn end_tick(forwarder: &mut Forwarder, page: &mut Page)
     send(page, datagram);
 }
 
+/// Sends the datagram that is due now. It stands apart, so that a step that sends none makes no room
+/// for a datagram's 64 records.
+#[inline(never)]
+fn answer(forwarder: &mut Forwarder, page: &mut Page)
+    requires fed { wanted forwarder.old.link ≡ 0 }
+    requires datagrams { 1 ≤ page.old.room.datagrams }
+    ensures { scene_on forwarder.new page.new
+        ≡ answer_sent (shown_of forwarder.old) page.old.told }
+{
+    let synced = forwarder.core.is_synced();
+    send(page, forwarder.link.answer(synced));
+}
+
 /// Sends the datagram that is due at the end of any other step.
 pub(crate) fn end_other(forwarder: &mut Forwarder, page: &mut Page)
     requires promised { length forwarder.old.core.coming ≡ forwarder.old.link.promised }
     requires datagrams { 1 ≤ page.old.room.datagrams }
     ensures { scene_on forwarder.new page.new ≡ link_answered (scene_on forwarder.old page.old) }
 {
-    let synced = forwarder.core.is_synced();
     forwarder.core.hand_in(&mut forwarder.link);
     if forwarder.link.is_due() {
-        send(page, forwarder.link.answer(synced));
+        answer(forwarder, page);
     }
 }
