@@ -98,11 +98,18 @@ shift now first low m ms (r ∷ rows) rises h due =
       due = λ t. subst (λ i. is_due now (get_or (m ∷ ms) i None) ≡ true) e (due.0.due t);
     }
 
+-- what is to be shown, of all rows from a cell on
+abbrev AreMerged : ℕ → ℕ → List (Option ℕ) → Type 0
+AreMerged now first ms =
+    (low : ℕ) (rows : List (Row Item)) → slots.Rises low rows → AreKeyed rows → AreDue now first ms rows
+    → idle_keys_in now (entries_of rows) (lives_of rows) ≡ filter (row_test now rows) (map key_at (due_from now first ms))
+
 merged : (now first low : ℕ) (ms : List (Option ℕ)) (rows : List (Row Item)) → slots.Rises low rows → AreKeyed rows → AreDue now first ms rows
     → idle_keys_in now (entries_of rows) (lives_of rows) ≡ filter (row_test now rows) (map key_at (due_from now first ms))
 merged now first low ms [] rises keyed due = sym (filter-none (row_test now []) now first ms (λ key. refl))
 merged now first low [] (r ∷ rows) rises keyed due = absurd (let w = due.0.within in omega (arith, w))
-merged now first low (m ∷ ms) (r ∷ rows) rises keyed due = by due.0.index refl
+merged now first low (m ∷ ms) (r ∷ rows) rises keyed due =
+    by (λ low rows rises keyed due. merged now (first + 1) low ms rows rises keyed due) due.0.index refl
   where
     T : Key → Bool
     T = row_test now (r ∷ rows)
@@ -114,8 +121,8 @@ merged now first low (m ∷ ms) (r ∷ rows) rises keyed due = by due.0.index re
     K = idle_keys_in now (entries_of rows) (lives_of rows)
 
     -- the first cell has the first row
-    here : r.key ≡ key_at first → cond (is_idle_row now r.item.entry r.item.life) (r.item.entry.pair.key ∷ K) K ≡ filter T (map key_at (due_from now first (m ∷ ms)))
-    here same = at (is_idle_row now r.item.entry r.item.life) (is_due now m) refl refl
+    here : AreMerged now (first + 1) ms → r.key ≡ key_at first → cond (is_idle_row now r.item.entry r.item.life) (r.item.entry.pair.key ∷ K) K ≡ filter T (map key_at (due_from now first (m ∷ ms)))
+    here less same = at (is_idle_row now r.item.entry r.item.life) (is_due now m) refl refl
       where
         test : T (key_at first) ≡ is_idle_row now r.item.entry r.item.life
         test =
@@ -130,7 +137,7 @@ merged now first low (m ∷ ms) (r ∷ rows) rises keyed due = by due.0.index re
         rest : K ≡ filter T D
         rest =
             let place = ap key_place same in
-            merged now (first + 1) (suc (key_place r.key)) ms rows rises.1 keyed.1 (shift now first (suc (key_place r.key)) m ms rows rises.1 (omega (arith, place)) due.1)
+            less (suc (key_place r.key)) rows rises.1 keyed.1 (shift now first (suc (key_place r.key)) m ms rows rises.1 (omega (arith, place)) due.1)
             ∙ filter-same (row_test now rows) T now (first + 1) ms later
 
         key : r.item.entry.pair.key ≡ key_at first
@@ -152,8 +159,8 @@ merged now first low (m ∷ ms) (r ∷ rows) rises keyed due = by due.0.index re
                 omega (arith, p, q, o)
 
     -- no row has the first cell
-    beyond : first < cell_of r.key → cond (is_idle_row now r.item.entry r.item.life) (r.item.entry.pair.key ∷ K) K ≡ filter T (map key_at (due_from now first (m ∷ ms)))
-    beyond h = rest ∙ sym (at (is_due now m))
+    beyond : AreMerged now (first + 1) ms → first < cell_of r.key → cond (is_idle_row now r.item.entry r.item.life) (r.item.entry.pair.key ∷ K) K ≡ filter T (map key_at (due_from now first (m ∷ ms)))
+    beyond less h = rest ∙ sym (at (is_due now m))
       where
         before : key_place (key_at first) < key_place r.key
         before = (let p = places_rise first (cell_of r.key) h in let o = ap key_place due.0.own in omega (arith, p, o))
@@ -165,15 +172,15 @@ merged now first low (m ∷ ms) (r ∷ rows) rises keyed due = by due.0.index re
         none = ap (λ (o : Option (Row Item)). rests_here now (key_at first) (option_map (λ (x : Row Item). x.item) o)) (below-none (key_place r.key) (r ∷ rows) (key_at first) up before)
 
         rest : cond (is_idle_row now r.item.entry r.item.life) (r.item.entry.pair.key ∷ K) K ≡ filter T D
-        rest = merged now (first + 1) low ms (r ∷ rows) rises keyed (shift now first (key_place r.key) m ms (r ∷ rows) up before due)
+        rest = less low (r ∷ rows) rises keyed (shift now first (key_place r.key) m ms (r ∷ rows) up before due)
 
         at : (c : Bool) → filter T (map key_at (cond c (first ∷ due_from now (first + 1) ms) (due_from now (first + 1) ms))) ≡ filter T D
         at true = cond-false (T (key_at first)) (key_at first ∷ filter T D) (filter T D) none
         at false = refl
 
-    by : (i : ℕ) → due.0.index ≡ i → cond (is_idle_row now r.item.entry r.item.life) (r.item.entry.pair.key ∷ K) K ≡ filter T (map key_at (due_from now first (m ∷ ms)))
-    by zero e = here (sym due.0.own ∙ ap key_at (let c = due.0.cell in omega (arith, c, e)))
-    by (suc j) e = beyond (let c = due.0.cell in omega (arith, c, e))
+    by : AreMerged now (first + 1) ms → (i : ℕ) → due.0.index ≡ i → cond (is_idle_row now r.item.entry r.item.life) (r.item.entry.pair.key ∷ K) K ≡ filter T (map key_at (due_from now first (m ∷ ms)))
+    by less zero e = here less (sym due.0.own ∙ ap key_at (let c = due.0.cell in omega (arith, c, e)))
+    by less (suc j) e = beyond less (let c = due.0.cell in omega (arith, c, e))
 
 are-due : (now : ℕ) (dues : List (Option ℕ)) (rows : List (Row Item)) → length dues ≡ 131072 → AreKeyed rows → AreTimed dues rows → AreDue now 0 dues rows
 are-due now dues [] count keyed timed = tt

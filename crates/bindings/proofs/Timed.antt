@@ -100,19 +100,20 @@ item-next key x rows e = ap (λ b. option_map (λ (r : Row Item). r.item) (cond 
 
 item-with : (low : ℕ) (key : Key) (t i : Item) (rows : List (Row Item)) → slots.item_of rows key ≡ Some i → slots.item_of (slots.with_item key t rows) key ≡ Some t
 item-with low key t i [] h = absurd (cc)
-item-with low key t i (x ∷ rows) h = by (same_key x.key key) refl
+item-with low key t i (x ∷ rows) h = by (same_key x.key key) refl (item-with low key t i rows)
   where
-    by : (b : Bool) → same_key x.key key ≡ b → slots.item_of (slots.with_item key t (x ∷ rows)) key ≡ Some t
-    by true e = rw e (item-first key (record x { item = t }) (slots.with_item key t rows) e)
-    by false e = rw e (item-next key x (slots.with_item key t rows) e ∙ item-with low key t i rows (sym (item-next key x rows e) ∙ h))
+    by : (b : Bool) → same_key x.key key ≡ b → (slots.item_of rows key ≡ Some i → slots.item_of (slots.with_item key t rows) key ≡ Some t) → slots.item_of (slots.with_item key t (x ∷ rows)) key ≡ Some t
+    by true e ih = rw e (item-first key (record x { item = t }) (slots.with_item key t rows) e)
+    by false e ih = rw e (item-next key x (slots.with_item key t rows) e ∙ ih (sym (item-next key x rows e) ∙ h))
 
 pub with-timed : (low : ℕ) (key : Key) (t i : Item) (old new : List (Option ℕ)) (rows : List (Row Item)) → slots.Rises low rows → slots.item_of rows key ≡ Some i → KeepsDues key old new
     → (translates t.entry.state ≡ true → IsTimed new key t.life) → AreTimed old rows → AreTimed new (slots.with_item key t rows)
 with-timed low key t i old new [] rises h keeps set timed = absurd (cc)
-with-timed low key t i old new (x ∷ rows) rises h keeps set timed = by (same_key x.key key) refl
+with-timed low key t i old new (x ∷ rows) rises h keeps set timed =
+    by (same_key x.key key) refl (λ there. with-timed (suc (key_place x.key)) key t i old new rows rises.1 there keeps set timed.1)
   where
-    by : (b : Bool) → same_key x.key key ≡ b → AreTimed new (cond (same_key x.key key) (record x { item = t }) x ∷ slots.with_item key t rows)
-    by true e =
+    by : (b : Bool) → same_key x.key key ≡ b → (slots.item_of rows key ≡ Some i → AreTimed new (slots.with_item key t rows)) → AreTimed new (cond (same_key x.key key) (record x { item = t }) x ∷ slots.with_item key t rows)
+    by true e ih =
         let none = none-behind low key x rows rises e in
         let same : x.key ≡ key = key-eq x.key key e in
         rw (e, with-absent key t rows none) (
@@ -123,10 +124,10 @@ with-timed low key t i old new (x ∷ rows) rises h keeps set timed = by (same_k
           },
           elsewhere key old new rows keeps none timed.1,
         )
-    by false e =
+    by false e ih =
         rw e (
           kept-row key old new x keeps (λ s. both_ways (same_key x.key key) e (key-true x.key key s)) timed.0,
-          with-timed (suc (key_place x.key)) key t i old new rows rises.1 (sym (item-next key x rows e) ∙ h) keeps set timed.1,
+          ih (sym (item-next key x rows e) ∙ h),
         )
 
 -- a key's item was changed, or there was none, and the key is due in time
@@ -159,21 +160,22 @@ contains-cons key q keys h differs =
 pub timed-again : (low : ℕ) (key : Key) (keys : List Key) (old new : List (Option ℕ)) (rows : List (Row Item)) → slots.Rises low rows → KeepsDues key old new
     → ((i : Item) → slots.item_of rows key ≡ Some i → translates i.entry.state ≡ true → IsTimed new key i.life) → AreTimedBut (key ∷ keys) old rows → AreTimedBut keys new rows
 timed-again low key keys old new [] rises keeps set but = tt
-timed-again low key keys old new (x ∷ rows) rises keeps set but = by (same_key x.key key) refl
+timed-again low key keys old new (x ∷ rows) rises keeps set but =
+    by (same_key x.key key) refl (λ later. timed-again (suc (key_place x.key)) key keys old new rows rises.1 keeps later but.1)
   where
     behind-set : (b : Bool) → same_key x.key key ≡ b → (i : Item) → slots.item_of rows key ≡ Some i → translates i.entry.state ≡ true → IsTimed new key i.life
     behind-set true e i h = (let none = ap (option_map (λ (r : Row Item). r.item)) (none-behind low key x rows rises e) in absurd (cc))
     behind-set false e i h = set i (item-next key x rows e ∙ h)
 
-    by : (b : Bool) → same_key x.key key ≡ b → AreTimedBut keys new (x ∷ rows)
-    by true e = (
+    by : (b : Bool) → same_key x.key key ≡ b → (((i : Item) → slots.item_of rows key ≡ Some i → translates i.entry.state ≡ true → IsTimed new key i.life) → AreTimedBut keys new rows) → AreTimedBut keys new (x ∷ rows)
+    by true e ih = (
       (but.0.0, but.0.1, λ t. inr (subst (λ (q : Key). IsTimed new q x.item.life) (sym (key-eq x.key key e)) (set x.item (item-first key x rows e) t))),
-      timed-again (suc (key_place x.key)) key keys old new rows rises.1 keeps (behind-set true e) but.1,
+      ih (behind-set true e),
     )
-    by false e =
+    by false e ih =
         let differs : x.key ≡ key → ⊥ = λ s. both_ways (same_key x.key key) e (key-true x.key key s) in (
           (but.0.0, but.0.1, λ t. elim (but.0.2 t) [ inl listed ↦ inl (contains-cons key x.key keys listed differs) | inr w ↦ inr (w.0, keeps x.key but.0.0 differs ∙ w.1, w.2) ]),
-          timed-again (suc (key_place x.key)) key keys old new rows rises.1 keeps (behind-set false e) but.1,
+          ih (behind-set false e),
         )
 
 -- none is left

@@ -285,12 +285,11 @@ impl Store {
         ensures room { self.new.room ≡ self.old.room }
         ensures spare { self.old.spare ≤ self.new.spare + 1 }
     {
-        let number = self
-            .slots
-            .insert(key_of(pair), item_with(pair, state, life));
+        let key = key_of(pair);
+        let number = self.slots.insert(key, item_with(pair, state, life));
         list_pair(&mut self.index, pair, state, number);
-        recall_cell(key_of(pair));
-        set_in_time(&self.slots, &mut self.dues, key_of(pair));
+        recall_cell(key);
+        set_in_time(&self.slots, &mut self.dues, key);
     }
 
     /// Gives a key's entry another state. None becomes a pair by it.
@@ -379,6 +378,7 @@ impl Store {
         ensures same { self.new ≡ self.old }
     {
         self.slots.recall();
+        self.dues.recall();
         self.dues.take(now, keys);
         set_again(&self.slots, &mut self.dues, keys);
     }

@@ -96,3 +96,12 @@ none-set (l ∷ ls) (suc c) all = none-set ls c all.1
 -- slots that aren't set have no moments
 pub no-moments : (ls : List Links) (c : ℕ) → All (λ l. l ≡ unset_links) ls → get_or (moments ls) c None ≡ None
 no-moments ls c all = none-set ls c (recursion_from_All (λ l. l ≡ unset_links) ls all)
+
+-- no more slots are due than there are
+pub few-due : (now first : ℕ) (ms : List (Option ℕ)) → length (due_from now first ms) ≤ length ms
+few-due now first [] = omega arith
+few-due now first (m ∷ ms) = at (is_due now m) (few-due now (first + 1) ms)
+  where
+    at : (b : Bool) → length (due_from now (first + 1) ms) ≤ length ms → length (cond b (first ∷ due_from now (first + 1) ms) (due_from now (first + 1) ms)) ≤ suc (length ms)
+    at true ih = omega (arith, ih)
+    at false ih = omega (arith, ih)
