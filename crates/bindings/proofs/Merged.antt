@@ -1,5 +1,5 @@
 -- The idle entries are those among the due keys, in the same order.
-use Rattle.std.proofs.Common.{◌≡◌, ℕ, zero, suc, ◌+◌, ◌<◌, ◌≤◌, Bool, true, false, cond, ◌&&◌, nat_le, Option, Some, None, List, [], ◌∷◌, length, map, get_or, refl, ap, subst, sym, ◌∙◌, arith}
+use Rattle.std.proofs.Common.{◌≡◌, ℕ, zero, suc, ◌+◌, ◌<◌, ◌≤◌, Bool, true, false, cond, ◌&&◌, Option, Some, None, List, [], ◌∷◌, length, map, get_or, refl, ap, subst, sym, ◌∙◌, arith}
 use Rattle.std.specs.List.{filter}
 use Rattle.std.specs.Option.{option_map}
 use Rattle.std.proofs.lemmas.Bool.{cond-true, cond-false, and_parts, le-leb, leb-true}
@@ -17,7 +17,7 @@ use Rattle.slots.specs.Rows as slots
 use Rattle.slots.proofs.Places.{places_rise, other_key}
 use Rattle.bindings.specs.declared.entries.Entry.{Entry}
 use Rattle.bindings.specs.declared.store.Item.{Item}
-use Rattle.bindings.specs.Entries.{translates, slot_of}
+use Rattle.bindings.specs.Entries.{translates}
 use Rattle.bindings.specs.Lists.{key_place}
 use Rattle.bindings.specs.Lives.{life_in, is_idle_row, idle_keys_in, rests_by}
 use Rattle.bindings.specs.Stores.{entries_of, lives_of, AreKeyed}

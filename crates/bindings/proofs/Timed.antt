@@ -1,6 +1,6 @@
 -- What changes of the rows and of the moments leave of their being looked at in time.
-use Rattle.std.proofs.Common.{◌≡◌, ℕ, zero, suc, ◌+◌, ◌<◌, ◌≤◌, ◌⊎◌, inl, inr, Bool, true, false, not, cond, nat_lt, nat_le, Option, Some, None, List, [], ◌∷◌, ◌++◌, length, map, get_or, slice_set, refl, ap, subst, sym, ◌∙◌, arith}
-use Rattle.std.specs.List.{AllByRecursion, Contains}
+use Rattle.std.proofs.Common.{◌≡◌, ℕ, zero, suc, ◌<◌, ◌⊎◌, inl, inr, Bool, true, false, not, cond, nat_lt, nat_le, Option, Some, None, List, [], ◌∷◌, map, slice_set, refl, ap, subst, sym, ◌∙◌, arith}
+use Rattle.std.specs.List.{Contains}
 use Rattle.std.specs.Option.{option_map}
 use Rattle.std.proofs.Math.ListN.{get_or-map}
 use Rattle.std.proofs.lemmas.Bool.{cond-true, cond-false, both_ways, cases_Bool}
@@ -9,11 +9,10 @@ use Rattle.std.proofs.lemmas.List.Elements.{Contains-append_cases, Contains-push
 use Rattle.nat_types.specs.declared.pairs.Key.{Key}
 use Rattle.nat_types.specs.Same.{same_key}
 use Rattle.nat_types.proofs.Equal.{key-eq, key-true, key-self}
-use Rattle.lives.specs.Dues.{due_moment}
 use Rattle.timers.specs.Due.{is_due, cleared, due_slots}
 use Rattle.timers.proofs.Found.{listed-due}
 use Rattle.slots.specs.Cells.{cell_of, key_at}
-use Rattle.slots.specs.Dues.{moment_of, due_keys}
+use Rattle.slots.specs.Dues.{due_keys}
 use Rattle.slots.specs.Rows.{Row}
 use Rattle.slots.specs.Rows as slots
 use Rattle.slots.proofs.Edits.{with-absent}

@@ -1,4 +1,4 @@
-use Rattle.std.proofs.Common.{List, ap, ◌++◌, ◌∙◌, sym}
+use Rattle.std.proofs.Common.{List, ap, ◌++◌, ◌∙◌}
 use Rattle.nat_types.specs.declared.pairs.Key.{Key}
 use Rattle.slots.specs.Dues.{due_keys}
 use Rattle.bindings.proofs.Timed.{timed-but}
