@@ -21,3 +21,5 @@ pub mod Stored
 pub mod Walks
 pub mod Dropping
 pub mod Lived
+pub mod Timed
+pub mod Merged

@@ -1,16 +1,14 @@
 -- Entry after entry: what is left of a list behind a key.
-use Rattle.std.proofs.Common.{◌≡◌, ℕ, suc, ◌+◌, ◌<◌, ◌≤◌, Bool, true, false, not, cond, ◌&&◌, nat_lt, Option, Some, None, List, [], ◌∷◌, ◌++◌, length, map, refl, sym, ap, ◌∙◌, arith}
+use Rattle.std.proofs.Common.{◌≡◌, ℕ, suc, ◌+◌, ◌<◌, ◌≤◌, Bool, true, false, not, cond, nat_lt, Option, Some, None, List, [], ◌∷◌, ◌++◌, length, map, refl, sym, ap, ◌∙◌, arith}
 use Rattle.std.specs.List.{find, filter}
 use Rattle.std.proofs.lemmas.Bool.{cond-true, cond-false, lt-ltb, le-ltb, ltb-true}
 use Rattle.nat_types.specs.declared.pairs.EntryState.{EntryState}
 use Rattle.nat_types.specs.declared.pairs.Key.{Key}
 use Rattle.nat_types.specs.Same.{same_key}
-use Rattle.nat_types.proofs.Equal.{key-true, key-false, key-self}
-use Rattle.lives.specs.Lives.{Life}
+use Rattle.nat_types.proofs.Equal.{key-true, key-false}
 use Rattle.bindings.specs.declared.entries.Entry.{Entry}
-use Rattle.bindings.specs.Entries.{is_pair, translates, has_key, slot_of, entry_in, place_of, pairs_in, HasDistinctKeys}
+use Rattle.bindings.specs.Entries.{is_pair, has_key, slot_of, entry_in, place_of, pairs_in, HasDistinctKeys}
 use Rattle.bindings.specs.Lists.{stands_behind, after_key, key_place, without, with_state, RisesUp}
-use Rattle.bindings.specs.Lives.{life_in, is_idle_row, idle_keys_in, rests_at, rests_by}
 use Rattle.bindings.specs.Revivals.{woken, woken_entry}
 use Rattle.bindings.proofs.Found.{cond_none}
 use Rattle.bindings.proofs.Places.{turn-none, without-none}
@@ -105,52 +103,6 @@ pairs-next test low last es e r h = ap (pairs_in test) (behind-first low last es
 
 pub pairs-end : (test : EntryState → Bool) (last : Option Key) (es : List Entry) → after_key last es ≡ None → pairs_in test (behind last es) ≡ []
 pairs-end test last es h = ap (pairs_in test) (behind-end last es h)
-
--- the idle ones, by what is asked of each key
-abbrev pub is_idle_at : ℕ → List Entry → List Life → Entry → Bool
-is_idle_at now es ls e = translates e.state && rests_at es ls e.pair.key now
-
-abbrev pub idle_of : (Entry → Bool) → List Entry → List Key
-idle_of test es = map (λ e. e.pair.key) (filter test es)
-
-idle-alike : (test test2 : Entry → Bool) (low : ℕ) (es : List Entry) → RisesUp low es → ((e : Entry) → low ≤ place_of e.pair → test e ≡ test2 e) → idle_of test es ≡ idle_of test2 es
-idle-alike test test2 low [] r h = refl
-idle-alike test test2 low (x ∷ xs) r h =
-    ap (λ b. map (λ (e : Entry). e.pair.key) (cond b (x ∷ filter test xs) (filter test xs))) (h x r.0)
-    ∙ by (test2 x) (idle-alike test test2 (suc (place_of x.pair)) xs r.1 (λ e l. h e (let s = r.0 in omega (arith, l, s))))
-  where
-    by : (b : Bool) → idle_of test xs ≡ idle_of test2 xs → map (λ (e : Entry). e.pair.key) (cond b (x ∷ filter test xs) (filter test xs)) ≡ map (λ (e : Entry). e.pair.key) (cond b (x ∷ filter test2 xs) (filter test2 xs))
-    by true ih = ap (λ ks. x.pair.key ∷ ks) ih
-    by false ih = ih
-
-pub idle-is : (now : ℕ) (low : ℕ) (es : List Entry) (ls : List Life) → RisesUp low es → length ls ≡ length es → idle_keys_in now es ls ≡ idle_of (is_idle_at now es ls) es
-idle-is now low [] ls r same = refl
-idle-is now low (x ∷ xs) [] r same = absurd (omega (arith, same))
-idle-is now low (x ∷ xs) (m ∷ ms) r same =
-    let own : is_idle_at now (x ∷ xs) (m ∷ ms) x ≡ is_idle_row now x m = ap (λ b. translates x.state && rests_by x.pair.key now (cond b (Some m) (life_in xs ms x.pair.key))) (key-self x.pair.key) in
-    let rest : idle_keys_in now xs ms ≡ idle_of (is_idle_at now (x ∷ xs) (m ∷ ms)) xs =
-    idle-is now (suc (place_of x.pair)) xs ms r.1 (omega (arith, same)) ∙ idle-alike (is_idle_at now xs ms) (is_idle_at now (x ∷ xs) (m ∷ ms)) (suc (place_of x.pair)) xs r.1 later in
-    by (is_idle_row now x m) rest ∙ sym (ap (λ b. map (λ (e : Entry). e.pair.key) (cond b (x ∷ filter (is_idle_at now (x ∷ xs) (m ∷ ms)) xs) (filter (is_idle_at now (x ∷ xs) (m ∷ ms)) xs))) own)
-  where
-    later : (e : Entry) → suc (place_of x.pair) ≤ place_of e.pair → is_idle_at now xs ms e ≡ is_idle_at now (x ∷ xs) (m ∷ ms) e
-    later e l =
-        let differs : same_key x.pair.key e.pair.key ≡ false = key-false x.pair.key e.pair.key (λ k. (let p = ap key_place k in omega (arith, p, l))) in
-        sym (ap (λ b. translates e.state && rests_by e.pair.key now (cond b (Some m) (life_in xs ms e.pair.key))) differs)
-
-    by : (b : Bool) → idle_keys_in now xs ms ≡ idle_of (is_idle_at now (x ∷ xs) (m ∷ ms)) xs → cond b (x.pair.key ∷ idle_keys_in now xs ms) (idle_keys_in now xs ms) ≡ map (λ (e : Entry). e.pair.key) (cond b (x ∷ filter (is_idle_at now (x ∷ xs) (m ∷ ms)) xs) (filter (is_idle_at now (x ∷ xs) (m ∷ ms)) xs))
-    by true ih = ap (λ ks. x.pair.key ∷ ks) ih
-    by false ih = ih
-
-pub idle-next : (test : Entry → Bool) (low : ℕ) (last : Option Key) (es : List Entry) (e : Entry) → RisesUp low es → after_key last es ≡ Some e
-    → idle_of test (behind last es) ≡ cond (test e) (e.pair.key ∷ []) [] ++ idle_of test (behind (Some e.pair.key) es)
-idle-next test low last es e r h = ap (idle_of test) (behind-first low last es e r h) ∙ by (test e)
-  where
-    by : (b : Bool) → map (λ (x : Entry). x.pair.key) (cond b (e ∷ filter test (behind (Some e.pair.key) es)) (filter test (behind (Some e.pair.key) es))) ≡ cond b (e.pair.key ∷ []) [] ++ idle_of test (behind (Some e.pair.key) es)
-    by true = refl
-    by false = refl
-
-pub idle-end_of : (test : Entry → Bool) (last : Option Key) (es : List Entry) → after_key last es ≡ None → idle_of test (behind last es) ≡ []
-idle-end_of test last es h = ap (idle_of test) (behind-end last es h)
 
 -- ---- waking
 

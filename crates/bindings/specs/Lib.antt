@@ -6,3 +6,4 @@ pub mod Revivals
 pub mod Runs
 pub mod Table
 pub mod Stores
+pub mod Dues

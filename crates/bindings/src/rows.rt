@@ -1,7 +1,7 @@
 //! Passes over the entries of a store, and questions about them.
-ghost use Rattle.std.specs.Prelude.{◌≡◌, ◌+◌, ◌≤◌, ◌++◌, [], ◌∷◌, ◌&&◌, if◌then◌else◌, length, vec_len, vec_capacity, IfOk, OnOk};
+ghost use Rattle.std.specs.Prelude.{◌≡◌, ◌+◌, ◌≤◌, ◌++◌, [], ◌∷◌, if◌then◌else◌, count_by, vec_len, vec_capacity, IfOk, OnOk};
 ghost use Rattle.bindings.specs.Entries.{is_pair, translates, entry_in, refusal_of, pairs_in};
-ghost use Rattle.bindings.specs.Lives.{rests_at, idle_keys_in};
+ghost use Rattle.bindings.specs.Dues.{idle_among, is_idle_key};
 ghost use Rattle.bindings.specs.Ports.{is_vacant};
 
 use crate::entries::{endpoint_of, is_pair_state, is_translating, key_of};
@@ -87,64 +87,37 @@ pub(crate) fn translating_pairs_of(alloc: Global, store: &Store) -> Result<Vec<P
     Ok(pairs)
 }
 
-/// Whether an entry with that key and state translates and is idle.
-fn is_idle_entry(store: &Store, key: Key, state: EntryState, now: u64) -> bool
+/// Whether a key's entry translates and is idle.
+fn is_idle_entry(store: &Store, key: Key, now: u64) -> bool
+    ensures { result ≡ is_idle_key now store.now.entries store.now.lives key }
+{
+    match store.entry(key) {
+        Some(entry) => is_translating(entry.state) && store.is_idle(key, now),
+        None => false,
+    }
+}
+
+/// How many of the keys have entries that translate and are idle.
+pub(crate) fn count_idle(store: &Store, keys: &[Key], now: u64) -> usize
     ensures { result
-        ≡ (translates state && rests_at store.now.entries store.now.lives key now) }
+        ≡ count_by (is_idle_key now store.now.entries store.now.lives) keys.now }
 {
-    is_translating(state) && store.is_idle(key, now)
+    keys.iter()
+        .filter(|key| is_idle_entry(store, **key, now))
+        .count()
 }
 
-fn one_if(passes: bool) -> usize
-    ensures { result ≡ (if passes then 1 else 0) }
-{
-    if passes { 1 } else { 0 }
-}
-
-/// How many entries translate and are idle.
-pub(crate) fn count_idle(store: &Store, now: u64) -> usize
-    ensures { result ≡ length (idle_keys_in now store.now.entries store.now.lives) }
-{
-    store.recall();
-    let mut count = 0;
-    let mut last = None;
-    let most = store.len();
-    while let Some(entry) = store.entry_after(last) {
-        let Entry { pair, state } = entry;
-        let key = key_of(pair);
-        count += one_if(is_idle_entry(store, key, state, now));
-        last = Some(key);
-    }
-    let _ = most;
-    count
-}
-
-fn list_if(keys: &mut Vec<Key>, passes: bool, key: Key)
-    requires { vec_len keys.old + length (if passes then key ∷ [] else []) ≤ vec_capacity keys.old }
-    ensures items { keys.new.items ≡ keys.old.items ++ (if passes then key ∷ [] else []) }
-    ensures len { vec_len keys.new
-        ≡ vec_len keys.old + length (if passes then key ∷ [] else []) }
-    ensures capacity { vec_capacity keys.new ≡ vec_capacity keys.old }
-{
-    if passes {
-        keys.push_reserved(key);
-    }
-}
-
-/// Lists the keys of the entries that translate and are idle.
-pub(crate) fn list_idle(store: &Store, now: u64, out: &mut Vec<Key>)
-    requires { vec_len out.old + length (idle_keys_in now store.now.entries store.now.lives)
-        ≤ vec_capacity out.old }
+/// Lists those of the keys whose entries translate and are idle.
+pub(crate) fn list_idle(store: &Store, keys: &[Key], now: u64, out: &mut Vec<Key>)
+    requires { vec_len out.old + count_by (is_idle_key now store.now.entries store.now.lives)
+        keys.now ≤ vec_capacity out.old }
     ensures items { out.new.items
-        ≡ out.old.items ++ idle_keys_in now store.now.entries store.now.lives }
+        ≡ out.old.items ++ idle_among now store.now.entries store.now.lives keys.now }
     ensures capacity { vec_capacity out.new ≡ vec_capacity out.old }
 {
-    store.recall();
-    let mut last = None;
-    while let Some(entry) = store.entry_after(last) {
-        let Entry { pair, state } = entry;
-        let key = key_of(pair);
-        list_if(out, is_idle_entry(store, key, state, now), key);
-        last = Some(key);
+    for key in keys.iter() {
+        if is_idle_entry(store, *key, now) {
+            out.push_reserved(*key);
+        }
     }
 }

@@ -4,19 +4,25 @@ ghost use Rattle.nat_types.specs.declared.pairs.Endpoint.{Endpoint as InsidePort
 ghost use Rattle.slots.specs.Endpoints.{slot_of as number_of_endpoint};
 ghost use Rattle.std.specs.List.{insert};
 ghost use Rattle.bindings.specs.declared.entries.Entry.{Entry as Row};
-ghost use Rattle.bindings.specs.Entries.{is_pair, serves, slot_of, entry_of, entry_in, HasDistinctEndpoints};
+ghost use Rattle.bindings.specs.Entries.{is_pair, translates, serves, slot_of, entry_of, entry_in, HasDistinctEndpoints};
 ghost use Rattle.bindings.specs.Lists.{put_in, place_in, without, with_state, after_key, RisesUp};
 ghost use Rattle.bindings.specs.Lives.{life_in, lives_with, lives_without, rests_at, is_unused_at};
 ghost use Rattle.lives.specs.Lives.{Life as Lived, Past, Agrees, with_packet, renewed, life_carried, life_renewed};
 ghost use Rattle.slots.specs.Rows.{item_of, number_of, with_item};
 ghost use Rattle.nat_types.specs.declared.pairs.Key.{Key as OutsidePort};
 ghost use Rattle.bindings.specs.declared.store.Item.{Item as Kept};
+ghost use Rattle.std.specs.Prelude.{vec_capacity};
+ghost use Rattle.timers.specs.Due.{is_due};
+ghost use Rattle.slots.specs.Dues.{moment_of};
+ghost use Rattle.slots.specs.Rows.{Rises};
+ghost use Rattle.bindings.specs.Lives.{idle_keys_in};
+ghost use Rattle.bindings.specs.Dues.{AreTimed, AreTimedBut, IsTimed, KeepsDues, idle_among};
 
 use crate::Entry;
-use crate::entries::{endpoint_of, is_pair_state, key_of};
+use crate::entries::{endpoint_of, is_pair_state, is_translating, key_of};
 use lives::{Life, Packet};
 use nat_types::{Endpoint, EntryState, Key, Pair};
-use slots::{EndpointIndex, Hashers, PortSlots, SlotNumber};
+use slots::{Dues, EndpointIndex, Hashers, PortSlots, SlotNumber, recall_cell};
 use std::alloc::{AllocError, Global};
 use std::marker::Model;
 
@@ -33,6 +39,8 @@ pub(crate) struct Store {
     slots: PortSlots<Item>,
     // The slot of each pair, by its endpoint. A Doomed entry is none.
     index: EndpointIndex<Hashers>,
+    // When each entry that translates is looked at again: at the latest when it is idle.
+    dues: Dues,
 }
 
 impl Model for Store {
@@ -41,6 +49,7 @@ impl Model for Store {
     ghost Value = { Seen };
 
     ghost use Rattle.bindings.specs.Stores.{entries_of, lives_of, IsIndexed};
+    ghost use Rattle.bindings.specs.Dues.{AreTimed};
 
     ghost view = { λ s. record {
       entries = entries_of s.slots.rows;
@@ -49,7 +58,7 @@ impl Model for Store {
       spare = s.index.spare;
     } };
 
-    ghost invariant = { λ s. IsIndexed s.slots.rows s.index };
+    ghost invariant = { λ s. IsIndexed s.slots.rows s.index × AreTimed s.dues s.slots.rows };
 }
 
 fn entry_of_item(item: &Item) -> Entry
@@ -158,6 +167,44 @@ fn put_renewal(slots: &mut PortSlots<Item>, key: Key, now: u64)
     }
 }
 
+/// A key whose entry translates is due no later than the entry is idle. One that is due before that
+/// is looked at then, and set anew.
+fn set_in_time(slots: &PortSlots<Item>, dues: &mut Dues, key: Key)
+    ensures timed { (item : Kept) → item_of slots.now.rows key ≡ Some item → translates
+        item.entry.state ≡ true → IsTimed dues.new key item.life }
+    ensures others { KeepsDues key dues.old dues.new }
+{
+    if let Some(item) = slots.get(key)
+        && is_translating(item.entry.state)
+    {
+        let due = item.life.due(key.protocol);
+        if !is_due_by(dues, key, due) {
+            dues.set(key, due);
+        }
+    }
+}
+
+/// Whether a key is due at that moment or before.
+fn is_due_by(dues: &Dues, key: Key, moment: u64) -> bool
+    ensures { result ≡ is_due moment (moment_of dues.now key) }
+{
+    match dues.get(key) {
+        Some(due) => due <= moment,
+        None => false,
+    }
+}
+
+/// Sets the keys that came due again.
+fn set_again(slots: &PortSlots<Item>, dues: &mut Dues, keys: &[Key])
+    requires order { Rises 0 slots.now.rows }
+    requires timed { AreTimedBut keys.now dues.old slots.now.rows }
+    ensures timed { AreTimed dues.new slots.now.rows }
+{
+    for key in keys.iter() {
+        set_in_time(slots, dues, *key);
+    }
+}
+
 impl Store {
     /// No entries, and room for so many.
     pub(crate) fn new(alloc: Global, room: usize, hashers: Hashers) -> Result<Store, AllocError>
@@ -167,7 +214,8 @@ impl Store {
     {
         let slots = PortSlots::new(alloc, room)?;
         let index = EndpointIndex::new(alloc, hashers);
-        Ok(Store { slots, index })
+        let dues = Dues::new(alloc)?;
+        Ok(Store { slots, index, dues })
     }
 
     /// Reminds the prover of the order of the entries; it does nothing when it runs.
@@ -237,10 +285,11 @@ impl Store {
         ensures room { self.new.room ≡ self.old.room }
         ensures spare { self.old.spare ≤ self.new.spare + 1 }
     {
-        let number = self
-            .slots
-            .insert(key_of(pair), item_with(pair, state, life));
+        let key = key_of(pair);
+        let number = self.slots.insert(key, item_with(pair, state, life));
         list_pair(&mut self.index, pair, state, number);
+        recall_cell(key);
+        set_in_time(&self.slots, &mut self.dues, key);
     }
 
     /// Gives a key's entry another state. None becomes a pair by it.
@@ -260,6 +309,7 @@ impl Store {
             let Entry { pair, state: was } = entry;
             unlist_turned(&mut self.index, pair, was, state);
             put_state(&mut self.slots, key, pair, state);
+            set_in_time(&self.slots, &mut self.dues, key);
         }
     }
 
@@ -301,6 +351,7 @@ impl Store {
     {
         self.slots.recall();
         put_packet(&mut self.slots, key, packet);
+        set_in_time(&self.slots, &mut self.dues, key);
     }
 
     /// The list of packets of a key's pair begins empty.
@@ -314,6 +365,22 @@ impl Store {
     {
         self.slots.recall();
         put_renewal(&mut self.slots, key, now);
+        set_in_time(&self.slots, &mut self.dues, key);
+    }
+
+    /// Lists the keys that are to be looked at, in order. All keys whose entries translate and are idle are among them.
+    pub(crate) fn list_due(&mut self, now: u64, keys: &mut Vec<Key>)
+        requires empty { keys.old.items ≡ [] }
+        requires room { 131072 ≤ vec_capacity keys.old }
+        ensures among { idle_keys_in now self.old.entries self.old.lives
+            ≡ idle_among now self.old.entries self.old.lives keys.new.items }
+        ensures capacity { vec_capacity keys.new ≡ vec_capacity keys.old }
+        ensures same { self.new ≡ self.old }
+    {
+        self.slots.recall();
+        self.dues.recall();
+        self.dues.take(now, keys);
+        set_again(&self.slots, &mut self.dues, keys);
     }
 
     /// Whether a key's pair is idle.

@@ -28,7 +28,7 @@ use crate::{Entry, PortBounds, TableFault};
 use addresses::{Parity, Port, Protocol, TcpFlags};
 use lives::{Life, Packet, Remote, Way};
 use nat_types::{Endpoint, EntryState, Key, Pair};
-use slots::Hashers;
+use slots::{CELLS, Hashers};
 use std::alloc::{AllocError, Global};
 use std::marker::Model;
 
@@ -42,6 +42,8 @@ pub struct Table {
     one: PortBounds,
     capacity: usize,
     ready: usize,
+    // The keys that are to be looked at now.
+    found: Vec<Key>,
 }
 
 impl Model for Table {
@@ -59,10 +61,10 @@ impl Model for Table {
       ready = t.ready;
     } };
 
-    ghost use Rattle.std.specs.Prelude.{◌≤◌};
+    ghost use Rattle.std.specs.Prelude.{◌≤◌, vec_capacity};
 
     ghost invariant = { λ t. IsStored t.store.entries t.store.lives t.ports t.zero t.one t.capacity
-        t.store.room × (t.ready ≤ t.store.spare) };
+        t.store.room × (t.ready ≤ t.store.spare) × (131072 ≤ vec_capacity t.found) };
 }
 
 fn port_count(bounds: PortBounds) -> usize
@@ -92,6 +94,7 @@ impl Table {
     {
         let capacity = 2 * (port_count(zero) + port_count(one));
         let store = Store::new(alloc, capacity, hashers)?;
+        let found = Vec::with_capacity(alloc, CELLS)?;
         let ports = Ports::new(alloc, lowest_port(zero, one), highest_port(zero, one))?;
         Ok(Table {
             alloc,
@@ -101,6 +104,7 @@ impl Table {
             one,
             capacity,
             ready: 0,
+            found,
         })
     }
 
@@ -421,8 +425,10 @@ impl Table {
             → IsOk result }
         ensures capacity { vec_capacity out.old ≤ vec_capacity out.new }
     {
-        out.reserve(count_idle(&self.store, now))?;
-        list_idle(&self.store, now, out);
+        self.found.clear();
+        self.store.list_due(now, &mut self.found);
+        out.reserve(count_idle(&self.store, &self.found, now))?;
+        list_idle(&self.store, &self.found, now, out);
         Ok(())
     }
 }

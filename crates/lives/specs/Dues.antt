@@ -1,5 +1,5 @@
 -- The moment from which a pair is idle, if it carries nothing more.
-use Rattle.std.specs.Prelude.{ℕ, ◌+◌, ◌||◌, max, List, [], ◌∷◌, if◌then◌else◌}
+use Rattle.std.specs.Prelude.{ℕ, ◌+◌, ◌-◌, ◌^◌, ◌||◌, max, min, List, [], ◌∷◌, if◌then◌else◌}
 use Rattle.addresses.specs.declared.transport.Protocol.{Protocol}
 use Rattle.addresses.specs.declared.transport.Protocol.TheVariants.{Tcp, Udp}
 use Rattle.lives.specs.declared.sessions.Session.{Session}
@@ -16,3 +16,7 @@ abbrev pub due_moment : Protocol → Life → ℕ
 due_moment Udp life = life.last + UDP_REST
 due_moment Tcp life =
     (if life.is_crowded || is_empty life.sessions then life.last + ESTABLISHED_REST else last_end life.sessions)
+
+-- a moment, or the last one that a clock can show
+abbrev pub clipped : ℕ → ℕ
+clipped moment = min moment (2 ^ 64 - 1)

@@ -1,11 +1,12 @@
 //! The life of a pair in a table: what it needs to know whether the pair is idle.
-ghost use Rattle.std.specs.Prelude.{◌≡◌, ◌||◌, if◌then◌else◌};
+ghost use Rattle.std.specs.Prelude.{◌≡◌, ◌+◌, ◌||◌, if◌then◌else◌};
 ghost use Rattle.addresses.specs.declared.transport.Protocol.{Protocol as Transport};
 ghost use Rattle.lives.specs.Lives.{Past, Agrees, came, with_packet, renewed, is_idle, looks_idle, is_unused, is_empty, life_begun, life_carried, life_renewed};
 ghost use Rattle.lives.specs.Sessions.{has_rested};
 ghost use Rattle.lives.specs.Kept.{all_passed};
+ghost use Rattle.lives.specs.Dues.{last_end, due_moment, clipped};
 
-use crate::places::{follow, have_all_passed};
+use crate::places::{end_of_all, follow, have_all_passed};
 use crate::sessions::has_rested_since;
 use crate::{ESTABLISHED_REST, MAX_SESSIONS, Packet, Session, UDP_REST};
 use addresses::Protocol;
@@ -43,6 +44,18 @@ fn is_tcp_idle(sessions: &[Session], is_crowded: bool, last: u64, now: u64) -> b
         has_rested_since(ESTABLISHED_REST, last, now)
     } else {
         have_all_passed(sessions, now)
+    }
+}
+
+/// The moment from which a TCP pair with these sessions is idle, or the last moment of all.
+fn tcp_due(sessions: &[Session], is_crowded: bool, last: u64) -> u64
+    ensures { result ≡ clipped (if is_crowded || is_empty sessions.now then last + ESTABLISHED_REST
+        else last_end sessions.now) }
+{
+    if is_crowded || sessions.is_empty() {
+        last.saturating_add(ESTABLISHED_REST)
+    } else {
+        end_of_all(sessions)
     }
 }
 
@@ -97,6 +110,16 @@ impl Life {
         match protocol {
             Protocol::Udp => has_rested_since(UDP_REST, self.last, now),
             Protocol::Tcp => is_tcp_idle(self.sessions.as_slice(), self.is_crowded, self.last, now),
+        }
+    }
+
+    /// The moment from which the pair is idle, if it carries nothing more, or the last moment of all.
+    pub fn due(&self, protocol: Protocol) -> u64
+        ensures { result ≡ clipped (due_moment protocol self.now) }
+    {
+        match protocol {
+            Protocol::Udp => self.last.saturating_add(UDP_REST),
+            Protocol::Tcp => tcp_due(self.sessions.as_slice(), self.is_crowded, self.last),
         }
     }
 

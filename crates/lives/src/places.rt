@@ -5,6 +5,7 @@ ghost use Rattle.lives.specs.Packets.{same_remote};
 ghost use Rattle.lives.specs.Places.{place_by, is_nowhere};
 ghost use Rattle.lives.specs.Sessions.{has_passed_by};
 ghost use Rattle.lives.specs.Kept.{session_place, with_session, all_passed};
+ghost use Rattle.lives.specs.Dues.{last_end, clipped};
 
 use crate::packets::is_that_remote;
 use crate::{MAX_SESSIONS, Packet, Session};
@@ -80,4 +81,15 @@ pub(crate) fn have_all_passed(sessions: &[Session], now: u64) -> bool
     ensures { result ≡ all_passed now sessions.now }
 {
     sessions.iter().all(|session| session.has_passed(now))
+}
+
+/// The moment at which the last of the sessions passes its limit, or the last moment of all.
+pub(crate) fn end_of_all(sessions: &[Session]) -> u64
+    ensures { result ≡ clipped (last_end sessions.now) }
+{
+    let mut end = 0u64;
+    for session in sessions.iter() {
+        end = end.max(session.end());
+    }
+    end
 }

@@ -1,5 +1,6 @@
 //! One session of a TCP pair: what its segments so far come to.
-ghost use Rattle.std.specs.Prelude.{◌≡◌, ◌&&◌, ◌||◌, nat_le, ◌-◌};
+ghost use Rattle.std.specs.Prelude.{◌≡◌, ◌&&◌, ◌||◌, nat_le, ◌+◌, ◌-◌};
+ghost use Rattle.lives.specs.Dues.{clipped};
 ghost use Rattle.lives.specs.Sessions.{is_closed, is_opening, first_class, rest_of, marked_if, are_both, noted, begun_session, stepped, has_rested};
 
 use crate::packets::is_plain_segment;
@@ -194,5 +195,12 @@ impl Session {
         ensures { result ≡ has_rested (rest_of self.class) self.last now }
     {
         has_rested_since(self.class.rest(), self.last, now)
+    }
+
+    /// The moment at which the session's limit passes, or the last moment of all.
+    pub(crate) fn end(self) -> u64
+        ensures { result ≡ clipped (self.last + rest_of self.class) }
+    {
+        self.last.saturating_add(self.class.rest())
     }
 }

@@ -3,3 +3,4 @@ pub mod Rows
 pub mod Edits
 pub mod Stored
 pub mod LookUps
+pub mod Due

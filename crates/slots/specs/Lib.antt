@@ -3,3 +3,4 @@ pub mod Cells
 pub mod Endpoints
 pub mod Lends
 pub mod Hashers
+pub mod Dues

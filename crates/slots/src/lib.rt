@@ -2,6 +2,7 @@
 #![tactic(auto)]
 
 mod cells;
+mod dues;
 mod endpoints;
 mod hashers;
 mod numbers;
@@ -9,7 +10,8 @@ mod port_slots;
 #[cfg(test)]
 mod tests;
 
+pub use dues::Dues;
 pub use endpoints::EndpointIndex;
 pub use hashers::Hashers;
 pub use numbers::SlotNumber;
-pub use port_slots::PortSlots;
+pub use port_slots::{CELLS, PortSlots, recall_cell};

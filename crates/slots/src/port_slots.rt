@@ -16,7 +16,7 @@ use std::alloc::{AllocError, Global};
 use std::marker::Model;
 
 /// How many cells there are: one for each port of both protocols.
-const CELLS: usize = 131_072;
+pub const CELLS: usize = 131_072;
 
 /// How many blocks of 256 cells these are.
 const BLOCKS: usize = 512;
@@ -51,7 +51,7 @@ fn first_cell_of(protocol: Protocol) -> usize
     }
 }
 
-fn cell_of_key(key: Key) -> usize
+pub(crate) fn cell_of_key(key: Key) -> usize
     ensures cell { result ≡ cell_of key }
     ensures within { result < 131072 }
     ensures key { key_at result ≡ key }
@@ -59,7 +59,15 @@ fn cell_of_key(key: Key) -> usize
     first_cell_of(key.protocol) + usize::from(key.port.0)
 }
 
-fn key_of_cell(cell: usize) -> Key
+/// Reminds the prover of the cell of a key; it does nothing when it runs.
+pub fn recall_cell(key: Key)
+    ensures own { key_at (cell_of key) ≡ key }
+    ensures within { cell_of key < 131072 }
+{
+    let _ = cell_of_key(key);
+}
+
+pub(crate) fn key_of_cell(cell: usize) -> Key
     requires { cell < 131072 }
     ensures { result ≡ key_at cell }
 {

@@ -120,6 +120,7 @@ impl Wheel {
         ensures err_list { OnErr result (out.new.items ≡ out.old.items) }
         ensures room { vec_len out.old + set_count (moments (S.all slots.old))
             ≤ vec_capacity out.old → IsOk result }
+        ensures capacity { vec_capacity out.old ≤ vec_capacity out.new }
     {
         out.reserve(self.count)?;
         self.pass_chains(slots, now, out);
@@ -196,6 +197,7 @@ impl Wheel {
         ensures taken { AreTaken now (moments (S.all slots.old)) (moments (S.all slots.new))
             out.old.items out.new.items }
         ensures room { vec_len out.new + self.new.count ≤ vec_capacity out.new }
+        ensures capacity { vec_capacity out.new ≡ vec_capacity out.old }
         ensures rest { S.rest slots.new ≡ S.rest slots.old }
     {
         let links = slots.links(slot);
@@ -219,6 +221,7 @@ impl Wheel {
         ensures taken { AreTaken now (moments (S.all slots.old)) (moments (S.all slots.new))
             out.old.items out.new.items }
         ensures room { vec_len out.new + self.new.count ≤ vec_capacity out.new }
+        ensures capacity { vec_capacity out.new ≡ vec_capacity out.old }
         ensures rest { S.rest slots.new ≡ S.rest slots.old }
     {
         let mut at = self.heads[chain];
@@ -237,6 +240,7 @@ impl Wheel {
         ensures turns { self.new.turns ≡ self.old.turns }
         ensures taken { AreTaken now (moments (S.all slots.old)) (moments (S.all slots.new))
             out.old.items out.new.items }
+        ensures capacity { vec_capacity out.new ≡ vec_capacity out.old }
         ensures rest { S.rest slots.new ≡ S.rest slots.old }
     {
         let first = (self.turns % 1024) as usize;

@@ -4,30 +4,39 @@ use Rattle.bindings.specs.declared.store.Item.{Item}
 use Rattle.bindings.specs.Entries.{entry_in}
 use Rattle.bindings.proofs.Kept.{entries-put, lives-put}
 use Rattle.bindings.proofs.Stored.{added, row-absent, put-rows}
+use Rattle.bindings.proofs.Timed.{added-timed}
 use Rattle.bindings.proofs.store.Store.add.Goals as goal
 
 pub insert-number-requires-clause-vacant : goal.insert-number-requires-clause-vacant
 insert-number-requires-clause-vacant c =
-    row-absent c.self.inside.slots.rows c.key_of.result c.self.invariant.keyed (rw (← c.self.view_is, ← c.key_of.ensures) at c.requires.vacant)
+    row-absent c.self.inside.slots.rows c.key_of-key.result c.self.invariant.0.keyed (rw (← c.self.view_is, ← c.key_of-key.ensures) at c.requires.vacant)
 
 pub invariant_of-self : goal.invariant_of-self
 invariant_of-self c =
     let i = c.self.inside in
     let r : Row Item = record { key = c.args.pair.key; number = c.insert-number.result; item = record { entry = entry_in c.args.state c.args.pair; life = c.args.life } } in
     let free = rw (← c.self.view_is) at c.requires.free in
-    rw (put-rows i.slots c.insert-number.new.self c.key_of.result c.args.pair.key c.insert-number.result c.item_with.result r.item c.insert-number.ensures.rows c.key_of.ensures c.item_with.ensures)
-    (added i.slots i.index c.list_pair.new.index r c.self.invariant refl free c.list_pair.ensures.slots)
+    let rows = put-rows i.slots c.insert-number.new.self c.key_of-key.result c.args.pair.key c.insert-number.result c.item_with.result r.item c.insert-number.ensures.rows c.key_of-key.ensures c.item_with.ensures in
+    let none = row-absent i.slots.rows c.args.pair.key c.self.invariant.0.keyed (rw (← c.self.view_is) at c.requires.vacant) in
+    let own = rw (c.key_of-key.ensures) at c.recall_cell.ensures.own in
+    let within = rw (c.key_of-key.ensures) at c.recall_cell.ensures.within in
+    let keeps = rw (c.key_of-key.ensures) at c.set_in_time.ensures.others in
+    let set = rw (rows, c.key_of-key.ensures) at c.set_in_time.ensures.timed in
+    rw rows (
+      added i.slots i.index c.list_pair.new.index r c.self.invariant.0 refl free c.list_pair.ensures.slots,
+      added-timed i.dues c.set_in_time.new.dues r i.slots.rows none own within keeps set c.self.invariant.1,
+    )
 
 pub returns-clause-entries : goal.returns-clause-entries
 returns-clause-entries c =
     let i = c.self.inside in
     let r : Row Item = record { key = c.args.pair.key; number = c.insert-number.result; item = record { entry = entry_in c.args.state c.args.pair; life = c.args.life } } in
-    rw (← c.self.view_is, put-rows i.slots c.insert-number.new.self c.key_of.result c.args.pair.key c.insert-number.result c.item_with.result r.item c.insert-number.ensures.rows c.key_of.ensures c.item_with.ensures)
-    (entries-put r i.slots.rows c.self.invariant.keyed refl)
+    rw (← c.self.view_is, put-rows i.slots c.insert-number.new.self c.key_of-key.result c.args.pair.key c.insert-number.result c.item_with.result r.item c.insert-number.ensures.rows c.key_of-key.ensures c.item_with.ensures)
+    (entries-put r i.slots.rows c.self.invariant.0.keyed refl)
 
 pub returns-clause-lives : goal.returns-clause-lives
 returns-clause-lives c =
     let i = c.self.inside in
     let r : Row Item = record { key = c.args.pair.key; number = c.insert-number.result; item = record { entry = entry_in c.args.state c.args.pair; life = c.args.life } } in
-    rw (← c.self.view_is, put-rows i.slots c.insert-number.new.self c.key_of.result c.args.pair.key c.insert-number.result c.item_with.result r.item c.insert-number.ensures.rows c.key_of.ensures c.item_with.ensures)
-    (lives-put r i.slots.rows c.self.invariant.keyed refl)
+    rw (← c.self.view_is, put-rows i.slots c.insert-number.new.self c.key_of-key.result c.args.pair.key c.insert-number.result c.item_with.result r.item c.insert-number.ensures.rows c.key_of-key.ensures c.item_with.ensures)
+    (lives-put r i.slots.rows c.self.invariant.0.keyed refl)

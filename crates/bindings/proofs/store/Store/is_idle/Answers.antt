@@ -7,8 +7,8 @@ use Rattle.bindings.proofs.store.Store.is_idle.Goals as goal
 
 pub returns-in-Some : goal.returns-in-Some
 returns-in-Some c =
-    rw (← c.self.view_is) (c.is_idle.ensures.exact ∙ ap (λ (o : Option Item). rests_by c.args.key c.args.now (option_map (λ (i : Item). i.life) o)) c.in-Some.ensures ∙ ap (rests_by c.args.key c.args.now) (sym (life-is c.self.inside.slots.rows c.args.key c.self.invariant.keyed)))
+    rw (← c.self.view_is) (c.is_idle.ensures.exact ∙ ap (λ (o : Option Item). rests_by c.args.key c.args.now (option_map (λ (i : Item). i.life) o)) c.in-Some.ensures ∙ ap (rests_by c.args.key c.args.now) (sym (life-is c.self.inside.slots.rows c.args.key c.self.invariant.0.keyed)))
 
 pub returns-in-None : goal.returns-in-None
 returns-in-None c =
-    rw (← c.self.view_is) (ap (λ (o : Option Item). rests_by c.args.key c.args.now (option_map (λ (i : Item). i.life) o)) c.in-None.ensures ∙ ap (rests_by c.args.key c.args.now) (sym (life-is c.self.inside.slots.rows c.args.key c.self.invariant.keyed)))
+    rw (← c.self.view_is) (ap (λ (o : Option Item). rests_by c.args.key c.args.now (option_map (λ (i : Item). i.life) o)) c.in-None.ensures ∙ ap (rests_by c.args.key c.args.now) (sym (life-is c.self.inside.slots.rows c.args.key c.self.invariant.0.keyed)))

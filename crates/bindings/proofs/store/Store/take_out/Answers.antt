@@ -3,6 +3,7 @@ use Rattle.slots.specs.Rows.{PortSlots}
 use Rattle.bindings.specs.declared.store.Item.{Item}
 use Rattle.bindings.proofs.Kept.{entries-without, lives-without}
 use Rattle.bindings.proofs.Stored.{removed, none-removed, held-by}
+use Rattle.bindings.proofs.Timed.{without-timed}
 use Rattle.bindings.proofs.store.Store.take_out.Goals as goal
 
 pub invariant_of-self : goal.invariant_of-self
@@ -10,10 +11,10 @@ invariant_of-self c =
     let i = c.self.inside in
     let rows = ap (λ (s : PortSlots Item). s.rows) c.remove.ensures.rows in
     let item = sym c.in-Some.ensures.item in
-    let held = held-by i.slots.rows c.args.key c.in-Some.item c.self.invariant.keyed item in
+    let held = held-by i.slots.rows c.args.key c.in-Some.item c.self.invariant.0.keyed item in
     let endpoints = rw (← c.self.view_is) at c.requires in
     let listed = rw c.entry_of_item-pair.ensures at c.unlist.ensures.slots in
-    rw rows (removed i.slots.rows i.index c.unlist.new.index c.args.key c.in-Some.item c.self.invariant c.recall.ensures.order item (endpoints c.in-Some.item.entry held) listed)
+    rw rows (removed i.slots.rows i.index c.unlist.new.index c.args.key c.in-Some.item c.self.invariant.0 c.recall.ensures.order item (endpoints c.in-Some.item.entry held) listed, without-timed c.args.key i.dues i.slots.rows c.self.invariant.1)
 
 pub invariant_of-self-in_default : goal.invariant_of-self-in_default
 invariant_of-self-in_default c =
@@ -25,19 +26,19 @@ invariant_of-self-in_default c =
 pub returns-in-Some-clause-entries : goal.returns-in-Some-clause-entries
 returns-in-Some-clause-entries c =
     let rows = ap (λ (s : PortSlots Item). s.rows) c.remove.ensures.rows in
-    rw (← c.self.view_is, rows) (entries-without c.args.key c.self.inside.slots.rows c.self.invariant.keyed)
+    rw (← c.self.view_is, rows) (entries-without c.args.key c.self.inside.slots.rows c.self.invariant.0.keyed)
 
 pub returns-in-Some-clause-lives : goal.returns-in-Some-clause-lives
 returns-in-Some-clause-lives c =
     let rows = ap (λ (s : PortSlots Item). s.rows) c.remove.ensures.rows in
-    rw (← c.self.view_is, rows) (lives-without 0 c.args.key c.self.inside.slots.rows c.self.invariant.keyed c.recall.ensures.order)
+    rw (← c.self.view_is, rows) (lives-without 0 c.args.key c.self.inside.slots.rows c.self.invariant.0.keyed c.recall.ensures.order)
 
 pub returns-in_default-clause-entries : goal.returns-in_default-clause-entries
 returns-in_default-clause-entries c =
     let rows = ap (λ (s : PortSlots Item). s.rows) c.remove.ensures.rows in
-    rw (← c.self.view_is, rows) (entries-without c.args.key c.self.inside.slots.rows c.self.invariant.keyed)
+    rw (← c.self.view_is, rows) (entries-without c.args.key c.self.inside.slots.rows c.self.invariant.0.keyed)
 
 pub returns-in_default-clause-lives : goal.returns-in_default-clause-lives
 returns-in_default-clause-lives c =
     let rows = ap (λ (s : PortSlots Item). s.rows) c.remove.ensures.rows in
-    rw (← c.self.view_is, rows) (lives-without 0 c.args.key c.self.inside.slots.rows c.self.invariant.keyed c.recall.ensures.order)
+    rw (← c.self.view_is, rows) (lives-without 0 c.args.key c.self.inside.slots.rows c.self.invariant.0.keyed c.recall.ensures.order)

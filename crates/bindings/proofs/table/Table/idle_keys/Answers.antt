@@ -1,3 +1,7 @@
+use Rattle.std.proofs.Common.{length, ap, ◌∙◌, arith}
+use Rattle.std.proofs.lemmas.Bool.{false≢true}
+use Rattle.std.proofs.lemmas.List.Sums.{length-filter}
+use Rattle.bindings.specs.Dues.{is_idle_key}
 use Rattle.bindings.proofs.Slots.{slot-key}
 use Rattle.bindings.proofs.Resting.{few-idle, listed-is}
 use Rattle.bindings.proofs.table.Table.idle_keys.Goals as goal
@@ -23,3 +27,11 @@ pub returns-clause-few : goal.returns-clause-few
 returns-clause-few c =
     let i = c.self.inside in
     rw (← c.self.view_is) (few-idle c.args.now i.store.entries i.store.lives)
+
+pub returns-in_err-reserve-clause-room : goal.returns-in_err-reserve-clause-room
+returns-in_err-reserve-clause-room c =
+    let i = c.self.inside in
+    let keys = c.list_due.new.keys.items in
+    let count = rw (c.list_due.ensures.same, c.deref.ensures.value) at c.count_idle.ensures in
+    let long = ap length c.list_due.ensures.among ∙ length-filter (is_idle_key c.args.now i.store.entries i.store.lives) keys in
+    rw (← c.self.view_is) (λ room. absurd (false≢true (c.in_err-reserve.ensures.succeeds (omega (arith, count, long, room)))))

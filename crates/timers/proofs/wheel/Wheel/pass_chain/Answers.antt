@@ -15,6 +15,7 @@ loop-at-init g c =
       turns = refl;
       taken = taken_none c.args.now (moments links) c.args.out.now.items;
       room = c.requires.room;
+      capacity = refl;
       rest = refl;
     }
 
@@ -33,6 +34,7 @@ loop-at-preserved g c =
       turns = e.turns ∙ i.turns;
       taken = taken_more c.args.now (moments (g.S.Slots.all c.args.slots.now)) (moments links) (moments after) c.args.out.now.items c.loop-at.out.items c.pass_slot-at.new.out.items i.taken e.taken;
       room = e.room;
+      capacity = e.capacity ∙ i.capacity;
       rest = e.rest ∙ i.rest;
     }
 

@@ -11,6 +11,7 @@ invariant-loop-at g l = record {
   turns : l.self.turns ≡ l.fn.self.turns;
   taken : AreTaken l.now (moments (g.S.Slots.all l.fn.slots)) (moments (g.S.Slots.all l.slots)) l.fn.out.items l.out.items;
   room : vec_len l.out + l.self.count ≤ vec_capacity l.out;
+  capacity : vec_capacity l.out ≡ vec_capacity l.fn.out;
   rest : g.S.Slots.rest l.slots ≡ g.S.Slots.rest l.fn.slots;
 }
 

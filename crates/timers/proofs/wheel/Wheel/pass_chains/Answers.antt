@@ -22,6 +22,7 @@ loop-passed-preserved g c =
       none = below_more P c.loop-passed.passed (λ k below. stays_none turns ((turns % 1024 + k) % 1024) now links after c.loop-passed.out.items c.pass_chain.new.out.items e.taken (i.none k below)) (subst Q (e.turns ∙ i.turns) e.passed);
       taken = taken_more now (moments (g.S.Slots.all c.args.slots.now)) (moments links) (moments after) c.args.out.now.items c.loop-passed.out.items c.pass_chain.new.out.items i.taken e.taken;
       room = e.room;
+      capacity = e.capacity ∙ i.capacity;
       rest = e.rest ∙ i.rest;
     }
 

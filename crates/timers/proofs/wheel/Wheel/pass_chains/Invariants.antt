@@ -12,5 +12,6 @@ invariant-loop-passed g l = record {
   none : (k : ℕ) → k < l.passed → HasNoneDue l.fn.self.turns ((l.fn.self.turns % 1024 + k) % 1024) l.now (g.S.Slots.all l.slots);
   taken : AreTaken l.now (moments (g.S.Slots.all l.fn.slots)) (moments (g.S.Slots.all l.slots)) l.fn.out.items l.out.items;
   room : vec_len l.out + l.self.count ≤ vec_capacity l.out;
+  capacity : vec_capacity l.out ≡ vec_capacity l.fn.out;
   rest : g.S.Slots.rest l.slots ≡ g.S.Slots.rest l.fn.slots;
 }
