@@ -4,7 +4,7 @@ ghost use Rattle.bindings.specs.Entries.{is_pair, translates};
 ghost use Rattle.trace_words.specs.OneBox.{IsOneBox};
 ghost use Rattle.trace_words.specs.Trace.{Fits, GoesOn, Idle, Kept, Silent};
 ghost use Rattle.told.specs.Told.{none_told, with_note};
-ghost use Rattle.frame_sim.specs.declared.events.WorldEvent.TheVariants as events;
+ghost use Rattle.world_events.specs.declared.events.WorldEvent.TheVariants as events;
 ghost use Rattle.frame_sim.specs.declared.events.WorldFault.TheVariants as faults;
 ghost use Rattle.frame_sim.specs.Events.{TakesAt, datagram_for, may_be_told, may_boot, may_crash};
 ghost use Rattle.frame_sim.specs.Runs.{Answers, AreSteps, fault_of};
