@@ -19,7 +19,8 @@ use std::net::Net;
 use std::rt::Clock;
 use wires::{Sockets, ports_of, send_once};
 
-/// Makes the boot file of a box. The answer is the exit status: 0, or 1 for a fault, which is told on `errors`.
+/// Makes the boot file of a box. The answer is the exit status: 0, or 1 for a fault, which is told
+/// on `errors`.
 pub fn init<R: Files, E: Write>(rt: &R, file: &str, errors: &mut E) -> u8
 where
     R::File: Uncached,
@@ -31,8 +32,9 @@ where
     }
 }
 
-/// Runs one gateway for so many rounds, with the settings of the file at a path; where `found`, gateway 0 founds the pair.
-/// The boot number is printed first. The answer is the exit status: 0, or 1 for a fault, which is told on `errors`.
+/// Runs one gateway for so many rounds, with the settings of the file at a path; where `found`,
+/// gateway 0 founds the pair. The boot number is printed first. The answer is the exit status: 0, or
+/// 1 for a fault, which is told on `errors`.
 pub fn gate<R: Files + Net + Clock + AllocGlobal, O: Write, E: Write>(
     rt: &R,
     settings: &str,
@@ -144,8 +146,8 @@ fn begun(
     Gateway::new(alloc, settings, id, boot, found)
 }
 
-/// Tells a running gateway that this boot of the other is off. The answer is the exit status: 0, or 1 for a fault, which is
-/// told on `errors`.
+/// Tells a running gateway that this boot of the other is off. The answer is the exit status: 0, or
+/// 1 for a fault, which is told on `errors`.
 pub fn peer_off<R: Files + Net + AllocGlobal, E: Write>(
     rt: &R,
     settings: &str,

@@ -44,12 +44,13 @@ pub fn run_loop<P: Passage, O: Write, E: Write>(
     }
 }
 
-/// Runs a script as `run_loop` does. The answer is the exit status: 0, or 3 where an event was refused.
+/// Runs a script as `run_loop` does. The answer is the exit status: 0, or 3 where an event was
+/// refused.
 ///
 /// # Errors
 ///
-/// The settings' fault, else the script's first bad line, else `NoSocket` where the passage has no ports; `NotWritten` where
-/// output is refused, `NoMemory`.
+/// The settings' fault, else the script's first bad line, else `NoSocket` where the passage has no
+/// ports; `NotWritten` where output is refused, `NoMemory`.
 pub fn loop_script<P: Passage, O: Write>(
     alloc: Global,
     settings: &str,

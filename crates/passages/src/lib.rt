@@ -1,4 +1,5 @@
-//! What a gateway's bytes are sent through before they are handed in, and such a passage through loopback sockets.
+//! What a gateway's bytes are sent through before they are handed in, and such a passage through
+//! loopback sockets.
 #![tactic(auto)]
 
 mod loopback;

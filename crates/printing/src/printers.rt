@@ -43,7 +43,8 @@ impl Printer {
         }
     }
 
-    /// Prints what the next event gave: what its gateway told, and its outcome, or why it was refused.
+    /// Prints what the next event gave: what its gateway told, and its outcome, or why it was
+    /// refused.
     ///
     /// # Errors
     ///

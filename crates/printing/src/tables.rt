@@ -23,7 +23,8 @@ impl Standing {
     }
 }
 
-/// Prints how a gateway stands, the ports that it owns, which come rising, and the pairs that it holds.
+/// Prints how a gateway stands, the ports that it owns, which come rising, and the pairs that it
+/// holds.
 ///
 /// # Errors
 ///

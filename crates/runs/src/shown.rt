@@ -20,7 +20,8 @@ pub(crate) fn steps<O: Write>(
     Ok(())
 }
 
-/// Prints how both gateways of a world stand, the ports that each owns, and the pairs that it holds.
+/// Prints how both gateways of a world stand, the ports that each owns, and the pairs that it
+/// holds.
 ///
 /// # Errors
 ///
