@@ -1,5 +1,6 @@
 -- Words that are refused ask for no task.
-use Rattle.std.proofs.Common.{◌≡◌, ◌⊎◌, ◌∙◌, inl, inr, ℕ, List, Option, Some, None, true, codes, ap, sym}
+use Rattle.std.proofs.Common.{◌≡◌, ◌⊎◌, ◌∙◌, inl, inr, ℕ, List, Option, Some, None, true, false, codes, ap, refl, sym}
+use Rattle.std.specs.Str.{bytes_eq}
 use Rattle.std.specs.Str.Parse.{without_leading_plus}
 use Rattle.clap.specs.Words.{Row, Text, one_of}
 use Rattle.nat_types.specs.declared.gateways.GatewayId.{GatewayId}
@@ -29,17 +30,24 @@ one_id : (rows : List Row) (i j : GatewayId) → IsId rows i → IsId rows j →
 one_id rows i j a b =
     a.2 ∙ ap (λ n. gateway_numbered n) (one_from 8 (one_of (codes "id") rows) a.0 b.0 a.1 b.1) ∙ sym b.2
 
+-- texts that differ
+apart : (xs ys : List ℕ) → bytes_eq xs ys ≡ false → bytes_eq ys ys ≡ true → xs ≡ ys → ⊥
+apart xs ys no yes same =
+    let bad : false ≡ true = sym no ∙ ap (λ zs. bytes_eq zs ys) same ∙ yes in
+    cc
+
+gates_differ : Zero ≡ One → ⊥
+gates_differ bad = cc
+
 -- no task founds the pair at gateway 1
 none_at_one : (name : Text) (rows : List Row) (task : Task) → IsTask name rows task → FoundsAtZero task
     → name ≡ codes "gate" → FoundsAtOne rows → ⊥
-none_at_one name rows (Init file) t zero gate one = let bad : codes "init" ≡ codes "gate" = sym t.0 ∙ gate in cc
-none_at_one name rows (Sim settings script) t zero gate one = let bad : codes "sim" ≡ codes "gate" = sym t.0 ∙ gate in cc
-none_at_one name rows (Loop settings script) t zero gate one = let bad : codes "loop" ≡ codes "gate" = sym t.0 ∙ gate in cc
-none_at_one name rows (PeerOff settings id boot) t zero gate one =
-    let bad : codes "peer-off" ≡ codes "gate" = sym t.0 ∙ gate in cc
+none_at_one name rows (Init file) t zero gate one = apart (codes "init") (codes "gate") refl refl (sym t.0 ∙ gate)
+none_at_one name rows (Sim settings script) t zero gate one = apart (codes "sim") (codes "gate") refl refl (sym t.0 ∙ gate)
+none_at_one name rows (Loop settings script) t zero gate one = apart (codes "loop") (codes "gate") refl refl (sym t.0 ∙ gate)
+none_at_one name rows (PeerOff settings id boot) t zero gate one = apart (codes "peer-off") (codes "gate") refl refl (sym t.0 ∙ gate)
 none_at_one name rows (Gate settings id rounds found) t zero gate one =
-    let first = zero (t.4 ∙ one.0) in
-    let bad : Zero ≡ One = sym first ∙ one_id rows id One t.2 one.1 in cc
+    gates_differ (sym (zero (t.4 ∙ one.0)) ∙ one_id rows id One t.2 one.1)
 
 none_entered : (entered : Option (Text × List Row)) (task : Task) → Asks entered task → FoundsAtZero task
     → RefusesEntered entered FoundNeedsIdZero → ⊥
