@@ -17,6 +17,7 @@ use runs::{simulate, simulate_watched};
 use std::fs::Files;
 use std::io::Write;
 use std::net::Net;
+use std::random::RandomSource;
 use std::rt::Clock;
 
 /// All that the program does with its words, its name first. The answer is the exit status. Where somebody watches
@@ -28,7 +29,7 @@ use std::rt::Clock;
 /// | 1 | a fault, told on `errors` as `natpair: AREA NUMBER NAME` |
 /// | 2 | the words are refused: why stands on `errors` |
 /// | 3 | an event of the script was refused |
-pub fn act<R: Files + Net + Clock + AllocGlobal, O: Write, E: Write>(
+pub fn act<R: Files + Net + Clock + RandomSource + AllocGlobal, O: Write, E: Write>(
     rt: &R,
     words: &[String],
     is_watched: bool,
@@ -49,7 +50,7 @@ where
 }
 
 /// Does a task.
-fn done<R: Files + Net + Clock + AllocGlobal, O: Write, E: Write>(
+fn done<R: Files + Net + Clock + RandomSource + AllocGlobal, O: Write, E: Write>(
     rt: &R,
     task: &Task,
     is_watched: bool,

@@ -52,7 +52,7 @@ use binding_rows::{
 use binding_step::{
     Change, Row, Stage, Want, Wish, books_begin, books_keep, carry_works, feed_works,
 };
-use bindings::{Entry, PortBounds, Table};
+use bindings::{Entry, Hashers, PortBounds, Table};
 use link::Link;
 use lives::{Packet, Remote, Way};
 use nat_types::{Endpoint, EntryState, GatewayId, Granted, Happening, Key, Note, Pair, Record};
@@ -576,6 +576,7 @@ impl Core {
         id: GatewayId,
         zero: PortBounds,
         one: PortBounds,
+        hashers: Hashers,
     ) -> Result<Core, AllocError>
         requires zero { AreBounds zero }
         requires one { AreBounds one }
@@ -585,7 +586,7 @@ impl Core {
         books_begin();
         recall_port(zero.highest);
         recall_port(one.highest);
-        let table = Table::new(alloc, zero, one)?;
+        let table = Table::new(alloc, zero, one, hashers)?;
         let idle = Vec::with_capacity(alloc, count_keys(zero, one))?;
         Ok(Core {
             id,
@@ -600,13 +601,18 @@ impl Core {
     }
 
     /// Gateway 0, founded alone, with the ports of its range.
-    pub fn founder(alloc: Global, zero: PortBounds, one: PortBounds) -> Result<Core, AllocError>
+    pub fn founder(
+        alloc: Global,
+        zero: PortBounds,
+        one: PortBounds,
+        hashers: Hashers,
+    ) -> Result<Core, AllocError>
         requires zero { AreBounds zero }
         requires one { AreBounds one }
         ensures ledger { IfOk result (λ c. ledger_of c
             ≡ record { book = founded_book zero one; lives = [] }) }
     {
-        let mut core = Core::unsynced(alloc, GatewayId::Zero, zero, one)?;
+        let mut core = Core::unsynced(alloc, GatewayId::Zero, zero, one, hashers)?;
         core.found(zero, one);
         Ok(core)
     }

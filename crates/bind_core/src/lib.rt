@@ -9,4 +9,5 @@ mod loads;
 mod resets;
 
 pub use binding_step::Want;
+pub use bindings::Hashers;
 pub use cores::Core;

@@ -12,4 +12,5 @@ mod table;
 
 pub use entries::{Entry, PortBounds, TableFault};
 pub use laws::{room_law, uses_law};
+pub use slots::Hashers;
 pub use table::Table;

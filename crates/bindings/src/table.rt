@@ -30,7 +30,6 @@ use lives::{Life, Packet, Remote, Way};
 use nat_types::{Endpoint, EntryState, Key, Pair};
 use slots::Hashers;
 use std::alloc::{AllocError, Global};
-use std::hash::BuildHasherDefault;
 use std::marker::Model;
 
 /// Entries by protocol (tcp first) and port: distinct keys, and distinct endpoints except Doomed ones.
@@ -74,8 +73,14 @@ fn port_count(bounds: PortBounds) -> usize
 }
 
 impl Table {
-    /// An empty table for the ranges of both gateways, with room for all their ports for both protocols. It owns no port.
-    pub fn new(alloc: Global, zero: PortBounds, one: PortBounds) -> Result<Table, AllocError>
+    /// An empty table for the ranges of both gateways, with room for all their ports for both protocols. It owns no port,
+    /// and hashes endpoints by the caller's hashers.
+    pub fn new(
+        alloc: Global,
+        zero: PortBounds,
+        one: PortBounds,
+        hashers: Hashers,
+    ) -> Result<Table, AllocError>
         requires zero { AreBounds zero }
         requires one { AreBounds one }
         ensures entries { IfOk result (λ t. t.entries ≡ []) }
@@ -86,7 +91,6 @@ impl Table {
         ensures empty { IfOk result (λ t. t ≡ empty_table zero one) }
     {
         let capacity = 2 * (port_count(zero) + port_count(one));
-        let hashers = Hashers::Fixed(BuildHasherDefault::new());
         let store = Store::new(alloc, capacity, hashers)?;
         let ports = Ports::new(alloc, lowest_port(zero, one), highest_port(zero, one))?;
         Ok(Table {

@@ -7,7 +7,7 @@ ghost use Rattle.boxes.specs.Boots.{HasBoot};
 use crate::faults::{BoxFault, of_file};
 use boot_file::Uncached;
 use boot_store::{Disk, next_boot};
-use gateway::{Gateway, NoMemory};
+use gateway::{Gateway, Hashers, NoMemory};
 use nat_types::GatewayId;
 use run_faults::text_of;
 use serving::{Stopwatch, serve, spelled_word};
@@ -16,6 +16,7 @@ use std::alloc::Global;
 use std::fs::Files;
 use std::io::Write;
 use std::net::Net;
+use std::random::RandomSource;
 use std::rt::Clock;
 use wires::{Sockets, ports_of, send_once};
 
@@ -35,7 +36,7 @@ where
 /// Runs one gateway for so many rounds, with the settings of the file at a path; where `found`,
 /// gateway 0 founds the pair. The boot number is printed first. The answer is the exit status: 0, or
 /// 1 for a fault, which is told on `errors`.
-pub fn gate<R: Files + Net + Clock + AllocGlobal, O: Write, E: Write>(
+pub fn gate<R: Files + Net + Clock + RandomSource + AllocGlobal, O: Write, E: Write>(
     rt: &R,
     settings: &str,
     id: GatewayId,
@@ -55,9 +56,9 @@ where
     }
 }
 
-/// Faults are found in this order: the settings' file, the settings, the sockets, the boot file. So
-/// a start that is refused for one of the others takes no number.
-fn served<R: Files + Net + Clock + AllocGlobal, O: Write, E: Write>(
+/// Faults are found in this order: the settings' file, the settings, the sockets, the seed of the
+/// table's hashers, the boot file. So a start that is refused for one of the others takes no number.
+fn served<R: Files + Net + Clock + RandomSource + AllocGlobal, O: Write, E: Write>(
     rt: &R,
     settings: &str,
     id: GatewayId,
@@ -86,8 +87,18 @@ where
     Ok(())
 }
 
-/// A gateway in the next boot of its boot file, whose number is printed before anything is sent.
-fn started<R: Files + AllocGlobal, O: Write>(
+/// The hashers of a seed that is drawn now. Where the system refuses a seed, that is told as memory
+/// that it refuses.
+fn drawn<R: RandomSource>(rt: &R) -> Result<Hashers, BoxFault> {
+    match Hashers::drawn(rt) {
+        Ok(hashers) => Ok(hashers),
+        Err(_refused) => Err(BoxFault::from(NoMemory)),
+    }
+}
+
+/// A gateway in the next boot of its boot file, whose number is printed before anything is sent. Its
+/// seed is drawn first, so that a start without one takes no number.
+fn started<R: Files + RandomSource + AllocGlobal, O: Write>(
     rt: &R,
     settings: &Settings,
     id: GatewayId,
@@ -98,9 +109,10 @@ where
     R::File: Uncached,
     requires found { IsTrue found → id ≡ Zero }
 {
+    let hashers = drawn(rt)?;
     let file = settings.gateway(id).boot_file.as_str();
     let mut disk = boot_file::open(rt, file)?;
-    let (boot, gateway) = booted(rt.alloc(), &mut disk, settings, id, found)?;
+    let (boot, gateway) = booted(rt.alloc(), &mut disk, settings, id, found, hashers)?;
     writeln!(output, "boot {boot}")?;
     output.flush()?;
     Ok(gateway)
@@ -114,6 +126,7 @@ fn booted<D: Disk>(
     settings: &Settings,
     id: GatewayId,
     found: bool,
+    hashers: Hashers,
 ) -> Result<(u64, Gateway), BoxFault>
     requires found { IsTrue found → id ≡ Zero }
     ensures own { IfOk result (λ start. HasBoot start.0 start.1) }
@@ -127,7 +140,7 @@ fn booted<D: Disk>(
     ensures honesty { D.honest disk.old ↔ D.honest disk.new }
 {
     let boot = next_boot(disk, found)?;
-    let gateway = begun(alloc, settings, id, boot, found)?;
+    let gateway = begun(alloc, settings, id, boot, found, hashers)?;
     Ok((boot, gateway))
 }
 
@@ -138,12 +151,13 @@ fn begun(
     id: GatewayId,
     boot: u64,
     found: bool,
+    hashers: Hashers,
 ) -> Result<Gateway, NoMemory>
     requires boot { 0 < boot }
     requires found { IsTrue found → id ≡ Zero }
     ensures { IfOk result (HasBoot boot) }
 {
-    Gateway::new(alloc, settings, id, boot, found)
+    Gateway::new(alloc, settings, id, boot, found, hashers)
 }
 
 /// Tells a running gateway that this boot of the other is off. The answer is the exit status: 0, or

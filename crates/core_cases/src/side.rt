@@ -13,7 +13,7 @@ use crate::spelled::{
 use addresses::{Ip, Port, Protocol};
 use anyhow::{Result, bail};
 use arrayvec::ArrayVec;
-use bind_core::Core;
+use bind_core::{Core, Hashers};
 use binding_step::rows_leave;
 use bindings::{PortBounds, Table};
 use link::{Datagram, Link, write};
@@ -64,9 +64,10 @@ fn begin_core(
     requires zero { AreBounds zero }
     requires one { AreBounds one }
 {
+    let hashers = Hashers::fixed();
     match (word, id) {
-        ("founder", GatewayId::Zero) => Ok(Core::founder(alloc, zero, one)?),
-        ("unsynced", _) => Ok(Core::unsynced(alloc, id, zero, one)?),
+        ("founder", GatewayId::Zero) => Ok(Core::founder(alloc, zero, one, hashers)?),
+        ("unsynced", _) => Ok(Core::unsynced(alloc, id, zero, one, hashers)?),
         _ => bail!("no beginning {word}"),
     }
 }

@@ -4,7 +4,7 @@ use crate::letters::spelled;
 use crate::telling::{tell, tell_owned};
 use crate::words;
 use anyhow::{Result, bail};
-use gateway::{Event, Gateway, Out, Outcome, Reason};
+use gateway::{Event, Gateway, Hashers, Out, Outcome, Reason};
 use nat_types::GatewayId;
 use settings::Settings;
 use std::alloc::Global;
@@ -37,7 +37,7 @@ impl Station {
         Ok(Station {
             alloc,
             id,
-            gateway: Gateway::new(alloc, settings, id, boot, found)?,
+            gateway: Gateway::new(alloc, settings, id, boot, found, Hashers::fixed())?,
             last: Vec::new(alloc),
             out: Out::new(alloc),
         })

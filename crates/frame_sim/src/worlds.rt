@@ -15,7 +15,7 @@ use crate::halves::Half;
 use crate::{Step, WorldEvent, WorldFault};
 use addresses::Port;
 use binding_step::books_begin;
-use gateway::{Event, Gateway, NoMemory, Out, Outcome};
+use gateway::{Event, Gateway, Hashers, NoMemory, Out, Outcome};
 use link::one_spelling;
 use nat_types::{GatewayId, Happening, Note, Pair};
 use pair_machine::laws::{
@@ -99,7 +99,8 @@ impl<'a> World<'a> {
         begins();
         books_begin();
         beginnings_account();
-        let gateway = Gateway::new(alloc, settings, GatewayId::Zero, 1, true)?;
+        let hashers = Hashers::fixed();
+        let gateway = Gateway::new(alloc, settings, GatewayId::Zero, 1, true, hashers)?;
         gateway.recall();
         Ok(World {
             alloc,
@@ -328,7 +329,8 @@ impl<'a> World<'a> {
         if !self.may_boot(id, number) {
             return Err(WorldFault::PremiseBroken);
         }
-        let gateway = Gateway::new(self.alloc, self.settings, id, number, false)?;
+        let hashers = Hashers::fixed();
+        let gateway = Gateway::new(self.alloc, self.settings, id, number, false, hashers)?;
         let note = Note {
             by: id,
             at: 0,

@@ -13,7 +13,7 @@ use crate::NoMemory;
 use crate::routers::start_routers;
 use addresses::Port;
 use bind_core::Core;
-use bindings::PortBounds;
+use bindings::{Hashers, PortBounds};
 use forwarder::Forwarder;
 use kept::Kept;
 use link::Link;
@@ -115,6 +115,7 @@ fn begin_unsynced(
     settings: &Settings,
     id: GatewayId,
     boot: u64,
+    hashers: Hashers,
 ) -> Result<Forwarder, NoMemory>
     requires { 0 < boot }
     ensures { IfOk result (λ f. shown_of f ≡ begun settings.now id boot) }
@@ -122,20 +123,25 @@ fn begin_unsynced(
     recall_ranges(settings);
     let zero = bounds_of(settings.ports.zero);
     let one = bounds_of(settings.ports.one);
-    let core = Core::unsynced(alloc, id, zero, one)?;
+    let core = Core::unsynced(alloc, id, zero, one, hashers)?;
     with_core(alloc, settings, id, boot, core)
 }
 
 /// Gateway 0, founded alone: its routers are started.
 #[tactic(auto, unfolding(step_parts::specs::Founding::begun, step_parts::specs::Founding::founded))]
-fn begin_founded(alloc: Global, settings: &Settings, boot: u64) -> Result<Forwarder, NoMemory>
+fn begin_founded(
+    alloc: Global,
+    settings: &Settings,
+    boot: u64,
+    hashers: Hashers,
+) -> Result<Forwarder, NoMemory>
     requires { 0 < boot }
     ensures { IfOk result (λ f. shown_of f ≡ founded settings.now boot) }
 {
     recall_ranges(settings);
     let zero = bounds_of(settings.ports.zero);
     let one = bounds_of(settings.ports.one);
-    let core = Core::founder(alloc, zero, one)?;
+    let core = Core::founder(alloc, zero, one, hashers)?;
     let mut forwarder = with_core(alloc, settings, GatewayId::Zero, boot, core)?;
     start_routers(&mut forwarder);
     Ok(forwarder)
@@ -149,6 +155,7 @@ pub(crate) fn begin(
     id: GatewayId,
     boot: u64,
     found: bool,
+    hashers: Hashers,
 ) -> Result<Forwarder, NoMemory>
     requires { 0 < boot }
     ensures ranges { HasRanges settings.now }
@@ -157,8 +164,8 @@ pub(crate) fn begin(
 {
     recall_ranges(settings);
     if found {
-        begin_founded(alloc, settings, boot)
+        begin_founded(alloc, settings, boot, hashers)
     } else {
-        begin_unsynced(alloc, settings, id, boot)
+        begin_unsynced(alloc, settings, id, boot, hashers)
     }
 }

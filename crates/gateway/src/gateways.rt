@@ -19,6 +19,7 @@ use crate::begins::begin;
 use crate::rooms::entry_count;
 use crate::{NoMemory, Out, steps};
 use addresses::Port;
+use bindings::Hashers;
 use forwarder::Forwarder;
 use nat_types::{GatewayId, Pair, Side};
 use settings::Settings;
@@ -47,13 +48,14 @@ impl Model for Gateway {
 
 impl Gateway {
     /// A gateway in the life of that number. Gateway 0 of a pair that is founded anew is synced at
-    /// once, any other isn't until it is loaded.
+    /// once, any other isn't until it is loaded. Its table hashes endpoints by the caller's hashers.
     pub fn new(
         alloc: Global,
         settings: &Settings,
         id: GatewayId,
         boot: u64,
         found: bool,
+        hashers: Hashers,
     ) -> Result<Gateway, NoMemory>
         requires boot { 0 < boot }
         requires found { IsTrue found → id ≡ Zero }
@@ -62,7 +64,7 @@ impl Gateway {
     {
         beginnings();
         beginnings_settle();
-        let forwarder = begin(alloc, settings, id, boot, found)?;
+        let forwarder = begin(alloc, settings, id, boot, found, hashers)?;
         Ok(Gateway { alloc, forwarder })
     }
 

@@ -15,6 +15,7 @@ mod steps;
 mod ticks;
 mod words;
 
+pub use bindings::Hashers;
 pub use gateways::Gateway;
 pub use memory::NoMemory;
 pub use packet_rules::Reason;

@@ -1,15 +1,19 @@
-//! `gateway_timed COUNT PAIRS..`: what a packet costs a gateway from its frame to the frame that is
-//! sent, over COUNT of each kind, once for each number of pairs. Without words it does nothing.
+//! `gateway_timed packets COUNT PAIRS..`: what a packet costs a gateway from its frame to the frame
+//! that is sent, over COUNT of each kind, once for each number of pairs. `gateway_timed many PAIRS..`:
+//! what so many pairs cost at once. `gateway_timed start`: a gateway starts, and that is all.
+//! Without words it does nothing.
 #![tactic(auto)]
 
+mod many;
 mod packets;
 mod stations;
 
 use addresses::Protocol;
-use anyhow::{Context, Result};
+use anyhow::{Context, Result, bail};
+use many::{Costs, costs_of};
 use nat_types::Side;
 use packets::{Kind, PORTS, frame_of, set_pair};
-use stations::Station;
+use stations::{Station, start};
 use std::env;
 use std::rt::Clock;
 use std::time::Instant;
@@ -67,15 +71,53 @@ fn report<R: Print + Clock + AllocGlobal>(
     Ok(())
 }
 
-fn main(rt: HostRuntime) -> Result<()> {
-    let words = env::args(&rt)?.skip(1).collect::<Vec<String>>(rt.alloc())?;
-    if let Some((count, numbers)) = words.as_slice().split_first() {
-        let count = count.parse::<u32>().context("no count")?;
-        for number in numbers {
-            let pairs = number.parse::<u32>().context("no number of pairs")?;
-            report(&rt, Protocol::Udp, pairs, count)?;
-            report(&rt, Protocol::Tcp, pairs, count)?;
-        }
+/// A line for what so many pairs cost at once.
+fn report_costs<R: Print + Clock + AllocGlobal>(rt: &R, pairs: u32) -> Result<()> {
+    let Costs {
+        opened,
+        idled,
+        loaded,
+        ticks,
+    } = costs_of(rt, pairs)?;
+    println!(rt; "{pairs} pairs opened: {} us", opened.as_micros())?;
+    println!(rt; "{pairs} pairs idle at one tick: {} us", idled.as_micros())?;
+    println!(rt;
+        "{pairs} pairs loaded: {} us, {ticks} ticks",
+        loaded.as_micros()
+    )?;
+    Ok(())
+}
+
+/// Prints what packets cost, for each of the numbers of pairs behind the count.
+fn report_packets<R: Print + Clock + AllocGlobal>(rt: &R, words: &[String]) -> Result<()> {
+    let (count, numbers) = words.split_first().context("there is no count")?;
+    let count = count.parse::<u32>().context("no count")?;
+    for number in numbers {
+        let pairs = number.parse::<u32>().context("no number of pairs")?;
+        report(rt, Protocol::Udp, pairs, count)?;
+        report(rt, Protocol::Tcp, pairs, count)?;
     }
     Ok(())
+}
+
+/// Prints what many pairs cost, for each of the numbers of pairs.
+fn report_all_costs<R: Print + Clock + AllocGlobal>(rt: &R, numbers: &[String]) -> Result<()> {
+    for number in numbers {
+        let pairs = number.parse::<u32>().context("no number of pairs")?;
+        report_costs(rt, pairs)?;
+    }
+    Ok(())
+}
+
+fn main(rt: HostRuntime) -> Result<()> {
+    let words = env::args(&rt)?.skip(1).collect::<Vec<String>>(rt.alloc())?;
+    let Some((command, rest)) = words.as_slice().split_first() else {
+        return Ok(());
+    };
+    match command.as_str() {
+        "packets" => report_packets(&rt, rest),
+        "many" => report_all_costs(&rt, rest),
+        "start" => start(rt.alloc()),
+        _ => bail!("the first word is packets, many or start"),
+    }
 }

@@ -4,13 +4,13 @@
 use crate::packets::{HEADER, Kind, LONGEST, PORTS, frame_of, set_pair};
 use addresses::Protocol;
 use anyhow::{Result, bail};
-use gateway::{Event, Gateway, Out, Outcome};
+use gateway::{Event, Gateway, Hashers, Out, Outcome};
 use nat_types::{GatewayId, Side};
 use settings::Settings;
 use std::alloc::Global;
 
 /// When its routers are Active, in centiseconds.
-const ACTIVE: u64 = 360;
+pub(crate) const ACTIVE: u64 = 360;
 
 /// The bytes of a packet that opens a pair.
 const OPENING: u16 = 44;
@@ -23,14 +23,15 @@ pub(crate) struct Station {
 }
 
 impl Station {
-    /// Gateway 0 in this boot, founded or not.
-    fn new(alloc: Global, boot: u64, found: bool) -> Result<Station> {
-        if boot == 0 {
-            bail!("boots are counted from 1");
+    /// A gateway in this boot, founded or not; the second one can't be founded.
+    pub(crate) fn new(alloc: Global, id: GatewayId, boot: u64, found: bool) -> Result<Station> {
+        if boot == 0 || (found && id == GatewayId::One) {
+            bail!("boots are counted from 1, and the second gateway isn't founded");
         }
         let settings = Settings::sample(alloc)?;
+        let hashers = Hashers::fixed();
         Ok(Station {
-            gateway: Gateway::new(alloc, &settings, GatewayId::Zero, boot, found)?,
+            gateway: Gateway::new(alloc, &settings, id, boot, found, hashers)?,
             out: Out::new(alloc),
         })
     }
@@ -38,7 +39,7 @@ impl Station {
     /// A founded gateway of the sample settings, Active on both sides, with so many pairs: of this
     /// protocol while it has ports, the others of the other one.
     pub(crate) fn ready(alloc: Global, protocol: Protocol, pairs: u32) -> Result<Station> {
-        let mut station = Station::new(alloc, 1, true)?;
+        let mut station = Station::new(alloc, GatewayId::Zero, 1, true)?;
         station.tick(ACTIVE)?;
         station.open(protocol, pairs.min(PORTS))?;
         station.open(other(protocol), pairs.saturating_sub(PORTS))?;
@@ -46,10 +47,29 @@ impl Station {
     }
 
     /// The clock goes on.
-    fn tick(&mut self, moment: u64) -> Result<()> {
+    pub(crate) fn tick(&mut self, moment: u64) -> Result<()> {
         let event = Event::Tick(moment);
         step(&mut self.gateway, event, &mut self.out)?;
         Ok(())
+    }
+
+    /// Takes the datagrams that the other gateway told last. What it tells of its own with the last of them is there then.
+    pub(crate) fn take(&mut self, other: &Station) -> Result<()> {
+        for datagram in other.out.datagrams() {
+            let event = Event::Datagram(datagram);
+            step(&mut self.gateway, event, &mut self.out)?;
+        }
+        Ok(())
+    }
+
+    /// Whether its table is loaded.
+    pub(crate) fn is_synced(&self) -> bool {
+        self.gateway.synced()
+    }
+
+    /// How many pairs it has.
+    pub(crate) fn count(&self) -> Result<usize> {
+        Ok(self.gateway.pairs()?.len())
     }
 
     /// Opens so many pairs, each by a packet of its own.
@@ -95,4 +115,11 @@ fn step(gateway: &mut Gateway, event: Event<'_>, out: &mut Out) -> Result<Outcom
     out.clear();
     let outcome = gateway.step(event, out)?;
     Ok(outcome)
+}
+
+/// A gateway starts, and ends.
+pub(crate) fn start(alloc: Global) -> Result<()> {
+    let station = Station::new(alloc, GatewayId::Zero, 1, true)?;
+    drop(station);
+    Ok(())
 }

@@ -2,7 +2,7 @@
 
 use crate::shown::{Shown, observe};
 use anyhow::{Context, Result, bail};
-use gateway::{Event, Gateway, NoMemory, Out, Outcome};
+use gateway::{Event, Gateway, Hashers, NoMemory, Out, Outcome};
 use nat_types::{GatewayId, Side};
 use settings::Settings;
 use std::alloc::Global;
@@ -104,7 +104,8 @@ fn started(alloc: Global, settings: &Settings, boot: u64, found: bool) -> Result
     if boot == 0 {
         bail!("boots are counted from 1");
     }
-    let gateway = Gateway::new(alloc, settings, GatewayId::Zero, boot, found)?;
+    let hashers = Hashers::fixed();
+    let gateway = Gateway::new(alloc, settings, GatewayId::Zero, boot, found, hashers)?;
     Ok(gateway)
 }
 

@@ -5,7 +5,7 @@ ghost use Rattle.bindings.specs.Table.{AreInRanges};
 
 use addresses::{Ip, Port, Protocol};
 use anyhow::Result;
-use bindings::{PortBounds, Table};
+use bindings::{Hashers, PortBounds, Table};
 use nat_types::{Endpoint, Record};
 use resync::{Loaded, Loading, OutOfPlace};
 use std::alloc::Global;
@@ -25,7 +25,7 @@ impl Loader {
         requires zero { AreBounds zero }
         requires one { AreBounds one }
     {
-        let table = Table::new(alloc, zero, one)?;
+        let table = Table::new(alloc, zero, one, Hashers::fixed())?;
         let loading = Loading::new(zero, one);
         Ok(Loader { table, loading })
     }

@@ -8,7 +8,7 @@ use crate::given::Given;
 use addresses::Port;
 use anyhow::{Result, bail};
 use arrayvec::ArrayVec;
-use bindings::{PortBounds, Table};
+use bindings::{Hashers, PortBounds, Table};
 use nat_types::{EntryState, Key, Pair, Record};
 use resync::Cursor;
 use std::alloc::Global;
@@ -39,7 +39,7 @@ impl Sender {
         requires zero { AreBounds zero }
         requires one { AreBounds one }
     {
-        let table = Table::new(alloc, zero, one)?;
+        let table = Table::new(alloc, zero, one, Hashers::fixed())?;
         let cursor = Cursor::new();
         let mut sender = Sender {
             table,

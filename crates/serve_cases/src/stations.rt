@@ -2,7 +2,7 @@
 
 use crate::memory::{Letter, Memory, Steps};
 use anyhow::{Result, bail};
-use gateway::Gateway;
+use gateway::{Gateway, Hashers};
 use nat_types::GatewayId;
 use serving::serve;
 use settings::Settings;
@@ -109,7 +109,8 @@ fn begun(
     if boot == 0 || (found && id == GatewayId::One) {
         bail!("no such gateway");
     }
-    Ok(Gateway::new(alloc, settings, id, boot, found)?)
+    let hashers = Hashers::fixed();
+    Ok(Gateway::new(alloc, settings, id, boot, found, hashers)?)
 }
 
 /// So many rounds. It says nothing of the gateway either.

@@ -5,7 +5,6 @@ use crate::{EndpointIndex, Hashers, PortSlots};
 use addresses::{Ip, Port, Protocol};
 use nat_types::{Endpoint, Key};
 use std::alloc::{AllocError, Global};
-use std::hash::{BuildHasherDefault, RandomState};
 use std::test::Fail;
 
 fn key(protocol: Protocol, port: u16) -> Key
@@ -64,10 +63,7 @@ fn an_index_has_either_hasher(rt: HostRuntime) -> Result<(), Fail> {
     };
     let mut slots = PortSlots::new(alloc, 1)?;
     let number = slots.insert(key(Protocol::Udp, 20000), 1);
-    for hashers in [
-        Hashers::Fixed(BuildHasherDefault::new()),
-        Hashers::Drawn(RandomState::new(&rt)?),
-    ] {
+    for hashers in [Hashers::fixed(), Hashers::drawn(&rt)?] {
         let mut index = EndpointIndex::new(alloc, hashers);
         index.ready(1)?;
         index.put(endpoint, number);

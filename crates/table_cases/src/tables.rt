@@ -5,7 +5,7 @@ ghost use Rattle.bindings.specs.Ports.{AreBounds};
 use crate::given::Given;
 use addresses::Port;
 use anyhow::{Result, bail};
-use bindings::{Entry, PortBounds, Table};
+use bindings::{Entry, Hashers, PortBounds, Table};
 use nat_types::{EntryState, Pair};
 use std::alloc::Global;
 
@@ -66,7 +66,7 @@ impl TableCase {
         requires zero { AreBounds zero }
         requires one { AreBounds one }
     {
-        let table = Table::new(alloc, zero, one)?;
+        let table = Table::new(alloc, zero, one, Hashers::fixed())?;
         let mut case = TableCase { table, zero, one };
         for port in zero.lowest.0..=zero.highest.0 {
             case.own(Port(port))?;
