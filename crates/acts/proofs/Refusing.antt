@@ -32,8 +32,8 @@ one_id rows i j a b =
 
 -- texts that differ
 apart : (xs ys : List ℕ) → bytes_eq xs ys ≡ false → bytes_eq ys ys ≡ true → xs ≡ ys → ⊥
-apart xs ys no yes same =
-    let bad : false ≡ true = sym no ∙ ap (λ zs. bytes_eq zs ys) same ∙ yes in
+apart xs ys others itself same =
+    let bad : false ≡ true = sym others ∙ ap (λ zs. bytes_eq zs ys) same ∙ itself in
     cc
 
 gates_differ : Zero ≡ One → ⊥
