@@ -74,16 +74,22 @@ where
     let settings = settings_at(rt, settings)?;
     let mut wire = Sockets::bind(rt, rt.alloc(), ports_of(&settings, id))?;
     let mut gateway = started(rt, &settings, id, found, output)?;
+    let ended = rounds_of(rt, &mut gateway, &mut wire, rounds, output, errors);
+    drop(gateway);
+    ended
+}
+
+/// Runs a gateway for so many rounds.
+fn rounds_of<R: Clock + AllocGlobal, O: Write, E: Write>(
+    rt: &R,
+    gateway: &mut Gateway,
+    wire: &mut Sockets,
+    rounds: u32,
+    output: &mut O,
+    errors: &mut E,
+) -> Result<(), BoxFault> {
     let mut clock = Stopwatch::start(rt);
-    serve(
-        rt.alloc(),
-        &mut gateway,
-        &mut wire,
-        &mut clock,
-        rounds,
-        output,
-        errors,
-    )?;
+    serve(rt.alloc(), gateway, wire, &mut clock, rounds, output, errors)?;
     Ok(())
 }
 
@@ -113,9 +119,20 @@ where
     let file = settings.gateway(id).boot_file.as_str();
     let mut disk = boot_file::open(rt, file)?;
     let (boot, gateway) = booted(rt.alloc(), &mut disk, settings, id, found, hashers)?;
+    match announced(output, boot) {
+        Ok(()) => Ok(gateway),
+        Err(fault) => {
+            drop(gateway);
+            Err(fault)
+        }
+    }
+}
+
+/// Prints the number of a boot.
+fn announced<O: Write>(output: &mut O, boot: u64) -> Result<(), BoxFault> {
     writeln!(output, "boot {boot}")?;
     output.flush()?;
-    Ok(gateway)
+    Ok(())
 }
 
 /// The next boot number of a disk, and a gateway in just that boot. Once it is answered, the number
