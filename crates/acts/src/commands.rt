@@ -1,15 +1,19 @@
 //! The commands.
 ghost use Rattle.std.specs.Prelude.{◌≡◌, ◌⊎◌, ◌≤◌, map, string_bytes, IfErr};
-ghost use Rattle.runs.specs.Faults.{status_of};
+ghost use Rattle.run_faults.specs.Faults.{status_of};
+ghost use Rattle.command_line.specs.Tasks.{FoundsAtZero};
+ghost use Rattle.runs.specs.Status.{RunsScript};
 ghost use Rattle.acts.specs.Words.{AreRefused};
+ghost use Rattle.acts.specs.Ends.{AreDone, Ends, HasLoop, HasRun};
 
-use crate::boxes::{gate, peer_off};
-use crate::faults::of_file;
 use crate::meters::Meter;
 use boot_file::Uncached;
+use boxes::{gate, init, peer_off};
 use command_line::{Task, command};
-use loops::{Loopback, run_loop};
-use runs::{Fault, simulate, simulate_watched, text_of};
+use loops::run_loop;
+use passages::Loopback;
+use run_faults::{Fault, text_of};
+use runs::{simulate, simulate_watched};
 use std::fs::Files;
 use std::io::Write;
 use std::net::Net;
@@ -35,36 +39,44 @@ pub fn act<R: Files + Net + Clock + RandomSource + AllocGlobal, O: Write, E: Wri
 where
     R::File: Uncached,
     ensures usage { result ≡ 2 → AreRefused (map string_bytes words.now) }
+    ensures refused { AreRefused (map string_bytes words.now) → (result ≡ 1) ⊎ (result ≡ 2) }
+    ensures done { (result ≡ 0) ⊎ (result ≡ 3) → AreDone (map string_bytes words.now) result }
     ensures most { result ≤ 3 }
 {
     match command(rt.alloc(), words) {
-        Ok(Task::Init(file)) => init(rt, file.as_str(), errors),
-        Ok(Task::Sim(settings, script)) => {
-            let (settings, script) = (settings.as_str(), script.as_str());
-            sim(rt, settings, script, is_watched, output, errors)
-        }
-        Ok(Task::Loop(settings, script)) => {
-            repeat(rt, settings.as_str(), script.as_str(), output, errors)
-        }
-        Ok(Task::Gate(settings, id, rounds, found)) => {
-            gate(rt, settings.as_str(), id, rounds, found, output, errors)
-        }
-        Ok(Task::PeerOff(settings, id, boot)) => {
-            peer_off(rt, settings.as_str(), id, boot, errors)
-        }
+        Ok(task) => done(rt, &task, is_watched, output, errors),
         Err(fault) => fault.tell(errors),
     }
 }
 
-/// Makes a boot file.
-fn init<R: Files, E: Write>(rt: &R, file: &str, errors: &mut E) -> u8
+/// Does a task.
+fn done<R: Files + Net + Clock + RandomSource + AllocGlobal, O: Write, E: Write>(
+    rt: &R,
+    task: &Task,
+    is_watched: bool,
+    output: &mut O,
+    errors: &mut E,
+) -> u8
 where
     R::File: Uncached,
-    ensures status { (result ≡ 0) ⊎ (result ≡ 1) }
+    requires found { FoundsAtZero task.now }
+    ensures status { (result ≡ 0) ⊎ ((result ≡ 1) ⊎ (result ≡ 3)) }
+    ensures done { (result ≡ 0) ⊎ (result ≡ 3) → Ends task.now result }
 {
-    match boot_file::create(rt, file) {
-        Ok(()) => 0,
-        Err(fault) => of_file(fault).tell(errors),
+    match task {
+        Task::Init(file) => init(rt, file.as_str(), errors),
+        Task::Sim(settings, script) => {
+            let (settings, script) = (settings.as_str(), script.as_str());
+            sim(rt, settings, script, is_watched, output, errors)
+        }
+        Task::Loop(settings, script) => {
+            repeat(rt, settings.as_str(), script.as_str(), output, errors)
+        }
+        Task::Gate(settings, id, rounds, found) => {
+            let (settings, id) = (settings.as_str(), *id);
+            gate(rt, settings, id, *rounds, *found, output, errors)
+        }
+        Task::PeerOff(settings, id, boot) => peer_off(rt, settings.as_str(), *id, *boot, errors),
     }
 }
 
@@ -78,17 +90,33 @@ fn sim<R: Files + Clock + AllocGlobal, O: Write, E: Write>(
     errors: &mut E,
 ) -> u8
     ensures status { (result ≡ 0) ⊎ ((result ≡ 1) ⊎ (result ≡ 3)) }
+    ensures run { (result ≡ 0) ⊎ (result ≡ 3) → HasRun result }
 {
     match texts(rt, settings, script) {
         Ok((settings, script)) => {
             let (settings, script) = (settings.as_str(), script.as_str());
-            if is_watched {
-                watched(rt, settings, script, output, errors)
-            } else {
-                simulate(rt.alloc(), settings, script, output, errors)
-            }
+            simulated(rt, settings, script, is_watched, output, errors)
         }
         Err(fault) => fault.tell(errors),
+    }
+}
+
+/// Runs a script.
+fn simulated<R: Clock + AllocGlobal, O: Write, E: Write>(
+    rt: &R,
+    settings: &str,
+    script: &str,
+    is_watched: bool,
+    output: &mut O,
+    errors: &mut E,
+) -> u8
+    ensures status { (result ≡ 0) ⊎ ((result ≡ 1) ⊎ (result ≡ 3)) }
+    ensures run { (result ≡ 0) ⊎ (result ≡ 3) → RunsScript settings.now script.now result }
+{
+    if is_watched {
+        watched(rt, settings, script, output, errors)
+    } else {
+        simulate(rt.alloc(), settings, script, output, errors)
     }
 }
 
@@ -101,6 +129,7 @@ fn watched<R: Clock + AllocGlobal, O: Write, E: Write>(
     errors: &mut E,
 ) -> u8
     ensures status { (result ≡ 0) ⊎ ((result ≡ 1) ⊎ (result ≡ 3)) }
+    ensures run { (result ≡ 0) ⊎ (result ≡ 3) → RunsScript settings.now script.now result }
 {
     let mut meter = Meter::start(rt, errors);
     match simulate_watched(rt.alloc(), settings, script, &mut meter, output) {
@@ -118,6 +147,7 @@ fn repeat<R: Files + Net + Clock + AllocGlobal, O: Write, E: Write>(
     errors: &mut E,
 ) -> u8
     ensures status { (result ≡ 0) ⊎ ((result ≡ 1) ⊎ (result ≡ 3)) }
+    ensures run { (result ≡ 0) ⊎ (result ≡ 3) → HasLoop result }
 {
     match texts(rt, settings, script) {
         Ok((settings, script)) => {

@@ -5,6 +5,7 @@ mod events;
 mod halves;
 mod worlds;
 
-pub use events::{Step, WorldEvent, WorldFault};
+pub use events::{Step, WorldFault};
 pub use trace_words::{AuditFault, audit};
+pub use world_events::WorldEvent;
 pub use worlds::World;

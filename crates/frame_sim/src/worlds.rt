@@ -4,7 +4,7 @@ ghost use Rattle.bindings.specs.Entries.{is_pair, translates};
 ghost use Rattle.trace_words.specs.OneBox.{IsOneBox};
 ghost use Rattle.trace_words.specs.Trace.{Fits, GoesOn, Idle, Kept, Silent};
 ghost use Rattle.told.specs.Told.{none_told, with_note};
-ghost use Rattle.frame_sim.specs.declared.events.WorldEvent.TheVariants as events;
+ghost use Rattle.world_events.specs.declared.events.WorldEvent.TheVariants as events;
 ghost use Rattle.frame_sim.specs.declared.events.WorldFault.TheVariants as faults;
 ghost use Rattle.frame_sim.specs.Events.{TakesAt, datagram_for, may_be_told, may_boot, may_crash};
 ghost use Rattle.frame_sim.specs.Runs.{Answers, AreSteps, fault_of};
@@ -127,6 +127,10 @@ impl<'a> World<'a> {
             GatewayId::One => &self.one,
         }
     }
+
+    /// Ends it, and gives its memory back. A caller that lets a world go by this call alone proves
+    /// nothing of its parts.
+    pub fn end(self) {}
 
     /// Reminds the prover of what each world keeps; it does nothing when it runs.
     pub fn recall(&self)
@@ -339,7 +343,7 @@ impl<'a> World<'a> {
         match note_both(&mut self.trace, out, &note) {
             Ok(()) => {}
             Err(NoMemory) => {
-                drop(gateway);
+                gateway.end();
                 return Err(WorldFault::NoMemory);
             }
         }

@@ -2,8 +2,10 @@
 
 use crate::memory::Memory;
 use anyhow::{Context, Result, bail};
-use loops::{Loopback, Passage, run_loop};
-use runs::{simulate, text_of};
+use loops::run_loop;
+use passages::{Loopback, Passage};
+use run_faults::text_of;
+use runs::simulate;
 use std::io::Write;
 
 /// Prints what the run of a line prints, with the settings of S.toml where it names no others.

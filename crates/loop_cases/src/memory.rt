@@ -1,7 +1,7 @@
 //! A passage in memory.
 
-use loops::{Passage, Passed};
 use nat_types::GatewayId;
+use passages::{Passage, Passed};
 use settings::Settings;
 use wires::{Place, SocketFault};
 

@@ -5,10 +5,10 @@ use Rattle.settings.specs.declared.whole.Settings.{Settings}
 use Rattle.settings_file.specs.Settings.{IsReadFrom}
 use Rattle.wires.specs.declared.sockets.SocketFault.{SocketFault}
 use Rattle.wires.specs.declared.sockets.SocketFault.TheVariants as sockets
-use Rattle.runs.specs.declared.faults.Fault.{Fault}
-use Rattle.runs.specs.declared.faults.Fault.TheVariants.{Words, Setting, BadLine, NoFile, Exists, NotWritten, NotText, NoSocket, NoMemory}
-use Rattle.runs.specs.Script.{first_bad_line}
-use Rattle.runs.specs.Status.{TellsRun}
+use Rattle.run_faults.specs.declared.faults.Fault.{Fault}
+use Rattle.run_faults.specs.declared.faults.Fault.TheVariants.{Words, Setting, BadLine, NoFile, Exists, NotWritten, NotText, NoSocket, NoMemory}
+use Rattle.scripts.specs.Script.{first_bad_line}
+use Rattle.plans.specs.Plans.{TellsRun}
 use Rattle.loops.specs.Loops.{TellsLoop}
 use Rattle.loops.specs.Turns.{of_socket}
 

@@ -3,13 +3,13 @@ use Rattle.std.proofs.Common.{◌≡◌, ◌≢◌, ◌∙◌, ◌||◌, Bool, t
 use Rattle.std.specs.List.{list_any}
 use Rattle.told.specs.Told.{none_told}
 use Rattle.frame_sim.specs.declared.events.Step.{Step}
-use Rattle.frame_sim.specs.declared.events.WorldEvent.{WorldEvent}
+use Rattle.world_events.specs.declared.events.WorldEvent.{WorldEvent}
 use Rattle.frame_sim.specs.World.{World}
 use Rattle.frame_sim.specs.Runs.{Answers, AreSteps}
 use Rattle.runs.specs.Status.{has_refusal}
-use Rattle.loops.specs.declared.passage.Passed.{Passed}
-use Rattle.loops.specs.declared.passage.Passed.TheVariants.{Received, Lost}
-use Rattle.loops.specs.Parcels.{Parcel}
+use Rattle.passages.specs.declared.passage.Passed.{Passed}
+use Rattle.passages.specs.declared.passage.Passed.TheVariants.{Received, Lost}
+use Rattle.passages.specs.Parcels.{Parcel}
 use Rattle.loops.specs.Turns.{AreTurns, HasSent, HasTurned, IsTurn, Passes, TakesTurn, Turn, handed, is_lost, is_refusal, left, lost, received, step_of, steps_in, without}
 
 -- ---- one turn

@@ -1,3 +1,2 @@
-pub mod Parcels
 pub mod Turns
 pub mod Loops

@@ -3,13 +3,14 @@ use Rattle.std.specs.Prelude.{◌≡◌, ℕ, List, None}
 use Rattle.toml.specs.Parse.{parse_document}
 use Rattle.settings.specs.declared.whole.Settings.{Settings}
 use Rattle.settings_file.specs.Settings.{IsReadFrom}
-use Rattle.frame_sim.specs.declared.events.WorldEvent.{WorldEvent}
+use Rattle.world_events.specs.declared.events.WorldEvent.{WorldEvent}
 use Rattle.frame_sim.specs.World.{founding}
-use Rattle.runs.specs.declared.faults.Fault.{Fault}
-use Rattle.runs.specs.declared.faults.Fault.TheVariants.{NoSocket}
-use Rattle.runs.specs.declared.plans.Plan.{Plan}
-use Rattle.runs.specs.Script.{first_bad_line}
-use Rattle.runs.specs.Status.{IsPlanOf, IsRun, TellsRun}
+use Rattle.run_faults.specs.declared.faults.Fault.{Fault}
+use Rattle.run_faults.specs.declared.faults.Fault.TheVariants.{NoSocket}
+use Rattle.plans.specs.declared.plans.Plan.{Plan}
+use Rattle.scripts.specs.Script.{first_bad_line}
+use Rattle.plans.specs.Plans.{IsPlanOf, TellsRun}
+use Rattle.runs.specs.Status.{IsRun}
 use Rattle.loops.specs.Turns.{AreTurns, Passes, Turn, left, steps_in}
 
 -- A run of these events on a new world of these settings, with a passage before and after: each event has its turn, and

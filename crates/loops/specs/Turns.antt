@@ -7,17 +7,17 @@ use Rattle.wires.specs.declared.sockets.SocketFault.{SocketFault}
 use Rattle.wires.specs.declared.sockets.SocketFault.TheVariants as sockets
 use Rattle.told.specs.Told.{none_told}
 use Rattle.frame_sim.specs.declared.events.Step.{Step}
-use Rattle.frame_sim.specs.declared.events.WorldEvent.{WorldEvent}
-use Rattle.frame_sim.specs.declared.events.WorldEvent.TheVariants.{Frame, Deliver}
+use Rattle.world_events.specs.declared.events.WorldEvent.{WorldEvent}
+use Rattle.world_events.specs.declared.events.WorldEvent.TheVariants.{Frame, Deliver}
 use Rattle.frame_sim.specs.World.{World}
 use Rattle.frame_sim.specs.Events.{datagram_for}
 use Rattle.frame_sim.specs.Runs.{Answers}
-use Rattle.runs.specs.declared.faults.Fault.{Fault}
-use Rattle.runs.specs.declared.faults.Fault.TheVariants as faults
+use Rattle.run_faults.specs.declared.faults.Fault.{Fault}
+use Rattle.run_faults.specs.declared.faults.Fault.TheVariants as faults
 use Rattle.runs.specs.Status.{has_refusal}
-use Rattle.loops.specs.declared.passage.Passed.{Passed}
-use Rattle.loops.specs.declared.passage.Passed.TheVariants.{Received, Lost}
-use Rattle.loops.specs.Parcels.{Parcel, parcel_of}
+use Rattle.passages.specs.declared.passage.Passed.{Passed}
+use Rattle.passages.specs.declared.passage.Passed.TheVariants.{Received, Lost}
+use Rattle.passages.specs.Parcels.{Parcel, parcel_of}
 
 -- the fault of ports that aren't had
 abbrev pub of_socket : SocketFault → Fault

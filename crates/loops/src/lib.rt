@@ -1,10 +1,6 @@
-//! Runs a script whose frames and datagrams are first sent through loopback sockets.
+//! Runs a script whose frames and datagrams are first sent through a passage.
 #![tactic(auto)]
 
-mod loopback;
-mod passage;
 mod turns;
 
-pub use loopback::{LIMIT, Loopback};
-pub use passage::{Passage, Passed};
-pub use turns::{play, run_loop};
+pub use turns::{loop_script, play, run_loop};

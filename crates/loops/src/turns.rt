@@ -2,20 +2,24 @@
 ghost use Rattle.std.specs.Prelude.{◌≡◌, ◌⊎◌, ◌||◌, None, IfOk, IfErr, OnOk, IsSome, if◌then◌else◌};
 ghost use Rattle.told.specs.Told.{none_told};
 ghost use Rattle.frame_sim.specs.Runs.{Answers};
-ghost use Rattle.runs.specs.Faults.{status_of};
-ghost use Rattle.runs.specs.Script.{first_bad_line};
-ghost use Rattle.runs.specs.declared.faults.Fault.TheVariants as faults;
+ghost use Rattle.run_faults.specs.Faults.{status_of};
+ghost use Rattle.scripts.specs.Script.{first_bad_line};
+ghost use Rattle.run_faults.specs.declared.faults.Fault.TheVariants as faults;
 ghost use Rattle.loops.specs.Turns.{HasSent, HasTurned, TakesTurn, TakesTurns, handed, is_lost, is_refusal, of_socket};
 ghost use Rattle.loops.specs.Loops.{IsLoop, LoopsScript, TellsLoop};
 
-use crate::{Passage, Passed};
-use frame_sim::{Step, World, WorldEvent};
+use frame_sim::{Step, World};
 use gateway::Out;
-use runs::{Fault, Printer, founded, plan_of, tables};
+use passages::{Passage, Passed};
+use plans::plan_of;
+use printing::Printer;
+use run_faults::Fault;
+use runs::{founded, tables};
 use settings::Settings;
 use std::alloc::Global;
 use std::io::{self, Write};
 use wires::{Place, SocketFault};
+use world_events::WorldEvent;
 
 /// Runs a script as `runs::simulate` does, but each frame and each datagram that an event hands in is first sent
 /// through the passage. Where it is lost, its event is left out: that is printed, and the world doesn't take it.
@@ -34,13 +38,20 @@ pub fn run_loop<P: Passage, O: Write, E: Write>(
     ensures run { (result ≡ 0) ⊎ (result ≡ 3) → LoopsScript P.opens P.passes settings.now
         script.now passage.old passage.new result }
 {
-    match looped(alloc, settings, script, passage, output) {
+    match loop_script(alloc, settings, script, passage, output) {
         Ok(status) => status,
         Err(fault) => fault.tell(errors),
     }
 }
 
-fn looped<P: Passage, O: Write>(
+/// Runs a script as `run_loop` does. The answer is the exit status: 0, or 3 where an event was
+/// refused.
+///
+/// # Errors
+///
+/// The settings' fault, else the script's first bad line, else `NoSocket` where the passage has no
+/// ports; `NotWritten` where output is refused, `NoMemory`.
+pub fn loop_script<P: Passage, O: Write>(
     alloc: Global,
     settings: &str,
     script: &str,
@@ -94,8 +105,14 @@ pub fn play<P: Passage, O: Write>(
     ensures fault { IfErr result
         (λ fault. (fault ≡ faults.NotWritten) ⊎ (fault ≡ faults.NoMemory)) }
 {
-    let mut world = founded(alloc, settings)?;
-    played(alloc, &mut world, events, passage, output)
+    match founded(alloc, settings) {
+        Ok(mut world) => {
+            let status = played(alloc, &mut world, events, passage, output);
+            world.end();
+            status
+        }
+        Err(fault) => Err(Fault::from(fault)),
+    }
 }
 
 /// Runs events on a world, and prints what they gave and its tables.
@@ -171,7 +188,7 @@ fn print<O: Write>(
     step: &Option<Step>,
 ) -> io::Result<()> {
     match step {
-        Some(step) => printer.step(output, event, step),
+        Some(step) => printer.step(output, event, &step.answer, &step.out),
         None => printer.lost(output),
     }
 }

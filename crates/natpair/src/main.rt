@@ -2,7 +2,7 @@
 #![tactic(auto)]
 
 use acts::act;
-use runs::Fault;
+use run_faults::Fault;
 use std::env;
 use std::io::{self, BufWriter, IsTerminal, Write};
 use std::process::ExitCode;

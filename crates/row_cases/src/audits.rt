@@ -1,12 +1,14 @@
 //! The audit of a script's world: whether its trace and tables are those of a pair that keeps its promises.
 
 use anyhow::Result;
-use frame_sim::{AuditFault, World, WorldEvent, audit};
+use frame_sim::{AuditFault, World, audit};
 use nat_types::{GatewayId, Note, Pair};
-use runs::{founded, plan_of};
+use plans::plan_of;
+use runs::founded;
 use settings::Settings;
 use std::alloc::Global;
 use std::io::Write;
+use world_events::WorldEvent;
 
 /// Runs a script, and prints what is wrong once it is run, or that nothing is.
 pub(crate) fn after_all<O: Write>(

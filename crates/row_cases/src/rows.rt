@@ -3,7 +3,8 @@
 use crate::audits::{after_all, after_each};
 use crate::narrow::Narrow;
 use anyhow::{Context, Result, bail};
-use runs::{simulate, text_of};
+use run_faults::text_of;
+use runs::simulate;
 use std::alloc::Global;
 use std::io::Write;
 use std::rt::Files;

@@ -1,3 +1,1 @@
-pub mod Script
-pub mod Faults
 pub mod Status

@@ -1,17 +1,21 @@
 //! A script's run: its events on a new world, their steps and the tables at its end printed.
 ghost use Rattle.std.specs.Prelude.{◌≡◌, ◌⊎◌, None, IfOk, IfErr, OnOk, IsSome};
 ghost use Rattle.frame_sim.specs.Runs.{AreSteps};
-ghost use Rattle.runs.specs.Faults.{status_of};
-ghost use Rattle.runs.specs.Script.{first_bad_line};
-ghost use Rattle.runs.specs.Status.{has_refusal, run_status, IsNew, IsRun, RunsScript, TakesSteps, TellsRun};
-ghost use Rattle.runs.specs.declared.faults.Fault.TheVariants as faults;
+ghost use Rattle.run_faults.specs.Faults.{status_of};
+ghost use Rattle.scripts.specs.Script.{first_bad_line};
+ghost use Rattle.plans.specs.Plans.{TellsRun};
+ghost use Rattle.runs.specs.Status.{has_refusal, run_status, IsNew, IsRun, RunsScript, TakesSteps};
+ghost use Rattle.run_faults.specs.declared.faults.Fault.TheVariants as faults;
 
-use crate::{Fault, PrintFault, Progress, Unwatched, plan_of, printing};
-use frame_sim::{Step, World, WorldEvent};
+use crate::{Progress, Unwatched, shown};
+use frame_sim::{Step, World};
 use gateway::NoMemory;
+use plans::plan_of;
+use run_faults::{Fault, PrintFault};
 use settings::Settings;
 use std::alloc::Global;
 use std::io::Write;
+use world_events::WorldEvent;
 
 /// Runs a script on a new world of the settings that a text in TOML holds, and prints its steps and tables.
 ///
@@ -80,8 +84,14 @@ pub fn play<P: Progress, O: Write>(
     ensures fault { IfErr result
         (λ fault. (fault ≡ faults.NotWritten) ⊎ (fault ≡ faults.NoMemory)) }
 {
-    let mut world = founded(alloc, settings)?;
-    played(alloc, &mut world, events, progress, output)
+    match founded(alloc, settings) {
+        Ok(mut world) => {
+            let status = played(alloc, &mut world, events, progress, output);
+            world.end();
+            status
+        }
+        Err(fault) => Err(Fault::from(fault)),
+    }
 }
 
 /// A new world of these settings.
@@ -105,19 +115,19 @@ fn played<P: Progress, O: Write>(
         (λ fault. (fault ≡ faults.NotWritten) ⊎ (fault ≡ faults.NoMemory)) }
 {
     let steps = steps_of(alloc, world, events, progress)?;
-    shown(world, events, steps.as_slice(), output)?;
+    print(world, events, steps.as_slice(), output)?;
     Ok(status_of(steps.as_slice()))
 }
 
 /// Prints steps, and the tables of the world to which they led.
-fn shown<O: Write>(
+fn print<O: Write>(
     world: &World<'_>,
     events: &[WorldEvent],
     steps: &[Step],
     output: &mut O,
 ) -> Result<(), PrintFault> {
-    printing::steps(output, events, steps)?;
-    printing::tables(output, world)?;
+    shown::steps(output, events, steps)?;
+    shown::tables(output, world)?;
     output.flush()?;
     Ok(())
 }

@@ -1,6 +1,6 @@
 use Rattle.std.proofs.Common.{◌||◌, Bool, refl, sym, subst, take}
 use Rattle.std.proofs.lemmas.List.{take_more}
-use Rattle.frame_sim.specs.declared.events.WorldEvent.{WorldEvent}
+use Rattle.world_events.specs.declared.events.WorldEvent.{WorldEvent}
 use Rattle.loops.specs.Turns.{HasTurned, TakesTurn, is_refusal}
 use Rattle.loops.proofs.Turning.{one_turned}
 use Rattle.loops.proofs.turns.turned.Goals as goal

@@ -1,5 +1,5 @@
 use Rattle.std.proofs.Common.{ℕ, List, IfOk, Result, Ok, Err, subst}
-use Rattle.frame_sim.specs.declared.events.WorldEvent.{WorldEvent}
+use Rattle.world_events.specs.declared.events.WorldEvent.{WorldEvent}
 use Rattle.runs.specs.Status.{IsRun}
 use Rattle.runs.proofs.simulation.simulate_watched.Goals as goal
 

@@ -1,6 +1,0 @@
-use Rattle.acts.proofs.Beginning.{none_failed}
-use Rattle.acts.proofs.boxes.booted.Goals as goal
-
-pub returns-clause-decided : goal.returns-clause-decided
-returns-clause-decided g c h =
-    c.in_ok-boot.ensures.decided h (none_failed _ _ _ _ c.in_ok-boot.ensures.later c.in_ok-boot.ensures.device)

@@ -1,0 +1,33 @@
+//! What a run needs: settings, and events.
+ghost use Rattle.std.specs.Prelude.{◌≡◌, None, IfOk, IfErr, OnOk};
+ghost use Rattle.run_faults.specs.Faults.{status_of};
+ghost use Rattle.scripts.specs.Script.{first_bad_line};
+ghost use Rattle.plans.specs.Plans.{IsPlanOf, TellsRun};
+
+use run_faults::Fault;
+use settings::Settings;
+use std::alloc::Global;
+use world_events::WorldEvent;
+
+/// What a run needs: what the pair is set up with, and what happens to it.
+#[derive(Drop)]
+pub struct Plan {
+    pub settings: Settings,
+    pub events: Vec<WorldEvent>,
+}
+
+/// The plan of two texts: settings in TOML, and a script.
+///
+/// # Errors
+///
+/// The settings' fault, else the script's first bad line; `NoMemory`.
+pub fn plan_of(alloc: Global, settings: &str, script: &str) -> Result<Plan, Fault>
+    ensures plan { IfOk result (IsPlanOf settings.now script.now) }
+    ensures good { OnOk result (first_bad_line script.now ≡ None) }
+    ensures told { IfErr result (TellsRun settings.now script.now) }
+    ensures known { IfErr result (λ fault. status_of fault ≡ 1) }
+{
+    let settings = settings_file::read(alloc, settings)?;
+    let events = scripts::read(alloc, script)?;
+    Ok(Plan { settings, events })
+}
