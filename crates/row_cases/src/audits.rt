@@ -48,7 +48,9 @@ fn fault_after(
     events: &[WorldEvent],
 ) -> Result<Option<AuditFault>> {
     let mut world = founded(alloc, settings)?;
-    fault_behind(alloc, &mut world, events)
+    let fault = fault_behind(alloc, &mut world, events);
+    world.end();
+    fault
 }
 
 /// The number of the first event, from 1, after which something is wrong, and what it is.
@@ -58,7 +60,9 @@ fn first_fault(
     events: &[WorldEvent],
 ) -> Result<Option<(usize, AuditFault)>> {
     let mut world = founded(alloc, settings)?;
-    first_fault_on(alloc, &mut world, events)
+    let fault = first_fault_on(alloc, &mut world, events);
+    world.end();
+    fault
 }
 
 /// The same, of a world that is there.

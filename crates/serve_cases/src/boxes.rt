@@ -9,8 +9,7 @@ use std::alloc::Global;
 use std::io::Write;
 use wires::Place;
 
-/// The boxes that are there.
-#[derive(Drop)]
+/// The boxes that are there. They are let go by `end` alone.
 pub(crate) struct Boxes {
     alloc: Global,
     zero: Option<Station>,
@@ -53,20 +52,33 @@ impl Boxes {
     ) -> Result<()> {
         let id = id_named(id)?;
         let station = Station::new(self.alloc, settings, id, boot, found)?;
-        match id {
-            GatewayId::Zero => self.zero = Some(station),
-            GatewayId::One => self.one = Some(station),
-        }
+        let before = match id {
+            GatewayId::Zero => self.zero.replace(station),
+            GatewayId::One => self.one.replace(station),
+        };
+        end_if_there(before);
         Ok(())
     }
 
     /// A box isn't there any more.
-    pub(crate) fn end(&mut self, id: &str) -> Result<()> {
-        match id_named(id)? {
-            GatewayId::Zero => self.zero = None,
-            GatewayId::One => self.one = None,
-        }
+    pub(crate) fn switch_off(&mut self, id: &str) -> Result<()> {
+        let before = match id_named(id)? {
+            GatewayId::Zero => self.zero.take(),
+            GatewayId::One => self.one.take(),
+        };
+        end_if_there(before);
         Ok(())
+    }
+
+    /// Lets both go.
+    pub(crate) fn end(self) {
+        let Boxes {
+            alloc: _,
+            zero,
+            one,
+        } = self;
+        end_if_there(zero);
+        end_if_there(one);
     }
 
     /// A datagram comes to a box so often.
@@ -96,6 +108,14 @@ impl Boxes {
                 pass_on(letters, &mut self.zero)
             }
         }
+    }
+}
+
+/// Lets a box go, if it is there.
+fn end_if_there(station: Option<Station>) {
+    match station {
+        Some(station) => station.end(),
+        None => {}
     }
 }
 

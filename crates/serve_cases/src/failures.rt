@@ -30,7 +30,9 @@ pub(crate) fn run<O: Write>(
     output: &mut O,
 ) -> Result<()> {
     let mut station = Station::new(alloc, settings, GatewayId::Zero, 1, true)?;
-    fail(&mut station, what, output)
+    let failed = fail(&mut station, what, output);
+    station.end();
+    failed
 }
 
 fn fail<O: Write>(station: &mut Station, what: &str, output: &mut O) -> Result<()> {

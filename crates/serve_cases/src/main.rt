@@ -48,7 +48,7 @@ fn happen<O: Write>(
     match words {
         ["box", boot] => boxes.start(settings, id, boot.parse::<u64>()?, false),
         ["box", boot, "found"] => boxes.start(settings, id, boot.parse::<u64>()?, true),
-        ["off"] => boxes.end(id),
+        ["off"] => boxes.switch_off(id),
         ["come", place, bytes] => boxes.bring(id, place, bytes, 1),
         ["come", place, bytes, count] => boxes.bring(id, place, bytes, count.parse::<u32>()?),
         ["rounds", count, pace] => {
@@ -96,7 +96,9 @@ fn read_settings(rt: &HostRuntime) -> Result<Settings> {
 /// The cases of a text, with no box at first.
 fn run<O: Write>(alloc: Global, settings: &Settings, text: &str, output: &mut O) -> Result<()> {
     let mut boxes = Boxes::new(alloc);
-    answer_all(alloc, settings, &mut boxes, text, output)
+    let answered = answer_all(alloc, settings, &mut boxes, text, output);
+    boxes.end();
+    answered
 }
 
 fn main(rt: HostRuntime) -> Result<()> {

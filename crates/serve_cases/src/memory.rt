@@ -54,7 +54,8 @@ impl Memory {
 
     /// The next datagram that is to come, if one is.
     fn next(&mut self, room: &mut [u8; LONGEST]) -> Option<(Place, usize)>
-        ensures { IfSome result (λ datagram. datagram.1 ≤ 4096) }
+        ensures within { IfSome result (λ datagram. datagram.1 ≤ 4096) }
+        ensures answers { self.new.answers ≡ self.old.answers }
     {
         let letter = self.coming.get(self.come)?;
         self.come = self.come.saturating_add(1);

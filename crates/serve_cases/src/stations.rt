@@ -10,8 +10,7 @@ use std::alloc::Global;
 use std::io::{self, Write};
 use wires::{Failing, Place, Wire};
 
-/// A gateway with its wire and its clock.
-#[derive(Drop)]
+/// A gateway with its wire and its clock. It is let go by `end` alone.
 pub(crate) struct Station {
     gateway: Gateway,
     pub(crate) wire: Memory,
@@ -35,6 +34,18 @@ impl Station {
             wire,
             clock,
         })
+    }
+
+    /// Lets it go.
+    pub(crate) fn end(self) {
+        let Station {
+            gateway,
+            wire,
+            clock,
+        } = self;
+        gateway.end();
+        drop(wire);
+        drop(clock);
     }
 
     /// A datagram comes.
