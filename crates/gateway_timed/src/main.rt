@@ -80,7 +80,7 @@ fn report<R: Print + Clock + AllocGlobal>(
 ) -> Result<()> {
     let mut station = Station::ready(rt.alloc(), protocol, pairs)?;
     let reported = report_kinds(rt, &mut station, protocol, pairs, count);
-    drop(station);
+    station.end();
     reported
 }
 

@@ -44,7 +44,7 @@ fn open_and_idle<R: Clock + AllocGlobal>(rt: &R, pairs: u32) -> Result<(Duration
     let mut station = Station::ready(rt.alloc(), Protocol::Udp, pairs)?;
     let opened = start.elapsed(rt);
     let idled = idle(rt, &mut station);
-    drop(station);
+    station.end();
     Ok((opened?, idled?))
 }
 
@@ -56,7 +56,6 @@ fn tick_both_hear(own: &mut Station, other: &mut Station, moment: u64) -> Result
 }
 
 /// A gateway with pairs, and one that starts with an empty table.
-#[derive(Drop)]
 struct Both {
     zero: Station,
     one: Station,
@@ -68,10 +67,16 @@ impl Both {
         match Station::new(alloc, GatewayId::One, 1, false) {
             Ok(one) => Ok(Both { zero, one }),
             Err(fault) => {
-                drop(zero);
+                zero.end();
                 Err(fault)
             }
         }
+    }
+
+    fn end(self) {
+        let Both { zero, one } = self;
+        zero.end();
+        one.end();
     }
 
     /// Ticks of both until the second one is synced; how many.
@@ -103,7 +108,7 @@ impl Both {
 fn loaded<R: Clock + AllocGlobal>(rt: &R, pairs: u32) -> Result<(Duration, u32)> {
     let mut both = Both::ready(rt.alloc(), pairs)?;
     let loaded = both.load_timed(rt);
-    drop(both);
+    both.end();
     loaded
 }
 

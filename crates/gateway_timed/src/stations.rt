@@ -15,8 +15,7 @@ pub(crate) const ACTIVE: u64 = 360;
 /// The bytes of a packet that opens a pair.
 const OPENING: u16 = 44;
 
-/// A gateway, and what it told last.
-#[derive(Drop)]
+/// A gateway, and what it told last. It goes by `end`.
 pub(crate) struct Station {
     gateway: Gateway,
     out: Out,
@@ -30,10 +29,16 @@ impl Station {
         }
         let settings = Settings::sample(alloc)?;
         let hashers = Hashers::fixed();
-        Ok(Station {
-            gateway: Gateway::new(alloc, &settings, id, boot, found, hashers)?,
-            out: Out::new(alloc),
-        })
+        let gateway = Gateway::new(alloc, &settings, id, boot, found, hashers)?;
+        let out = Out::new(alloc);
+        Ok(Station { gateway, out })
+    }
+
+    /// Ends its gateway, and gives its memory back.
+    pub(crate) fn end(self) {
+        let Station { gateway, out } = self;
+        gateway.end();
+        drop(out);
     }
 
     /// A founded gateway of the sample settings, Active on both sides, with so many pairs: of this
@@ -43,7 +48,7 @@ impl Station {
         match station.fill(protocol, pairs) {
             Ok(()) => Ok(station),
             Err(fault) => {
-                drop(station);
+                station.end();
                 Err(fault)
             }
         }
@@ -130,6 +135,6 @@ fn step(gateway: &mut Gateway, event: Event<'_>, out: &mut Out) -> Result<Outcom
 /// A gateway starts, and ends.
 pub(crate) fn start(alloc: Global) -> Result<()> {
     let station = Station::new(alloc, GatewayId::Zero, 1, true)?;
-    drop(station);
+    station.end();
     Ok(())
 }
