@@ -20,10 +20,16 @@ fn text_of<R: Files + AllocGlobal>(rt: &R, name: &str) -> Result<String> {
     }
 }
 
-/// What the lines of a text say, at a founded gateway. A line is empty, begins with `#`, or is one
-/// of `Station::act`.
+/// What the lines of a text say, at a founded gateway.
 fn play<O: Write>(alloc: Global, text: &str, output: &mut O) -> Result<()> {
     let mut station = Station::new(alloc, 1, true)?;
+    let played = play_lines(&mut station, text, output);
+    station.end();
+    played
+}
+
+/// Does what each line says. A line is empty, begins with `#`, or is one of `Station::act`.
+fn play_lines<O: Write>(station: &mut Station, text: &str, output: &mut O) -> Result<()> {
     for line in text.lines() {
         if line.is_empty() || line.starts_with("#") {
             continue;

@@ -8,8 +8,7 @@ use settings::Settings;
 use std::alloc::Global;
 use std::io::Write;
 
-/// A gateway, and what it told.
-#[derive(Drop)]
+/// A gateway, and what it told. It goes by `end`.
 pub(crate) struct Station {
     alloc: Global,
     gateway: Gateway,
@@ -33,6 +32,17 @@ impl Station {
             gateway,
             out,
         })
+    }
+
+    /// Ends its gateway, and gives its memory back.
+    pub(crate) fn end(self) {
+        let Station {
+            alloc: _,
+            gateway,
+            out,
+        } = self;
+        gateway.end();
+        drop(out);
     }
 
     /// Does what a line says, and prints what comes of a step.
