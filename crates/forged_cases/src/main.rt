@@ -11,19 +11,36 @@ use anyhow::{Context, Result, bail};
 use settings::Settings;
 use stations::Station;
 use std::io::{self, BufWriter, Write};
-use std::{env, fs};
+use std::{env, fs, mem};
 
-/// What the lines so far have set up.
-#[derive(Drop)]
+/// What the lines so far have set up. It goes by `end`.
 struct Desk {
     settings: Option<Settings>,
     station: Option<Station>,
 }
 
+impl Desk {
+    /// A gateway takes the place of the one before.
+    fn place(&mut self, station: Station) {
+        if let Some(before) = mem::replace(&mut self.station, Some(station)) {
+            before.end();
+        }
+    }
+
+    fn end(self) {
+        let Desk { settings, station } = self;
+        drop(settings);
+        if let Some(station) = station {
+            station.end();
+        }
+    }
+}
+
 /// A gateway starts, by the settings of the line `settings` before.
 fn start(rt: &HostRuntime, desk: &mut Desk, id: &str, boot: &str, found: bool) -> Result<()> {
     let settings = desk.settings.as_ref().context("there are no settings")?;
-    desk.station = Some(Station::new(rt.alloc(), settings, id, boot, found)?);
+    let station = Station::new(rt.alloc(), settings, id, boot, found)?;
+    desk.place(station);
     Ok(())
 }
 
@@ -77,18 +94,30 @@ fn happen<O: Write>(
     }
 }
 
-/// Each line of a file, and what comes of it. A line is empty, begins with `#`, or is one of `act`.
+/// Each line of a file, and what comes of it.
 fn answer<O: Write>(rt: &HostRuntime, text: &str, output: &mut O) -> Result<()> {
     let mut desk = Desk {
         settings: None,
         station: None,
     };
+    let answered = answer_lines(rt, &mut desk, text, output);
+    desk.end();
+    answered
+}
+
+/// A line is empty, begins with `#`, or is one of `act`.
+fn answer_lines<O: Write>(
+    rt: &HostRuntime,
+    desk: &mut Desk,
+    text: &str,
+    output: &mut O,
+) -> Result<()> {
     for line in text.lines() {
         if line.is_empty() || line.starts_with("#") {
             continue;
         }
         writeln!(output, "{line}")?;
-        act(rt, &mut desk, line, output)?;
+        act(rt, desk, line, output)?;
     }
     Ok(())
 }

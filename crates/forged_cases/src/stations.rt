@@ -10,8 +10,7 @@ use settings::Settings;
 use std::alloc::Global;
 use std::io::Write;
 
-/// A gateway, and the datagram that came to it last.
-#[derive(Drop)]
+/// A gateway, and the datagram that came to it last. It goes by `end`.
 pub(crate) struct Station {
     alloc: Global,
     id: GatewayId,
@@ -34,13 +33,28 @@ impl Station {
         if boot == 0 || (found && id == GatewayId::One) {
             bail!("no such gateway");
         }
+        let gateway = Gateway::new(alloc, settings, id, boot, found, Hashers::fixed())?;
         Ok(Station {
             alloc,
             id,
-            gateway: Gateway::new(alloc, settings, id, boot, found, Hashers::fixed())?,
+            gateway,
             last: Vec::new(alloc),
             out: Out::new(alloc),
         })
+    }
+
+    /// Ends its gateway, and gives its memory back.
+    pub(crate) fn end(self) {
+        let Station {
+            alloc: _,
+            id: _,
+            gateway,
+            last,
+            out,
+        } = self;
+        gateway.end();
+        drop(last);
+        drop(out);
     }
 
     /// The clock goes on.
