@@ -64,23 +64,30 @@ fn answer(side: &mut Option<Side>, given: &mut Given<'_>) -> Result<String> {
     Ok(out)
 }
 
-/// The lines for the cases of a file.
-fn answers(alloc: Global, text: &str) -> Result<String> {
+/// The lines for the cases of a file, whose calls are of one core after another.
+fn answer_lines(alloc: Global, text: &str, side: &mut Option<Side>) -> Result<String> {
     let mut out = String::new(alloc);
-    let mut side = None;
     for line in text.lines() {
         if line.is_empty() || line.starts_with("#") {
             continue;
         }
         let words = line.split_whitespace().collect::<Vec<&str>>(alloc)?;
         let mut given = Given::new(alloc, words.as_slice());
-        match answer(&mut side, &mut given) {
+        match answer(side, &mut given) {
             Ok(answer) if answer.is_empty() => writeln!(out, "{line}: nothing")?,
             Ok(answer) => writeln!(out, "{line}: {answer}")?,
             Err(refusal) => writeln!(out, "{line}: refused, {refusal}")?,
         }
     }
     Ok(out)
+}
+
+/// The lines for the cases of a file.
+fn answers(alloc: Global, text: &str) -> Result<String> {
+    let mut side = None;
+    let answers = answer_lines(alloc, text, &mut side);
+    drop(side);
+    answers
 }
 
 fn main(rt: HostRuntime) -> Result<()> {
