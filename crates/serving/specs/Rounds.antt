@@ -1,30 +1,41 @@
--- The rounds of a box, by what its gateway shows, what its wire has answered, and how many events were left out.
-use Rattle.std.specs.Prelude.{◌≡◌, ◌<◌, ◌⊎◌, ◌+◌, ◌++◌, ℕ, zero, suc, false, List, [], ◌∷◌, length}
+-- The rounds of a box, by what its gateway shows, what its wire has answered and was offered, and how many events were
+-- left out.
+use Rattle.std.specs.Prelude.{◌≡◌, ◌<◌, ◌⊎◌, ◌+◌, ◌++◌, ℕ, zero, suc, false, List, [], ◌∷◌, length, map}
 use Rattle.std.specs.Borrow.{Bor}
 use Rattle.std.specs.List.{list_any}
-use Rattle.wires.specs.Letters.{Answer, Letter, is_nothing, letters_of, nothing}
-use Rattle.told.specs.Told.{Told, none_told}
+use Rattle.wires.specs.declared.places.Place.TheVariants.{Link, Side}
+use Rattle.wires.specs.Letters.{Answer, Letter, is_nothing, letter, letters_of, nothing}
+use Rattle.told.specs.Told.{Sent, Told, none_told}
 use Rattle.step_parts.specs.declared.events.Event.{Event}
 use Rattle.step_parts.specs.declared.events.Event.TheVariants.{Tick}
 use Rattle.step_parts.specs.Shown.{Shown, scene}
 use Rattle.step_parts.specs.Steps.{IsStepOn}
 use Rattle.serving.specs.Letters.{event_of}
 
--- what an event changes: a gateway, and how many events were left out
+-- what an event changes: a gateway, what was offered to its wire, and how many events were left out
 pub record State : Type 0 where
   pub shown : Shown
+  pub offered : List Letter
   pub left_out : ℕ
 
-abbrev pub state : Shown → ℕ → State
-state g left_out = record { shown = g; left_out = left_out }
+abbrev pub state : Shown → List Letter → ℕ → State
+state g offered left_out = record { shown = g; offered = offered; left_out = left_out }
 
 -- the same, and what its wire has answered
 pub record Box : Type 0 where
   pub state : State
   pub answers : List Answer
 
-abbrev pub box : Shown → List Answer → ℕ → Box
-box g answers left_out = record { state = state g left_out; answers = answers }
+abbrev pub box : Shown → List Answer → List Letter → ℕ → Box
+box g answers offered left_out = record { state = state g offered left_out; answers = answers }
+
+-- a frame goes to the wire of its side
+abbrev pub of_frame : Sent → Letter
+of_frame frame = letter (Side frame.side) frame.bytes
+
+-- what is sent of what was told: the frames, and then the datagrams by the link
+abbrev pub letters_told : Told → List Letter
+letters_told told = map of_frame told.frames ++ map (letter Link) told.datagrams
 
 -- the event that a letter is to a gateway
 pub record Brings (letter : Letter) (event : Event) : Type 0 where
@@ -32,11 +43,19 @@ pub record Brings (letter : Letter) (event : Event) : Type 0 where
   pub whole : bytes.now ≡ letter.bytes
   pub is : event ≡ event_of letter.place bytes
 
--- an event is taken by a step; or memory was refused, nothing has changed, and one event more was left out
+-- an event is taken by a step, and what it tells is offered to the wire
+pub record Steps (s : State) (event : Event) (s2 : State) : Type 0 where
+  pub told : Told
+  pub step : IsStepOn (scene s.shown none_told) event (scene s2.shown told)
+  pub offered : s2.offered ≡ s.offered ++ letters_told told
+  pub counted : s2.left_out ≡ s.left_out
+
+-- memory was refused: nothing has changed, nothing is offered, and one event more was left out
+abbrev pub LeavesOut : State → State → Type 0
+LeavesOut s s2 = s2 ≡ record s { left_out = s.left_out + 1 }
+
 abbrev pub Takes : State → Event → State → Type 0
-Takes s event s2 =
-    ((told : Told) × (IsStepOn (scene s.shown none_told) event (scene s2.shown told) × (s2.left_out ≡ s.left_out)))
-    ⊎ ((s2.shown ≡ s.shown) × (s2.left_out ≡ s.left_out + 1))
+Takes s event s2 = Steps s event s2 ⊎ LeavesOut s s2
 
 -- a letter is taken as its event
 pub record TakesLetter (s : State) (letter : Letter) (s2 : State) : Type 0 where

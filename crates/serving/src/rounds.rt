@@ -1,7 +1,10 @@
 //! The rounds of a box.
-ghost use Rattle.std.specs.Prelude.{◌≡◌, IfOk, OnOk, codes};
+ghost use Rattle.std.specs.Prelude.{◌≡◌, ◌++◌, IfOk, OnOk, codes, map};
+ghost use Rattle.wires.specs.Letters.{letter};
+ghost use Rattle.wires.specs.declared.places.Place.TheVariants.{Link};
 ghost use Rattle.std.specs.Io.KnownBytes.{Appends};
-ghost use Rattle.serving.specs.Rounds.{AreRounds, IsRound, Takes, box, state};
+ghost use Rattle.serving.specs.Rounds.{AreRounds, IsRound, Takes, box, letters_told, of_frame};
+ghost use Rattle.serving.specs.Rounds.{state};
 ghost use Rattle.serving.specs.Polls.{Asks, HasPolled};
 
 use crate::Clockwork;
@@ -51,8 +54,8 @@ pub fn serve<W: Wire, C: Clockwork, O: Write, E: Write>(
     errors: &mut E,
 ) -> io::Result<LeftOut>
     ensures rounds { IfOk result (λ left. AreRounds C.reads rounds
-        (box gateway.old (W.answers wire.old) 0) clock.old
-        (box gateway.new (W.answers wire.new) left) clock.new) }
+        (box gateway.old (W.answers wire.old) (W.offered wire.old) 0) clock.old
+        (box gateway.new (W.answers wire.new) (W.offered wire.new) left) clock.new) }
     ensures ended { OnOk result
         (Appends (O.contents output.old) (O.contents output.new) (codes "end\n")) }
 {
@@ -79,8 +82,8 @@ fn round<W: Wire, C: Clockwork, E: Write>(
     desk: &mut Desk,
     errors: &mut E,
 )
-    ensures { IsRound C.reads (box gateway.old (W.answers wire.old) desk.old.left) clock.old
-        (box gateway.new (W.answers wire.new) desk.new.left) clock.new }
+    ensures { IsRound C.reads (box gateway.old (W.answers wire.old) (W.offered wire.old) desk.old.left) clock.old
+        (box gateway.new (W.answers wire.new) (W.offered wire.new) desk.new.left) clock.new }
 {
     take_what_comes(gateway, wire, room, desk, errors);
     let tick = Event::Tick(clock.moment());
@@ -95,8 +98,8 @@ fn take_what_comes<W: Wire, E: Write>(
     desk: &mut Desk,
     errors: &mut E,
 )
-    ensures { HasPolled 256 (box gateway.old (W.answers wire.old) desk.old.left)
-        (box gateway.new (W.answers wire.new) desk.new.left) }
+    ensures { HasPolled 256 (box gateway.old (W.answers wire.old) (W.offered wire.old) desk.old.left)
+        (box gateway.new (W.answers wire.new) (W.offered wire.new) desk.new.left) }
 {
     let mut limit = Duration::from_millis(WAIT);
     for _ in 0..MOST {
@@ -116,8 +119,8 @@ fn take_next<W: Wire, E: Write>(
     desk: &mut Desk,
     errors: &mut E,
 ) -> bool
-    ensures { Asks (box gateway.old (W.answers wire.old) desk.old.left) result
-        (box gateway.new (W.answers wire.new) desk.new.left) }
+    ensures { Asks (box gateway.old (W.answers wire.old) (W.offered wire.old) desk.old.left) result
+        (box gateway.new (W.answers wire.new) (W.offered wire.new) desk.new.left) }
 {
     match wire.receive(limit, room) {
         Ok(Some((place, count))) => {
@@ -138,8 +141,8 @@ fn hand_in<W: Wire, E: Write>(
     desk: &mut Desk,
     errors: &mut E,
 )
-    ensures taken { Takes (state gateway.old desk.old.left) event.entry
-        (state gateway.new desk.new.left) }
+    ensures taken { Takes (state gateway.old (W.offered wire.old) desk.old.left) event.entry
+        (state gateway.new (W.offered wire.new) desk.new.left) }
     ensures answers { W.answers wire.new ≡ W.answers wire.old }
 {
     desk.out.clear();
@@ -153,13 +156,29 @@ fn hand_in<W: Wire, E: Write>(
     desk.view = view;
 }
 
-/// Sends what was told: the frames by the wires of their sides, the datagrams by the link.
+/// Sends what was told: the frames by the wires of their sides, then the datagrams by the link.
 fn send_all<W: Wire>(wire: &mut W, out: &Out)
-    ensures { W.answers wire.new ≡ W.answers wire.old }
+    ensures answers { W.answers wire.new ≡ W.answers wire.old }
+    ensures offered { W.offered wire.new ≡ W.offered wire.old ++ letters_told out.now }
+{
+    send_frames(wire, out);
+    send_datagrams(wire, out);
+}
+
+fn send_frames<W: Wire>(wire: &mut W, out: &Out)
+    ensures answers { W.answers wire.new ≡ W.answers wire.old }
+    ensures offered { W.offered wire.new ≡ W.offered wire.old ++ map of_frame out.now.frames }
 {
     for frame in out.frames() {
         let _lost = wire.send(Place::Side(frame.side), frame.bytes);
     }
+}
+
+fn send_datagrams<W: Wire>(wire: &mut W, out: &Out)
+    ensures answers { W.answers wire.new ≡ W.answers wire.old }
+    ensures offered { W.offered wire.new ≡ W.offered wire.old
+        ++ map (letter Link) out.now.datagrams }
+{
     for datagram in out.datagrams() {
         let _lost = wire.send(Place::Link, datagram);
     }

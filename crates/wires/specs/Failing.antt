@@ -1,10 +1,11 @@
 -- A wire of which a call fails.
 use Rattle.std.specs.Prelude.{ℕ, List}
 use Rattle.std.specs.Borrow.{MutBor}
-use Rattle.wires.specs.Letters.{Answer}
+use Rattle.wires.specs.Letters.{Answer, Letter}
 
--- the wire below, how many calls there are up to the one that fails, and what was answered above it
+-- the wire below, how many calls there are up to the one that fails, and what was answered and offered above it
 pub record Faulty (W : Type 0) : Type 0 where
   pub wire : MutBor W
   pub left : ℕ
   pub answers : List Answer
+  pub offered : List Letter

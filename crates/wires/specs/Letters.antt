@@ -7,6 +7,9 @@ pub record Letter : Type 0 where
   pub place : Place
   pub bytes : List ℕ
 
+abbrev pub letter : Place → List ℕ → Letter
+letter place bytes = record { place = place; bytes = bytes }
+
 -- what a wire that is asked for the next datagram answers
 pub data Answer : Type 0 where
   came : Letter → Answer

@@ -2,3 +2,4 @@ pub mod Ports
 pub mod Letters
 pub mod Answers
 pub mod Failing
+pub mod Offers

@@ -2,11 +2,13 @@
 #![tactic(auto)]
 
 mod answers;
+mod offers;
 mod places;
 mod sockets;
 mod wire;
 
 pub use answers::Answers;
+pub use offers::Offers;
 pub use places::{Place, Ports, ports_of};
 pub use sockets::{SocketFault, Sockets, send_once};
 pub use wire::{Failing, LONGEST, Wire, WireFault};

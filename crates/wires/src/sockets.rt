@@ -2,7 +2,7 @@
 ghost use Rattle.std.specs.Prelude.{◌≡◌, ◌≤◌, [], IfOk, IfSome};
 
 use crate::wire::{LONGEST, Wire, WireFault};
-use crate::{Answers, Place, Ports};
+use crate::{Answers, Offers, Place, Ports};
 use mio::net::UdpSocket;
 use mio::{Events, Interest, Poll, Token};
 use nat_types::Side;
@@ -202,6 +202,7 @@ fn after(place: Place) -> Place {
 pub struct Sockets {
     trio: Trio,
     answers: Answers,
+    offers: Offers,
 }
 
 impl Sockets {
@@ -211,11 +212,13 @@ impl Sockets {
     ///
     /// `NoSocket` where a port can't be had, `NoMemory`.
     pub fn bind<R: Net>(net: &R, alloc: Global, ports: Ports) -> Result<Sockets, SocketFault>
-        ensures { IfOk result (λ s. ⟦<Sockets as Wire>⟧.answers s ≡ []) }
+        ensures answers { IfOk result (λ s. ⟦<Sockets as Wire>⟧.answers s ≡ []) }
+        ensures offered { IfOk result (λ s. ⟦<Sockets as Wire>⟧.offered s ≡ []) }
     {
         Ok(Sockets {
             trio: Trio::bind(net, alloc, ports)?,
             answers: Answers::none(),
+            offers: Offers::none(),
         })
     }
 }
@@ -223,7 +226,10 @@ impl Sockets {
 impl Wire for Sockets {
     ghost answers = { λ s. s.answers };
 
+    ghost offered = { λ s. s.offers };
+
     fn send(&mut self, to: Place, bytes: &[u8]) -> Result<(), WireFault> {
+        self.offers.keep(to, bytes);
         self.trio.send(to, bytes).map_err(|_| WireFault)
     }
 

@@ -1,8 +1,8 @@
 //! What a box sends datagrams to and receives them from.
 ghost use Rattle.std.specs.Prelude.{◌≡◌, ◌≤◌, ◌++◌, ◌∷◌, [], ◌-◌, ◌==◌, List, IfOk, IfSome};
-ghost use Rattle.wires.specs.Letters.{Answer, answer_of};
+ghost use Rattle.wires.specs.Letters.{Answer, Letter, answer_of, letter};
 
-use crate::{Answers, Place};
+use crate::{Answers, Offers, Place};
 use std::marker::Model;
 use std::time::Duration;
 
@@ -19,9 +19,13 @@ pub trait Wire {
     /// What was answered each time that a datagram was asked for, in order.
     ghost answers: { Self → List Answer };
 
+    /// What was to be sent, in order, also what is lost.
+    ghost offered: { Self → List Letter };
+
     /// Sends a datagram. After an Err it is lost.
     fn send(&mut self, to: Place, bytes: &[u8]) -> Result<(), WireFault>
-        ensures answers { answers self.new ≡ answers self.old };
+        ensures answers { answers self.new ≡ answers self.old }
+        ensures offered { offered self.new ≡ offered self.old ++ letter to bytes.now ∷ [] };
 
     /// The next datagram of any place: where it came from, and how many bytes of `room` it has. Where none is there, one
     /// is waited for until `limit` has passed; a limit of 0 doesn't wait. After an Err nothing was received.
@@ -32,7 +36,8 @@ pub trait Wire {
     ) -> Result<Option<(Place, usize)>, WireFault>
         ensures within { IfOk result (λ found. IfSome found (λ datagram. datagram.1 ≤ 4096)) }
         ensures answers { answers self.new
-            ≡ answers self.old ++ answer_of result room.new ∷ [] };
+            ≡ answers self.old ++ answer_of result room.new ∷ [] }
+        ensures offered { offered self.new ≡ offered self.old };
 }
 
 /// A wire whose call with a given number, counted from 1 over both its calls, fails; all others are those of the
@@ -42,6 +47,7 @@ pub struct Failing<'a, W> {
     wire: &'a mut W,
     left: u64,
     answers: Answers,
+    offers: Offers,
 }
 
 impl<'a, W> Model for Failing<'a, W> {
@@ -49,18 +55,29 @@ impl<'a, W> Model for Failing<'a, W> {
 
     ghost Value = { Faulty W };
 
-    ghost view = { λ f. record { wire = f.wire; left = f.left; answers = f.answers } };
+    ghost view = { λ f. record {
+      wire = f.wire;
+      left = f.left;
+      answers = f.answers;
+      offered = f.offers;
+    } };
 }
 
 impl<'a, W: Wire> Failing<'a, W> {
     /// Fails at the call with this number; at none where it is 0.
     pub fn new(wire: &'a mut W, number: u64) -> Failing<'a, W>
-        ensures { result ≡ record { wire = wire.entry; left = number; answers = [] } }
+        ensures { result ≡ record {
+          wire = wire.entry;
+          left = number;
+          answers = [];
+          offered = [];
+        } }
     {
         Failing {
             wire,
             left: number,
             answers: Answers::none(),
+            offers: Offers::none(),
         }
     }
 
@@ -82,6 +99,7 @@ impl<'a, W: Wire> Failing<'a, W> {
     ) -> Result<Option<(Place, usize)>, WireFault>
         ensures within { IfOk result (λ found. IfSome found (λ datagram. datagram.1 ≤ 4096)) }
         ensures answers { self.new.answers ≡ self.old.answers }
+        ensures offered { self.new.offered ≡ self.old.offered }
     {
         if self.fails() {
             return Err(WireFault);
@@ -93,7 +111,10 @@ impl<'a, W: Wire> Failing<'a, W> {
 impl<W: Wire> Wire for Failing<'_, W> {
     ghost answers = { λ f. f.answers };
 
+    ghost offered = { λ f. f.offered };
+
     fn send(&mut self, to: Place, bytes: &[u8]) -> Result<(), WireFault> {
+        self.offers.keep(to, bytes);
         if self.fails() {
             return Err(WireFault);
         }
