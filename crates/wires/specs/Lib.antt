@@ -2,4 +2,5 @@ pub mod Ports
 pub mod Letters
 pub mod Answers
 pub mod Failing
+pub mod Bytes
 pub mod Offers

@@ -7,4 +7,4 @@ use Rattle.wires.specs.declared.offers.Offer.{Offer}
 -- what was offered before the last, and then it
 abbrev pub all_offered : Option (Offer × Snapshot (List Letter)) → List Letter
 all_offered None = []
-all_offered (Some last) = last.1.value ++ letter last.0.place last.0.bytes.value ∷ []
+all_offered (Some last) = last.1.value ++ letter last.0.place last.0.bytes ∷ []

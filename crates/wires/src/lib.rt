@@ -2,6 +2,7 @@
 #![tactic(auto)]
 
 mod answers;
+mod bytes;
 mod offers;
 mod places;
 mod sockets;

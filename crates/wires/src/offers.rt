@@ -3,6 +3,7 @@ ghost use Rattle.std.specs.Prelude.{◌≡◌, ◌++◌, ◌∷◌, []};
 ghost use Rattle.wires.specs.Letters.{letter};
 
 use crate::Place;
+use crate::bytes::Bytes;
 use std::marker::Model;
 use std::snapshot::Snapshot;
 
@@ -10,7 +11,7 @@ use std::snapshot::Snapshot;
 #[derive(Drop)]
 struct Offer {
     place: Place,
-    bytes: Snapshot<[u8]>,
+    bytes: Bytes,
 }
 
 /// The datagrams that a wire was to send, in order, those that are lost too. No byte of them is
@@ -46,7 +47,7 @@ impl Offers {
     {
         let last = Offer {
             place: to,
-            bytes: Snapshot::of(bytes),
+            bytes: Bytes::of(bytes),
         };
         *self = Offers {
             last: Some((last, Snapshot::of(self))),
