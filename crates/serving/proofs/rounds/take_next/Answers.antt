@@ -1,15 +1,17 @@
 use Rattle.std.proofs.Common.{◌∙◌, refl}
-use Rattle.serving.proofs.Taking.{none_came, one_came, one_failed}
+use Rattle.serving.proofs.Taking.{none_came, one_came, one_failed, same_state}
 use Rattle.serving.proofs.rounds.take_next.Goals as goal
 
 pub returns-in-Ok-Some : goal.returns-in-Ok-Some
 returns-in-Ok-Some g c =
-    one_came _ _ c.in-Ok-Some.place c.in-Ok-Some.count c.receive.new.room c.in-Ok-Some.field-0 _ c.in-Ok-Some.field-0-is
-    (c.hand_in.ensures.answers ∙ c.in-Ok-Some.ensures.answers)
+    one_came _ _ _ c.in-Ok-Some.place c.in-Ok-Some.count c.receive.new.room c.in-Ok-Some.field-0 _ c.in-Ok-Some.field-0-is
+    (c.hand_in.ensures.answers ∙ c.in-Ok-Some.ensures.answers) (same_state _ _ _ _ c.in-Ok-Some.ensures.offered)
     (record { bytes = _; whole = refl; is = c.event_of-event.ensures }) c.hand_in.ensures.taken
 
 pub returns-in-Ok-None : goal.returns-in-Ok-None
-returns-in-Ok-None g c = none_came _ _ c.receive.new.room c.in-Ok-None.field-0 c.in-Ok-None.field-0-is c.in-Ok-None.ensures.answers refl
+returns-in-Ok-None g c =
+    none_came _ _ c.receive.new.room c.in-Ok-None.field-0 c.in-Ok-None.field-0-is c.in-Ok-None.ensures.answers
+    (same_state _ _ _ _ c.in-Ok-None.ensures.offered)
 
 pub returns-in-Err : goal.returns-in-Err
-returns-in-Err g c = one_failed _ _ c.in-Err.ensures.answers refl
+returns-in-Err g c = one_failed _ _ c.in-Err.ensures.answers (same_state _ _ _ _ c.in-Err.ensures.offered)
