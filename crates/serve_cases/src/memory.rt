@@ -8,7 +8,7 @@ use serving::Clockwork;
 use std::alloc::Global;
 use std::io::{self, Write};
 use std::time::Duration;
-use wires::{Answers, LONGEST, Place, Wire, WireFault};
+use wires::{Answers, LONGEST, Offers, Place, Wire, WireFault};
 
 /// A datagram, and where it came from or went to.
 #[derive(Drop)]
@@ -25,6 +25,7 @@ pub(crate) struct Memory {
     /// How many of them have come.
     pub(crate) come: usize,
     answers: Answers,
+    offers: Offers,
     pub(crate) sent: Vec<Letter>,
 }
 
@@ -35,6 +36,7 @@ impl Memory {
             coming: Vec::new(alloc),
             come: 0,
             answers: Answers::none(),
+            offers: Offers::none(),
             sent: Vec::new(alloc),
         }
     }
@@ -113,7 +115,10 @@ fn show_letter<O: Write>(letter: &Letter, output: &mut O) -> io::Result<()> {
 impl Wire for Memory {
     ghost answers = { λ m. m.answers };
 
+    ghost offered = { λ m. m.offers };
+
     fn send(&mut self, to: Place, bytes: &[u8]) -> Result<(), WireFault> {
+        self.offers.keep(to, bytes);
         let bytes = Vec::from_slice(self.alloc, bytes).map_err(|_| WireFault)?;
         let letter = Letter { place: to, bytes };
         self.sent.push(letter).map_err(|_| WireFault)

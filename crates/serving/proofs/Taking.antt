@@ -1,14 +1,13 @@
 -- What is taken, one part after another.
-use Rattle.std.proofs.Common.{map, ◌≡◌, ◌∙◌, ◌+◌, ◌<◌, ◌++◌, ℕ, Bool, true, false, not, List, [], ◌∷◌, take, Option, Some, None, Ok, refl, sym, ap, subst, inl, inr, add-one, length-append}
+use Rattle.std.proofs.Common.{◌≡◌, ◌∙◌, ◌+◌, ◌<◌, ◌++◌, ℕ, Bool, true, false, not, List, [], ◌∷◌, take, Option, Some, None, Ok, refl, sym, ap, subst, inl, inr, add-one, length-append}
 use Rattle.std.proofs.lemmas.List.{append-nil, append_assoc}
 use Rattle.std.proofs.lemmas.List.Folds.{list_any-append}
 use Rattle.wires.specs.Letters.{Answer, Letter, answer_of, came, failed, is_nothing, letter, letters_of, nothing}
 use Rattle.wires.specs.declared.places.Place.{Place}
 use Rattle.wires.specs.declared.wire.WireFault.{WireFault}
 use Rattle.step_parts.specs.declared.events.Event.{Event}
-use Rattle.told.specs.Told.{none_told}
 use Rattle.step_parts.specs.Shown.{Shown}
-use Rattle.serving.specs.Rounds.{AreRounds, Box, Brings, IsRound, LeavesOut, Reads, State, Takes, TakesAll, TakesNew, letters_told, state}
+use Rattle.serving.specs.Rounds.{AreRounds, Box, Brings, IsRound, LeavesOut, Reads, State, Takes, TakesAll, TakesNew, state}
 use Rattle.serving.specs.Polls.{Asks, HasAsked, HasPolled}
 
 -- ---- what is offered
@@ -17,17 +16,6 @@ use Rattle.serving.specs.Polls.{Asks, HasAsked, HasPolled}
 pub same_state : (g : Shown) (n : ℕ) (had now : List Letter) → now ≡ had → state g now n ≡ state g had n
 same_state g n had now same = ap (λ (offered : List Letter). state g offered n) same
 
--- one was offered, and those behind it are still to be
-pub offered_on : {A : Type 0} (f : A → Letter) (x : A) (left rest : List A) (had now all : List Letter)
-    → left ≡ x ∷ rest → now ≡ had ++ f x ∷ [] → had ++ map f left ≡ all → now ++ map f rest ≡ all
-offered_on {A = A} f x left rest had now all first one before =
-    ap (λ (l : List Letter). l ++ map f rest) one ∙ (append_assoc had (f x ∷ []) (map f rest)
-    ∙ (ap (λ (l : List A). had ++ map f l) (sym first) ∙ before))
-
--- none is still to be offered
-pub all_offered : {A : Type 0} (f : A → Letter) (left : List A) (had all : List Letter) → left ≡ [] → had ++ map f left ≡ all → had ≡ all
-all_offered {A = A} f left had all none before = sym (append-nil had) ∙ (ap (λ (l : List A). had ++ map f l) (sym none) ∙ before)
-
 -- some were offered, and then others
 pub offered_both : (had one two middle now : List Letter) → middle ≡ had ++ one → now ≡ middle ++ two → now ≡ had ++ (one ++ two)
 offered_both had one two middle now first second = second ∙ (ap (λ (l : List Letter). l ++ two) first ∙ append_assoc had one two)
@@ -35,9 +23,8 @@ offered_both had one two middle now first second = second ∙ (ap (λ (l : List 
 -- ---- an event
 
 -- memory was refused
-pub left_out : (g g2 : Shown) (had now : List Letter) (n n2 : ℕ) → g2 ≡ g → now ≡ had ++ letters_told none_told → n2 ≡ n + 1
-    → LeavesOut (state g had n) (state g2 now n2)
-left_out g g2 had now n n2 same none more = λ k. state (same k) ((none ∙ append-nil had) k) (more k)
+pub left_out : (g g2 : Shown) (offered : List Letter) (n n2 : ℕ) → g2 ≡ g → n2 ≡ n + 1 → LeavesOut (state g offered n) (state g2 offered n2)
+left_out g g2 offered n n2 same more = λ k. state (same k) offered (more k)
 
 -- ---- what an answer brings
 

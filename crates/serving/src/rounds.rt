@@ -12,7 +12,7 @@ use crate::left::LeftOut;
 use crate::letters::event_of;
 use crate::logs::tell;
 use crate::views::{View, view_of};
-use gateway::{Event, Gateway, Out};
+use gateway::{Event, Gateway, NoMemory, Out, Outcome};
 use std::alloc::Global;
 use std::io::{self, Write};
 use std::time::Duration;
@@ -82,7 +82,8 @@ fn round<W: Wire, C: Clockwork, E: Write>(
     desk: &mut Desk,
     errors: &mut E,
 )
-    ensures { IsRound C.reads (box gateway.old (W.answers wire.old) (W.offered wire.old) desk.old.left) clock.old
+    ensures { IsRound C.reads
+        (box gateway.old (W.answers wire.old) (W.offered wire.old) desk.old.left) clock.old
         (box gateway.new (W.answers wire.new) (W.offered wire.new) desk.new.left) clock.new }
 {
     take_what_comes(gateway, wire, room, desk, errors);
@@ -133,7 +134,7 @@ fn take_next<W: Wire, E: Write>(
     }
 }
 
-/// Hands an event in, sends what the gateway tells, and writes the lines for the operator.
+/// Hands an event in, and writes the lines for the operator.
 fn hand_in<W: Wire, E: Write>(
     gateway: &mut Gateway,
     event: Event<'_>,
@@ -145,15 +146,34 @@ fn hand_in<W: Wire, E: Write>(
         (state gateway.new (W.offered wire.new) desk.new.left) }
     ensures answers { W.answers wire.new ≡ W.answers wire.old }
 {
-    desk.out.clear();
-    let outcome = gateway.step(event, &mut desk.out);
-    if let Err(refusal) = outcome {
-        desk.left.count(refusal);
-    }
-    send_all(wire, &desk.out);
+    let outcome = step_and_send(gateway, event, wire, desk);
     let view = view_of(gateway);
     let _left_out = tell(errors, &event, outcome, &desk.view, &view);
     desk.view = view;
+}
+
+/// Hands an event in, and sends what the gateway tells. One for which memory is refused is counted.
+fn step_and_send<W: Wire>(
+    gateway: &mut Gateway,
+    event: Event<'_>,
+    wire: &mut W,
+    desk: &mut Desk,
+) -> Result<Outcome, NoMemory>
+    ensures taken { Takes (state gateway.old (W.offered wire.old) desk.old.left) event.entry
+        (state gateway.new (W.offered wire.new) desk.new.left) }
+    ensures answers { W.answers wire.new ≡ W.answers wire.old }
+{
+    desk.out.clear();
+    match gateway.step(event, &mut desk.out) {
+        Ok(outcome) => {
+            send_all(wire, &desk.out);
+            Ok(outcome)
+        }
+        Err(refusal) => {
+            desk.left.count(refusal);
+            Err(refusal)
+        }
+    }
 }
 
 /// Sends what was told: the frames by the wires of their sides, then the datagrams by the link.
