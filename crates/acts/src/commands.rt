@@ -39,8 +39,10 @@ pub fn act<R: Files + Net + Clock + RandomSource + AllocGlobal, O: Write, E: Wri
 where
     R::File: Uncached,
     ensures usage { result ≡ 2 → AreRefused (map string_bytes words.now) }
-    ensures refused { AreRefused (map string_bytes words.now) → (result ≡ 1) ⊎ (result ≡ 2) }
-    ensures done { (result ≡ 0) ⊎ (result ≡ 3) → AreDone (map string_bytes words.now) result }
+    ensures refused { AreRefused (map string_bytes words.now)
+        → (result ≡ 1) ⊎ (result ≡ 2) }
+    ensures done { (result ≡ 0) ⊎ (result ≡ 3)
+        → AreDone (map string_bytes words.now) result }
     ensures most { result ≤ 3 }
 {
     match command(rt.alloc(), words) {

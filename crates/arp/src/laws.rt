@@ -12,7 +12,8 @@ pub fn arp_grammar()
 
 /// A packet that was written, with any padding behind it, is read as the same packet.
 pub fn written_is_read()
-    ensures { (bytes : List ℕ) (p : ArpPacket) → IsPacket p → Spells bytes p → IsReadAs bytes p }
+    ensures { (bytes : List ℕ) (p : ArpPacket) → IsPacket p → Spells bytes p
+        → IsReadAs bytes p }
 {}
 
 /// Bytes that are read begin with the packet that they are read as.

@@ -259,7 +259,8 @@ impl Core {
         ensures ledger { ledger_of self.new ≡ restarted_ledger (ledger_of self.old) }
         ensures ready { self.new.table.ready ≡ self.old.table.ready }
         ensures link { link.new ≡ restart_link (book_of self.old) link.old }
-        ensures notes { notes.new.items ≡ notes.old.items ++ restart_notes (book_of self.old) now }
+        ensures notes { notes.new.items
+            ≡ notes.old.items ++ restart_notes (book_of self.old) now }
         ensures len { vec_len notes.new ≤ vec_len notes.old + length self.old.table.entries }
         ensures capacity { vec_capacity notes.new ≡ vec_capacity notes.old }
         // Of the end as it was before it took the datagram, and with none of the new session's records taken.

@@ -477,7 +477,8 @@ impl Core {
         } }
         ensures link { link.new ≡ with_fed link.old (take (wanted link.old) self.old.coming) }
         ensures enough { wanted link.new ≡ 0 }
-        ensures works { (now : ℕ) (h : List Rec) (n : ℕ) → Stands (book_of self.old) link.old h
+        ensures works { (now : ℕ) (h : List Rec) (n : ℕ)
+            → Stands (book_of self.old) link.old h
             → Works now [] [] (book_of self.old) link.old n (book_of self.new) link.new n [] h }
     {
         books_keep();
@@ -496,7 +497,8 @@ impl Core {
         } }
         ensures link { link.new ≡ with_fed link.old (take (wanted link.old) self.old.coming) }
         ensures enough { wanted link.new ≡ 0 }
-        ensures works { (now : ℕ) (h : List Rec) (n : ℕ) → Stands (book_of self.old) link.old h
+        ensures works { (now : ℕ) (h : List Rec) (n : ℕ)
+            → Stands (book_of self.old) link.old h
             → Works now [] [] (book_of self.old) link.old n (book_of self.new) link.new n [] h }
     {
         books_keep();

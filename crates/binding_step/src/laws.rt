@@ -50,7 +50,8 @@ pub fn rows_fit()
         → Fits b (row_of b rests r).change }
     ensures wished { (b : Book) (full : Bool) (e : Endpoint) → IsBook b → IsWellFormedEndpoint e
         → Fits b (wish_of b full e).row.change }
-    ensures idle { (b : Book) (ask : Bool) (k : Key) → IsBook b → Fits b (idle_row b ask k).change }
+    ensures idle { (b : Book) (ask : Bool) (k : Key) → IsBook b
+        → Fits b (idle_row b ask k).change }
     ensures carried { (b : Book) (k : Key) → IsBook b → Fits b (carry_row b k).change }
 {}
 
@@ -95,7 +96,8 @@ pub fn rows_leave()
 
 /// What holds of every book is kept by each change that fits, at a synced gateway, and so by each row.
 pub fn books_keep()
-    ensures change { (b : Book) (c : Change) → IsBook b → is_synced b.stage ≡ true → Fits b c
+    ensures change { (b : Book) (c : Change) → IsBook b → is_synced b.stage ≡ true
+        → Fits b c
         → IsBook (changed c b) }
     ensures taken { (b : Book) (rests : Bool) (r : Record) → IsBook b → IsWellFormedRecord r
         → IsBook (taken_book b rests r) }
@@ -109,7 +111,8 @@ pub fn books_keep()
     ensures agreed { (b : Book) → IsBook b → (key : Key) (x : Entry)
         → slot_of (restarted b).entries key ≡ Some x
         → (is_settled x.state ≡ true) × (is_pair x.state ≡ true) }
-    ensures alone { (b : Book) → IsBook b → is_synced b.stage ≡ true → IsBook (put_alone b) }
+    ensures alone { (b : Book) → IsBook b → is_synced b.stage ≡ true
+        → IsBook (put_alone b) }
     ensures fed { (b : Book) (records rest : List Record) → IsBook b
         → b.coming ≡ records ++ rest → IsBook (record b { coming = rest }) }
 {}
@@ -140,7 +143,8 @@ pub fn waits_end()
 /// A record that comes in its turn is an act of the machine: at a synced gateway that of its row, or where its batch is
 /// promised none but the taking; at one that loads that of the loading.
 pub fn record_works()
-    ensures { (now : ℕ) (b : Book) (e : Link) (n : ℕ) (h : List Record) (l : Letter) (offset : ℕ)
+    ensures { (now : ℕ) (b : Book) (e : Link) (n : ℕ) (h : List Record) (l : Letter)
+        (offset : ℕ)
         (rests : Bool) (r : Record) → IsBook b → is_lone b.stage ≡ false → Stands b e h
         → IsTurn e n l offset r
         → Works now (l ∷ []) [] b e n (taken_book b rests r) (answered e (taken_answer b rests r))
@@ -149,7 +153,8 @@ pub fn record_works()
 
 /// A packet's wish is an act of the machine, or none.
 pub fn wish_works()
-    ensures { (now : ℕ) (b : Book) (e : Link) (n : ℕ) (h : List Record) (full : Bool) (x : Endpoint)
+    ensures { (now : ℕ) (b : Book) (e : Link) (n : ℕ) (h : List Record) (full : Bool)
+        (x : Endpoint)
         → Stands b e h → let w = (wish_of b full x).row in
         Works now [] [] b e n (after b w) (answered e w.answer) n (noted_by b.id now w.what) h }
 {}
@@ -170,7 +175,8 @@ pub fn carry_works()
 
 /// A greater boot of the peer is heard: e is the end before the datagram, e1 the one after it.
 pub fn restart_works()
-    ensures { (now : ℕ) (b : Book) (e e1 : Link) (n : ℕ) (h : List Record) (l : Letter) → IsBook b
+    ensures { (now : ℕ) (b : Book) (e e1 : Link) (n : ℕ) (h : List Record) (l : Letter)
+        → IsBook b
         → Agrees [] [] e1 → e.boot ≡ e1.boot → e.known < e1.known → l.boot ≡ e1.known
         → Works now (l ∷ []) [] b e n (restarted b) (restart_link b e1) 0 (restart_notes b now) h }
 {}
@@ -185,7 +191,8 @@ pub fn word_works()
 
 /// Records of the promised batch are handed in. The machine sees only that the last one was.
 pub fn feed_works()
-    ensures { (now : ℕ) (b : Book) (e : Link) (n : ℕ) (h records rest : List Record) → IsBook b
+    ensures { (now : ℕ) (b : Book) (e : Link) (n : ℕ) (h records rest : List Record)
+        → IsBook b
         → Stands b e h → b.coming ≡ records ++ rest
         → Works now [] [] b e n (record b { coming = rest }) (with_fed e records) n [] h }
 {}
@@ -193,10 +200,12 @@ pub fn feed_works()
 /// Of a datagram that isn't of a greater boot the machine sees nothing until its records are taken.
 /// In general: two ends that speak of the same boots and have as much promised make the same box.
 pub fn heard_works()
-    ensures heard { (now : ℕ) (b : Book) (e e1 : Link) (n : ℕ) (h : List Record) (bytes : List ℕ)
+    ensures heard { (now : ℕ) (b : Book) (e e1 : Link) (n : ℕ) (h : List Record)
+        (bytes : List ℕ)
         (t : Taken) (d : Datagram) → Stands b e h → IsTaken bytes e now t e1 d
         → t.restarted ≡ false → Works now [] [] b e n b e1 n [] h }
-    ensures alike { (now : ℕ) (b : Book) (e e1 : Link) (n : ℕ) (h : List Record) → Stands b e1 h
+    ensures alike { (now : ℕ) (b : Book) (e e1 : Link) (n : ℕ) (h : List Record)
+        → Stands b e1 h
         → e1.boot ≡ e.boot → e1.known ≡ e.known → promised_of e1 ≡ promised_of e
         → Works now [] [] b e n b e1 n [] h }
 {}
@@ -288,7 +297,8 @@ pub fn accounts_kept()
     ensures carried { (l : Ledger) (h : List Note) (k : Key) (p : Packet) → Accounts p.at l h
         → Accounts p.at (carried_ledger k p l)
         (reverse (noted_by l.book.id p.at (carry_row l.book k).what) ++ h) }
-    ensures restarted { (now : ℕ) (l : Ledger) (h : List Note) → IsBook l.book → Accounts now l h
+    ensures restarted { (now : ℕ) (l : Ledger) (h : List Note) → IsBook l.book
+        → Accounts now l h
         → Accounts now (restarted_ledger l) (reverse (restart_notes l.book now) ++ h) }
     ensures alone { (now : ℕ) (l : Ledger) (h : List Note) → IsBook l.book → Accounts now l h
         → Accounts now (alone_ledger l)

@@ -31,7 +31,8 @@ pub fn uses_law()
         → ((past : Past) → IsPast t key past → IsPast u key (with_packet packet past))
         → since ≤ packet.at → Accounts t key since uses
         → Accounts u key packet.at (packet.at ∷ uses) }
-    ensures renewed { (t u : Seen) → (key : OutsidePort) → (since now : ℕ) → (uses : List ℕ)
+    ensures renewed { (t u : Seen) → (key : OutsidePort) → (since now : ℕ)
+        → (uses : List ℕ)
         → ((past : Past) → IsPast t key past → IsPast u key (renewed now past))
         → HaveRested (least_rest key.protocol) now uses → Accounts t key since uses
         → Accounts u key now uses }

@@ -169,7 +169,8 @@ impl Ports {
     /// Makes all ports of the ranges owned ones. No other port was.
     pub(crate) fn own_all(&mut self, zero: PortBounds, one: PortBounds)
         requires alike { AreAlike (lowest_of zero one) (highest_of zero one) self.old }
-        requires inside { (p : ℕ) → is_owned self.old.tcp p ≡ true → in_either zero one p ≡ true }
+        requires inside { (p : ℕ) → is_owned self.old.tcp p ≡ true
+            → in_either zero one p ≡ true }
         ensures list { self.new.tcp.owned ≡ all_ports zero one }
         ensures alike { AreAlike (lowest_of zero one) (highest_of zero one) self.new }
         ensures free { SameFree self.old self.new }

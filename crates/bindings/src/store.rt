@@ -142,7 +142,8 @@ fn put_packet(slots: &mut PortSlots<Item>, key: Key, packet: Packet)
           }) slots.old.rows;
         } }
     ensures none { item_of slots.old.rows key ≡ None → slots.new ≡ slots.old }
-    ensures agrees { (item : Kept) → (past : Past) → item_of slots.old.rows key ≡ Some item → Agrees
+    ensures agrees { (item : Kept) → (past : Past)
+        → item_of slots.old.rows key ≡ Some item → Agrees
         key.protocol past item.life → Agrees key.protocol (with_packet packet past)
         (life_carried key.protocol packet item.life) }
 {
@@ -158,7 +159,8 @@ fn put_renewal(slots: &mut PortSlots<Item>, key: Key, now: u64)
           rows = with_item key (record item { life = life_renewed now item.life }) slots.old.rows;
         } }
     ensures none { item_of slots.old.rows key ≡ None → slots.new ≡ slots.old }
-    ensures agrees { (item : Kept) → (past : Past) → item_of slots.old.rows key ≡ Some item → Agrees
+    ensures agrees { (item : Kept) → (past : Past)
+        → item_of slots.old.rows key ≡ Some item → Agrees
         key.protocol past item.life → Agrees key.protocol (renewed now past)
         (life_renewed now item.life) }
 {
@@ -276,7 +278,8 @@ impl Store {
     /// One more entry, with its life.
     pub(crate) fn add(&mut self, pair: Pair, state: EntryState, life: Life)
         requires vacant { slot_of self.old.entries pair.key ≡ None }
-        requires free { is_pair state ≡ true → entry_of self.old.entries pair.endpoint ≡ None }
+        requires free { is_pair state ≡ true
+            → entry_of self.old.entries pair.endpoint ≡ None }
         requires room { length self.old.entries < self.old.room }
         requires spare { 0 < self.old.spare }
         ensures entries { self.new.entries ≡ put_in (entry_in state pair) self.old.entries }
@@ -294,7 +297,8 @@ impl Store {
 
     /// Gives a key's entry another state. None becomes a pair by it.
     pub(crate) fn turn(&mut self, key: Key, state: EntryState)
-        requires pair { (e : Row) → slot_of self.old.entries key ≡ Some e → is_pair state ≡ true
+        requires pair { (e : Row) → slot_of self.old.entries key ≡ Some e
+            → is_pair state ≡ true
             → is_pair e.state ≡ true }
         requires endpoints { (e : Row) → slot_of self.old.entries key ≡ Some e
             → is_pair e.state ≡ true → is_pair state ≡ false → HasDistinctEndpoints
@@ -315,7 +319,8 @@ impl Store {
 
     /// Takes a key's entry out, and its life.
     pub(crate) fn take_out(&mut self, key: Key)
-        requires { (e : Row) → slot_of self.old.entries key ≡ Some e → is_pair e.state ≡ true
+        requires { (e : Row) → slot_of self.old.entries key ≡ Some e
+            → is_pair e.state ≡ true
             → HasDistinctEndpoints self.old.entries }
         ensures entries { self.new.entries ≡ without key self.old.entries }
         ensures lives { self.new.lives ≡ lives_without key self.old.entries self.old.lives }
@@ -345,7 +350,8 @@ impl Store {
         ensures lives { self.new ≡ record self.old {
           lives = lives_with (life_carried key.protocol packet) key self.old.entries self.old.lives;
         } }
-        ensures agrees { (life : Lived) → (past : Past) → life_in self.old.entries self.old.lives
+        ensures agrees { (life : Lived) → (past : Past)
+            → life_in self.old.entries self.old.lives
             key ≡ Some life → Agrees key.protocol past life → Agrees key.protocol (with_packet
             packet past) (life_carried key.protocol packet life) }
     {
@@ -359,7 +365,8 @@ impl Store {
         ensures lives { self.new ≡ record self.old {
           lives = lives_with (life_renewed now) key self.old.entries self.old.lives;
         } }
-        ensures agrees { (life : Lived) → (past : Past) → life_in self.old.entries self.old.lives
+        ensures agrees { (life : Lived) → (past : Past)
+            → life_in self.old.entries self.old.lives
             key ≡ Some life → Agrees key.protocol past life → Agrees key.protocol (renewed
             now past) (life_renewed now life) }
     {

@@ -198,7 +198,8 @@ impl Table {
 
     /// Puts a key's entry into another state. It is no Doomed one; a key without an entry changes nothing.
     pub fn set_state(&mut self, key: Key, state: EntryState)
-        requires { (entry : Row) → slot_of self.old.entries key ≡ Some entry → is_pair entry.state
+        requires { (entry : Row) → slot_of self.old.entries key ≡ Some entry
+            → is_pair entry.state
             ≡ true }
         ensures entries { self.new ≡ with_entry_state self.old key state }
         ensures slots { (entry : Row) → slot_of self.old.entries key ≡ Some entry

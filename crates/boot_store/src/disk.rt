@@ -51,8 +51,10 @@ pub trait Disk {
         ensures filled { honest self.old
             → IfOk result (λ n. take n room.new ≡ take 32 (bytes_of (now self.new))) }
         ensures read { honest self.old → OnOk result (AfterRead (now self.old) (now self.new)) }
-        ensures unread { honest self.old → OnErr result (StillKept (now self.old) (now self.new)) }
-        ensures passes { honest self.old → past self.new ≡ past self.old ++ now self.old ∷ [] }
+        ensures unread { honest self.old
+            → OnErr result (StillKept (now self.old) (now self.new)) }
+        ensures passes { honest self.old
+            → past self.new ≡ past self.old ++ now self.old ∷ [] }
         ensures honesty { honest self.old ↔ honest self.new }
         ensures ok { OnOk result (failures self.new ≡ failures self.old) }
         ensures failed { OnErr result (failures self.old < failures self.new) };
@@ -77,7 +79,8 @@ pub trait Disk {
         ensures synced { honest self.old → OnOk result (now self.new ≡ synced (now self.old)) }
         ensures unsynced { honest self.old
             → OnErr result (StillKept (now self.old) (now self.new)) }
-        ensures passes { honest self.old → past self.new ≡ past self.old ++ now self.old ∷ [] }
+        ensures passes { honest self.old
+            → past self.new ≡ past self.old ++ now self.old ∷ [] }
         ensures honesty { honest self.old ↔ honest self.new }
         ensures ok { OnOk result (failures self.new ≡ failures self.old) }
         ensures failed { OnErr result (failures self.old < failures self.new) };

@@ -6,7 +6,8 @@ ghost use Rattle.boot_store.specs.Run.{BootEvent, IsRun, numbers_of, RiseFrom};
 
 /// Over every run of starts, crashes and openings the answered numbers rise.
 pub fn boot_numbers_rise()
-    ensures over_any { (m : ℕ) (start : Moment) (events : List BootEvent) → LeavesAtLeast m start
+    ensures over_any { (m : ℕ) (start : Moment) (events : List BootEvent)
+        → LeavesAtLeast m start
         → IsRun start events → RiseFrom m (numbers_of events) }
     ensures over_init { (start : Moment) (events : List BootEvent) → LeavesNumber 0 start
         → IsRun start events → RiseFrom 0 (numbers_of events) }

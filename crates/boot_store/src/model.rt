@@ -67,8 +67,10 @@ impl ModelDisk {
     /// leaves the bytes that stand at its place in `any`. So does a sync that fails, once the disk
     /// is read or has crashed.
     pub fn set_trouble(&mut self, good_calls: u64, trouble: Trouble, any: &[u8; 32])
-        ensures now { ⟦<ModelDisk as Disk>⟧.now self.new ≡ ⟦<ModelDisk as Disk>⟧.now self.old }
-        ensures past { ⟦<ModelDisk as Disk>⟧.past self.new ≡ ⟦<ModelDisk as Disk>⟧.past self.old }
+        ensures now { ⟦<ModelDisk as Disk>⟧.now self.new
+            ≡ ⟦<ModelDisk as Disk>⟧.now self.old }
+        ensures past { ⟦<ModelDisk as Disk>⟧.past self.new
+            ≡ ⟦<ModelDisk as Disk>⟧.past self.old }
         ensures failures { ⟦<ModelDisk as Disk>⟧.failures self.new
             ≡ ⟦<ModelDisk as Disk>⟧.failures self.old }
     {
@@ -86,7 +88,8 @@ impl ModelDisk {
             → bytes_of (⟦<ModelDisk as Disk>⟧.now self.new) ≡ any.now }
         ensures kept { ⟦<ModelDisk as Disk>⟧.now self.new
             ≡ left_by_crash (bytes_of (⟦<ModelDisk as Disk>⟧.now self.new)) }
-        ensures past { ⟦<ModelDisk as Disk>⟧.past self.new ≡ ⟦<ModelDisk as Disk>⟧.past self.old }
+        ensures past { ⟦<ModelDisk as Disk>⟧.past self.new
+            ≡ ⟦<ModelDisk as Disk>⟧.past self.old }
         ensures failures { ⟦<ModelDisk as Disk>⟧.failures self.new
             ≡ ⟦<ModelDisk as Disk>⟧.failures self.old }
     {

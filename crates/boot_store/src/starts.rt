@@ -46,7 +46,8 @@ fn zero_file() -> [u8; 32]
 fn settled_file<D: Disk>(disk: &mut D) -> Result<Option<[u8; 32]>, DeviceFault>
     ensures any_moment { D.honest disk.old
         → Since (D.past disk.old) (D.past disk.new) (Keeps (D.now disk.old) (D.now disk.new)) }
-    ensures settled { D.honest disk.old → OnOk result (Settled (D.now disk.old) (D.now disk.new)) }
+    ensures settled { D.honest disk.old
+        → OnOk result (Settled (D.now disk.old) (D.now disk.new)) }
     ensures looked { D.honest disk.old
         → OnOk result (D.past disk.new ≡ D.past disk.old ++ looked (D.now disk.old)) }
     ensures unsettled { D.honest disk.old

@@ -25,7 +25,8 @@ fn clock_after(moment: u64, now: u64) -> u64
 /// Lets the idle pairs go.
 fn release_idle(forwarder: &mut Forwarder, page: &mut Page)
     requires notes { length forwarder.old.core.table.entries + 1 ≤ page.old.room.notes }
-    ensures scene { scene_on forwarder.new page.new ≡ idle_taken (scene_on forwarder.old page.old) }
+    ensures scene { scene_on forwarder.new page.new
+        ≡ idle_taken (scene_on forwarder.old page.old) }
     ensures datagrams { page.new.room.datagrams ≡ page.old.room.datagrams }
 {
     idle_at_once();

@@ -57,7 +57,8 @@ pub(crate) fn take_word(
     requires frames { 64 ≤ page.old.room.frames }
     requires notes { length forwarder.old.core.table.entries + 192 ≤ page.old.room.notes }
     requires ready { 64 ≤ forwarder.old.core.table.ready }
-    ensures scene { scene_on forwarder.new page.new ≡ word_by (scene_on forwarder.old page.old) boot
+    ensures scene { scene_on forwarder.new page.new
+        ≡ word_by (scene_on forwarder.old page.old) boot
         (word_refusal (shown_of forwarder.old) boot) }
     ensures outcome { result ≡ outcome_word (word_refusal (shown_of forwarder.old) boot) }
     ensures datagrams { page.new.room.datagrams ≡ page.old.room.datagrams }

@@ -159,9 +159,11 @@ impl<'a> UdpViewMut<'a> {
         ensures ok { IsOk result ↔ IsDatagram payload.old }
         ensures fault { IfErr result (λ r. r.fault ≡ Ipv4Fault.BadTransport) }
         ensures bytes { IfOk result (λ v. v.bytes.now ≡ payload.old) }
-        ensures same_reference { IfOk result (λ v. v.bytes.ghost_name ≡ payload.entry.ghost_name) }
+        ensures same_reference { IfOk result
+            (λ v. v.bytes.ghost_name ≡ payload.entry.ghost_name) }
         ensures err { IfErr result (λ r. r.bytes.now ≡ payload.old) }
-        ensures err_reference { IfErr result (λ r. r.bytes.ghost_name ≡ payload.entry.ghost_name) }
+        ensures err_reference { IfErr result
+            (λ r. r.bytes.ghost_name ≡ payload.entry.ghost_name) }
     {
         if no_datagram(payload) {
             return Err(Refused {

@@ -199,7 +199,8 @@ fn status_of(synced: bool) -> u8
 /// Writes the header.
 pub(crate) fn put_header(out: &mut Bytes, d: &Datagram)
     requires { length out.old.items ≡ 0 }
-    ensures { out.new.items ≡ header_bytes d.now.sender d.now.boot d.now.receiver_boot d.now.synced
+    ensures { out.new.items
+        ≡ header_bytes d.now.sender d.now.boot d.now.receiver_boot d.now.synced
         d.now.delivered d.now.first (length d.now.records.items) }
 {
     put(out, &[b'N', b'P', VERSION, number_of(d.sender)]);

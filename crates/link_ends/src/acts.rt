@@ -141,7 +141,8 @@ fn tick(
 fn answer(seat: &mut Seat, log: &mut Log, at: GatewayId, synced: bool) -> Result<(), AllocError>
     requires seat { IsSeat seat.old }
     requires sent { IsWhole log.old }
-    ensures ok { OnOk result (Moves at (Answer at synced ∷ []) seat.old log.old seat.new log.new) }
+    ensures ok { OnOk result
+        (Moves at (Answer at synced ∷ []) seat.old log.old seat.new log.new) }
     ensures err { OnErr result (Moves at [] seat.old log.old seat.new log.new) }
 {
     if seat.link.wanted() != 0 {

@@ -111,14 +111,16 @@ impl Ends {
 
     /// The records that an end pushed in the session between its boot and the other's, in order.
     pub fn pushed(&self, at: GatewayId, boot: u64, peer: u64) -> Result<Vec<Record>, AllocError>
-        ensures { IfOk result (λ records. records.items ≡ (world_of self.now).pushed at boot peer) }
+        ensures { IfOk result
+            (λ records. records.items ≡ (world_of self.now).pushed at boot peer) }
     {
         records_of(self.alloc, &self.log.pushed, at, boot, peer)
     }
 
     /// The records that an end took in the session between its boot and the other's, in order.
     pub fn taken(&self, at: GatewayId, boot: u64, peer: u64) -> Result<Vec<Record>, AllocError>
-        ensures { IfOk result (λ records. records.items ≡ (world_of self.now).taken at boot peer) }
+        ensures { IfOk result
+            (λ records. records.items ≡ (world_of self.now).taken at boot peer) }
     {
         records_of(self.alloc, &self.log.taken, at, boot, peer)
     }

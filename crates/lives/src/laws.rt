@@ -12,7 +12,8 @@ ghost use Rattle.lives.specs.Rests.{least_rest, CameBy, AllRested, AllBefore, Ha
 /// where the pair is idle, or unused; and the next list begins with all of them rested.
 /// The last four say in figures what the limits are, in centiseconds.
 pub fn idle_rests_law()
-    ensures idle { (protocol : Protocol) → (past : Past) → (now : ℕ) → CameBy now past.packets
+    ensures idle { (protocol : Protocol) → (past : Past) → (now : ℕ)
+        → CameBy now past.packets
         → is_idle protocol past now ≡ true → AllRested (least_rest protocol) now past.packets }
     ensures unused { (past : Past) → (rest now : ℕ) → is_unused past ≡ true
         → AllRested rest now past.packets }
@@ -38,16 +39,19 @@ pub fn idle_rests_law()
 /// follows where each use that the notes show in the present life is among `uses`: a use is put in front, a boot of the
 /// gateway empties the list, and no other note changes it.
 pub fn uses_rest_law()
-    ensures comes { (protocol : Protocol) → (by_install : Bool) → (now : ℕ) → (uses : List ℕ)
+    ensures comes { (protocol : Protocol) → (by_install : Bool) → (now : ℕ)
+        → (uses : List ℕ)
         → HaveRested (least_rest protocol) now uses
         → AccountsFor protocol now (came by_install now) uses }
-    ensures carried { (protocol : Protocol) → (since : ℕ) → (past : Past) → (uses : List ℕ)
+    ensures carried { (protocol : Protocol) → (since : ℕ) → (past : Past)
+        → (uses : List ℕ)
         → (packet : Carried) → since ≤ packet.at → AccountsFor protocol since past uses
         → AccountsFor protocol packet.at (with_packet packet past) (packet.at ∷ uses) }
     ensures renewed { (protocol : Protocol) → (past : Past) → (now : ℕ) → (uses : List ℕ)
         → HaveRested (least_rest protocol) now uses
         → AccountsFor protocol now (renewed now past) uses }
-    ensures later { (protocol : Protocol) → (past : Past) → (since now : ℕ) → (uses : List ℕ)
+    ensures later { (protocol : Protocol) → (past : Past) → (since now : ℕ)
+        → (uses : List ℕ)
         → since ≤ now → AccountsFor protocol since past uses → AccountsFor protocol now past uses }
     ensures idle { (protocol : Protocol) → (past : Past) → (now : ℕ) → (uses : List ℕ)
         → AccountsFor protocol now past uses → is_idle protocol past now ≡ true
@@ -61,6 +65,7 @@ pub fn uses_rest_law()
 
 /// A pair that carries nothing more is idle just from one moment on, which its life tells.
 pub fn due_law()
-    ensures { (protocol : Protocol) → (life : Seen) → (now : ℕ) → looks_idle protocol life now
+    ensures { (protocol : Protocol) → (life : Seen) → (now : ℕ)
+        → looks_idle protocol life now
         ≡ nat_le (due_moment protocol life) now }
 {}

@@ -37,7 +37,8 @@ impl Model for Life {
 
 /// Whether a TCP pair with these sessions is idle.
 fn is_tcp_idle(sessions: &[Session], is_crowded: bool, last: u64, now: u64) -> bool
-    ensures { result ≡ (if is_crowded || is_empty sessions.now then has_rested ESTABLISHED_REST last
+    ensures { result ≡ (if is_crowded || is_empty sessions.now
+        then has_rested ESTABLISHED_REST last
         now else all_passed now sessions.now) }
 {
     if is_crowded || sessions.is_empty() {
@@ -49,7 +50,8 @@ fn is_tcp_idle(sessions: &[Session], is_crowded: bool, last: u64, now: u64) -> b
 
 /// The moment from which a TCP pair with these sessions is idle, or the last moment of all.
 fn tcp_due(sessions: &[Session], is_crowded: bool, last: u64) -> u64
-    ensures { result ≡ clipped (if is_crowded || is_empty sessions.now then last + ESTABLISHED_REST
+    ensures { result ≡ clipped
+        (if is_crowded || is_empty sessions.now then last + ESTABLISHED_REST
         else last_end sessions.now) }
 {
     if is_crowded || sessions.is_empty() {

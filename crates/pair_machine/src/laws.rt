@@ -23,9 +23,11 @@ ghost use Rattle.pair_machine.specs.World.{AreAllowed, Can, EndsBy, MachineEvent
 /// no unsynced gateway uses a pair, and each synced gateway translates with what it used or took over. No port is owned
 /// by two synced gateways, and once both have taken all that was pushed each port of the ranges has an owner.
 pub fn the_pair_keeps()
-    ensures kept { (r : Ranges) (events : List MachineEvent) → AreAllowed r events (founding r) →
+    ensures kept { (r : Ranges) (events : List MachineEvent)
+        → AreAllowed r events (founding r) →
         let s = after_events r events (founding r) in IsKept s.trace (tables_of s) }
-    ensures owners { (r : Ranges) (events : List MachineEvent) → AreAllowed r events (founding r) →
+    ensures owners { (r : Ranges) (events : List MachineEvent)
+        → AreAllowed r events (founding r) →
         HasOwners r (after_events r events (founding r)) }
 {}
 
@@ -57,14 +59,16 @@ pub fn promises_in_order()
         s.trace ≡ reverse trace → Silent trace }
     ensures goes_on { (r : Ranges) (s : Scene) (trace : List Note) → IsWorld r s →
         s.trace ≡ reverse trace → GoesOn (TableTranslates (tables_of s)) trace }
-    ensures synced { (r : Ranges) (s : Scene) (trace : List Note) (i : GatewayId) → IsWorld r s →
+    ensures synced { (r : Ranges) (s : Scene) (trace : List Note) (i : GatewayId)
+        → IsWorld r s →
         s.trace ≡ reverse trace → (box_in s i).synced ≡ is_synced i (reverse trace) }
 {}
 
 /// Where the other gateway is synced, the record that gateway i may take next is the one that the other pushed at that
 /// place of the session: what is taken is a beginning of what was pushed.
 pub fn takes_in_order()
-    ensures { (r : Ranges) (s : Scene) (i : GatewayId) (l : Letter) (offset : ℕ) (q : MachineRecord)
+    ensures { (r : Ranges) (s : Scene) (i : GatewayId) (l : Letter) (offset : ℕ)
+        (q : MachineRecord)
         → IsWorld r s → let v = seen_by i s in IsTrue v.theirs.synced → In l v.their_mail →
         StandsNext v.mine l offset q → nth v.theirs.sent v.mine.taken ≡ Some q }
 {}
@@ -88,7 +92,8 @@ pub fn nothing_forged()
 /// A step of gateway i, as its own contract tells of it, leads from a scene that can come about to one that can, where
 /// the letters that it was handed were sent by the other and the operator's words of the other are true.
 pub fn a_step_keeps()
-    ensures { (r : Ranges) (i : GatewayId) (moment : ℕ) (s : Scene) (ls : List Letter) (ws : List ℕ)
+    ensures { (r : Ranges) (i : GatewayId) (moment : ℕ) (s : Scene) (ls : List Letter)
+        (ws : List ℕ)
         (new : Box) (t : List Note) (mail : List Letter) → IsWorld r s →
         WasSent ls (mail_in s (other i)) → IsOff ws (box_in s (other i)) →
         IsStep r i moment (box_in s i) new ls ws s.trace t (mail_in s i) mail →
@@ -97,7 +102,8 @@ pub fn a_step_keeps()
 
 /// A step that changes nothing that the machine knows.
 pub fn rests()
-    ensures { (r : Ranges) (i : GatewayId) (moment : ℕ) (a b : Box) (ls : List Letter) (ws : List ℕ)
+    ensures { (r : Ranges) (i : GatewayId) (moment : ℕ) (a b : Box) (ls : List Letter)
+        (ws : List ℕ)
         (t : List Note) (mail : List Letter) → AreSame b a →
         IsStep r i moment a b ls ws t t mail mail }
 {}
@@ -133,7 +139,8 @@ pub fn more_is_handed()
 
 /// What a step notes and sends doesn't hang on what was noted and sent before.
 pub fn steps_anywhere()
-    ensures { (r : Ranges) (i : GatewayId) (moment : ℕ) (a b : Box) (ls : List Letter) (ws : List ℕ)
+    ensures { (r : Ranges) (i : GatewayId) (moment : ℕ) (a b : Box) (ls : List Letter)
+        (ws : List ℕ)
         (ns : List Note) (ms : List Letter) → IsStep r i moment a b ls ws [] ns [] ms →
         (t : List Note) (mail : List Letter) →
         IsStep r i moment a b ls ws t (ns ++ t) mail (ms ++ mail) }

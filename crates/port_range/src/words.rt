@@ -20,7 +20,8 @@ pub(crate) fn has_bit(words: &[u64], number: usize) -> bool
 
 fn with_bit(word: u64, bit: usize, flag: bool) -> u64
     requires { bit < 64 }
-    ensures { (i : ℕ) → i < 64 → is_set result i ≡ (if i == bit then flag else is_set word i) }
+    ensures { (i : ℕ) → i < 64
+        → is_set result i ≡ (if i == bit then flag else is_set word i) }
 {
     if flag {
         word | (1u64 << bit)

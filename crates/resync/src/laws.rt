@@ -20,12 +20,14 @@ ghost use Rattle.resync.specs.declared.cursor.Cursor.{Cursor as Place};
 /// behind it, and at whatever load it is taken: at its Done the load has the settled pairs, each once and in order,
 /// Held on ports that the sender owns, else Live, and is to own all other ports of the ranges.
 pub fn whole_table_law()
-    ensures loaded { (t : Seen) → IsTable t → AreInRanges t → HasNoDoomed t.entries → (l : Load)
+    ensures loaded { (t : Seen) → IsTable t → AreInRanges t → HasNoDoomed t.entries
+        → (l : Load)
         → l.zero ≡ t.zero → l.one ≡ t.one → (sizes : List ℕ) (later : List Rec)
         → undrawn sizes (batch_of t.owned t.entries) ≡ []
         → until_done l (drawn sizes (batch_of t.owned t.entries) ++ later)
         ≡ Some (record { load = load_of_table t; behind = later }) }
-    ensures drawn { (sizes : List ℕ) (batch : List Rec) → drawn sizes batch ++ undrawn sizes batch
+    ensures drawn { (sizes : List ℕ) (batch : List Rec)
+        → drawn sizes batch ++ undrawn sizes batch
         ≡ batch }
     ensures ports { (t : Seen) → (port : ℕ) → is_listed port (ports_left t.zero t.one t.owned)
         ≡ (not (is_listed port t.owned) && in_either t.zero t.one port) }
@@ -46,5 +48,6 @@ pub fn steady_batch_law()
 
 /// How long a batch can be: no table has more runs than keys, nor more entries.
 pub fn batch_room_law()
-    ensures { (t : Seen) → IsTable t → length (batch_of t.owned t.entries) ≤ 2 * t.capacity + 2 }
+    ensures { (t : Seen) → IsTable t
+        → length (batch_of t.owned t.entries) ≤ 2 * t.capacity + 2 }
 {}

@@ -142,7 +142,8 @@ pub(crate) fn address(
     section: Section,
     name: Name,
 ) -> Result<Ip, ValueFault>
-    ensures ok { IfOk result (λ ip. address_at (table_view document.now) section name ≡ Some ip.0) }
+    ensures ok { IfOk result
+        (λ ip. address_at (table_view document.now) section name ≡ Some ip.0) }
     ensures err { IfErr result (TellsFirst (first_bad ((
       key section name,
       is_some (address_at (table_view document.now) section name),
@@ -163,7 +164,8 @@ pub(crate) fn mac(
     section: Section,
     name: Name,
 ) -> Result<Mac, ValueFault>
-    ensures ok { IfOk result (λ mac. mac_at (table_view document.now) section name ≡ Some mac.0) }
+    ensures ok { IfOk result
+        (λ mac. mac_at (table_view document.now) section name ≡ Some mac.0) }
     ensures err { IfErr result (TellsFirst (first_bad ((
       key section name,
       is_some (mac_at (table_view document.now) section name),
@@ -211,7 +213,8 @@ pub(crate) fn host(
     name: Name,
     network: Prefix,
 ) -> Result<Ip, ValueFault>
-    ensures ok { IfOk result (λ ip. address_at (table_view document.now) section name ≡ Some ip.0) }
+    ensures ok { IfOk result
+        (λ ip. address_at (table_view document.now) section name ≡ Some ip.0) }
     ensures inside { OnOk result (is_host (network.address.0, network.length)
         (address_at (table_view document.now) section name) ≡ true) }
     ensures err { IfErr result (TellsFirst (first_bad ((
@@ -241,7 +244,8 @@ pub(crate) fn list(value: &Value) -> Option<&[Value]>
 
 /// A first and a last port.
 fn range_in(list: &[Value]) -> Option<PortRange>
-    ensures { option_map (λ r. (r.lowest.0, r.highest.0)) result ≡ range_items (map view list.now) }
+    ensures { option_map (λ r. (r.lowest.0, r.highest.0)) result
+        ≡ range_items (map view list.now) }
 {
     match list {
         [low, high] => {

@@ -105,7 +105,8 @@ fn side_of(neighbour: &Value) -> Option<Side>
 
 #[tactic(auto, unfolding(crate::specs::Neighbours::ip_of))]
 fn ip_of(alloc: Global, neighbour: &Value) -> Result<Option<Ip>, AllocError>
-    ensures { IfOk result (λ found. option_map (λ ip. ip.0) found ≡ ip_of (view neighbour.now)) }
+    ensures { IfOk result
+        (λ found. option_map (λ ip. ip.0) found ≡ ip_of (view neighbour.now)) }
 {
     match text(neighbour, Name::Ip) {
         Some(text) => texts::address_of(alloc, text),

@@ -50,7 +50,8 @@ pub(crate) fn inside(alloc: Global, document: &Table) -> Result<Interface, Value
 /// Whether a network with this address and prefix shares no address with another.
 fn is_apart(network: Prefix, address: Ip, length: u8) -> bool
     requires { length ≤ 30 }
-    ensures { result ≡ is_apart (network.address.0, network.length) (Some address.0) (Some length) }
+    ensures { result ≡ is_apart (network.address.0, network.length) (Some address.0)
+        (Some length) }
 {
     let shorter = network.length.min(length);
     !fields::is_in(address, Prefix::new(network.address, shorter))

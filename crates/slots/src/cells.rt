@@ -122,7 +122,8 @@ impl Cells {
         ensures used { IfSome result (λ i. IsSome (get_or self.now i None)) }
         ensures before { IfSome result (λ i. (k : ℕ) → from ≤ k → k < i
             → get_or self.now k None ≡ None) }
-        ensures none { IfNone result ((k : ℕ) → from ≤ k → get_or self.now k None ≡ None) }
+        ensures none { IfNone result
+            ((k : ℕ) → from ≤ k → get_or self.now k None ≡ None) }
     {
         next_used(&self.numbers, &self.marks, from)
     }

@@ -11,7 +11,8 @@ use byteorder::{BigEndian, ByteOrder};
 /// The one's complement sum of two sums, for words that lie in two places.
 pub fn add(a: u16, b: u16) -> u16
     ensures value { result ≡ ones_sum (a + b) }
-    ensures parts { (m n : ℕ) → a ≡ ones_sum m → b ≡ ones_sum n → result ≡ ones_sum (m + n) }
+    ensures parts { (m n : ℕ) → a ≡ ones_sum m → b ≡ ones_sum n
+        → result ≡ ones_sum (m + n) }
 {
     let total = u32::from(a) + u32::from(b);
     if total > 65535 {
@@ -68,7 +69,8 @@ pub fn parts_law()
 
 /// Where the word at an even place is replaced, the whole sum changes by the difference.
 pub fn replace_law()
-    ensures { (bytes : List ℕ) (half value : ℕ) → 2 * half + 2 ≤ length bytes → value < 65536
+    ensures { (bytes : List ℕ) (half value : ℕ) → 2 * half + 2 ≤ length bytes
+        → value < 65536
         → word_sum (take (2 * half) bytes ++ big_bytes 2 value ++ drop (2 * half + 2) bytes)
         + word_sum (take 2 (drop (2 * half) bytes))
         ≡ word_sum bytes + value }

@@ -66,7 +66,8 @@ impl Timers {
         // An error changes nothing, and doesn't come where there is room for the set slots.
         ensures err_slots { OnErr result (self.new ≡ self.old) }
         ensures err_list { OnErr result (out.new.items ≡ out.old.items) }
-        ensures room { vec_len out.old + set_count self.old ≤ vec_capacity out.old → IsOk result }
+        ensures room { vec_len out.old + set_count self.old ≤ vec_capacity out.old
+            → IsOk result }
     {
         out.reserve(count_due(&self.slots, now))?;
         list_due(&self.slots, now, out);

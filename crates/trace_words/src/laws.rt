@@ -112,6 +112,7 @@ pub fn one_box_says()
 pub fn one_answer()
     ensures fault { (t : List Note) (zero one : List Pair) (f g : AuditFault) → IsFound f →
         IsFound g → FaultSays t zero one f → FaultSays t zero one g → f ≡ g }
-    ensures none { (t : List Note) (zero one : List Pair) (f : AuditFault) → Fits t → Silent t →
+    ensures none { (t : List Note) (zero one : List Pair) (f : AuditFault) → Fits t
+        → Silent t →
         Kept (ListsHold zero one) t → IsFound f → FaultSays t zero one f → ⊥ }
 {}

@@ -100,7 +100,8 @@ fn started(own: Own, status: Status, now: u64) -> (Status, Action)
 }
 
 fn stopped(own: Own, status: Status) -> (Status, Action)
-    ensures { (now : ℕ) → IsStep (router_of own status) Stop now result.1 (router_of own result.0) }
+    ensures { (now : ℕ) → IsStep (router_of own status) Stop now result.1
+        (router_of own result.0) }
 {
     let initial = Status {
         state: State::Initialize,
