@@ -30,6 +30,7 @@ IsLinked-push wheel links l room = record {
   heads = l.heads;
   count = l.count ∙ sym (same_count links);
   room = omega (arith, room, length-append links (unset_links ∷ []));
+  cleared = λ s none. same_links links s ∙ l.cleared s (ap (λ x. x.due) (sym (same_links links s)) ∙ none);
   chains = l.chains;
   linked = record {
     led = λ chain. leads_same links (links ++ unset_links ∷ []) None (get_or wheel.heads.items chain None) (l.chains chain) (l.linked.led chain) (λ t _. same_links links t);

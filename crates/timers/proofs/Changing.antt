@@ -5,12 +5,12 @@ use Rattle.std.proofs.lemmas.List.{length-set, length-map}
 use Rattle.timers.specs.Due.{set_count}
 use Rattle.timers.specs.declared.links.Links.{Links}
 use Rattle.timers.specs.declared.wheel.Wheel.{Wheel}
-use Rattle.timers.specs.Chains.{links_of, chain_of, AreChains, moments}
+use Rattle.timers.specs.Chains.{links_of, chain_of, AreChains, AreCleared, moments}
 use Rattle.timers.specs.Steps.{without, with_head}
 use Rattle.timers.specs.Linked.{IsLinked}
 use Rattle.timers.proofs.Counting.{moment_of, count-set, count-clear}
-use Rattle.timers.proofs.Linking.{put_before, put_in, put-chains, length-put_before, moments-put_before}
-use Rattle.timers.proofs.Unlinking.{unlinked, unlinked-chains, length-unlinked, moments-unlinked}
+use Rattle.timers.proofs.Linking.{put_before, put_in, put-chains, put-cleared, length-put_before, moments-put_before}
+use Rattle.timers.proofs.Unlinking.{unlinked, unlinked-chains, unlinked-cleared, length-unlinked, moments-unlinked}
 
 pub chain_within : (turns due : ℕ) → chain_of turns due < 1024
 chain_within turns due = omega arith
@@ -22,6 +22,11 @@ move_chains heads new turns later links after chains e f h a =
     let Q : ℕ → Type 0 = λ n. AreChains heads n after chains in
     let R : List Links → Type 0 = λ ls. AreChains heads turns ls chains in
     subst P (sym e) (subst Q (sym f) (subst R (sym h) a))
+
+move_cleared : (links after : List Links) → after ≡ links → AreCleared links → AreCleared after
+move_cleared links after e h =
+    let P : List Links → Type 0 = λ ls. AreCleared ls in
+    subst P (sym e) h
 
 pub put-linked : (old new : Wheel) (links after : List Links) (s due chain : ℕ) (at : Option ℕ) → IsLinked old links → (links_of links s).due ≡ None → s < length links → chain ≡ chain_of old.turns due → at ≡ get_or old.heads.items chain None → new.heads.items ≡ set old.heads.items chain (Some s) → new.turns ≡ old.turns → new.count ≡ old.count + 1 → after ≡ put_before links at s due → IsLinked new after
 put-linked old new links after s due chain at l unset within own first heads turns count is =
@@ -35,6 +40,7 @@ put-linked old new links after s due chain at l unset within own first heads tur
       heads = ap length heads ∙ length-set hs chain (Some s) ∙ l.heads;
       count = count ∙ ap (λ n. n + 1) l.count ∙ sym more;
       room = omega (arith, ap length is, length-put_before links at s due, l.room);
+      cleared = move_cleared (put_before links (get_or hs (chain_of old.turns due) None) s due) after list (put-cleared hs old.turns links l.chains l.linked l.cleared (chain_of old.turns due) s due within);
       chains = put_in l.chains (chain_of old.turns due) s;
       linked = move_chains (set hs (chain_of old.turns due) (Some s)) new.heads.items old.turns new.turns (put_before links (get_or hs (chain_of old.turns due) None) s due) after (put_in l.chains (chain_of old.turns due) s) (heads ∙ ap (λ k. set hs k (Some s)) own) turns list (put-chains hs old.turns links l.chains l.linked s due unset within inside);
     }
@@ -61,6 +67,7 @@ unlinked-linked old new links after s due chain l is_set within own front turned
       heads = ap length front ∙ length-with_head old.heads.items chain (links_of links s) ∙ l.heads;
       count = omega (arith, fell, count, ap (λ ls. set_count (moments ls)) is, ap set_count (moments-unlinked links s));
       room = omega (arith, ap length is, length-unlinked links s, l.room);
+      cleared = move_cleared (unlinked links s) after is (unlinked-cleared old.heads.items old.turns links l.chains l.linked l.cleared s due is_set within);
       chains = λ c. without s (l.chains c);
       linked = unlinked-again old.heads.items new.heads.items old.turns new.turns links after l.chains s due chain l.linked is_set within l.heads own front turned is;
     }

@@ -37,6 +37,7 @@ fresh_linked wheel links heads turns count room unset = record {
   heads = ap length heads ∙ length-replicate {A = Option ℕ} 1024 None;
   count = count ∙ sym (none_set links (unset_each links unset));
   room = room;
+  cleared = λ s _. unset_each links unset s;
   chains = λ _. [];
   linked = record {
     led = λ chain. no_head wheel.heads.items heads chain;

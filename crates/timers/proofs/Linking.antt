@@ -2,10 +2,10 @@
 use Rattle.std.proofs.Common.{◌≡◌, ℕ, ◌<◌, ◌≤◌, Bool, true, false, cond, Option, Some, None, inl, inr, List, [], ◌∷◌, length, get_or, eqb, refl, sym, ap, ◌∙◌, subst, arith}
 use Rattle.std.proofs.Math.ListN.{set}
 use Rattle.std.proofs.lemmas.Bool.{cond-true, cond-false, eqb-true, eqb-false, eq-eqb, ne_eqb, cases_Bool, true≢false, cases_eq}
-use Rattle.std.proofs.lemmas.Option.{same_Some}
+use Rattle.std.proofs.lemmas.Option.{same_Some, none-some}
 use Rattle.std.proofs.lemmas.List.{get_or-set_same, get_or-set_other, length-set, map-set}
 use Rattle.timers.specs.declared.links.Links.{Links}
-use Rattle.timers.specs.Chains.{links_of, unset_links, times, stands, chain_of, Leads, AreChains, IsSlot, moments}
+use Rattle.timers.specs.Chains.{links_of, unset_links, times, stands, chain_of, Leads, AreChains, IsSlot, AreCleared, moments}
 use Rattle.timers.specs.Steps.{with_previous}
 use Rattle.timers.proofs.Leading.{here, later, leads_same}
 use Rattle.timers.proofs.Writing.{names, names-true, names_it, next-with_previous, previous-with_previous, due-with_previous, length-with_previous, moments-with_previous, others-with_previous}
@@ -162,3 +162,23 @@ put-chains heads turns links chains a s due unset within inside =
       led = λ chain. led_put heads turns links chains a own chain s due unset within inside;
       once = λ chain t. once_put heads turns links chains a chain s due t unset within (get_or heads own None) (head_is_slot heads turns links chains a own (get_or heads own None) refl);
     }
+
+-- a slot that isn't set is none that the new one's links or the head's name
+kept_apart : (heads : List (Option ℕ)) (turns : ℕ) (links : List Links) (chains : ℕ → List ℕ) → AreChains heads turns links chains → (own t : ℕ) → (links_of links t).due ≡ None → names (get_or heads own None) t ≡ false
+kept_apart heads turns links chains a own t unset =
+    not_named (get_or heads own None) t (λ is.
+    let stood = stands_from heads turns links chains a own t (head_stands heads turns links chains a own t is).0 in
+    true≢false (sym stood ∙ ap (stands turns own) unset))
+
+-- the slots that aren't set then have no neighbours still
+pub put-cleared : (heads : List (Option ℕ)) (turns : ℕ) (links : List Links) (chains : ℕ → List ℕ) → AreChains heads turns links chains → AreCleared links → (own s due : ℕ) → s < length links → AreCleared (put_before links (get_or heads own None) s due)
+put-cleared heads turns links chains a cleared own s due within t none =
+    let at = get_or heads own None in
+    elim (cases_Bool (eqb t s)) [
+      | inl is ↦ absurd (none-some due (sym none ∙ ap (λ k. (links_of (put_before links at s due) k).due) (eqb-true t s is) ∙ ap (λ l. l.due) (its_own links at s due within)))
+      | inr not ↦ (
+          let slot = head_is_slot heads turns links chains a own at refl in
+          let unset : (links_of links t).due ≡ None = sym (due-with_previous links at (Some s) t slot) ∙ ap (λ l. l.due) (sym (of_another links at s due t not)) ∙ none in
+          of_another links at s due t not ∙ others-with_previous links at (Some s) t (kept_apart heads turns links chains a own t unset) ∙ cleared t unset
+          )
+    ]

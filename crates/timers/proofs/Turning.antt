@@ -72,6 +72,7 @@ turned old new now links l none heads turns count =
       heads = ap length heads ∙ l.heads;
       count = count ∙ l.count;
       room = l.room;
+      cleared = l.cleared;
       chains = l.chains;
       linked = subst P (sym heads) (subst Q (sym turns) a);
     }

@@ -5,10 +5,10 @@ use Rattle.std.proofs.lemmas.Bool.{cond-true, cond-false, eqb-true, eqb-false, e
 use Rattle.std.proofs.lemmas.Option.{same_Some, none-some}
 use Rattle.std.proofs.lemmas.List.{get_or-set_same, get_or-set_other, length-set, map-set}
 use Rattle.timers.specs.declared.links.Links.{Links}
-use Rattle.timers.specs.Chains.{links_of, unset_links, times, stands, chain_of, Leads, AreChains, IsSlot, moments}
+use Rattle.timers.specs.Chains.{links_of, unset_links, times, stands, chain_of, Leads, AreChains, IsSlot, AreCleared, moments}
 use Rattle.timers.specs.Steps.{without, with_next, with_previous, with_head}
 use Rattle.timers.proofs.Leading.{around, Bypassed, leads_without, heads_chain}
-use Rattle.timers.proofs.Writing.{names, names-true, names_it, next-with_next, previous-with_next, due-with_next, length-with_next, moments-with_next, next-with_previous, previous-with_previous, due-with_previous, length-with_previous, moments-with_previous}
+use Rattle.timers.proofs.Writing.{names, names-true, names_it, next-with_next, previous-with_next, due-with_next, length-with_next, moments-with_next, next-with_previous, previous-with_previous, due-with_previous, length-with_previous, moments-with_previous, others-with_next, others-with_previous}
 use Rattle.timers.proofs.Standing.{only_there, stands_from, in_own, few, agreed_next, agreed_previous, next_within, previous_within, head_stands}
 
 -- with a slot's neighbours linked to one another
@@ -199,3 +199,36 @@ unlinked-chains heads turns links chains a s due is_set inside within =
           subst P (sym (head_past heads turns links chains a chain s due is_set within q refl)) (leads_without links (unlinked links s) s None (get_or heads chain None) (chains chain) (a.led chain) (few heads turns links chains a chain s) refl (bypassed heads turns links chains a chain s due is_set)));
       once = λ chain t. once_left heads turns links chains a s t chain inside first second;
     }
+
+-- a slot that isn't set is no neighbour of one that is
+not_before : (heads : List (Option ℕ)) (turns : ℕ) (links : List Links) (chains : ℕ → List ℕ) → AreChains heads turns links chains → (s due t : ℕ) → (links_of links s).due ≡ Some due → links_of links t ≡ unset_links → names (links_of links s).previous t ≡ false
+not_before heads turns links chains a s due t is_set unset =
+    elim (cases_Bool (names (links_of links s).previous t)) [
+      | inl is ↦ absurd (none-some s (ap (λ l. l.next) (sym unset) ∙ agreed_previous heads turns links chains a (chain_of turns due) s t (in_own heads turns links chains a s due is_set) (names-true (links_of links s).previous t is)))
+      | inr not ↦ not
+    ]
+
+not_behind : (heads : List (Option ℕ)) (turns : ℕ) (links : List Links) (chains : ℕ → List ℕ) → AreChains heads turns links chains → (s due t : ℕ) → (links_of links s).due ≡ Some due → links_of links t ≡ unset_links → names (links_of links s).next t ≡ false
+not_behind heads turns links chains a s due t is_set unset =
+    elim (cases_Bool (names (links_of links s).next t)) [
+      | inl is ↦ absurd (none-some s (ap (λ l. l.previous) (sym unset) ∙ agreed_next heads turns links chains a (chain_of turns due) s t (in_own heads turns links chains a s due is_set) (names-true (links_of links s).next t is)))
+      | inr not ↦ not
+    ]
+
+-- the slots that aren't set then have no neighbours, nor has that one
+pub unlinked-cleared : (heads : List (Option ℕ)) (turns : ℕ) (links : List Links) (chains : ℕ → List ℕ) → AreChains heads turns links chains → AreCleared links → (s due : ℕ) → (links_of links s).due ≡ Some due → s < length links → AreCleared (unlinked links s)
+unlinked-cleared heads turns links chains a cleared s due is_set within t none =
+    let q = (links_of links s).previous in
+    let n = (links_of links s).next in
+    elim (cases_Bool (eqb t s)) [
+      | inl is ↦ ap (λ k. links_of (unlinked links s) k) (eqb-true t s is) ∙ get_or-set_same (joined links s) s unset_links unset_links (omega (arith, length-joined links s))
+      | inr not ↦ (
+          let first = previous_within heads turns links chains a s due is_set q refl in
+          let second = IsSlot-length links (with_next links q n) n (length-with_next links q n) (next_within heads turns links chains a s due is_set n refl) in
+          let unset = cleared t (sym (due_joined links s t first second) ∙ sym (other_kept (λ l. l.due) (joined links s) s t unset_links not) ∙ none) in
+          get_or-set_other (joined links s) s t unset_links unset_links (eqb-false t s not)
+          ∙ others-with_previous (with_next links q n) n q t (not_behind heads turns links chains a s due t is_set unset)
+          ∙ others-with_next links q n t (not_before heads turns links chains a s due t is_set unset)
+          ∙ unset
+          )
+    ]

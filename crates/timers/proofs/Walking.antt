@@ -185,7 +185,7 @@ further now chain old new links after list longer s at to l done (x ∷ rest) sp
     elim (cases_Bool (is_due now (links_of links s).due)) [
       | inl is_due_now ↦ (
         record {
-          linked = record { heads = linked.heads; count = linked.count; room = linked.room; chains = λ c. passed now links s (l.chains c); linked = chains l.chains l.linked };
+          linked = record { heads = linked.heads; count = linked.count; room = linked.room; cleared = linked.cleared; chains = λ c. passed now links s (l.chains c); linked = chains l.chains l.linked };
           done = done;
           rest = rest;
           split = cond-true (is_due now (links_of links s).due) (without s (l.chains chain)) (l.chains chain) is_due_now ∙ ap (without s) here_split ∙ without_between s done rest apart.0 apart.1;
@@ -196,7 +196,7 @@ further now chain old new links after list longer s at to l done (x ∷ rest) sp
       )
       | inr not_due ↦ (
         record {
-          linked = record { heads = linked.heads; count = linked.count; room = linked.room; chains = λ c. passed now links s (l.chains c); linked = chains l.chains l.linked };
+          linked = record { heads = linked.heads; count = linked.count; room = linked.room; cleared = linked.cleared; chains = λ c. passed now links s (l.chains c); linked = chains l.chains l.linked };
           done = done ++ s ∷ [];
           rest = rest;
           split = cond-false (is_due now (links_of links s).due) (without s (l.chains chain)) (l.chains chain) not_due ∙ here_split ∙ sym (append_assoc done (s ∷ []) rest);

@@ -80,3 +80,7 @@ moments-with_previous links (Some u) previous = map-set_same (λ l. l.due) links
 pub others-with_previous : (links : List Links) (o previous : Option ℕ) (t : ℕ) → names o t ≡ false → links_of (with_previous links o previous) t ≡ links_of links t
 others-with_previous links None previous t other = refl
 others-with_previous links (Some u) previous t other = get_or-set_other links u t (record (links_of links u) { previous = previous }) unset_links (eqb-false t u other)
+
+pub others-with_next : (links : List Links) (o next : Option ℕ) (t : ℕ) → names o t ≡ false → links_of (with_next links o next) t ≡ links_of links t
+others-with_next links None next t other = refl
+others-with_next links (Some u) next t other = get_or-set_other links u t (record (links_of links u) { next = next }) unset_links (eqb-false t u other)

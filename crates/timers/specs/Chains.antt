@@ -39,6 +39,10 @@ unfoldable pub Leads : List Links → Option ℕ → Option ℕ → List ℕ →
 Leads links previous at [] = at ≡ None
 Leads links previous at (slot ∷ rest) = (at ≡ Some slot) × ((links_of links slot).previous ≡ previous) × Leads links (Some slot) (links_of links slot).next rest
 
+-- a slot that isn't set has no neighbours
+abbrev pub AreCleared : List Links → Type 0
+AreCleared links = (slot : ℕ) → (links_of links slot).due ≡ None → links_of links slot ≡ unset_links
+
 -- from these heads the links lead through these chains, and each slot that is set stands in its own chain once, and in
 -- no other
 pub record AreChains (heads : List (Option ℕ)) (turns : ℕ) (links : List Links) (chains : ℕ → List ℕ) : Type 0 where
