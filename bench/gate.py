@@ -2,11 +2,15 @@
 """Runs the gate, `rt ci`, once, and prints what it took: for each crate the processor seconds of its proof, its tests, its
 must-fail edits, and its builds and runs; the share of each; and the longest chain of crates by crates.txt.
 
-usage: bench/gate.py [--keep FILE]      runs the gate; with --keep it writes what the gate said and took into FILE
-       bench/gate.py --log FILE         prints the figures of such a FILE again, and runs nothing
+usage: bench/gate.py [--proofs] [--keep FILE]   runs the gate; with --keep it writes what the gate said and took into
+                                                FILE; with --proofs it ends the gate once each crate's proof has ended,
+                                                which is enough for the longest chain, and says nothing of the rest
+       bench/gate.py --log FILE                 prints the figures of such a FILE again, and runs nothing
 
 Run it from the top of the repository, with nothing beside it where figures are to be compared. The exit status is the
-gate's. A FILE of the gate's bare output has no times: then each crate's outcomes are printed alone.
+gate's; of a gate that was ended it is 0 where each proof ended well. Where this script itself is interrupted, it ends
+the gate and prints what it has seen. A FILE of the gate's bare output has no times: then each crate's outcomes are
+printed alone.
 
 A processor second is one that a process of the gate's, or one that it started, spent computing. They are read from
 /proc some ten times a second, so that up to a tenth of a second of each is lost; what no crate's process took (the
@@ -15,6 +19,7 @@ gate itself, formats, what was lost) stands in the line `others`.
 import os
 import re
 import resource
+import signal
 import subprocess
 import sys
 import threading
@@ -102,17 +107,40 @@ class Sampler(threading.Thread):
         return given
 
 
-def run_gate(kept):
-    """Runs the gate. Returns its lines, what its tasks took, its processor seconds, its seconds and its status."""
-    began, lines = time.monotonic(), []
-    gate = subprocess.Popen(["rt", "ci"], stdin=subprocess.DEVNULL, stdout=subprocess.PIPE, stderr=subprocess.STDOUT, text=True, errors="replace")
-    sampler = Sampler(gate.pid)
+def end(gate):
+    """Ends the gate and all that it runs. It puts the crates' kept work back where it is given the time."""
+    for sent, patience in ((signal.SIGINT, 20), (signal.SIGKILL, 20)):
+        try:
+            os.killpg(gate.pid, sent)
+            gate.wait(patience)
+        except (ProcessLookupError, subprocess.TimeoutExpired):
+            pass
+
+
+def run_gate(kept, proofs_alone):
+    """Runs the gate, or only until each proof has ended. Returns its lines, what its tasks took, its processor seconds,
+    its seconds and its status."""
+    began, lines, left = time.monotonic(), [], set(crates())
+    gate = subprocess.Popen(["rt", "ci"], stdin=subprocess.DEVNULL, stdout=subprocess.PIPE, stderr=subprocess.STDOUT, text=True, errors="replace", start_new_session=True)
+    sampler, status = Sampler(gate.pid), None
     sampler.start()
-    for line in gate.stdout:
-        lines.append(line.rstrip("\n"))
-        if line.startswith("rt: ") or re.match(r"\d+ passed, \d+ failed", line):
-            print(f"{time.monotonic() - began:7.0f} s  {line.rstrip()[:140]}", flush=True)
-    status = gate.wait()
+    try:
+        for line in gate.stdout:
+            lines.append(line.rstrip("\n"))
+            if line.startswith("rt: ") or re.match(r"\d+ passed, \d+ failed", line):
+                print(f"{time.monotonic() - began:7.0f} s  {line.rstrip()[:140]}", flush=True)
+            ended = re.fullmatch(r"rt: (\w+) (?:proved|NOT PROVED\b.*)", line.rstrip("\n"))
+            left -= {ended[1]} if ended else set()
+            if proofs_alone and not left:
+                status = int(any("NOT PROVED" in it for it in lines))
+                break
+    except KeyboardInterrupt:
+        status = 130
+    if status is None:
+        status = gate.wait()
+    else:
+        sampler.sample()
+        end(gate)
     sampler.over.set()
     sampler.join()
     used = resource.getrusage(resource.RUSAGE_CHILDREN)
@@ -206,10 +234,11 @@ def report(lines, took, computed, passed):
 
 
 def main(words):
-    if words[:1] == ["--log"] and len(words) == 2:
+    proofs_alone, words = words[:1] == ["--proofs"], words[words[:1] == ["--proofs"]:]
+    if words[:1] == ["--log"] and len(words) == 2 and not proofs_alone:
         given = read_log(words[1])
     elif not words or words[0] == "--keep" and len(words) == 2:
-        given = run_gate(words[1] if words else None)
+        given = run_gate(words[1] if words else None, proofs_alone)
     else:
         sys.exit(__doc__)
     report(*given[:4])
