@@ -23,12 +23,22 @@ pub enum SocketFault {
 }
 
 impl From<AllocError> for SocketFault {
+    ghost use Rattle.std.specs.Prelude.{◌≡◌};
+    ghost use Rattle.wires.specs.declared.sockets.SocketFault.TheVariants as faults;
+
+    ghost from_gives = { λ _ fault. fault ≡ faults.NoMemory };
+
     fn from(_: AllocError) -> SocketFault {
         SocketFault::NoMemory
     }
 }
 
 impl From<io::Error> for SocketFault {
+    ghost use Rattle.std.specs.Prelude.{◌≡◌};
+    ghost use Rattle.wires.specs.declared.sockets.SocketFault.TheVariants as faults;
+
+    ghost from_gives = { λ _ fault. fault ≡ faults.NoSocket };
+
     fn from(_: io::Error) -> SocketFault {
         SocketFault::NoSocket
     }
