@@ -1,5 +1,5 @@
 //! The three sockets of a box on the loopback address, all waited for at once.
-ghost use Rattle.std.specs.Prelude.{◌≡◌, ◌≤◌, [], IfOk, IfSome};
+ghost use Rattle.std.specs.Prelude.{◌≡◌, ◌≤◌, [], IfOk, IfSome, OnErr, IsErrOf};
 
 use crate::wire::{LONGEST, Wire, WireFault};
 use crate::{Answers, Place, Ports};
@@ -90,7 +90,9 @@ fn loopback(port: u16) -> SocketAddr {
 /// # Errors
 ///
 /// `NoSocket` where no port can be had, or the system doesn't take the datagram.
-pub fn send_once<R: Net>(net: &R, port: u16, bytes: &[u8]) -> Result<(), SocketFault> {
+pub fn send_once<R: Net>(net: &R, port: u16, bytes: &[u8]) -> Result<(), SocketFault>
+    ensures { OnErr result (IsErrOf result SocketFault.NoSocket) }
+{
     let socket = Socket::bind(net, (0, port))?;
     socket.inner.send_to(bytes, socket.target)?;
     Ok(())
