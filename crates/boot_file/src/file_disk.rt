@@ -1,5 +1,5 @@
 // A boot file and its folder as the disk of boot_store.
-ghost use Rattle.std.specs.Prelude.{◌≡◌, ◌+◌, ◌<◌, ◌≤◌, OnOk, OnErr, IfSome};
+ghost use Rattle.std.specs.Prelude.{◌≡◌, ◌+◌, ◌≤◌, OnOk, OnErr, IfSome};
 
 use crate::Uncached;
 use boot_store::{DeviceFault, Disk, Failures};
@@ -39,7 +39,7 @@ impl<F: Read + Write + Seek + OpenFile + Uncached + Drop> FileDisk<F> {
     /// The next read or write begins there.
     fn seek_to(&mut self, at: usize) -> Result<(), DeviceFault>
         ensures ok { OnOk result (self.new.failures ≡ self.old.failures) }
-        ensures failed { OnErr result (self.old.failures < self.new.failures) }
+        ensures failed { OnErr result (self.new.failures ≡ self.old.failures + 1) }
     {
         match self.file.seek(SeekFrom::Start(at as u64)) {
             Ok(_) => Ok(()),

@@ -6,7 +6,7 @@ use Rattle.boot_store.specs.declared.faults.BootFault.{BootFault}
 use Rattle.boot_store.specs.declared.faults.BootFault.TheVariants.{BootsUsedUp, FoundTwice}
 use Rattle.boot_store.specs.Moment.{Moment, MayShow, bytes_of, put, left_by_crash, written, within_write, synced}
 use Rattle.boot_store.specs.BootFile.{slot_number, slot_at, greater, number_of, boot_answer, next_place, slot_bytes, with_number}
-use Rattle.boot_store.specs.Crash.{LeavesAtLeast, IsReady, AfterFailure, AfterWrite, Since, WritesOnce, answered_file, looked}
+use Rattle.boot_store.specs.Crash.{LeavesAtLeast, IsReady, AfterFailure, AfterWrite, Since, WritesOnce, WriteStopped, StartStopped, answered_file, looked}
 use Rattle.boot_store.proofs.Leaves.{as_read, synced-written}
 use Rattle.boot_store.proofs.Numbers.{number_is, kept_slot}
 use Rattle.boot_store.proofs.Stored.{new_number}
@@ -86,3 +86,14 @@ module _ (t : Moment) (a b : Option ℕ) (steady : left_by_crash (bytes_of t) �
   pub write_failed : (start end : Moment) → MayShow start (bytes_of t) → AfterWrite (next_place a b) t end → AfterFailure start end
   write_failed start end shows after =
       inr (bytes_of t, shows, rw (← first_slot, ← second_slot, steady) after)
+
+  -- and the start ends at it
+  pub start_stopped : (found : Bool) (boot : ℕ) (start end : Moment) (p q r : List Moment)
+      → MayShow start (bytes_of t) → boot_answer found (greater a b) ≡ Ok boot
+      → q ≡ p ++ looked start → Since q r (WriteStopped (next_place a b) (slot_bytes boot) t end)
+      → Since p r (StartStopped found start end)
+  start_stopped found boot start end p q r shows is first second = (
+    looked start ++ second.0,
+    second.1 ∙ ap (λ (l : List Moment). l ++ second.0) first ∙ append_assoc p (looked start) second.0,
+    inr (bytes_of t, boot, second.0, shows, rw number_read is, refl, rw (← first_slot, ← second_slot, steady) second.2),
+  )

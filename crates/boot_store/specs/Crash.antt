@@ -75,6 +75,30 @@ abbrev pub AfterFailure : Moment → Moment → Type 0
 AfterFailure start end = StillKept start end
     ⊎ ((file : List ℕ) × MayShow start file × AfterWrite (next_place (slot_at 0 file) (slot_at 16 file)) (left_by_crash file) end)
 
+-- the write of these bytes there failed, or the sync after it, and then no call was made: the moments and the end
+abbrev pub WriteStopped : ℕ → List ℕ → Moment → Moment → List Moment → Type 0
+WriteStopped at bytes start end since =
+    let within = within_write at (length bytes) start in
+    let after = written at bytes start in
+    ((since ≡ start ∷ within ∷ []) × FailedWrite at (length bytes) start end)
+    ⊎ ((since ≡ start ∷ within ∷ after ∷ []) × StillKept after end)
+
+-- the sync before a read failed, or the read, and then no call was made
+abbrev pub LookStopped : Moment → Moment → List Moment → Type 0
+LookStopped start end since =
+    ((since ≡ start ∷ []) × StillKept start end) ⊎ ((since ≡ looked start) × StillKept (synced start) end)
+
+-- the file was read, this number follows its own, and the write of it over the one slot failed, or the sync after it
+abbrev pub NumberStopped : Bool → Moment → Moment → List Moment → Type 0
+NumberStopped found start end since =
+    (file : List ℕ) × (n : ℕ) × (stored : List Moment) × MayShow start file × (boot_answer found (number_of file) ≡ Ok n)
+    × (since ≡ looked start ++ stored)
+    × WriteStopped (next_place (slot_at 0 file) (slot_at 16 file)) (slot_bytes n) (left_by_crash file) end stored
+
+-- a start that ended at the call that failed: one before a number was chosen, or one that was to store it
+abbrev pub StartStopped : Bool → Moment → Moment → List Moment → Type 0
+StartStopped found start end since = LookStopped start end since ⊎ NumberStopped found start end since
+
 -- the disk once it was synced and read: all of it is kept
 abbrev pub Settled : Moment → Moment → Type 0
 Settled start end = MayShow start (bytes_of end) × (left_by_crash (bytes_of end) ≡ end)

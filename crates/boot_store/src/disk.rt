@@ -1,5 +1,5 @@
 // A boot file's disk: what a read shows, what a crash may leave, and how often it failed.
-ghost use Rattle.std.specs.Prelude.{◌≡◌, ◌+◌, ◌<◌, ◌≤◌, ◌↔◌, ℕ, List, [], ◌∷◌, ◌++◌, length, take, OnErr, OnOk, IfOk};
+ghost use Rattle.std.specs.Prelude.{◌≡◌, ◌+◌, ◌≤◌, ◌↔◌, ℕ, List, [], ◌∷◌, ◌++◌, length, take, OnErr, OnOk, IfOk};
 ghost use Rattle.boot_store.specs.Moment.{Moment, bytes_of, written, within_write, FailedWrite, synced, StillKept, AfterRead};
 
 /// How a byte of a file is held.
@@ -57,7 +57,7 @@ pub trait Disk {
             → past self.new ≡ past self.old ++ now self.old ∷ [] }
         ensures honesty { honest self.old ↔ honest self.new }
         ensures ok { OnOk result (failures self.new ≡ failures self.old) }
-        ensures failed { OnErr result (failures self.old < failures self.new) };
+        ensures failed { OnErr result (failures self.new ≡ failures self.old + 1) };
 
     /// Writes bytes from a place on. Where it fails, any bytes may stand there.
     fn write_at(&mut self, at: usize, bytes: &[u8]) -> Result<(), DeviceFault>
@@ -71,7 +71,7 @@ pub trait Disk {
             ++ now self.old ∷ within_write at (length bytes.now) (now self.old) ∷ [] }
         ensures honesty { honest self.old ↔ honest self.new }
         ensures ok { OnOk result (failures self.new ≡ failures self.old) }
-        ensures failed { OnErr result (failures self.old < failures self.new) };
+        ensures failed { OnErr result (failures self.new ≡ failures self.old + 1) };
 
     /// Makes the bytes written since the last sync outlast a crash. Where it fails they may be
     /// lost.
@@ -83,5 +83,5 @@ pub trait Disk {
             → past self.new ≡ past self.old ++ now self.old ∷ [] }
         ensures honesty { honest self.old ↔ honest self.new }
         ensures ok { OnOk result (failures self.new ≡ failures self.old) }
-        ensures failed { OnErr result (failures self.old < failures self.new) };
+        ensures failed { OnErr result (failures self.new ≡ failures self.old + 1) };
 }

@@ -2,13 +2,14 @@
 ghost use Rattle.std.specs.Prelude.{◌≡◌, ◌≢◌, ◌≤◌, ◌<◌, ◌+◌, ◌↔◌, ◌++◌, [], ◌∷◌, take, drop, OnOk, OnErr, IfOk, IfErr, IsErrOf};
 ghost use Rattle.boot_store.specs.Moment.{MayShow, StillKept, bytes_of, written, within_write, synced};
 ghost use Rattle.boot_store.specs.BootFile.{slot_bytes, zero_file};
-ghost use Rattle.boot_store.specs.Crash.{LeavesNumber, LeavesFirst, Since, Keeps, Rises, Decides, Settled, IsReady, WholeFile, zero_past, looked, WritesOnce, AfterWrite, AfterFailure};
+ghost use Rattle.boot_store.specs.Crash.{LeavesNumber, LeavesFirst, Since, Keeps, Rises, Decides, Settled, IsReady, WholeFile, zero_past, looked, WritesOnce, AfterWrite, AfterFailure, WriteStopped, LookStopped, StartStopped};
 
 use crate::slots::{next_number, next_place, slot_number, slot_of};
 use crate::{BootFault, DeviceFault, Disk};
 
 /// Writes a boot file on which a gateway can be founded: both slots have the number 0, and once it
-/// is answered a crash leaves them so. After Device any bytes may stand in their place.
+/// is answered a crash leaves them so. After Device any bytes may stand in their place, and the call
+/// that failed was the last.
 pub fn init<D: Disk>(disk: &mut D) -> Result<(), BootFault>
     ensures only_device { OnErr result (IsErrOf result BootFault.Device) }
     ensures bytes { D.honest disk.old
@@ -23,7 +24,9 @@ pub fn init<D: Disk>(disk: &mut D) -> Result<(), BootFault>
         → OnErr result (StillKept (drop 32 (D.now disk.old)) (drop 32 (D.now disk.new))) }
     ensures honesty { D.honest disk.old ↔ D.honest disk.new }
     ensures ok { OnOk result (D.failures disk.new ≡ D.failures disk.old) }
-    ensures device { OnErr result (D.failures disk.old < D.failures disk.new) }
+    ensures device { OnErr result (D.failures disk.new ≡ D.failures disk.old + 1) }
+    ensures stops { D.honest disk.old → OnErr result (Since (D.past disk.old) (D.past disk.new)
+        (WriteStopped 0 zero_file (D.now disk.old) (D.now disk.new))) }
 {
     disk.write_at(0, &zero_file())?;
     disk.sync()?;
@@ -55,7 +58,9 @@ fn settled_file<D: Disk>(disk: &mut D) -> Result<Option<[u8; 32]>, DeviceFault>
     ensures whole { D.honest disk.old → IfOk result (WholeFile (bytes_of (D.now disk.new))) }
     ensures honesty { D.honest disk.old ↔ D.honest disk.new }
     ensures ok { OnOk result (D.failures disk.new ≡ D.failures disk.old) }
-    ensures failed { OnErr result (D.failures disk.old < D.failures disk.new) }
+    ensures failed { OnErr result (D.failures disk.new ≡ D.failures disk.old + 1) }
+    ensures stops { D.honest disk.old → OnErr result (Since (D.past disk.old) (D.past disk.new)
+        (LookStopped (D.now disk.old) (D.now disk.new))) }
 {
     disk.sync()?; // a call that failed may have left its bytes loose
     let mut file = [0; 32];
@@ -81,7 +86,9 @@ fn store<D: Disk>(disk: &mut D, place: usize, boot: u64) -> Result<(), DeviceFau
         → OnErr result (AfterWrite place (D.now disk.old) (D.now disk.new)) }
     ensures honesty { D.honest disk.old ↔ D.honest disk.new }
     ensures ok { OnOk result (D.failures disk.new ≡ D.failures disk.old) }
-    ensures failed { OnErr result (D.failures disk.old < D.failures disk.new) }
+    ensures failed { OnErr result (D.failures disk.new ≡ D.failures disk.old + 1) }
+    ensures stops { D.honest disk.old → OnErr result (Since (D.past disk.old) (D.past disk.new)
+        (WriteStopped place (slot_bytes boot) (D.now disk.old) (D.now disk.new))) }
 {
     disk.write_at(place, &slot_of(boot))?;
     disk.sync()?; // only then may the number be used
@@ -95,7 +102,8 @@ fn store<D: Disk>(disk: &mut D, place: usize, boot: u64) -> Result<(), DeviceFau
 /// After Damaged, BootsUsedUp or FoundTwice the file has been synced and read, and none of it was
 /// written: what was kept stands as before, and what had been written and not synced is kept now.
 /// After Device the file may have been synced too, and any bytes may stand in the place of the slot
-/// over which the next number goes; the other slot stands as it was.
+/// over which the next number goes; the other slot stands as it was. The call that failed was the
+/// last.
 pub fn next_boot<D: Disk>(disk: &mut D, found: bool) -> Result<u64, BootFault>
     ensures rises { D.honest disk.old → Rises (D.now disk.old) (D.now disk.new) result }
     ensures any_moment { D.honest disk.old
@@ -112,8 +120,12 @@ pub fn next_boot<D: Disk>(disk: &mut D, found: bool) -> Result<u64, BootFault>
     ensures leaves { D.honest disk.old → IsErrOf result BootFault.Device
         → AfterFailure (D.now disk.old) (D.now disk.new) }
     ensures device { D.failures disk.old < D.failures disk.new → IsErrOf result BootFault.Device }
-    ensures failed { IsErrOf result BootFault.Device → D.failures disk.old < D.failures disk.new }
+    ensures failed { IsErrOf result BootFault.Device
+        → D.failures disk.new ≡ D.failures disk.old + 1 }
     ensures later { D.failures disk.old ≤ D.failures disk.new }
+    ensures stops { D.honest disk.old → IsErrOf result BootFault.Device
+        → Since (D.past disk.old) (D.past disk.new)
+        (StartStopped found (D.now disk.old) (D.now disk.new)) }
     ensures honesty { D.honest disk.old ↔ D.honest disk.new }
 {
     let Some(file) = settled_file(disk)? else {

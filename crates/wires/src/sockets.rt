@@ -1,5 +1,5 @@
 //! The three sockets of a box on the loopback address, all waited for at once.
-ghost use Rattle.std.specs.Prelude.{◌≡◌, ◌≤◌, [], IfOk, IfSome};
+ghost use Rattle.std.specs.Prelude.{◌≡◌, ◌≤◌, [], IfOk, IfSome, OnErr, IsErrOf};
 
 use crate::wire::{LONGEST, Wire, WireFault};
 use crate::{Answers, Place, Ports};
@@ -23,12 +23,22 @@ pub enum SocketFault {
 }
 
 impl From<AllocError> for SocketFault {
+    ghost use Rattle.std.specs.Prelude.{◌≡◌};
+    ghost use Rattle.wires.specs.declared.sockets.SocketFault.TheVariants as faults;
+
+    ghost from_gives = { λ _ fault. fault ≡ faults.NoMemory };
+
     fn from(_: AllocError) -> SocketFault {
         SocketFault::NoMemory
     }
 }
 
 impl From<io::Error> for SocketFault {
+    ghost use Rattle.std.specs.Prelude.{◌≡◌};
+    ghost use Rattle.wires.specs.declared.sockets.SocketFault.TheVariants as faults;
+
+    ghost from_gives = { λ _ fault. fault ≡ faults.NoSocket };
+
     fn from(_: io::Error) -> SocketFault {
         SocketFault::NoSocket
     }
@@ -80,7 +90,9 @@ fn loopback(port: u16) -> SocketAddr {
 /// # Errors
 ///
 /// `NoSocket` where no port can be had, or the system doesn't take the datagram.
-pub fn send_once<R: Net>(net: &R, port: u16, bytes: &[u8]) -> Result<(), SocketFault> {
+pub fn send_once<R: Net>(net: &R, port: u16, bytes: &[u8]) -> Result<(), SocketFault>
+    ensures { OnErr result (IsErrOf result SocketFault.NoSocket) }
+{
     let socket = Socket::bind(net, (0, port))?;
     socket.inner.send_to(bytes, socket.target)?;
     Ok(())

@@ -3,7 +3,7 @@ use Rattle.boot_store.specs.Moment.{bytes_of, left_by_crash}
 use Rattle.boot_store.specs.BootFile.{number_of, boot_answer}
 use Rattle.boot_store.specs.Crash.{LeavesAtLeast, WholeFile}
 use Rattle.boot_store.proofs.Joins.{then_passed}
-use Rattle.boot_store.proofs.Answered.{follows, unchanged, slots_read, number_read, is_ready, file_with, rises_to, write_failed, writes_once}
+use Rattle.boot_store.proofs.Answered.{follows, unchanged, slots_read, number_read, is_ready, file_with, rises_to, write_failed, writes_once, start_stopped}
 use Rattle.boot_store.proofs.starts.next_boot.Goals as goal
 
 pub store-requires-clause-ready : goal.store-requires-clause-ready
@@ -76,3 +76,13 @@ returns-in_err-store-clause-leaves g c h is =
     let second = c.slot_number-second.ensures ∙ slots.1 in
     let torn = rw c.next_place.ensures at (c.in_err-store.ensures.torn (c.settled_file.ensures.honesty.0 h)) in
     write_failed (g.D.Disk.now c.settled_file.new.disk) _ _ settled.1 file.0 first second (g.D.Disk.now c.args.disk.now) _ settled.0 torn
+
+pub returns-in_err-store-clause-stops : goal.returns-in_err-store-clause-stops
+returns-in_err-store-clause-stops g c h is =
+    let settled = c.in_ok-file.ensures.settled h in
+    let file = subst (WholeFile (bytes_of (g.D.Disk.now c.settled_file.new.disk))) c.in-Some.is (c.in_ok-file.ensures.whole h) in
+    let slots = slots_read _ _ file.1 in
+    let first = c.slot_number-first.ensures ∙ slots.0 in
+    let second = c.slot_number-second.ensures ∙ slots.1 in
+    let stopped = rw c.next_place.ensures at (c.in_err-store.ensures.stops (c.settled_file.ensures.honesty.0 h)) in
+    start_stopped (g.D.Disk.now c.settled_file.new.disk) _ _ settled.1 file.0 first second c.args.found c.in_ok-boot.boot (g.D.Disk.now c.args.disk.now) _ _ _ _ settled.0 (sym c.in_ok-boot.ensures.answer) (c.in_ok-file.ensures.looked h) stopped
