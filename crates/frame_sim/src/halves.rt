@@ -135,6 +135,18 @@ fn step_up(
 }
 
 impl Half {
+    /// Ends it, and gives its memory back.
+    pub(crate) fn end(self) {
+        let Half {
+            gateway,
+            boot: _,
+            sent: _sent,
+        } = self;
+        if let Some(gateway) = gateway {
+            gateway.end();
+        }
+    }
+
     /// It takes what it is handed; one that is down takes nothing.
     pub(crate) fn hand(
         &mut self,
@@ -162,7 +174,9 @@ impl Half {
     pub(crate) fn stop(&mut self)
         ensures { self.new ≡ record self.old { gateway = None } }
     {
-        self.gateway = None;
+        if let Some(gateway) = self.gateway.take() {
+            gateway.end();
+        }
     }
 
     /// It comes up, in the life of that number.

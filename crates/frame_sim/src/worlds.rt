@@ -130,7 +130,17 @@ impl<'a> World<'a> {
 
     /// Ends it, and gives its memory back. A caller that lets a world go by this call alone proves
     /// nothing of its parts.
-    pub fn end(self) {}
+    pub fn end(self) {
+        let World {
+            alloc: _,
+            settings: _,
+            zero,
+            one,
+            trace: _trace,
+        } = self;
+        zero.end();
+        one.end();
+    }
 
     /// Reminds the prover of what each world keeps; it does nothing when it runs.
     pub fn recall(&self)

@@ -1,10 +1,13 @@
 //! A gateway as it begins.
-ghost use Rattle.std.specs.Prelude.{◌≡◌, ◌<◌, ◌≤◌, ◌^◌, IfOk, IsTrue, [], if◌then◌else◌};
+ghost use Rattle.std.specs.Prelude.{◌≡◌, ◌<◌, ◌≤◌, ◌^◌, IfOk, IsTrue, false, [], if◌then◌else◌};
 ghost use Rattle.nat_types.specs.declared.gateways.GatewayId.TheVariants.{Zero};
+ghost use Rattle.nat_types.specs.declared.gateways.Side.TheVariants.{Inside, Outside};
 ghost use Rattle.binding_step.specs.Books.{empty_book, founded_book};
 ghost use Rattle.bindings.specs.Ports.{ports_in};
 ghost use Rattle.link.specs.Link.{fresh};
 ghost use Rattle.bind_core.specs.Cores.{ledger_of};
+ghost use Rattle.packet_rules.specs.Networks.{networks_of};
+ghost use Rattle.sides.specs.Stations.{new_station};
 ghost use Rattle.step_parts.specs.Founding.{HasRanges, begun, bounds_of as bounds_in, founded};
 ghost use Rattle.step_parts.specs.Founding.{link_places as places_of};
 ghost use Rattle.forwarder.specs.Forwarder.{shown_of};
@@ -78,34 +81,70 @@ fn link_of(alloc: Global, settings: &Settings, id: GatewayId, boot: u64) -> Resu
     Ok(link)
 }
 
-/// A gateway whose routers stand in Initialize, with this core.
-#[tactic(auto, unfolding(step_parts::specs::Founding::begun))]
-fn with_core(
+/// What a gateway has beside its networks and its table.
+#[derive(Drop)]
+struct Parts {
+    link: Link,
+    inside: Station,
+    outside: Station,
+    kept: Kept,
+}
+
+/// The interfaces of a gateway on both sides, whose routers stand in Initialize.
+fn stations_of(
     alloc: Global,
     settings: &Settings,
     id: GatewayId,
-    boot: u64,
-    core: Core,
-) -> Result<Forwarder, NoMemory>
-    requires { 0 < boot }
-    ensures shown { IfOk result (λ f. shown_of f
-        ≡ record (begun settings.now id boot) { ledger = ledger_of core }) }
-    ensures moment { IfOk result (λ f. f.moment ≡ 0) }
+) -> Result<(Station, Station), NoMemory>
+    ensures inside { IfOk result (λ s. s.0 ≡ new_station settings.now id Inside) }
+    ensures outside { IfOk result (λ s. s.1 ≡ new_station settings.now id Outside) }
 {
-    let link = link_of(alloc, settings, id, boot)?;
     let inside = Station::new(alloc, settings, id, Side::Inside)?;
     let outside = Station::new(alloc, settings, id, Side::Outside)?;
+    Ok((inside, outside))
+}
+
+/// The parts of a gateway that has just booted.
+fn parts_of(alloc: Global, settings: &Settings, id: GatewayId, boot: u64) -> Result<Parts, NoMemory>
+    requires { 0 < boot }
+    ensures link { IfOk result (λ p. p.link ≡ fresh id boot
+        (places_of (bounds_in settings.now.ports.zero) (bounds_in settings.now.ports.one))) }
+    ensures inside { IfOk result (λ p. p.inside ≡ new_station settings.now id Inside) }
+    ensures outside { IfOk result (λ p. p.outside ≡ new_station settings.now id Outside) }
+    ensures kept { IfOk result (λ p. p.kept ≡ []) }
+{
+    let link = link_of(alloc, settings, id, boot)?;
+    let (inside, outside) = stations_of(alloc, settings, id)?;
     let kept = Kept::new(alloc)?;
-    Ok(Forwarder {
-        networks: Networks::of_gateway(settings, id),
-        moment: 0,
-        stopped: false,
-        core,
+    Ok(Parts {
         link,
         inside,
         outside,
         kept,
     })
+}
+
+/// A gateway of these parts at moment 0. It takes no memory, so that no part is let go here.
+fn joined(settings: &Settings, id: GatewayId, parts: Parts, core: Core) -> Forwarder
+    ensures networks { (shown_of result).networks ≡ networks_of settings.now id }
+    ensures moment { (shown_of result).moment ≡ 0 }
+    ensures stopped { (shown_of result).stopped ≡ false }
+    ensures ledger { (shown_of result).ledger ≡ ledger_of core }
+    ensures link { (shown_of result).link ≡ parts.link }
+    ensures inside { (shown_of result).inside ≡ parts.inside }
+    ensures outside { (shown_of result).outside ≡ parts.outside }
+    ensures kept { (shown_of result).kept ≡ parts.kept }
+{
+    Forwarder {
+        networks: Networks::of_gateway(settings, id),
+        moment: 0,
+        stopped: false,
+        core,
+        link: parts.link,
+        inside: parts.inside,
+        outside: parts.outside,
+        kept: parts.kept,
+    }
 }
 
 /// A gateway without a table.
@@ -123,8 +162,9 @@ fn begin_unsynced(
     recall_ranges(settings);
     let zero = bounds_of(settings.ports.zero);
     let one = bounds_of(settings.ports.one);
+    let parts = parts_of(alloc, settings, id, boot)?;
     let core = Core::unsynced(alloc, id, zero, one, hashers)?;
-    with_core(alloc, settings, id, boot, core)
+    Ok(joined(settings, id, parts, core))
 }
 
 /// Gateway 0, founded alone: its routers are started.
@@ -141,8 +181,9 @@ fn begin_founded(
     recall_ranges(settings);
     let zero = bounds_of(settings.ports.zero);
     let one = bounds_of(settings.ports.one);
+    let parts = parts_of(alloc, settings, GatewayId::Zero, boot)?;
     let core = Core::founder(alloc, zero, one, hashers)?;
-    let mut forwarder = with_core(alloc, settings, GatewayId::Zero, boot, core)?;
+    let mut forwarder = joined(settings, GatewayId::Zero, parts, core);
     start_routers(&mut forwarder);
     Ok(forwarder)
 }
