@@ -8,18 +8,17 @@ use Rattle.std.proofs.lemmas.Bool.{ne_eqb}
 use Rattle.std.proofs.lemmas.Int.{ints}
 use Rattle.std.proofs.lemmas.Str.Parse.{digit_from_value}
 use Rattle.clap.specs.Lexer.{without_minus}
-use Rattle.clap.specs.Values.{IsSignedIn, IsUnsignedIn}
-use Rattle.clap.specs.Walk.{Held, Row, Rule, Text, answers_to, nothing_held, one_of, rows_after, walk, walk_from}
+use Rattle.clap.specs.Values.{IsSignedIn}
+use Rattle.clap.specs.Walk.{Held, Text, answers_to, nothing_held, rows_after, walk, walk_from}
 use Rattle.clap.specs.Simple.{App, Shape, argument_words, built, entered, label_of, names_of}
 use Rattle.clap.specs.Faults.{built_fault, entered_fault, level_fault, walk_fault}
-use Rattle.clap.specs.declared.builder.value_parser.ValueParser.{ValueParser}
 use Rattle.clap.specs.declared.builder.value_parser.ValueParser.TheVariants.{Signed, Unsigned}
 use Rattle.nat_types.specs.declared.gateways.GatewayId.{GatewayId}
 use Rattle.nat_types.specs.declared.gateways.GatewayId.TheVariants.{Zero, One}
 use Rattle.command_line.specs.Line.{Takes, entered_by, line_app}
-use Rattle.command_line.specs.Tasks.{HasId, HasNumber, HasNumbers, HasNumbersOfGate, HasNumbersOfPeerOff, IsRead, IsReadFrom, IsNumber, Numbered, number_of}
+use Rattle.command_line.specs.Tasks.{HasId, HasNumber, HasNumbers, IsRead, IsReadFrom, Numbered, number_of}
 use Rattle.command_line.proofs.Entering.{neither}
-use Rattle.command_line.proofs.Passing.{AllFit, IsOption, RuleFits, Wants, level_reads}
+use Rattle.command_line.proofs.Passing.{AllFit, Wants, level_reads}
 
 -- ---- texts that passed
 
@@ -128,7 +127,7 @@ gives_peer_off : (s : Shape) → bytes_eq s.name (codes "gate") ≡ false → Al
 gives_peer_off s other ids id boots boot words none =
     (λ is. apart s.name (codes "gate") other refl is, λ _. (id_there s words none ids id, boot_there s words none boots boot))
 
--- of two names
+-- what two names that differ would give
 differs : {A : Type 0} → false ≡ true → A
 differs e = cc
 
