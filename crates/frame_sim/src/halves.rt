@@ -183,7 +183,9 @@ impl Half {
     pub(crate) fn start(&mut self, gateway: Gateway, boot: u64)
         ensures { self.new ≡ record self.old { gateway = Some gateway; boot = boot } }
     {
-        self.gateway = Some(gateway);
+        if let Some(last) = self.gateway.replace(gateway) {
+            last.end();
+        }
         self.boot = boot;
     }
 
