@@ -1,5 +1,5 @@
 -- How far a run came, and what its fault leaves.
-use Rattle.std.proofs.Common.{◌≡◌, ◌≢◌, ◌∙◌, ◌+◌, ◌<◌, ◌≤◌, ◌⊎◌, inl, inr, ℕ, Bool, List, length, take, Result, Ok, Err, IfErr, None, refl, sym, subst, arith}
+use Rattle.std.proofs.Common.{◌≡◌, ◌∙◌, ◌+◌, ◌<◌, ◌≤◌, ◌⊎◌, inl, inr, ℕ, suc, Bool, List, length, take, Result, Ok, Err, IfErr, OnErr, refl, sym, subst, arith}
 use Rattle.std.proofs.lemmas.List.{take_all}
 use Rattle.settings.specs.declared.whole.Settings.{Settings}
 use Rattle.world_events.specs.declared.events.WorldEvent.{WorldEvent}
@@ -11,10 +11,9 @@ use Rattle.run_faults.specs.declared.faults.Fault.{Fault}
 use Rattle.run_faults.specs.declared.faults.Fault.TheVariants.{Words, Setting, BadLine, NoFile, Exists, NotWritten, NotText, NoSocket, NoMemory}
 use Rattle.run_faults.specs.declared.prints.PrintFault.{PrintFault}
 use Rattle.run_faults.specs.declared.prints.PrintFault.TheVariants as prints
-use Rattle.plans.specs.Plans.{TellsRun}
 use Rattle.runs.specs.Status.{IsNew}
 use Rattle.loops.specs.Turns.{AreTurns, HasTurned, Passes, of_socket}
-use Rattle.loops.specs.Stops.{HaveBegun, HaveEnded, HoldPlan, IsRefused, IsStopped, Leaves, Opens, Refuses, Stops, StopsLoop, Untouched}
+use Rattle.loops.specs.Stops.{HaveBegun, HaveEnded, IsRefused, IsStopped, Leaves, Opens, Refuses, Stops, StopsLoop}
 
 -- ---- events that run
 
@@ -58,6 +57,11 @@ pub stops_printing : {P : Type 0} (passes : Passes P) (w : World) (p : P) (es : 
 stops_printing passes w p es p2 prints.NotWritten h = ended_begun passes w p es p2 h
 stops_printing passes w p es p2 prints.NoMemory h = h
 
+-- a fact holds where a result is an error
+pub on_err : {T E : Type 0} {Q : Type 0} (r : Result T E) → Q → OnErr r Q
+on_err (Ok x) q = tt
+on_err (Err e) q = q
+
 -- ---- on a new world
 
 loop_stops : {P O : Type 0} (passes : Passes P) (settings : Settings) (w : World) (p : P) (es : List WorldEvent) (p2 : P) (o o2 : O) (fault : Fault)
@@ -94,20 +98,6 @@ loops_stop r passes settings w p es p2 o o2 new h = in_err r (λ e s. loop_stops
 
 -- ---- a script's run
 
--- a fault of the texts
-pub leaves_texts : {P O : Type 0} (opens : Opens P) (refuses : Refuses P) (passes : Passes P) (text script : List ℕ) (before after : P) (output printed : O) (fault : Fault)
-    → TellsRun text script fault → fault ≢ NotWritten → Untouched before after output printed
-    → Leaves opens refuses passes text script before after output printed fault
-leaves_texts opens refuses passes text script before after output printed (Setting fault) told read same = same
-leaves_texts opens refuses passes text script before after output printed (BadLine n) told read same = same
-leaves_texts opens refuses passes text script before after output printed NoMemory told read same = inl same
-leaves_texts opens refuses passes text script before after output printed NotWritten told read same = absurd (read refl)
-leaves_texts opens refuses passes text script before after output printed Words told read same = absurd told
-leaves_texts opens refuses passes text script before after output printed NoFile told read same = absurd told
-leaves_texts opens refuses passes text script before after output printed Exists told read same = absurd told
-leaves_texts opens refuses passes text script before after output printed NotText told read same = absurd told
-leaves_texts opens refuses passes text script before after output printed NoSocket told read same = absurd told
-
 -- ports that were refused
 pub leaves_refused : {P O : Type 0} (opens : Opens P) (refuses : Refuses P) (passes : Passes P) (text script : List ℕ) (before after : P) (output printed : O) (want : SocketFault)
     → IsRefused refuses text script before after output printed want
@@ -128,3 +118,8 @@ leaves_stopped opens refuses passes text script before after output printed NoFi
 leaves_stopped opens refuses passes text script before after output printed Exists h = absurd h.stopped
 leaves_stopped opens refuses passes text script before after output printed NotText h = absurd h.stopped
 leaves_stopped opens refuses passes text script before after output printed NoSocket h = absurd h.stopped
+
+-- a fault's status is none of a run's
+pub isnt_1 : {A : Type 0} (n : ℕ) → n ≡ 1 → (n ≡ 0) ⊎ (n ≡ 3) → A
+isnt_1 n is (inl zero_is) = absurd (let bad : 1 ≡ 0 = sym is ∙ zero_is in cc)
+isnt_1 n is (inr three_is) = absurd (let bad : 1 ≡ 3 = sym is ∙ three_is in cc)
