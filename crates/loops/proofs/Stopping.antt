@@ -1,11 +1,11 @@
 -- How far a run came, and what its fault leaves.
-use Rattle.std.proofs.Common.{◌≡◌, ◌∙◌, ◌+◌, ◌<◌, ◌≤◌, ◌⊎◌, inl, inr, ℕ, suc, Bool, List, length, take, Result, Ok, Err, IfErr, OnErr, refl, sym, subst, arith}
+use Rattle.std.proofs.Common.{◌≡◌, ◌∙◌, ◌+◌, ◌≤◌, ◌⊎◌, inl, inr, ℕ, suc, Bool, List, length, take, Result, Ok, Err, IfErr, OnErr, sym, subst, arith}
 use Rattle.std.proofs.lemmas.List.{take_all}
 use Rattle.settings.specs.declared.whole.Settings.{Settings}
 use Rattle.world_events.specs.declared.events.WorldEvent.{WorldEvent}
 use Rattle.wires.specs.declared.sockets.SocketFault.{SocketFault}
 use Rattle.wires.specs.declared.sockets.SocketFault.TheVariants as sockets
-use Rattle.frame_sim.specs.World.{World, founding}
+use Rattle.frame_sim.specs.World.{World}
 use Rattle.run_faults.specs.Faults.{of_print}
 use Rattle.run_faults.specs.declared.faults.Fault.{Fault}
 use Rattle.run_faults.specs.declared.faults.Fault.TheVariants.{Words, Setting, BadLine, NoFile, Exists, NotWritten, NotText, NoSocket, NoMemory}

@@ -1,4 +1,4 @@
-use Rattle.std.proofs.Common.{◌||◌, ◌+◌, Bool, refl, sym, subst, take}
+use Rattle.std.proofs.Common.{◌||◌, ◌+◌, subst, take}
 use Rattle.std.proofs.lemmas.List.{take_more}
 use Rattle.world_events.specs.declared.events.WorldEvent.{WorldEvent}
 use Rattle.loops.specs.Turns.{HasTurned, TakesTurn, is_refusal}
