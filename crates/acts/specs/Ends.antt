@@ -1,13 +1,14 @@
 -- What an exit status says of what was done.
-use Rattle.std.specs.Prelude.{◌≡◌, ℕ, List}
+use Rattle.std.specs.Prelude.{◌≡◌, ℕ, List, Option}
 use Rattle.command_line.specs.Line.{entered_by}
 use Rattle.command_line.specs.Tasks.{Asks}
 use Rattle.command_line.specs.declared.tasks.Task.{Task}
 use Rattle.command_line.specs.declared.tasks.Task.TheVariants.{Init, Sim, Loop, Gate, PeerOff}
-use Rattle.plans.specs.declared.plans.Plan.{Plan}
-use Rattle.plans.specs.Plans.{IsPlanOf}
-use Rattle.runs.specs.Status.{IsRun, RunsScript}
-use Rattle.loops.specs.Turns.{Turn, left}
+use Rattle.settings.specs.declared.whole.Settings.{Settings}
+use Rattle.boxes.specs.Served.{HasServed}
+use Rattle.runs.specs.Status.{RunsScript}
+use Rattle.loops.specs.Loops.{LoopsScript}
+use Rattle.loops.specs.Turns.{Passes}
 
 -- the status of a run of some script, on a new world of the settings that some text holds
 pub record HasRun (status : ℕ) : Type 0 where
@@ -15,25 +16,31 @@ pub record HasRun (status : ℕ) : Type 0 where
   pub script : List ℕ
   pub run : RunsScript text script status
 
--- the same, of those of the script's events that weren't lost
+-- a passage of which nothing is known: it may have its ports,
+abbrev pub may_open : Unit {0} → Settings → Unit {0} → Type 0
+may_open before settings after = Unit {0}
+
+-- and each parcel may come, or be lost
+abbrev pub may_pass : Passes (Unit {0})
+may_pass before parcel fate after = Unit {0}
+
+-- the status of such a run in which what each event hands in is first sent through a passage
 pub record HasLoop (status : ℕ) : Type 0 where
   pub text : List ℕ
   pub script : List ℕ
-  pub plan : Plan
-  pub is : IsPlanOf text script plan
-  pub turns : List Turn
-  pub run : IsRun plan.settings (left plan.events.items turns) status
+  pub run : LoopsScript may_open may_pass text script tt tt status
 
--- the status with which a task is done: that of such a run for `sim` and `loop`, 0 for the others
-abbrev pub Ends : Task → ℕ → Type 0
-Ends (Init file) status = status ≡ 0
-Ends (Sim settings script) status = HasRun status
-Ends (Loop settings script) status = HasLoop status
-Ends (Gate settings id rounds found) status = status ≡ 0
-Ends (PeerOff settings id boot) status = status ≡ 0
+-- The status with which a task is done, and what was printed until then: that of such a run for `sim` and `loop`, 0 for
+-- the others; and `gate` has had its rounds.
+abbrev pub Ends : Option (List ℕ) → Option (List ℕ) → Task → ℕ → Type 0
+Ends before after (Init file) status = status ≡ 0
+Ends before after (Sim settings script) status = HasRun status
+Ends before after (Loop settings script) status = HasLoop status
+Ends before after (Gate settings id rounds found) status = (status ≡ 0) × HasServed id rounds found before after
+Ends before after (PeerOff settings id boot) status = status ≡ 0
 
 -- the words ask for a task that is done with this status
-pub record AreDone (words : List (List ℕ)) (status : ℕ) : Type 0 where
+pub record AreDone (words : List (List ℕ)) (before after : Option (List ℕ)) (status : ℕ) : Type 0 where
   pub task : Task
   pub asked : Asks (entered_by words) task
-  pub ends : Ends task status
+  pub ends : Ends before after task status

@@ -41,8 +41,8 @@ where
     ensures usage { result ≡ 2 → AreRefused (map string_bytes words.now) }
     ensures refused { AreRefused (map string_bytes words.now)
         → (result ≡ 1) ⊎ (result ≡ 2) }
-    ensures done { (result ≡ 0) ⊎ (result ≡ 3)
-        → AreDone (map string_bytes words.now) result }
+    ensures done { (result ≡ 0) ⊎ (result ≡ 3) → AreDone (map string_bytes words.now)
+        (O.contents output.old) (O.contents output.new) result }
     ensures most { result ≤ 3 }
 {
     match command(rt.alloc(), words) {
@@ -63,7 +63,8 @@ where
     R::File: Uncached,
     requires found { FoundsAtZero task.now }
     ensures status { (result ≡ 0) ⊎ ((result ≡ 1) ⊎ (result ≡ 3)) }
-    ensures done { (result ≡ 0) ⊎ (result ≡ 3) → Ends task.now result }
+    ensures done { (result ≡ 0) ⊎ (result ≡ 3)
+        → Ends (O.contents output.old) (O.contents output.new) task.now result }
 {
     match task {
         Task::Init(file) => init(rt, file.as_str(), errors),

@@ -5,7 +5,7 @@ use Rattle.nat_types.specs.declared.gateways.GatewayId.{GatewayId}
 use Rattle.settings.specs.declared.whole.Settings.{Settings}
 use Rattle.step_parts.specs.Shown.{Shown}
 use Rattle.step_parts.specs.Founding.{begun, founded}
-use Rattle.boxes.specs.Boots.{HasBoot}
+use Rattle.boxes.specs.Boots.{HasBoot, IsStart}
 
 of_begun : (settings : Settings) (id : GatewayId) (boot : ℕ) → HasBoot boot (begun settings id boot)
 unfolding HasBoot begun
@@ -21,11 +21,17 @@ of_either : (settings : Settings) (id : GatewayId) (boot : ℕ) (found : Bool)
 of_either settings id boot true = of_founded settings boot
 of_either settings id boot false = of_begun settings id boot
 
--- so each gateway that begins so is in that boot
-pub has_boot : {E : Type 0} (settings : Settings) (id : GatewayId) (boot : ℕ) (found : Bool) (r : Result Shown E)
-    → IfOk r (λ g. g ≡ (if found then founded settings boot else begun settings id boot)) → IfOk r (HasBoot boot)
-has_boot settings id boot found (Ok g) is = subst (HasBoot boot) (sym is) (of_either settings id boot found)
-has_boot settings id boot found (Err e) is = is
+-- a gateway that begins so is a start
+pub is_start : {E : Type 0} (settings : Settings) (id : GatewayId) (boot : ℕ) (found : Bool) (r : Result Shown E)
+    → IfOk r (λ g. g ≡ (if found then founded settings boot else begun settings id boot)) → IfOk r (IsStart settings id found boot)
+unfolding IsStart
+is_start settings id boot found r is = is
+
+-- and is in that boot
+pub own_boot : (settings : Settings) (id : GatewayId) (found : Bool) (boot : ℕ) (g : Shown)
+    → IsStart settings id found boot g → HasBoot boot g
+unfolding IsStart
+own_boot settings id found boot g is = subst (HasBoot boot) (sym is) (of_either settings id boot found)
 
 -- what is no Err
 abbrev is_ok : {X E : Type 0} → Result X E → Type 0

@@ -1,8 +1,12 @@
 //! What is done at a box: its boot file, its rounds, and the operator's word.
-ghost use Rattle.std.specs.Prelude.{◌≡◌, ◌⊎◌, ◌<◌, ◌↔◌, IfOk, IsTrue, Ok};
+ghost use Rattle.std.specs.Prelude.{◌≡◌, ◌⊎◌, ◌<◌, ◌↔◌, ◌∷◌, IfOk, IsTrue, Ok, OnOk, codes};
+ghost use Rattle.std.specs.Io.KnownBytes.{Appends};
+ghost use Rattle.byteorder.specs.Endian.{big_bytes};
 ghost use Rattle.nat_types.specs.declared.gateways.GatewayId.TheVariants.{Zero};
+ghost use Rattle.settings.specs.Parts.{gateway_of};
 ghost use Rattle.boot_store.specs.Crash.{Decides, Keeps, Rises, Since};
-ghost use Rattle.boxes.specs.Boots.{HasBoot};
+ghost use Rattle.boxes.specs.Boots.{HasBoot, HasStarted, IsStart, boot_line};
+ghost use Rattle.boxes.specs.Served.{AreHeld, HasRounds, HasServed};
 
 use crate::faults::{BoxFault, of_file};
 use boot_file::Uncached;
@@ -18,7 +22,7 @@ use std::io::Write;
 use std::net::Net;
 use std::random::RandomSource;
 use std::rt::Clock;
-use wires::{Sockets, ports_of, send_once};
+use wires::{Sockets, Wire, ports_of, send_once};
 
 /// Makes the boot file of a box. The answer is the exit status: 0, or 1 for a fault, which is told
 /// on `errors`.
@@ -49,6 +53,8 @@ where
     R::File: Uncached,
     requires found { IsTrue found → id ≡ Zero }
     ensures status { (result ≡ 0) ⊎ (result ≡ 1) }
+    ensures served { result ≡ 0 → HasServed id rounds found
+        (O.contents output.old) (O.contents output.new) }
 {
     match served(rt, settings, id, rounds, found, output, errors) {
         Ok(()) => 0,
@@ -70,6 +76,8 @@ fn served<R: Files + Net + Clock + RandomSource + AllocGlobal, O: Write, E: Writ
 where
     R::File: Uncached,
     requires found { IsTrue found → id ≡ Zero }
+    ensures { OnOk result (HasServed id rounds found
+        (O.contents output.old) (O.contents output.new)) }
 {
     let settings = settings_at(rt, settings)?;
     let mut wire = Sockets::bind(rt, rt.alloc(), ports_of(&settings, id))?;
@@ -80,14 +88,19 @@ where
 }
 
 /// Runs a gateway for so many rounds.
-fn rounds_of<R: Clock + AllocGlobal, O: Write, E: Write>(
+fn rounds_of<R: Clock + AllocGlobal, W: Wire, O: Write, E: Write>(
     rt: &R,
     gateway: &mut Gateway,
-    wire: &mut Sockets,
+    wire: &mut W,
     rounds: u32,
     output: &mut O,
     errors: &mut E,
-) -> Result<(), BoxFault> {
+) -> Result<(), BoxFault>
+    ensures rounds { OnOk result (HasRounds rounds gateway.old (W.answers wire.old)
+        gateway.new (W.answers wire.new)) }
+    ensures ended { OnOk result
+        (Appends (O.contents output.old) (O.contents output.new) (codes "end\n")) }
+{
     let mut clock = Stopwatch::start(rt);
     serve(
         rt.alloc(),
@@ -122,6 +135,8 @@ fn started<R: Files + RandomSource + AllocGlobal, O: Write>(
 where
     R::File: Uncached,
     requires found { IsTrue found → id ≡ Zero }
+    ensures { IfOk result (HasStarted settings.now id found
+        (O.contents output.old) (O.contents output.new)) }
 {
     let hashers = drawn(rt)?;
     let file = settings.gateway(id).boot_file.as_str();
@@ -137,7 +152,10 @@ where
 }
 
 /// Prints the number of a boot.
-fn announced<O: Write>(output: &mut O, boot: u64) -> Result<(), BoxFault> {
+fn announced<O: Write>(output: &mut O, boot: u64) -> Result<(), BoxFault>
+    ensures { OnOk result
+        (Appends (O.contents output.old) (O.contents output.new) (boot_line boot)) }
+{
     writeln!(output, "boot {boot}")?;
     output.flush()?;
     Ok(())
@@ -154,6 +172,7 @@ fn booted<D: Disk>(
     hashers: Hashers,
 ) -> Result<(u64, Gateway), BoxFault>
     requires found { IsTrue found → id ≡ Zero }
+    ensures begins { IfOk result (λ start. IsStart settings.now id found start.0 start.1) }
     ensures own { IfOk result (λ start. HasBoot start.0 start.1) }
     ensures above_zero { IfOk result (λ start. 0 < start.0) }
     ensures rises { D.honest disk.old
@@ -169,7 +188,7 @@ fn booted<D: Disk>(
     Ok((boot, gateway))
 }
 
-/// A gateway in this boot. Of what it shows its caller here is told its boot alone.
+/// A gateway that begins in this boot. What it shows stays closed to its caller here.
 fn begun(
     alloc: Global,
     settings: &Settings,
@@ -180,7 +199,7 @@ fn begun(
 ) -> Result<Gateway, NoMemory>
     requires boot { 0 < boot }
     requires found { IsTrue found → id ≡ Zero }
-    ensures { IfOk result (HasBoot boot) }
+    ensures { IfOk result (IsStart settings.now id found boot) }
 {
     Gateway::new(alloc, settings, id, boot, found, hashers)
 }
@@ -210,12 +229,33 @@ fn said_off<R: Files + Net + AllocGlobal>(
     boot: u64,
 ) -> Result<(), BoxFault> {
     let settings = settings_at(rt, settings)?;
-    send_once(rt, settings.gateway(id).link, &spelled_word(boot))?;
+    let word = word_to(&settings, id, boot);
+    send_once(rt, word.port, &word.bytes)?;
     Ok(())
 }
 
+/// The operator's word, and the port on the loopback address that it goes to.
+#[derive(Drop)]
+struct Word {
+    port: u16,
+    bytes: [u8; 10],
+}
+
+/// The word that this boot of the other gateway is off, for the gateway's port of the link.
+fn word_to(settings: &Settings, id: GatewayId, boot: u64) -> Word
+    ensures port { result.port ≡ (gateway_of settings.now id).link }
+    ensures bytes { result.bytes ≡ 78 ∷ 79 ∷ big_bytes 8 boot }
+{
+    Word {
+        port: settings.gateway(id).link,
+        bytes: spelled_word(boot),
+    }
+}
+
 /// The settings in the file at a path.
-fn settings_at<R: Files + AllocGlobal>(rt: &R, path: &str) -> Result<Settings, BoxFault> {
+fn settings_at<R: Files + AllocGlobal>(rt: &R, path: &str) -> Result<Settings, BoxFault>
+    ensures { IfOk result AreHeld }
+{
     let text = text_of(rt, path)?;
     let settings = settings_file::read(rt.alloc(), text.as_str())?;
     Ok(settings)
