@@ -12,7 +12,7 @@ use Rattle.command_line.specs.Line.{Takes, entered_by, line_app}
 use Rattle.command_line.specs.Tasks.{Enters, IsNamed}
 
 -- neither of two has a kind
-neither : (a b : Kinds) → or_else a b ≡ [] → (a ≡ []) × (b ≡ [])
+pub neither : (a b : Kinds) → or_else a b ≡ [] → (a ≡ []) × (b ≡ [])
 neither [] b e = (refl, e)
 neither (k ∷ ks) b e = cc
 

@@ -1,2 +1,4 @@
 mod Entering
+mod Numbers
+mod Passing
 mod Readings

@@ -6,7 +6,7 @@ use Rattle.std.specs.Option.{option_map_or}
 use Rattle.clap.specs.Words.{Row, Text, first_of, one_of}
 use Rattle.command_line.specs.Line.{Takes, entered_by}
 use Rattle.command_line.specs.declared.faults.LineFault.{LineFault}
-use Rattle.command_line.specs.declared.faults.LineFault.TheVariants.{Refused, FoundNeedsIdZero, NoNumber, NoMemory}
+use Rattle.command_line.specs.declared.faults.LineFault.TheVariants.{Refused, FoundNeedsIdZero, NoMemory}
 use Rattle.nat_types.specs.declared.gateways.GatewayId.{GatewayId}
 use Rattle.nat_types.specs.declared.gateways.GatewayId.TheVariants.{Zero, One}
 use Rattle.command_line.specs.declared.tasks.Task.{Task}
@@ -33,6 +33,10 @@ IsReadFrom bits (Some text) n = IsRead bits (without_leading_plus text) n
 abbrev pub IsNumber : ℕ → Text → List Row → ℕ → Type 0
 IsNumber bits name rows n = IsReadFrom bits (one_of name rows) n
 
+-- a number of so many bits stands there
+abbrev pub HasNumber : ℕ → Text → List Row → Type 0
+HasNumber bits name rows = (n : ℕ) × IsNumber bits name rows n
+
 -- no number of so many bits stands there
 abbrev pub LacksNumber : ℕ → Text → List Row → Type 0
 LacksNumber bits name rows = (n : ℕ) → ¬ (IsNumber bits name rows n)
@@ -53,6 +57,10 @@ number_of One = 1
 -- the gateway that `--id` names
 abbrev pub IsId : List Row → GatewayId → Type 0
 IsId rows id = IsNumber 8 (codes "id") rows (number_of id)
+
+-- it names a gateway
+abbrev pub HasId : List Row → Type 0
+HasId rows = (id : GatewayId) × IsId rows id
 
 -- it names none
 abbrev pub LacksId : List Row → Type 0
@@ -99,36 +107,36 @@ abbrev pub Enters : Option (Text × List Row) → Type 0
 Enters None = ⊥
 Enters (Some entered) = IsNamed entered.0
 
+-- the numbers that `gate` wants stand at their options
+abbrev pub HasNumbersOfGate : List Row → Type 0
+HasNumbersOfGate rows = HasId rows × HasNumber 32 (codes "rounds") rows
+
+-- those of `peer-off` do
+abbrev pub HasNumbersOfPeerOff : List Row → Type 0
+HasNumbersOfPeerOff rows = HasId rows × HasNumber 64 (codes "boot") rows
+
+-- those of the command do
+abbrev pub HasNumbers : Text → List Row → Type 0
+HasNumbers name rows = (name ≡ codes "gate" → HasNumbersOfGate rows) × (name ≡ codes "peer-off" → HasNumbersOfPeerOff rows)
+
+-- those of the command that was entered do
+abbrev pub Numbered : Option (Text × List Row) → Type 0
+Numbered None = Unit {0}
+Numbered (Some entered) = HasNumbers entered.0 entered.1
+
 -- `--found` stands beside `--id 1`
 abbrev pub FoundsAtOne : List Row → Type 0
 FoundsAtOne rows = (flag_of (codes "found") rows ≡ true) × IsId rows One
 
--- a number of `gate` is missing, or beyond its limits
-abbrev pub LacksOfGate : List Row → Type 0
-LacksOfGate rows = LacksId rows ⊎ LacksNumber 32 (codes "rounds") rows
-
--- a number of `peer-off` is
-abbrev pub LacksOfPeerOff : List Row → Type 0
-LacksOfPeerOff rows = LacksId rows ⊎ LacksNumber 64 (codes "boot") rows
-
 -- why the values of `gate` are refused
 abbrev pub RefusesGate : List Row → LineFault → Type 0
 RefusesGate rows FoundNeedsIdZero = FoundsAtOne rows
-RefusesGate rows NoNumber = LacksOfGate rows
 RefusesGate rows NoMemory = Unit {0}
 RefusesGate rows _ = ⊥
-
--- why those of `peer-off` are
-abbrev pub RefusesPeerOff : List Row → LineFault → Type 0
-RefusesPeerOff rows NoNumber = LacksOfPeerOff rows
-RefusesPeerOff rows NoMemory = Unit {0}
-RefusesPeerOff rows _ = ⊥
 
 -- why a command with its values is refused
 abbrev pub RefusesValues : Text → List Row → LineFault → Type 0
 RefusesValues name rows FoundNeedsIdZero = (name ≡ codes "gate") × FoundsAtOne rows
-RefusesValues name rows NoNumber =
-    ((name ≡ codes "gate") × LacksOfGate rows) ⊎ ((name ≡ codes "peer-off") × LacksOfPeerOff rows)
 RefusesValues name rows NoMemory = Unit {0}
 RefusesValues name rows _ = ⊥
 
@@ -142,10 +150,8 @@ RefusesWords words (Refused error) = ¬ (Takes words)
 RefusesWords words NoMemory = Unit {0}
 RefusesWords words _ = ⊥
 
--- why words are no task: where clap takes them, only for want of memory, for `--found` at gateway 1, or where an option
--- has no number within its limits
+-- why words are no task: `clap` refuses them; or it takes them, and `--found` stands beside `--id 1`; or for want of memory
 abbrev pub Refuses : List Text → LineFault → Type 0
 Refuses words (Refused error) = ¬ (Takes words)
-Refuses words FoundNeedsIdZero = RefusesEntered (entered_by words) FoundNeedsIdZero
-Refuses words NoNumber = RefusesEntered (entered_by words) NoNumber
+Refuses words FoundNeedsIdZero = Takes words × RefusesEntered (entered_by words) FoundNeedsIdZero
 Refuses words NoMemory = Unit {0}

@@ -12,9 +12,6 @@ pub enum LineFault {
     /// `--found` stands beside `--id 1`: only gateway 0 founds the pair.
     #[error("found needs id 0")]
     FoundNeedsIdZero,
-    /// An option has no number within its limits. `clap` refuses such words before.
-    #[error("a number is missing")]
-    NoNumber,
     #[error("memory 1 NoMemory")]
     NoMemory,
 }

@@ -2,7 +2,7 @@
 ghost use Rattle.std.specs.Prelude.{◌≡◌, codes, string_bytes, map, option_map, IfOk, IfErr};
 ghost use Rattle.clap.specs.Words.{found_of, rows_of, subcommand_rows_of};
 ghost use Rattle.command_line.specs.Line.{Takes, entered_by};
-ghost use Rattle.command_line.specs.Tasks.{IsTask, Asks, FoundsAtZero, IsNamed, Enters, RefusesGate, RefusesPeerOff, RefusesValues, RefusesEntered, RefusesWords, Refuses};
+ghost use Rattle.command_line.specs.Tasks.{IsTask, Asks, FoundsAtZero, IsNamed, Enters, HasNumbersOfGate, HasNumbersOfPeerOff, HasNumbers, Numbered, RefusesGate, RefusesValues, RefusesEntered, RefusesWords, Refuses};
 
 use crate::faults::LineFault;
 use crate::{commands, values};
@@ -51,33 +51,34 @@ fn repeat(alloc: Global, matches: &ArgMatches<'_>) -> Result<Task, AllocError>
 
 /// The gateway to run: only gateway 0 founds the pair.
 fn gate(alloc: Global, matches: &ArgMatches<'_>) -> Result<Task, LineFault>
+    requires { HasNumbersOfGate (rows_of (found_of matches.now)) }
     ensures ok { IfOk result (IsTask (codes "gate") (rows_of (found_of matches.now))) }
     ensures zero { IfOk result FoundsAtZero }
     ensures err { IfErr result (RefusesGate (rows_of (found_of matches.now))) }
 {
     let Some(id) = values::id(matches) else {
-        return Err(LineFault::NoNumber);
+        unreachable!()
     };
     let found = values::flag(matches, "found");
     if found && id == GatewayId::One {
         return Err(LineFault::FoundNeedsIdZero);
     }
     let Some(rounds) = values::short(matches, "rounds") else {
-        return Err(LineFault::NoNumber);
+        unreachable!()
     };
     let settings = values::word(alloc, matches, "SETTINGS")?;
     Ok(Task::Gate(settings, id, rounds, found))
 }
 
-fn peer_off(alloc: Global, matches: &ArgMatches<'_>) -> Result<Task, LineFault>
-    ensures ok { IfOk result (IsTask (codes "peer-off") (rows_of (found_of matches.now))) }
-    ensures err { IfErr result (RefusesPeerOff (rows_of (found_of matches.now))) }
+fn peer_off(alloc: Global, matches: &ArgMatches<'_>) -> Result<Task, AllocError>
+    requires { HasNumbersOfPeerOff (rows_of (found_of matches.now)) }
+    ensures { IfOk result (IsTask (codes "peer-off") (rows_of (found_of matches.now))) }
 {
     let Some(id) = values::id(matches) else {
-        return Err(LineFault::NoNumber);
+        unreachable!()
     };
     let Some(boot) = values::long(matches, "boot") else {
-        return Err(LineFault::NoNumber);
+        unreachable!()
     };
     let settings = values::word(alloc, matches, "SETTINGS")?;
     Ok(Task::PeerOff(settings, id, boot))
@@ -92,7 +93,8 @@ fn entered<'m, 'a>(matches: &'m ArgMatches<'a>) -> Option<(&'a str, &'m ArgMatch
 }
 
 fn named(alloc: Global, name: &str, matches: &ArgMatches<'_>) -> Result<Task, LineFault>
-    requires { IsNamed name.now }
+    requires named { IsNamed name.now }
+    requires numbers { HasNumbers name.now (rows_of (found_of matches.now)) }
     ensures ok { IfOk result (IsTask name.now (rows_of (found_of matches.now))) }
     ensures zero { IfOk result FoundsAtZero }
     ensures err { IfErr result (RefusesValues name.now (rows_of (found_of matches.now))) }
@@ -102,13 +104,14 @@ fn named(alloc: Global, name: &str, matches: &ArgMatches<'_>) -> Result<Task, Li
         "sim" => Ok(sim(alloc, matches)?),
         "loop" => Ok(repeat(alloc, matches)?),
         "gate" => gate(alloc, matches),
-        "peer-off" => peer_off(alloc, matches),
+        "peer-off" => Ok(peer_off(alloc, matches)?),
         _ => unreachable!(),
     }
 }
 
 fn of_matches(alloc: Global, matches: &ArgMatches<'_>) -> Result<Task, LineFault>
-    requires { Enters (subcommand_rows_of matches.now) }
+    requires one { Enters (subcommand_rows_of matches.now) }
+    requires numbers { Numbered (subcommand_rows_of matches.now) }
     ensures ok { IfOk result (Asks (subcommand_rows_of matches.now)) }
     ensures zero { IfOk result FoundsAtZero }
     ensures err { IfErr result (RefusesEntered (subcommand_rows_of matches.now)) }
@@ -125,6 +128,7 @@ fn parse<'a>(alloc: Global, words: &'a [String]) -> Result<ArgMatches<'a>, LineF
     ensures values { IfOk result (λ m. subcommand_rows_of m
         ≡ entered_by (map string_bytes words.now)) }
     ensures one { IfOk result (λ m. Enters (subcommand_rows_of m)) }
+    ensures numbers { IfOk result (λ m. Numbered (subcommand_rows_of m)) }
     ensures err { IfErr result (RefusesWords (map string_bytes words.now)) }
 {
     let line = commands::line(alloc)?;
@@ -138,9 +142,8 @@ fn parse<'a>(alloc: Global, words: &'a [String]) -> Result<ArgMatches<'a>, LineF
 /// The task that the words of a command line ask for, the program's name first.
 ///
 /// # Errors
-/// What `clap` refuses, a request for help too, is `Refused` with its text; `--found` beside `--id 1` is
-/// `FoundNeedsIdZero`; an option without a number within its limits is `NoNumber`, where `clap` hasn't
-/// refused it.
+/// What `clap` refuses, a request for help too, is `Refused` with its text; of what it takes, `--found`
+/// beside `--id 1` is `FoundNeedsIdZero`. A number that is missing or beyond its limits `clap` refuses.
 pub fn command(alloc: Global, words: &[String]) -> Result<Task, LineFault>
     ensures taken { IfOk result (λ _. Takes (map string_bytes words.now)) }
     ensures task { IfOk result (Asks (entered_by (map string_bytes words.now))) }

@@ -1,3 +1,4 @@
 pub mod Turning
 pub mod Looping
 pub mod Telling
+pub mod Stopping

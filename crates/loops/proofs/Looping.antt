@@ -1,5 +1,5 @@
 -- A run whose events have all had their turns.
-use Rattle.std.proofs.Common.{◌≡◌, refl, ◌∙◌, ℕ, Bool, List, IfOk, Result, Ok, Err, ap, subst, if◌then◌else◌}
+use Rattle.std.proofs.Common.{refl, ◌∙◌, ℕ, Bool, List, IfOk, Result, Ok, Err, ap, subst, if◌then◌else◌}
 use Rattle.settings.specs.declared.whole.Settings.{Settings}
 use Rattle.world_events.specs.declared.events.WorldEvent.{WorldEvent}
 use Rattle.frame_sim.specs.World.{World, founding}

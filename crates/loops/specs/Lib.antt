@@ -1,2 +1,3 @@
 pub mod Turns
 pub mod Loops
+pub mod Stops

@@ -1,7 +1,6 @@
 -- An event whose bytes are first sent through a passage.
 use Rattle.std.specs.Prelude.{◌≡◌, ℕ, if◌then◌else◌, Bool, true, false, List, [], ◌∷◌, Option, Some, None, is_err, option_map}
 use Rattle.std.specs.List.{filter_map}
-use Rattle.nat_types.specs.declared.gateways.GatewayId.{GatewayId}
 use Rattle.wires.specs.declared.places.Place.TheVariants.{Link, Side}
 use Rattle.wires.specs.declared.sockets.SocketFault.{SocketFault}
 use Rattle.wires.specs.declared.sockets.SocketFault.TheVariants as sockets

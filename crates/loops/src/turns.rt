@@ -1,5 +1,5 @@
 //! A script's run in which what each event hands in is first sent through a passage.
-ghost use Rattle.std.specs.Prelude.{◌≡◌, ◌⊎◌, ◌||◌, None, IfOk, IfErr, OnOk, IsSome, if◌then◌else◌};
+ghost use Rattle.std.specs.Prelude.{◌≡◌, ◌⊎◌, ◌||◌, None, IfOk, IfErr, OnOk, OnErr, IsSome, if◌then◌else◌};
 ghost use Rattle.told.specs.Told.{none_told};
 ghost use Rattle.frame_sim.specs.Runs.{Answers};
 ghost use Rattle.run_faults.specs.Faults.{status_of};
@@ -7,11 +7,12 @@ ghost use Rattle.scripts.specs.Script.{first_bad_line};
 ghost use Rattle.run_faults.specs.declared.faults.Fault.TheVariants as faults;
 ghost use Rattle.loops.specs.Turns.{HasSent, HasTurned, TakesTurn, TakesTurns, handed, is_lost, is_refusal, of_socket};
 ghost use Rattle.loops.specs.Loops.{IsLoop, LoopsScript, TellsLoop};
+ghost use Rattle.loops.specs.Stops.{FailsScript, HaveBegun, HoldPlan, Leaves, Stops, StopsLoop, Untouched};
 
+use crate::texts::plan_in;
 use frame_sim::{Step, World};
 use gateway::Out;
 use passages::{Passage, Passed};
-use plans::plan_of;
 use printing::Printer;
 use run_faults::Fault;
 use runs::{founded, tables};
@@ -37,6 +38,11 @@ pub fn run_loop<P: Passage, O: Write, E: Write>(
     ensures bad { IsSome (first_bad_line script.now) → result ≡ 1 }
     ensures run { (result ≡ 0) ⊎ (result ≡ 3) → LoopsScript P.opens P.passes settings.now
         script.now passage.old passage.new result }
+    ensures fault { result ≡ 1 → FailsScript P.opens P.refuses P.passes settings.now script.now
+        passage.old passage.new output.old output.new }
+    ensures untouched { (HoldPlan settings.now script.now → ⊥)
+        → Untouched passage.old passage.new output.old output.new }
+    ensures quiet { (result ≡ 0) ⊎ (result ≡ 3) → errors.new ≡ errors.old }
 {
     match loop_script(alloc, settings, script, passage, output) {
         Ok(status) => status,
@@ -49,8 +55,10 @@ pub fn run_loop<P: Passage, O: Write, E: Write>(
 ///
 /// # Errors
 ///
-/// The settings' fault, else the script's first bad line, else `NoSocket` where the passage has no
-/// ports; `NotWritten` where output is refused, `NoMemory`.
+/// The settings' fault, else the script's first bad line: after both nothing was sent and nothing is
+/// written. Else `NoSocket` where the passage is refused its ports: then nothing is written. Else
+/// `NotWritten` where output is refused: part of it may be written, and what the events up to there
+/// hand in was sent. `NoMemory` may come at each.
 pub fn loop_script<P: Passage, O: Write>(
     alloc: Global,
     settings: &str,
@@ -64,8 +72,12 @@ pub fn loop_script<P: Passage, O: Write>(
     ensures run { IfOk result (LoopsScript P.opens P.passes settings.now script.now passage.old
         passage.new) }
     ensures status { IfOk result (λ status. (status ≡ 0) ⊎ (status ≡ 3)) }
+    ensures leaves { IfErr result (Leaves P.opens P.refuses P.passes settings.now script.now
+        passage.old passage.new output.old output.new) }
+    ensures untouched { (HoldPlan settings.now script.now → ⊥)
+        → Untouched passage.old passage.new output.old output.new }
 {
-    let plan = plan_of(alloc, settings, script)?;
+    let plan = plan_in(alloc, settings, script)?;
     match passage.open(&plan.settings) {
         Ok(()) => play(
             alloc,
@@ -92,7 +104,8 @@ fn of_socket(fault: SocketFault) -> Fault
 ///
 /// # Errors
 ///
-/// `NotWritten` where output is refused, `NoMemory`.
+/// `NotWritten` where output is refused: the events up to there have had their turns. `NoMemory`
+/// before the first event, or after the last.
 pub fn play<P: Passage, O: Write>(
     alloc: Global,
     settings: &Settings,
@@ -104,6 +117,8 @@ pub fn play<P: Passage, O: Write>(
     ensures status { IfOk result (λ status. (status ≡ 0) ⊎ (status ≡ 3)) }
     ensures fault { IfErr result
         (λ fault. (fault ≡ faults.NotWritten) ⊎ (fault ≡ faults.NoMemory)) }
+    ensures stops { IfErr result (StopsLoop P.passes settings.now events.now passage.old
+        passage.new output.old output.new) }
 {
     match founded(alloc, settings) {
         Ok(mut world) => {
@@ -128,6 +143,7 @@ fn played<P: Passage, O: Write>(
     ensures status { IfOk result (λ status. (status ≡ 0) ⊎ (status ≡ 3)) }
     ensures fault { IfErr result
         (λ fault. (fault ≡ faults.NotWritten) ⊎ (fault ≡ faults.NoMemory)) }
+    ensures stops { IfErr result (Stops P.passes world.old passage.old events.now passage.new) }
 {
     let refused = turned(alloc, world, events, passage, output)?;
     tables(output, world)?;
@@ -143,7 +159,9 @@ fn turned<P: Passage, O: Write>(
     passage: &mut P,
     output: &mut O,
 ) -> io::Result<bool>
-    ensures { IfOk result (HasTurned P.passes world.old passage.old events.now world.new
+    ensures had { IfOk result (HasTurned P.passes world.old passage.old events.now world.new
+        passage.new) }
+    ensures begun { OnErr result (HaveBegun P.passes world.old passage.old events.now
         passage.new) }
 {
     let mut printer = Printer::new();

@@ -1,1 +1,3 @@
 pub mod Parcels
+pub mod Standings
+pub mod Holds

@@ -8,8 +8,10 @@ use nat_types::{GatewayId, Side};
 use settings::{GatewaySettings, Settings};
 use std::alloc::Global;
 use std::io::{self, ErrorKind};
+use std::marker::Model;
 use std::net::{Ipv4Addr, Net, SocketAddr, SocketAddrV4};
 use std::rt::Clock;
+use std::snapshot::Snapshot;
 use std::time::{Duration, Instant};
 use wires::{LONGEST, Place, SocketFault};
 
@@ -119,38 +121,78 @@ impl Both {
     }
 }
 
+/// What was answered when ports were asked for last.
+#[derive(Drop)]
+enum Hold {
+    Unasked,
+    /// They are had, and these settings gave them.
+    Bound(Both, Snapshot<Settings>),
+    Refused(SocketFault),
+}
+
 /// The own UDP ports of both gateways on the loopback address. Where they aren't had, all is lost.
 #[derive(Drop)]
 pub struct Loopback<'a, R> {
     rt: &'a R,
-    ports: Option<Both>,
+    hold: Hold,
+}
+
+impl<'a, R> Model for Loopback<'a, R> {
+    ghost use Rattle.passages.specs.Standings.{Standing};
+    ghost use Rattle.passages.specs.Holds.{standing_of};
+
+    ghost Value = { Standing };
+
+    ghost view = { λ l. standing_of l.hold };
 }
 
 impl<'a, R: Net + Clock + AllocGlobal> Loopback<'a, R> {
-    /// Has no port yet.
-    pub fn new(rt: &'a R) -> Loopback<'a, R> {
-        Loopback { rt, ports: None }
+    ghost use Rattle.std.specs.Prelude.{◌≡◌};
+    ghost use Rattle.passages.specs.Standings.{unasked};
+
+    /// Was never asked for its ports.
+    pub fn new(rt: &'a R) -> Loopback<'a, R>
+        ensures { result ≡ unasked }
+    {
+        Loopback {
+            rt,
+            hold: Hold::Unasked,
+        }
     }
 }
 
 impl<R: Net + Clock + AllocGlobal> Passage for Loopback<'_, R> {
-    ghost opens = { λ _ _ _. Unit {0} };
+    ghost use Rattle.std.specs.Prelude.{◌≡◌};
+    ghost use Rattle.passages.specs.Standings.{bound, refused, MayBe};
 
-    ghost passes = { λ _ _ _ _. Unit {0} };
+    ghost opens = { λ _ settings after. after ≡ bound settings };
 
+    ghost refuses = { λ _ _ fault after. after ≡ refused fault };
+
+    ghost passes = { λ before _ fate after. MayBe before fate × (after ≡ before) };
+
+    /// After an Err it has no ports, also where it had some before.
     fn open(&mut self, settings: &Settings) -> Result<(), SocketFault> {
-        self.ports = Some(Both::bind(self.rt, self.rt.alloc(), settings)?);
-        Ok(())
+        match Both::bind(self.rt, self.rt.alloc(), settings) {
+            Ok(both) => {
+                self.hold = Hold::Bound(both, Snapshot::of(settings));
+                Ok(())
+            }
+            Err(fault) => {
+                self.hold = Hold::Refused(fault);
+                Err(fault)
+            }
+        }
     }
 
     /// A send, a receive or a clock that fails loses the bytes.
     fn pass(&mut self, id: GatewayId, place: Place, bytes: &[u8]) -> Passed {
-        match &mut self.ports {
-            Some(both) => {
+        match &mut self.hold {
+            Hold::Bound(both, _) => {
                 let port = both.port(id, place);
                 port.pass(self.rt, bytes).unwrap_or(Passed::Lost)
             }
-            None => Passed::Lost,
+            Hold::Unasked | Hold::Refused(_) => Passed::Lost,
         }
     }
 }

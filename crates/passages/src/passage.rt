@@ -1,8 +1,9 @@
 //! What a gateway's bytes are sent through before they are handed in.
-ghost use Rattle.std.specs.Prelude.{OnOk};
+ghost use Rattle.std.specs.Prelude.{OnOk, IfErr};
 ghost use Rattle.settings.specs.declared.whole.Settings.{Settings as Set};
 ghost use Rattle.passages.specs.Parcels.{Parcel, parcel_of};
 ghost use Rattle.passages.specs.declared.passage.Passed.{Passed as Fate};
+ghost use Rattle.wires.specs.declared.sockets.SocketFault.{SocketFault as Want};
 
 use nat_types::GatewayId;
 use settings::Settings;
@@ -22,12 +23,17 @@ pub trait Passage {
     /// What a passage is once it has its ports.
     ghost opens: { Self → Set → Self → Type 0 };
 
+    /// Why a passage may be refused its ports, and what it is then.
+    ghost refuses: { Self → Set → Want → Self → Type 0 };
+
     /// What a passage may make of a parcel, and what it is then.
     ghost passes: { Self → Parcel → Fate → Self → Type 0 };
 
     /// Takes the ports that settings give the two. It comes before the first `pass`.
     fn open(&mut self, settings: &Settings) -> Result<(), SocketFault>
-        ensures { OnOk result (opens self.old settings.now self.new) };
+        ensures opens { OnOk result (opens self.old settings.now self.new) }
+        ensures refuses { IfErr result
+            (λ fault. refuses self.old settings.now fault self.new) };
 
     /// Sends bytes through a gateway's own port of that place, and says whether just these came.
     fn pass(&mut self, id: GatewayId, place: Place, bytes: &[u8]) -> Passed

@@ -1,5 +1,5 @@
 -- The rounds of a box, by what its gateway shows, what its wire has answered, and how many events were left out.
-use Rattle.std.specs.Prelude.{◌≡◌, ◌<◌, ◌⊎◌, ◌+◌, ◌++◌, ℕ, zero, suc, false, List, [], ◌∷◌, length}
+use Rattle.std.specs.Prelude.{◌≡◌, ◌<◌, ◌⊎◌, ◌+◌, ◌++◌, ℕ, zero, suc, false, List, [], ◌∷◌, length, Result, IfOk}
 use Rattle.std.specs.Borrow.{Bor}
 use Rattle.std.specs.List.{list_any}
 use Rattle.wires.specs.Letters.{Answer, Letter, is_nothing, letters_of, nothing}
@@ -80,3 +80,9 @@ abbrev pub AreRounds : {C : Type 0} → Reads C → ℕ → Box → C → Box �
 AreRounds reads zero b c b2 c2 = (b2 ≡ b) × (c2 ≡ c)
 AreRounds {C = C} reads (suc n) b c b2 c2 =
     (middle : Box) × ((then : C) × (AreRounds reads n b c middle then × IsRound reads middle then b2 c2))
+
+-- so many rounds were run, whatever is answered; and Ok answers how many events were left out
+pub record RunsTo {C E : Type 0} (reads : Reads C) (count : ℕ) (b : Box) (c : C) (ended : ℕ → Box) (c2 : C) (result : Result ℕ E) : Type 0 where
+  pub left_out : ℕ
+  pub rounds : AreRounds reads count b c (ended left_out) c2
+  pub answered : IfOk result (λ left. left ≡ left_out)

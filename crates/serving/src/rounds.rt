@@ -1,7 +1,7 @@
 //! The rounds of a box.
-ghost use Rattle.std.specs.Prelude.{◌≡◌, IfOk, OnOk, codes};
+ghost use Rattle.std.specs.Prelude.{◌≡◌, OnOk, codes};
 ghost use Rattle.std.specs.Io.KnownBytes.{Appends};
-ghost use Rattle.serving.specs.Rounds.{AreRounds, IsRound, Takes, box, state};
+ghost use Rattle.serving.specs.Rounds.{AreRounds, IsRound, RunsTo, Takes, box, state};
 ghost use Rattle.serving.specs.Polls.{Asks, HasPolled};
 
 use crate::Clockwork;
@@ -40,7 +40,7 @@ struct Desk {
 ///
 /// # Errors
 ///
-/// Those of writing `end`.
+/// Those of writing `end`. All rounds have been run then too.
 pub fn serve<W: Wire, C: Clockwork, O: Write, E: Write>(
     alloc: Global,
     gateway: &mut Gateway,
@@ -50,11 +50,30 @@ pub fn serve<W: Wire, C: Clockwork, O: Write, E: Write>(
     output: &mut O,
     errors: &mut E,
 ) -> io::Result<LeftOut>
-    ensures rounds { IfOk result (λ left. AreRounds C.reads rounds
+    ensures rounds { RunsTo C.reads rounds
         (box gateway.old (W.answers wire.old) 0) clock.old
-        (box gateway.new (W.answers wire.new) left) clock.new) }
+        (box gateway.new (W.answers wire.new)) clock.new result }
     ensures ended { OnOk result
         (Appends (O.contents output.old) (O.contents output.new) (codes "end\n")) }
+{
+    let left = run(alloc, gateway, wire, clock, rounds, errors);
+    output.write_all(b"end\n")?;
+    output.flush()?;
+    Ok(left)
+}
+
+/// Runs so many rounds, and says how many events were left out.
+fn run<W: Wire, C: Clockwork, E: Write>(
+    alloc: Global,
+    gateway: &mut Gateway,
+    wire: &mut W,
+    clock: &mut C,
+    rounds: u32,
+    errors: &mut E,
+) -> LeftOut
+    ensures { AreRounds C.reads rounds
+        (box gateway.old (W.answers wire.old) 0) clock.old
+        (box gateway.new (W.answers wire.new) result) clock.new }
 {
     let mut desk = Desk {
         out: Out::new(alloc),
@@ -65,9 +84,7 @@ pub fn serve<W: Wire, C: Clockwork, O: Write, E: Write>(
     for _ in 0..rounds {
         round(gateway, wire, clock, &mut room, &mut desk, errors);
     }
-    output.write_all(b"end\n")?;
-    output.flush()?;
-    Ok(desk.left)
+    desk.left
 }
 
 /// Hands in what comes, and then the clock's moment.

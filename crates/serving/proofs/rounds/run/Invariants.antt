@@ -1,5 +1,5 @@
 use Rattle.serving.specs.Rounds.{AreRounds, box}
-use Rattle.serving.proofs.rounds.serve.Given as goal
+use Rattle.serving.proofs.rounds.run.Given as goal
 
 abbrev pub invariant-loop : goal.invariant-loop
 invariant-loop g l =

@@ -1,0 +1,28 @@
+//! What a run needs, in its two texts.
+ghost use Rattle.std.specs.Prelude.{◌≡◌, ◌≢◌, None, IfOk, IfErr, OnOk};
+ghost use Rattle.run_faults.specs.Faults.{status_of};
+ghost use Rattle.run_faults.specs.declared.faults.Fault.TheVariants as faults;
+ghost use Rattle.scripts.specs.Script.{first_bad_line};
+ghost use Rattle.plans.specs.Plans.{IsPlanOf, TellsRun};
+
+use plans::Plan;
+use run_faults::Fault;
+use std::alloc::Global;
+
+/// The plan in two texts, as `plans::plan_of` has it. No fault here is one of output, which the
+/// clauses of `plan_of` leave open.
+///
+/// # Errors
+///
+/// The settings' fault, else the script's first bad line; `NoMemory`.
+pub(crate) fn plan_in(alloc: Global, settings: &str, script: &str) -> Result<Plan, Fault>
+    ensures plan { IfOk result (IsPlanOf settings.now script.now) }
+    ensures good { OnOk result (first_bad_line script.now ≡ None) }
+    ensures told { IfErr result (TellsRun settings.now script.now) }
+    ensures known { IfErr result (λ fault. status_of fault ≡ 1) }
+    ensures read { IfErr result (λ fault. fault ≢ faults.NotWritten) }
+{
+    let settings = settings_file::read(alloc, settings)?;
+    let events = scripts::read(alloc, script)?;
+    Ok(Plan { settings, events })
+}
