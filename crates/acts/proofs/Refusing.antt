@@ -1,5 +1,5 @@
 -- Words that are refused ask for no task.
-use Rattle.std.proofs.Common.{◌≡◌, ◌⊎◌, ◌∙◌, inl, inr, ℕ, List, Option, Some, None, true, false, codes, ap, refl, sym}
+use Rattle.std.proofs.Common.{◌≡◌, ◌∙◌, ℕ, List, Option, Some, None, true, false, codes, ap, refl, sym}
 use Rattle.std.specs.Str.{bytes_eq}
 use Rattle.std.specs.Str.Parse.{without_leading_plus}
 use Rattle.clap.specs.Words.{Row, Text, one_of}
@@ -7,9 +7,9 @@ use Rattle.nat_types.specs.declared.gateways.GatewayId.{GatewayId}
 use Rattle.nat_types.specs.declared.gateways.GatewayId.TheVariants.{Zero, One}
 use Rattle.command_line.specs.Faults.{status_of}
 use Rattle.command_line.specs.Line.{Takes, entered_by}
-use Rattle.command_line.specs.Tasks.{Asks, FoundsAtOne, FoundsAtZero, IsId, IsReadFrom, IsTask, LacksOfGate, LacksOfPeerOff, RefusesEntered, Refuses, number_of}
+use Rattle.command_line.specs.Tasks.{Asks, FoundsAtOne, FoundsAtZero, IsId, IsReadFrom, IsTask, RefusesEntered, Refuses, number_of}
 use Rattle.command_line.specs.declared.faults.LineFault.{LineFault}
-use Rattle.command_line.specs.declared.faults.LineFault.TheVariants.{Refused, FoundNeedsIdZero, NoNumber, NoMemory}
+use Rattle.command_line.specs.declared.faults.LineFault.TheVariants.{Refused, FoundNeedsIdZero, NoMemory}
 use Rattle.command_line.specs.declared.tasks.Task.{Task}
 use Rattle.command_line.specs.declared.tasks.Task.TheVariants.{Init, Sim, Loop, Gate, PeerOff}
 use Rattle.acts.specs.Words.{AreRefused}
@@ -53,34 +53,10 @@ none_entered : (entered : Option (Text × List Row)) (task : Task) → Asks ente
 none_entered None task asks zero refused = asks
 none_entered (Some e) task asks zero refused = none_at_one e.0 e.1 task asks zero refused.0 refused.1
 
--- a task of `gate` lacks no number
-none_lacks_gate : (name : Text) (rows : List Row) (task : Task) → IsTask name rows task → name ≡ codes "gate" → LacksOfGate rows → ⊥
-none_lacks_gate name rows (Init file) t is lacks = apart (codes "init") (codes "gate") refl refl (sym t.0 ∙ is)
-none_lacks_gate name rows (Sim settings script) t is lacks = apart (codes "sim") (codes "gate") refl refl (sym t.0 ∙ is)
-none_lacks_gate name rows (Loop settings script) t is lacks = apart (codes "loop") (codes "gate") refl refl (sym t.0 ∙ is)
-none_lacks_gate name rows (PeerOff settings id boot) t is lacks = apart (codes "peer-off") (codes "gate") refl refl (sym t.0 ∙ is)
-none_lacks_gate name rows (Gate settings id rounds found) t is (inl id_lacks) = id_lacks id t.2
-none_lacks_gate name rows (Gate settings id rounds found) t is (inr lacks) = lacks rounds t.3
-
--- nor does one of `peer-off`
-none_lacks_peer_off : (name : Text) (rows : List Row) (task : Task) → IsTask name rows task → name ≡ codes "peer-off" → LacksOfPeerOff rows → ⊥
-none_lacks_peer_off name rows (Init file) t is lacks = apart (codes "init") (codes "peer-off") refl refl (sym t.0 ∙ is)
-none_lacks_peer_off name rows (Sim settings script) t is lacks = apart (codes "sim") (codes "peer-off") refl refl (sym t.0 ∙ is)
-none_lacks_peer_off name rows (Loop settings script) t is lacks = apart (codes "loop") (codes "peer-off") refl refl (sym t.0 ∙ is)
-none_lacks_peer_off name rows (Gate settings id rounds found) t is lacks = apart (codes "gate") (codes "peer-off") refl refl (sym t.0 ∙ is)
-none_lacks_peer_off name rows (PeerOff settings id boot) t is (inl id_lacks) = id_lacks id t.2
-none_lacks_peer_off name rows (PeerOff settings id boot) t is (inr lacks) = lacks boot t.3
-
-none_lacks : (entered : Option (Text × List Row)) (task : Task) → Asks entered task → RefusesEntered entered NoNumber → ⊥
-none_lacks None task asks refused = asks
-none_lacks (Some e) task asks (inl gate) = none_lacks_gate e.0 e.1 task asks gate.0 gate.1
-none_lacks (Some e) task asks (inr peer_off) = none_lacks_peer_off e.0 e.1 task asks peer_off.0 peer_off.1
-
 not_both : (words : List Text) (task : Task) (fault : LineFault) → Takes words → Asks (entered_by words) task → FoundsAtZero task
     → Refuses words fault → status_of fault ≡ 2 → ⊥
 not_both words task (Refused error) takes asks zero refused is = refused takes
-not_both words task FoundNeedsIdZero takes asks zero refused is = none_entered (entered_by words) task asks zero refused
-not_both words task NoNumber takes asks zero refused is = none_lacks (entered_by words) task asks refused
+not_both words task FoundNeedsIdZero takes asks zero refused is = none_entered (entered_by words) task asks zero refused.1
 not_both words task NoMemory takes asks zero refused is = cc
 
 pub not_refused : {A : Type 0} (words : List Text) (task : Task) → Takes words → Asks (entered_by words) task → FoundsAtZero task
