@@ -7,6 +7,7 @@ use Rattle.command_line.specs.declared.tasks.Task.TheVariants.{Init, Sim, Loop, 
 use Rattle.settings.specs.declared.whole.Settings.{Settings}
 use Rattle.boxes.specs.Served.{HasServed}
 use Rattle.runs.specs.Status.{RunsScript}
+use Rattle.passages.specs.Standings.{MayBe, Standing, bound, unasked}
 use Rattle.loops.specs.Loops.{LoopsScript}
 use Rattle.loops.specs.Turns.{Passes}
 
@@ -16,19 +17,20 @@ pub record HasRun (status : ℕ) : Type 0 where
   pub script : List ℕ
   pub run : RunsScript text script status
 
--- a passage of which nothing is known: it may have its ports,
-abbrev pub may_open : Unit {0} → Settings → Unit {0} → Type 0
-may_open before settings after = Unit {0}
+-- the sockets of a loopback passage: once it has its ports, they are those of these settings,
+abbrev pub has_ports : Standing → Settings → Standing → Type 0
+has_ports before settings after = after ≡ bound settings
 
--- and each parcel may come, or be lost
-abbrev pub may_pass : Passes (Unit {0})
-may_pass before parcel fate after = Unit {0}
+-- and what is sent may come, or be lost
+abbrev pub may_pass : Passes Standing
+may_pass before parcel fate after = MayBe before fate × (after ≡ before)
 
--- the status of such a run in which what each event hands in is first sent through a passage
+-- the status of such a run in which what each event hands in is first sent through these
 pub record HasLoop (status : ℕ) : Type 0 where
   pub text : List ℕ
   pub script : List ℕ
-  pub run : LoopsScript may_open may_pass text script tt tt status
+  pub last : Standing
+  pub run : LoopsScript has_ports may_pass text script unasked last status
 
 -- The status with which a task is done, and what was printed until then: that of such a run for `sim` and `loop`, 0 for
 -- the others; and `gate` has had its rounds.

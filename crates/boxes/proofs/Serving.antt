@@ -38,7 +38,7 @@ has_rounds reads n g answers c g2 answers2 left c2 h =
 pub all_served : {T E : Type 0} (r : Result T E) (id : GatewayId) (rounds : ℕ) (found : Bool) (before between after : Option (List ℕ))
     (settings : Settings) (start last : Shown) (heard answers : List Answer)
     → AreHeld settings → HasStarted settings id found before between start → heard ≡ []
-    → OnOk r (HasRounds rounds start heard last answers) → OnOk r (Appends between after (codes "end\n"))
+    → HasRounds rounds start heard last answers → OnOk r (Appends between after (codes "end\n"))
     → OnOk r (HasServed id rounds found before after)
 all_served (Ok x) id rounds found before between after settings start last heard answers held started none had ended = record {
   settings = settings;

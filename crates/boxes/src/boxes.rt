@@ -87,7 +87,7 @@ where
     ended
 }
 
-/// Runs a gateway for so many rounds.
+/// Runs a gateway for so many rounds. After an Err they have been run too, and `end` isn't written.
 fn rounds_of<R: Clock + AllocGlobal, W: Wire, O: Write, E: Write>(
     rt: &R,
     gateway: &mut Gateway,
@@ -96,8 +96,8 @@ fn rounds_of<R: Clock + AllocGlobal, W: Wire, O: Write, E: Write>(
     output: &mut O,
     errors: &mut E,
 ) -> Result<(), BoxFault>
-    ensures rounds { OnOk result (HasRounds rounds gateway.old (W.answers wire.old)
-        gateway.new (W.answers wire.new)) }
+    ensures rounds { HasRounds rounds gateway.old (W.answers wire.old)
+        gateway.new (W.answers wire.new) }
     ensures ended { OnOk result
         (Appends (O.contents output.old) (O.contents output.new) (codes "end\n")) }
 {
