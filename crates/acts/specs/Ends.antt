@@ -33,7 +33,7 @@ pub record HasLoop (status : ℕ) : Type 0 where
   pub run : LoopsScript has_ports may_pass text script unasked last status
 
 -- The status with which a task is done, and what was printed until then: that of such a run for `sim` and `loop`, 0 for
--- the others; and `gate` has had its rounds.
+-- the others; and for `gate` there are a start and its rounds.
 abbrev pub Ends : Option (List ℕ) → Option (List ℕ) → Task → ℕ → Type 0
 Ends before after (Init file) status = status ≡ 0
 Ends before after (Sim settings script) status = HasRun status

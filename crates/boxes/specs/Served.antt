@@ -20,12 +20,14 @@ abbrev pub any_reading : Reads (Unit {0})
 any_reading before moment after = Unit {0}
 
 -- So many rounds were had by a gateway, at whatever moments, from one that shows this, and a wire that has answered this.
+-- However many events, ticks too, may have been left out for want of memory.
 pub record HasRounds (rounds : ℕ) (g : Shown) (answers : List Answer) (g2 : Shown) (answers2 : List Answer) : Type 0 where
   pub left_out : ℕ
   pub had : AreRounds any_reading rounds (box g answers 0) tt (box g2 answers2 left_out) tt
 
 -- With the settings of some text the gateway of this id starts, in some boot, whose line is printed; it has its rounds,
--- with a wire that hasn't answered before; and `end` is printed.
+-- with a wire that hasn't answered before; and `end` is printed. There are such settings, boot, answers and events left
+-- out: nothing says which.
 pub record HasServed (id : GatewayId) (rounds : ℕ) (found : Bool) (before after : Option (List ℕ)) : Type 0 where
   pub settings : Settings
   pub held : AreHeld settings
