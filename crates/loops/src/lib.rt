@@ -1,7 +1,6 @@
 //! Runs a script whose frames and datagrams are first sent through a passage.
 #![tactic(auto)]
 
-mod texts;
 mod turns;
 
 pub use turns::{loop_script, play, run_loop};

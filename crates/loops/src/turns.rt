@@ -9,10 +9,10 @@ ghost use Rattle.loops.specs.Turns.{HasSent, HasTurned, TakesTurn, TakesTurns, h
 ghost use Rattle.loops.specs.Loops.{IsLoop, LoopsScript, TellsLoop};
 ghost use Rattle.loops.specs.Stops.{FailsScript, HaveBegun, HoldPlan, Leaves, Stops, StopsLoop, Untouched};
 
-use crate::texts::plan_in;
 use frame_sim::{Step, World};
 use gateway::Out;
 use passages::{Passage, Passed};
+use plans::plan_of;
 use printing::Printer;
 use run_faults::Fault;
 use runs::{founded, tables};
@@ -77,7 +77,7 @@ pub fn loop_script<P: Passage, O: Write>(
     ensures untouched { (HoldPlan settings.now script.now → ⊥)
         → Untouched passage.old passage.new output.old output.new }
 {
-    let plan = plan_in(alloc, settings, script)?;
+    let plan = plan_of(alloc, settings, script)?;
     match passage.open(&plan.settings) {
         Ok(()) => play(
             alloc,

@@ -1,6 +1,7 @@
 //! What a run needs: settings, and events.
-ghost use Rattle.std.specs.Prelude.{◌≡◌, None, IfOk, IfErr, OnOk};
+ghost use Rattle.std.specs.Prelude.{◌≡◌, ◌≢◌, None, IfOk, IfErr, OnOk};
 ghost use Rattle.run_faults.specs.Faults.{status_of};
+ghost use Rattle.run_faults.specs.declared.faults.Fault.TheVariants as faults;
 ghost use Rattle.scripts.specs.Script.{first_bad_line};
 ghost use Rattle.plans.specs.Plans.{IsPlanOf, TellsRun};
 
@@ -26,6 +27,7 @@ pub fn plan_of(alloc: Global, settings: &str, script: &str) -> Result<Plan, Faul
     ensures good { OnOk result (first_bad_line script.now ≡ None) }
     ensures told { IfErr result (TellsRun settings.now script.now) }
     ensures known { IfErr result (λ fault. status_of fault ≡ 1) }
+    ensures read { IfErr result (λ fault. fault ≢ faults.NotWritten) }
 {
     let settings = settings_file::read(alloc, settings)?;
     let events = scripts::read(alloc, script)?;
