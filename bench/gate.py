@@ -234,6 +234,8 @@ def report(lines, took, computed, passed):
 
 
 def main(words):
+    for it in (signal.SIGINT, signal.SIGTERM):
+        signal.signal(it, signal.default_int_handler)
     proofs_alone, words = words[:1] == ["--proofs"], words[words[:1] == ["--proofs"]:]
     if words[:1] == ["--log"] and len(words) == 2 and not proofs_alone:
         given = read_log(words[1])
