@@ -588,8 +588,8 @@ impl Core {
         books_begin();
         recall_port(zero.highest);
         recall_port(one.highest);
-        let table = Table::new(alloc, zero, one, hashers)?;
         let idle = Vec::with_capacity(alloc, count_keys(zero, one))?;
+        let table = Table::new(alloc, zero, one, hashers)?;
         Ok(Core {
             id,
             bounds: Bounds { zero, one },

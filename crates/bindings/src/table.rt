@@ -93,9 +93,9 @@ impl Table {
         ensures empty { IfOk result (λ t. t ≡ empty_table zero one) }
     {
         let capacity = 2 * (port_count(zero) + port_count(one));
-        let store = Store::new(alloc, capacity, hashers)?;
         let found = Vec::with_capacity(alloc, CELLS)?;
         let ports = Ports::new(alloc, lowest_port(zero, one), highest_port(zero, one))?;
+        let store = Store::new(alloc, capacity, hashers)?;
         Ok(Table {
             alloc,
             store,
