@@ -3,7 +3,7 @@ use Rattle.std.proofs.Common.{refl, ◌∙◌, ℕ, Bool, List, IfOk, Result, Ok
 use Rattle.settings.specs.declared.whole.Settings.{Settings}
 use Rattle.world_events.specs.declared.events.WorldEvent.{WorldEvent}
 use Rattle.frame_sim.specs.World.{World, founding}
-use Rattle.runs.specs.Status.{IsNew}
+use Rattle.worlds.specs.Runs.{IsNew}
 use Rattle.loops.specs.Loops.{IsLoop}
 use Rattle.loops.specs.Turns.{AreTurns, Passes, TakesTurns, steps_in}
 use Rattle.loops.proofs.Turning.{steps_of_turns}

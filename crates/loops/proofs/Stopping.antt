@@ -11,7 +11,7 @@ use Rattle.run_faults.specs.declared.faults.Fault.{Fault}
 use Rattle.run_faults.specs.declared.faults.Fault.TheVariants.{Words, Setting, BadLine, NoFile, Exists, NotWritten, NotText, NoSocket, NoMemory}
 use Rattle.run_faults.specs.declared.prints.PrintFault.{PrintFault}
 use Rattle.run_faults.specs.declared.prints.PrintFault.TheVariants as prints
-use Rattle.runs.specs.Status.{IsNew}
+use Rattle.worlds.specs.Runs.{IsNew}
 use Rattle.loops.specs.Turns.{AreTurns, HasTurned, Passes, of_socket}
 use Rattle.loops.specs.Stops.{HaveBegun, HaveEnded, IsRefused, IsStopped, Leaves, Opens, Refuses, Stops, StopsLoop}
 

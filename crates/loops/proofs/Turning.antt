@@ -5,7 +5,7 @@ use Rattle.frame_sim.specs.declared.events.Step.{Step}
 use Rattle.world_events.specs.declared.events.WorldEvent.{WorldEvent}
 use Rattle.frame_sim.specs.World.{World}
 use Rattle.frame_sim.specs.Runs.{Answers, AreSteps}
-use Rattle.runs.specs.Status.{has_refusal}
+use Rattle.worlds.specs.Runs.{has_refusal}
 use Rattle.passages.specs.declared.passage.Passed.{Passed}
 use Rattle.passages.specs.declared.passage.Passed.TheVariants.{Received, Lost}
 use Rattle.passages.specs.Parcels.{Parcel}

@@ -10,7 +10,7 @@ use Rattle.run_faults.specs.declared.faults.Fault.TheVariants.{NoSocket}
 use Rattle.plans.specs.declared.plans.Plan.{Plan}
 use Rattle.scripts.specs.Script.{first_bad_line}
 use Rattle.plans.specs.Plans.{IsPlanOf, TellsRun}
-use Rattle.runs.specs.Status.{IsRun}
+use Rattle.worlds.specs.Runs.{IsRun}
 use Rattle.loops.specs.Turns.{AreTurns, Passes, Turn, left, steps_in}
 
 -- A run of these events on a new world of these settings, with a passage before and after: each event has its turn, and

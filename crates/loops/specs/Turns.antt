@@ -13,7 +13,7 @@ use Rattle.frame_sim.specs.Events.{datagram_for}
 use Rattle.frame_sim.specs.Runs.{Answers}
 use Rattle.run_faults.specs.declared.faults.Fault.{Fault}
 use Rattle.run_faults.specs.declared.faults.Fault.TheVariants as faults
-use Rattle.runs.specs.Status.{has_refusal}
+use Rattle.worlds.specs.Runs.{has_refusal}
 use Rattle.passages.specs.declared.passage.Passed.{Passed}
 use Rattle.passages.specs.declared.passage.Passed.TheVariants.{Received, Lost}
 use Rattle.passages.specs.Parcels.{Parcel, parcel_of}

@@ -15,12 +15,12 @@ use passages::{Passage, Passed};
 use plans::plan_of;
 use printing::Printer;
 use run_faults::Fault;
-use runs::{founded, tables};
 use settings::Settings;
 use std::alloc::Global;
 use std::io::{self, Write};
 use wires::{Place, SocketFault};
 use world_events::WorldEvent;
+use worlds::{founded, tables};
 
 /// Runs a script as `runs::simulate` does, but each frame and each datagram that an event hands in is first sent
 /// through the passage. Where it is lost, its event is left out: that is printed, and the world doesn't take it.

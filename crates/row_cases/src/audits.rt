@@ -4,11 +4,11 @@ use anyhow::Result;
 use frame_sim::{AuditFault, World, audit};
 use nat_types::{GatewayId, Note, Pair};
 use plans::plan_of;
-use runs::founded;
 use settings::Settings;
 use std::alloc::Global;
 use std::io::Write;
 use world_events::WorldEvent;
+use worlds::founded;
 
 /// Runs a script, and prints what is wrong once it is run, or that nothing is.
 pub(crate) fn after_all<O: Write>(

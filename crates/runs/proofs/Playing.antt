@@ -6,7 +6,7 @@ use Rattle.frame_sim.specs.declared.events.Step.{Step}
 use Rattle.world_events.specs.declared.events.WorldEvent.{WorldEvent}
 use Rattle.frame_sim.specs.World.{World}
 use Rattle.frame_sim.specs.Runs.{AreSteps}
-use Rattle.runs.specs.Status.{IsNew, IsRun, TakesSteps}
+use Rattle.worlds.specs.Runs.{IsNew, IsRun, TakesSteps}
 
 -- what holds of the value of a result holds by what follows from it
 in_ok : {E : Type 0} {P Q : ℕ → Type 0} (r : Result ℕ E) → ((n : ℕ) → P n → Q n) → IfOk r P → IfOk r Q

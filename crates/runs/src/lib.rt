@@ -6,5 +6,4 @@ mod shown;
 mod simulation;
 
 pub use progress::{Progress, Unwatched};
-pub use shown::tables;
-pub use simulation::{founded, play, simulate, simulate_watched};
+pub use simulation::{play, simulate, simulate_watched};

@@ -1,14 +1,12 @@
-//! Prints the steps of a run, and the tables of its world.
+//! Prints the steps of a run.
 
-use frame_sim::{Step, World};
-use nat_types::GatewayId;
-use printing::{Printer, Standing, table};
-use run_faults::PrintFault;
+use frame_sim::Step;
+use printing::Printer;
 use std::io::{self, Write};
 use world_events::WorldEvent;
 
-/// What each event gave, in order.
-pub(crate) fn steps<O: Write>(
+/// Prints what each event gave, in order.
+pub(crate) fn print_steps<O: Write>(
     output: &mut O,
     events: &[WorldEvent],
     steps: &[Step],
@@ -18,29 +16,4 @@ pub(crate) fn steps<O: Write>(
         printer.step(output, event, &step.answer, &step.out)?;
     }
     Ok(())
-}
-
-/// Prints how both gateways of a world stand, the ports that each owns, and the pairs that it
-/// holds.
-///
-/// # Errors
-///
-/// Where output is refused, or memory is.
-pub fn tables<O: Write>(output: &mut O, world: &World) -> Result<(), PrintFault> {
-    for id in [GatewayId::Zero, GatewayId::One] {
-        let (ports, pairs) = (world.owned(id)?, world.table(id)?);
-        let (ports, pairs) = (ports.as_slice(), pairs.as_slice());
-        table(output, id, standing_of(world, id), ports, pairs)?;
-    }
-    Ok(())
-}
-
-fn standing_of(world: &World, id: GatewayId) -> Standing {
-    if !world.up(id) {
-        Standing::Down
-    } else if world.synced(id) {
-        Standing::Synced
-    } else {
-        Standing::Unsynced
-    }
 }

@@ -4,10 +4,12 @@ ghost use Rattle.frame_sim.specs.Runs.{AreSteps};
 ghost use Rattle.run_faults.specs.Faults.{status_of};
 ghost use Rattle.scripts.specs.Script.{first_bad_line};
 ghost use Rattle.plans.specs.Plans.{TellsRun};
-ghost use Rattle.runs.specs.Status.{has_refusal, run_status, IsNew, IsRun, RunsScript, TakesSteps};
+ghost use Rattle.worlds.specs.Runs.{has_refusal, run_status, IsRun, TakesSteps};
+ghost use Rattle.runs.specs.Status.{RunsScript};
 ghost use Rattle.run_faults.specs.declared.faults.Fault.TheVariants as faults;
 
-use crate::{Progress, Unwatched, shown};
+use crate::shown::print_steps;
+use crate::{Progress, Unwatched};
 use frame_sim::{Step, World};
 use gateway::NoMemory;
 use plans::plan_of;
@@ -16,6 +18,7 @@ use settings::Settings;
 use std::alloc::Global;
 use std::io::Write;
 use world_events::WorldEvent;
+use worlds::{founded, tables};
 
 /// Runs a script on a new world of the settings that a text in TOML holds, and prints its steps and tables.
 ///
@@ -94,13 +97,6 @@ pub fn play<P: Progress, O: Write>(
     }
 }
 
-/// A new world of these settings.
-pub fn founded<'a>(alloc: Global, settings: &'a Settings) -> Result<World<'a>, NoMemory>
-    ensures { IfOk result (IsNew settings.now) }
-{
-    World::new(alloc, settings)
-}
-
 /// Runs events on a world, and prints their steps and its tables.
 fn played<P: Progress, O: Write>(
     alloc: Global,
@@ -126,8 +122,8 @@ fn print<O: Write>(
     steps: &[Step],
     output: &mut O,
 ) -> Result<(), PrintFault> {
-    shown::steps(output, events, steps)?;
-    shown::tables(output, world)?;
+    print_steps(output, events, steps)?;
+    tables(output, world)?;
     output.flush()?;
     Ok(())
 }

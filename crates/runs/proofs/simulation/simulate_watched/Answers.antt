@@ -1,6 +1,6 @@
 use Rattle.std.proofs.Common.{ℕ, List, IfOk, Result, Ok, Err, subst}
 use Rattle.world_events.specs.declared.events.WorldEvent.{WorldEvent}
-use Rattle.runs.specs.Status.{IsRun}
+use Rattle.worlds.specs.Runs.{IsRun}
 use Rattle.runs.proofs.simulation.simulate_watched.Goals as goal
 
 -- what holds of the value of a result holds by what follows from it

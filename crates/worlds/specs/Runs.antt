@@ -1,0 +1,33 @@
+-- A run of events on a new world, and its exit status.
+use Rattle.std.specs.Prelude.{◌≡◌, ℕ, Bool, if◌then◌else◌, List, is_err}
+use Rattle.std.specs.List.{list_any}
+use Rattle.settings.specs.declared.whole.Settings.{Settings}
+use Rattle.frame_sim.specs.declared.events.Step.{Step}
+use Rattle.world_events.specs.declared.events.WorldEvent.{WorldEvent}
+use Rattle.frame_sim.specs.World.{World, founding}
+use Rattle.frame_sim.specs.Runs.{AreSteps}
+
+-- a new world of these settings
+unfoldable pub IsNew : Settings → World → Type 0
+IsNew settings w = w ≡ founding settings
+
+-- an event was refused
+abbrev pub has_refusal : List Step → Bool
+has_refusal steps = list_any (λ s. is_err s.answer) steps
+
+-- 3 where an event was refused, else 0
+abbrev pub run_status : List Step → ℕ
+run_status steps = if has_refusal steps then 3 else 0
+
+-- the status of the steps that these events take, in order, from one world to another
+pub record TakesSteps (w : World) (events : List WorldEvent) (w2 : World) (status : ℕ) : Type 0 where
+  pub steps : List Step
+  pub answers : AreSteps w events steps w2
+  pub refusals : status ≡ run_status steps
+
+-- the status of the steps that these events take, in order, on a new world of these settings
+pub record IsRun (settings : Settings) (events : List WorldEvent) (status : ℕ) : Type 0 where
+  pub steps : List Step
+  pub world : World
+  pub answers : AreSteps (founding settings) events steps world
+  pub refusals : status ≡ run_status steps

@@ -1,0 +1,8 @@
+//! A new world, and how a world stands: what the run of a script and its loop share.
+#![tactic(auto)]
+
+mod beginnings;
+mod tables;
+
+pub use beginnings::founded;
+pub use tables::tables;
