@@ -21,11 +21,10 @@ const CHANGED: usize = 40;
 
 const OUTSIDE: Ip = Ip(0xc000_0201);
 
-/// A packet of that many bytes from 192.168.1.10:5000 to 198.51.100.7:53, its payload zeros.
-fn packet_of(protocol: Protocol, size: u16) -> [u8; LONGEST] {
+/// The first bytes of such a packet, up to its ports, without a header checksum.
+fn start_of(protocol: Protocol, size: u16) -> [u8; 24] {
     let [high, low] = size.to_be_bytes();
-    let mut packet = [0; LONGEST];
-    packet[..24].copy_from_slice(&[
+    [
         0x45,
         0,
         high,
@@ -50,7 +49,13 @@ fn packet_of(protocol: Protocol, size: u16) -> [u8; LONGEST] {
         0x88,
         0,
         53,
-    ]);
+    ]
+}
+
+/// A packet of that many bytes from 192.168.1.10:5000 to 198.51.100.7:53, its payload zeros.
+fn packet_of(protocol: Protocol, size: u16) -> [u8; LONGEST] {
+    let mut packet = [0; LONGEST];
+    packet[..24].copy_from_slice(&start_of(protocol, size));
     let [high, low] = (65535 - sum(&packet[..20])).to_be_bytes();
     packet[10] = high;
     packet[11] = low;

@@ -2,7 +2,7 @@
 #![tactic(auto)]
 
 mod beginnings;
-mod tables;
+mod standings;
 
 pub use beginnings::founded;
-pub use tables::tables;
+pub use standings::tables;
