@@ -11,6 +11,10 @@ unset_links = record { next = None; previous = None; due = None }
 abbrev pub links_of : List Links → ℕ → Links
 links_of links slot = get_or links slot unset_links
 
+-- the moment of a slot with these links
+abbrev pub due_of : Links → Option ℕ
+due_of links = links.due
+
 -- a slot's number, if there is one
 abbrev pub IsSlot : List Links → Option ℕ → Type 0
 IsSlot links slot = IfSome slot (λ s. s < length links)

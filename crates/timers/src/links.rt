@@ -1,7 +1,7 @@
 //! What a wheel keeps of its caller's slots.
 ghost use Rattle.std.specs.Prelude.{◌≡◌, ◌<◌, ⊤, List, length, slice_set};
 ghost use Rattle.timers.specs.declared.links.Links.{Links};
-ghost use Rattle.timers.specs.Chains.{unset_links, links_of, IsSlot};
+ghost use Rattle.timers.specs.Chains.{due_of, unset_links, links_of, IsSlot};
 ghost use Rattle.timers.specs.Steps.{with_next, with_previous};
 
 /// A slot's neighbours in its chain, and its due moment in centiseconds where it is set.
@@ -26,7 +26,7 @@ impl Links {
 
     /// The moment at which the slot is due, if it is set.
     pub fn due(&self) -> Option<u64>
-        ensures { result ≡ self.now.due }
+        ensures { result ≡ due_of self.now }
     {
         self.due
     }
