@@ -55,7 +55,7 @@ use Rattle.step_parts.specs.Steps.{BothAct, Does, FrameDoes, IsStepOn, RouterAct
 use Rattle.step_parts.specs.Verdict.{exit_by, plan_of, reading_on}
 use Rattle.step_parts.proofs.Others.{all-framed-shown}
 use Rattle.step_parts.proofs.Packets.{refusal-leaves}
-use Rattle.step_parts.proofs.Places.{place-filter, place-push}
+use Rattle.kept.proofs.Places.{kept-filter, kept-push}
 use Rattle.step_parts.proofs.Asked.{PlanSays, plan-says}
 
 -- what the parts of a step keep
@@ -109,7 +109,7 @@ carried-all-calms s flow flags (Hairpin own other) = calm-by s.shown (carried_al
 keeping-calms : (s : Scene) (side : Side) (bytes : List ℕ) (w : Wait) → has_place s.shown.kept w ≡ true → Calming s (keeping s side bytes w)
 keeping-calms s side bytes w place =
     calm-by s.shown (keeping s side bytes w).shown (λ d. d) refl refl
-    (λ k. place-push s.shown.kept (record { side = side; bytes = bytes; since = s.shown.moment; wait = w }) k place)
+    (λ k. kept-push s.shown.kept (record { side = side; bytes = bytes; since = s.shown.moment; wait = w }) k place)
 
 plan-calms : (s : Scene) (side : Side) (bytes : List ℕ) (flow : Flow) (plan : Plan) → PlanSays s.shown side flow (Ok plan) → Calming s (by_plan s side bytes flow plan)
 plan-calms s side bytes flow (Send by next) says =
@@ -146,7 +146,7 @@ all-calm s (w ∷ ws) = calming-then s (taken_again s w) (all_taken s (w ∷ ws)
 released-calms : (s : Scene) (ended : Ended) → Calming s (released s ended)
 released-calms s ended =
     let start = scene (record s.shown { kept = left_by ended s.shown.kept }) s.told in
-    calming-then s start (released s ended) (calm-by s.shown start.shown (λ d. d) refl refl (λ k. place-filter _ s.shown.kept k))
+    calming-then s start (released s ended) (calm-by s.shown start.shown (λ d. d) refl refl (λ k. kept-filter _ s.shown.kept k))
     (all-calm start (ended_by ended s.shown.kept))
 
 -- ---- interfaces
@@ -349,7 +349,7 @@ all-idle-calm s (k ∷ ks) =
     calming-then s (idle_done s k) (all_idle_done s (k ∷ ks)) (row-calms s (idle_row s.shown.ledger.book (may_ask s.shown.moment s.shown.link) k)) (all-idle-calm (idle_done s k) ks)
 
 old-calms : (s : Scene) → Calming s (old_dropped s)
-old-calms s = calm-by s.shown (old_dropped s).shown (λ d. d) refl refl (λ k. place-filter _ s.shown.kept k)
+old-calms s = calm-by s.shown (old_dropped s).shown (λ d. d) refl refl (λ k. kept-filter _ s.shown.kept k)
 
 tick-calms : (s : Scene) (now : ℕ) (middle : Scene) → BothAct (ticked s now) table.Tick middle → Calming s (idle_taken (old_dropped middle))
 tick-calms s now middle both = λ is.
