@@ -1,7 +1,7 @@
 //! A trace and two tables, line by line.
-use crate::given::Given;
 use anyhow::{Result, bail};
-use nat_types::{GatewayId, Note, Pair};
+use case_words::Given;
+use nat_types::{GatewayId, Happening, Note, Pair};
 use std::alloc::Global;
 use trace_words::audit;
 
@@ -12,6 +12,20 @@ pub struct Case {
     trace: Vec<Note>,
     zero: Vec<Pair>,
     one: Vec<Pair>,
+}
+
+/// `Used` and a pair, and so on, as a note is printed.
+fn happening(given: &mut Given<'_>) -> Result<Happening> {
+    let happening = match given.word()? {
+        "Used" => Happening::Used(given.pair()?),
+        "Released" => Happening::Released(given.pair()?),
+        "Retaken" => Happening::Retaken(given.pair()?),
+        "Synced" => Happening::Synced,
+        "Crashed" => Happening::Crashed,
+        "Booted" => Happening::Booted(given.number()?),
+        _ => bail!("no happening"),
+    };
+    Ok(happening)
 }
 
 impl Case {
@@ -40,7 +54,7 @@ impl Case {
     fn note(&mut self, given: &mut Given<'_>) -> Result<()> {
         let by = given.gateway()?;
         let at = given.number()?;
-        let what = given.happening()?;
+        let what = happening(given)?;
         self.trace.push(Note { by, at, what })?;
         Ok(())
     }

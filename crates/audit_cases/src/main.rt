@@ -2,11 +2,10 @@
 #![tactic(auto)]
 
 mod cases;
-mod given;
 
 use anyhow::Result;
+use case_words::Given;
 use cases::Case;
-use given::Given;
 use std::alloc::Global;
 use std::{env, fs};
 
@@ -19,7 +18,7 @@ fn answers(alloc: Global, text: &str) -> Result<String> {
             continue;
         }
         let words = line.split_whitespace().collect::<Vec<&str>>(alloc)?;
-        let mut given = Given::new(words.as_slice());
+        let mut given = Given::new(alloc, words.as_slice());
         case.read(&mut given, &mut out)?;
     }
     Ok(out)

@@ -1,8 +1,8 @@
 use crate::device::{Device, Handle};
-use crate::given::Given;
 use anyhow::{Result, bail};
 use boot_file::{FileDisk, create, open};
 use boot_store::{BootFault, init, next_boot};
+use case_words::Given;
 use hex::FromHex;
 use std::fs;
 

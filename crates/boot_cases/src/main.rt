@@ -4,10 +4,9 @@
 
 mod calls;
 mod device;
-mod given;
 
 use anyhow::Result;
-use given::Given;
+use case_words::Given;
 use std::{env, fs};
 
 /// Prints the lines for the cases of a text.
@@ -17,7 +16,7 @@ fn print_answers(rt: &HostRuntime, text: &str) -> Result<()> {
             continue;
         }
         let words = line.split_whitespace().collect::<Vec<&str>>(rt.alloc())?;
-        let mut given = Given::new(words.as_slice());
+        let mut given = Given::new(rt.alloc(), words.as_slice());
         let name = given.word()?;
         match calls::answer(rt, &mut given) {
             Ok(answer) => println!(rt; "{name}: {answer}")?,

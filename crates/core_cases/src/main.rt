@@ -3,12 +3,11 @@
 //! is given to it.
 #![tactic(auto)]
 
-mod given;
 mod side;
 mod spelled;
 
 use anyhow::{Context, Result, bail};
-use given::Given;
+use case_words::Given;
 use side::Side;
 use spelled::{say, say_endpoint};
 use std::alloc::Global;
@@ -20,7 +19,7 @@ fn restart(side: &mut Side, given: &mut Given<'_>, out: &mut String) -> Result<(
     if given.left().is_empty() {
         return side.restart(boot, None, out);
     }
-    side.restart(boot, Some(&given.item()?), out)
+    side.restart(boot, Some(&given.record()?), out)
 }
 
 fn inbound(side: &Side, given: &mut Given<'_>, out: &mut String) -> Result<()> {
@@ -35,7 +34,7 @@ fn call(side: &mut Side, word: &str, given: &mut Given<'_>, out: &mut String) ->
     match word {
         "at" => side.set_clock(given.number()?)?,
         "want" => side.want(given.endpoint()?, out)?,
-        "take" => side.take(&given.item()?, out)?,
+        "take" => side.take(&given.record()?, out)?,
         "tick" => {
             side.set_clock(given.number()?)?;
             side.tick(out)?;

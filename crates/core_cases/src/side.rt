@@ -6,7 +6,6 @@ ghost use Rattle.link.specs.Link.{free_places, occupied};
 ghost use Rattle.binding_step.specs.Resets.{restart_batch};
 ghost use Rattle.bind_core.specs.Cores.{book_of};
 
-use crate::given::Given;
 use crate::spelled::{
     is_spelled, is_spelled_endpoint, say, say_endpoint, say_entry, say_owned, say_pushed, say_want,
 };
@@ -16,6 +15,7 @@ use arrayvec::ArrayVec;
 use bind_core::{Core, Hashers};
 use binding_step::rows_leave;
 use bindings::{PortBounds, Table};
+use case_words::Given;
 use link::{Datagram, Link, write};
 use nat_types::{Endpoint, GatewayId, Key, Note, Record};
 use std::alloc::Global;
@@ -103,14 +103,22 @@ fn take_promised(core: &mut Core, link: &mut Link, item: &Record, now: u64, note
     core.take(*item, link, now, notes);
 }
 
+/// The first and the last port of a range.
+fn bounds(given: &mut Given<'_>) -> Result<PortBounds>
+    ensures { IfOk result AreBounds }
+{
+    let (lowest, highest) = given.range()?;
+    Ok(PortBounds { lowest, highest })
+}
+
 impl Side {
     /// As `0 founder 20000 20003 40000 40003 200`: who it is, how it begins, both ranges, and the link's places.
     pub fn new(given: &mut Given<'_>) -> Result<Side> {
         let alloc = given.alloc;
         let id = given.gateway()?;
         let word = given.word()?;
-        let zero = given.bounds()?;
-        let one = given.bounds()?;
+        let zero = bounds(given)?;
+        let one = bounds(given)?;
         let capacity = given.count()?;
         let core = begin_core(alloc, id, word, zero, one)?;
         let link = Link::new(alloc, id, 1, capacity)?;

@@ -2,11 +2,10 @@
 //! it is refused. A line of a file is empty, begins with `#`, or has a name, a call and what is given to it.
 #![tactic(auto)]
 
-mod given;
 mod single;
 
 use anyhow::{Result, bail};
-use given::Given;
+use case_words::Given;
 use std::alloc::Global;
 use std::{env, fs};
 

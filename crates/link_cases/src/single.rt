@@ -1,6 +1,6 @@
 //! Cases of one datagram, and of one end that takes datagrams from outside.
-use crate::given::Given;
 use anyhow::{Result, bail};
+use case_words::Given;
 use link::{Datagram, Link, parse, write};
 
 /// `parse HEX`: the fields, how many records there are, and whether it is written as it was read.

@@ -3,17 +3,16 @@
 //! given to it.
 #![tactic(auto)]
 
-mod given;
 mod loader;
 mod sender;
 
+ghost use Rattle.std.specs.Prelude.{IfOk};
 ghost use Rattle.bindings.specs.Ports.{AreBounds};
 
 use addresses::Port;
 use anyhow::{Result, bail};
-use arrayvec::ArrayVec;
 use bindings::PortBounds;
-use given::Given;
+use case_words::Given;
 use loader::Loader;
 use nat_types::Record;
 use resync::OutOfPlace;
@@ -47,6 +46,14 @@ fn listed(alloc: Global, records: &[Record]) -> Result<String> {
         write_record(&mut out, item)?;
     }
     Ok(out)
+}
+
+/// The first and the last port of a range.
+fn bounds(given: &mut Given<'_>) -> Result<PortBounds>
+    ensures { IfOk result AreBounds }
+{
+    let (lowest, highest) = given.range()?;
+    Ok(PortBounds { lowest, highest })
 }
 
 impl Cases {
@@ -89,8 +96,8 @@ impl Cases {
     }
 
     fn begin(&mut self, given: &mut Given<'_>) -> Result<()> {
-        let zero = given.bounds()?;
-        let one = given.bounds()?;
+        let zero = bounds(given)?;
+        let one = bounds(given)?;
         *self = Cases::new(given.alloc, zero, one)?;
         Ok(())
     }

@@ -4,7 +4,6 @@ ghost use Rattle.bindings.specs.Ports.{AreBounds};
 ghost use Rattle.link.specs.Grammar.{IsWellFormedPair};
 ghost use Rattle.resync.specs.Batch.{CanBeSent};
 
-use crate::given::Given;
 use addresses::Port;
 use anyhow::{Result, bail};
 use arrayvec::ArrayVec;

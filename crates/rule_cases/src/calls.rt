@@ -1,8 +1,8 @@
 //! Which call a case names.
-use crate::given::Given;
 use crate::interfaces::Interfaces;
 use crate::packets;
 use anyhow::{Result, bail};
+use case_words::Given;
 use settings::Settings;
 
 /// What the call that the next word names answers.

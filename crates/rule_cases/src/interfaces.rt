@@ -1,12 +1,27 @@
 //! The two interfaces of gateway 0.
-use crate::given::Given;
-use anyhow::{Result, bail};
+ghost use Rattle.std.specs.Prelude.{IfOk};
+ghost use Rattle.vrrp_states.specs.Table.{IsMoment};
+
+use anyhow::{Result, bail, ensure};
+use case_words::Given;
 use nat_types::{GatewayId, Side};
 use packet_rules::Networks;
 use settings::Settings;
 use sides::Station;
 use std::alloc::Global;
 use vrrp_states::Action;
+
+/// The greatest moment of a gateway's clock, in centiseconds.
+const LAST_MOMENT: u64 = 4_000_000_000_000;
+
+/// A moment of a gateway's clock, in centiseconds.
+pub fn moment(given: &mut Given<'_>) -> Result<u64>
+    ensures { IfOk result IsMoment }
+{
+    let now = given.number()?;
+    ensure!(now <= LAST_MOMENT, "past the last moment");
+    Ok(now)
+}
 
 #[derive(Drop)]
 pub struct Interfaces {
@@ -45,13 +60,13 @@ impl Interfaces {
         let alloc = given.alloc;
         let (inside, outside) = match call {
             "start" => {
-                let now = given.moment()?;
+                let now = moment(given)?;
                 self.inside.start(now);
                 self.outside.start(now);
                 (Action::Nothing, Action::Nothing)
             }
             "tick" => {
-                let now = given.moment()?;
+                let now = moment(given)?;
                 (self.inside.tick(now), self.outside.tick(now))
             }
             "stop" => (self.inside.stop(), self.outside.stop()),

@@ -4,12 +4,11 @@
 #![tactic(auto)]
 
 mod calls;
-mod given;
 mod interfaces;
 mod packets;
 
 use anyhow::Result;
-use given::Given;
+use case_words::Given;
 use interfaces::Interfaces;
 use settings::Settings;
 use std::alloc::Global;

@@ -1,11 +1,11 @@
 //! Frames that come in, and what is sent on.
-use crate::given::Given;
-use crate::interfaces::{Interfaces, acted};
+use crate::interfaces::{Interfaces, acted, moment};
 use addresses::Protocol;
-use anyhow::{Context, Result, bail};
+use anyhow::{Context, Result};
 use arp::ArpPacket;
+use case_words::Given;
 use ipv4::Flow;
-use nat_types::{Key, Pair, Side};
+use nat_types::{Key, Pair};
 use packet_rules::{
     Direction, Reading, Reason, Translation, append_answer, append_request, append_sent,
     direction_taken,
@@ -74,7 +74,7 @@ pub fn read_padded(interfaces: &Interfaces, given: &mut Given) -> Result<String>
 pub fn hear_advert(interfaces: &mut Interfaces, given: &mut Given) -> Result<String> {
     let station = interfaces.at_mut(given.side()?);
     let bytes = given.bytes()?;
-    let now = given.moment()?;
+    let now = moment(given)?;
     match station.read_frame(true, bytes.as_slice()) {
         Ok(Reading::Advert(advert, from)) => {
             let action = station.heard(&advert, from, now);
@@ -97,7 +97,7 @@ fn answered(alloc: Global, station: &Station, packet: &ArpPacket) -> Result<Stri
 pub fn hear_arp(interfaces: &mut Interfaces, given: &mut Given) -> Result<String> {
     let station = interfaces.at_mut(given.side()?);
     let bytes = given.bytes()?;
-    let now = given.moment()?;
+    let now = moment(given)?;
     match station.read_frame(true, bytes.as_slice()) {
         Ok(Reading::Arp(packet)) => {
             let learnt = station.learn(&packet, now);
@@ -110,7 +110,7 @@ pub fn hear_arp(interfaces: &mut Interfaces, given: &mut Given) -> Result<String
 
 pub fn find_mac(interfaces: &Interfaces, given: &mut Given) -> Result<String> {
     let station = interfaces.at(given.side()?);
-    match station.mac_of(given.ip()?, given.moment()?) {
+    match station.mac_of(given.hex_ip()?, moment(given)?) {
         Some(mac) => Ok(format!(in given.alloc; "{mac}")?),
         None => Ok(format!(in given.alloc; "unknown")?),
     }
@@ -118,7 +118,7 @@ pub fn find_mac(interfaces: &Interfaces, given: &mut Given) -> Result<String> {
 
 pub fn request(interfaces: &Interfaces, given: &mut Given) -> Result<String> {
     let station = interfaces.at(given.side()?);
-    let address = given.ip()?;
+    let address = given.hex_ip()?;
     let mut bytes = Vec::with_capacity(given.alloc, 42)?;
     append_request(&mut bytes, &station.network(), address);
     Ok(hex::encode(given.alloc, bytes.as_slice())?)
@@ -126,9 +126,9 @@ pub fn request(interfaces: &Interfaces, given: &mut Given) -> Result<String> {
 
 /// A pair of this protocol.
 fn pair(given: &mut Given, protocol: Protocol) -> Result<Pair> {
-    let port = given.port()?;
+    let port = given.hex_port()?;
     let key = Key { protocol, port };
-    Ok(Pair::new(key, given.ip()?, given.port()?))
+    Ok(Pair::new(key, given.hex_ip()?, given.hex_port()?))
 }
 
 fn translation(given: &mut Given, way: Direction, protocol: Protocol) -> Result<Translation> {

@@ -2,13 +2,12 @@
 //! answers, or why it is refused. A line of a file is empty, begins with `#`, or has a part, a call and what is given to it.
 #![tactic(auto)]
 
-mod given;
 mod ports;
 mod tables;
 mod wheels;
 
 use anyhow::{Result, bail};
-use given::Given;
+use case_words::Given;
 use ports::PortCase;
 use std::alloc::Global;
 use std::{env, fs};

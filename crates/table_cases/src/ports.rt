@@ -1,9 +1,18 @@
 //! Lines on one range of ports.
-use crate::given::Given;
-use addresses::Port;
+use addresses::{Parity, Port};
 use anyhow::{Result, bail};
+use case_words::Given;
 use port_range::Range;
 use std::alloc::Global;
+
+/// `even` or `odd`.
+pub fn parity(given: &mut Given<'_>) -> Result<Parity> {
+    match given.word()? {
+        "even" => Ok(Parity::Even),
+        "odd" => Ok(Parity::Odd),
+        word => bail!("no parity {word}"),
+    }
+}
 
 /// The range that the lines so far have come to.
 #[derive(Drop)]
@@ -36,7 +45,7 @@ impl PortCase {
     fn asked(&self, call: &str, given: &mut Given<'_>) -> Result<String> {
         let alloc = given.alloc;
         if call == "free_like" {
-            return match self.range.free_like(given.parity()?) {
+            return match self.range.free_like(parity(given)?) {
                 Some(port) => Ok(format!(in alloc; "{port}")?),
                 None => Ok(format!(in alloc; "none")?),
             };

@@ -1,11 +1,12 @@
 //! Lines on one table.
-ghost use Rattle.std.specs.Prelude.{◌≡◌};
+ghost use Rattle.std.specs.Prelude.{◌≡◌, IfOk};
 ghost use Rattle.bindings.specs.Ports.{AreBounds};
 
-use crate::given::Given;
+use crate::ports::parity;
 use addresses::Port;
 use anyhow::{Result, bail};
 use bindings::{Entry, Hashers, PortBounds, Table};
+use case_words::Given;
 use nat_types::{EntryState, Pair};
 use std::alloc::Global;
 
@@ -47,6 +48,23 @@ fn shown(alloc: Global, entry: Option<Entry>) -> Result<String> {
     }
 }
 
+/// Whether a pair comes by Install: `installed` or `chosen`.
+fn by_install(given: &mut Given<'_>) -> Result<bool> {
+    match given.word()? {
+        "installed" => Ok(true),
+        "chosen" => Ok(false),
+        word => bail!("no way to come {word}"),
+    }
+}
+
+/// The first and the last port of a range.
+fn bounds(given: &mut Given<'_>) -> Result<PortBounds>
+    ensures { IfOk result AreBounds }
+{
+    let (lowest, highest) = given.range()?;
+    Ok(PortBounds { lowest, highest })
+}
+
 impl TableCase {
     /// The ranges of the sample settings.
     pub fn sample(alloc: Global) -> Result<TableCase> {
@@ -81,7 +99,7 @@ impl TableCase {
             "own" => self.own(given.port()?)?,
             "disown" => self.disown(given.port()?)?,
             "carried" => self.carry(given)?,
-            "renew" => self.table.renew(given.key()?, given.moment()?),
+            "renew" => self.table.renew(given.key()?, given.number()?),
             "set_state" => self.set_state(given)?,
             "remove" => self.table.remove(given.key()?),
             "revive" => self.table.revive(),
@@ -114,7 +132,7 @@ impl TableCase {
     fn told(&self, call: &str, given: &mut Given<'_>) -> Result<String> {
         let told = match call {
             "owns" => self.table.owns(given.port()?),
-            "idle" => self.table.idle(given.key()?, given.moment()?),
+            "idle" => self.table.idle(given.key()?, given.number()?),
             "unused" => self.table.unused(given.key()?),
             "is_vacant" => self.table.is_vacant(given.port()?),
             "is_spare" => self.table.is_spare(given.port()?),
@@ -124,8 +142,8 @@ impl TableCase {
     }
 
     fn begin(&mut self, given: &mut Given<'_>) -> Result<()> {
-        let zero = given.bounds()?;
-        let one = given.bounds()?;
+        let zero = bounds(given)?;
+        let one = bounds(given)?;
         *self = TableCase::new(given.alloc, zero, one)?;
         Ok(())
     }
@@ -155,8 +173,8 @@ impl TableCase {
     fn add(&mut self, given: &mut Given<'_>) -> Result<String> {
         let pair = given.pair()?;
         let state = given.state()?;
-        let by_install = given.by_install()?;
-        let now = given.moment()?;
+        let by_install = by_install(given)?;
+        let now = given.number()?;
         self.table.ready(&[pair.endpoint])?;
         self.table.add(pair, state, by_install, now)?;
         Ok(format!(in given.alloc; "added")?)
@@ -167,7 +185,7 @@ impl TableCase {
         let remote = given.remote()?;
         let way = given.way()?;
         let flags = given.flags()?;
-        let now = given.moment()?;
+        let now = given.number()?;
         self.table.carried(key, remote, way, flags, now);
         Ok(())
     }
@@ -184,7 +202,7 @@ impl TableCase {
 
     fn chosen(&self, given: &mut Given<'_>) -> Result<String> {
         let protocol = given.protocol()?;
-        let parity = given.parity()?;
+        let parity = parity(given)?;
         match self.table.free_like(protocol, parity) {
             Some(port) => Ok(format!(in given.alloc; "{port}")?),
             None => Ok(format!(in given.alloc; "none")?),
@@ -201,7 +219,7 @@ impl TableCase {
 
     /// How many keys are idle, and which.
     fn idle_keys(&mut self, given: &mut Given<'_>) -> Result<String> {
-        let now = given.moment()?;
+        let now = given.number()?;
         let mut keys = Vec::new(given.alloc);
         self.table.idle_keys(now, &mut keys)?;
         let mut out = String::new(given.alloc);

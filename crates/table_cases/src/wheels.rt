@@ -1,8 +1,8 @@
 //! Lines on the due moments of slots.
 ghost use Rattle.std.specs.Prelude.{◌≡◌, length};
 
-use crate::given::Given;
 use anyhow::{Result, bail};
+use case_words::Given;
 use std::alloc::Global;
 use timers::Timers;
 
@@ -24,9 +24,9 @@ impl TimerCase {
         let alloc = given.alloc;
         match given.word()? {
             "new" => *self = TimerCase::new(alloc, given.count()?)?,
-            "set" => self.set(given.count()?, given.moment()?)?,
+            "set" => self.set(given.count()?, given.number()?)?,
             "clear" => self.clear(given.count()?)?,
-            "due" => return self.due(alloc, given.moment()?),
+            "due" => return self.due(alloc, given.number()?),
             call => bail!("no call {call}"),
         }
         Ok(String::new(alloc))

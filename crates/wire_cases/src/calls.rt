@@ -1,7 +1,7 @@
 //! Which call a case names.
-use crate::given::Given;
 use crate::{neighbours, packets};
 use anyhow::{Result, bail};
+use case_words::Given;
 
 /// What the call that the next word names answers.
 pub fn answer(given: &mut Given) -> Result<String> {

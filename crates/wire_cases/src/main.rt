@@ -4,12 +4,11 @@
 #![tactic(auto)]
 
 mod calls;
-mod given;
 mod neighbours;
 mod packets;
 
 use anyhow::Result;
-use given::Given;
+use case_words::Given;
 use std::alloc::Global;
 use std::{env, fs};
 

@@ -1,8 +1,8 @@
 //! ARP packets, the cache of neighbours, and VRRP advertisements.
-use crate::given::Given;
 use addresses::{Ip, Mac, Prefix};
 use anyhow::{Result, bail, ensure};
 use arp::{Cache, Interface, Neighbour, is_learnable};
+use case_words::Given;
 use ipv4::Ipv4View;
 use std::alloc::Global;
 use vrrp_packet::{Advert, AdvertFault};
@@ -23,13 +23,13 @@ pub fn arp_written(given: &mut Given, call: &str) -> Result<String> {
     let mut out = [0xaa; 42];
     let mac = given.mac()?;
     match call {
-        "arp-request" => arp::request(&mut out, mac, given.ip()?, given.ip()?),
+        "arp-request" => arp::request(&mut out, mac, given.hex_ip()?, given.hex_ip()?),
         "arp-reply" => {
             let answer = given.mac()?;
             let asked = arp::parse(given.bytes()?.as_slice())?;
             arp::reply(&mut out, mac, answer, &asked);
         }
-        _ => arp::gratuitous(&mut out, mac, given.ip()?),
+        _ => arp::gratuitous(&mut out, mac, given.hex_ip()?),
     }
     Ok(hex::encode(given.alloc, out.as_slice())?)
 }
@@ -37,8 +37,8 @@ pub fn arp_written(given: &mut Given, call: &str) -> Result<String> {
 /// The primary, the virtual and the sender's address, in the network of the virtual address's first
 /// 24 bits.
 pub fn is_learnt(given: &mut Given) -> Result<bool> {
-    let (primary_ip, virtual_ip) = (given.ip()?, given.ip()?);
-    let (address, mac) = (given.ip()?, given.mac()?);
+    let (primary_ip, virtual_ip) = (given.hex_ip()?, given.hex_ip()?);
+    let (address, mac) = (given.hex_ip()?, given.mac()?);
     let interface = Interface {
         network: Prefix::new(virtual_ip, 24),
         primary_ip,
@@ -70,14 +70,14 @@ pub fn found(alloc: Global, steps: &[&str]) -> Result<String> {
 
 fn take_step(cache: &mut Cache, given: &mut Given, found: &mut String) -> Result<()> {
     match given.word()? {
-        "learn" => cache.learn(given.ip()?, given.mac()?, given.number()?),
+        "learn" => cache.learn(given.hex_ip()?, given.mac()?, given.number()?),
         "fill" => {
             let (count, mac, now) = (given.number()?, given.mac()?, given.number()?);
             for number in 0..count.min(65_536) as u32 {
                 cache.learn(Ip(number), mac, now);
             }
         }
-        "find" => match cache.mac_of(given.ip()?, given.number()?) {
+        "find" => match cache.mac_of(given.hex_ip()?, given.number()?) {
             Some(mac) => write!(found, "{mac} ")?,
             None => found.push_str("none ")?,
         },
@@ -100,7 +100,7 @@ pub fn advert(alloc: Global, bytes: &[u8]) -> Result<String> {
 
 pub fn write_advert(given: &mut Given) -> Result<String> {
     let [router, priority] = given.octets::<2>()?;
-    let (interval, address) = (given.short()?, given.ip()?);
+    let (interval, address) = (given.short()?, given.hex_ip()?);
     ensure!(interval != 0 && interval < 4096, "no interval");
     let mut out = [0xaa; 12];
     vrrp_packet::write(

@@ -3,9 +3,9 @@ ghost use Rattle.std.specs.Prelude.{IsTrue};
 ghost use Rattle.ipv4.specs.Header.{IsIpv4};
 ghost use Rattle.ipv4.specs.Carried.{IsTransport};
 
-use crate::given::Given;
 use addresses::TcpFlags;
 use anyhow::{Result, ensure};
+use case_words::Given;
 use frames::{EthView, EthViewMut, EtherType};
 use ipv4::{Ipv4View, Ipv4ViewMut, TcpView, TcpViewMut, Transport, UdpView, UdpViewMut};
 use std::alloc::Global;
@@ -97,8 +97,8 @@ pub fn write_ipv4(given: &mut Given) -> Result<String> {
     let flags = header.flags_word();
     header.set_ttl(u8::from_be_bytes(given.octets::<1>()?));
     header.set_checksum(given.short()?);
-    header.set_source(given.ip()?);
-    header.set_destination(given.ip()?);
+    header.set_source(given.hex_ip()?);
+    header.set_destination(given.hex_ip()?);
     let bytes = hex::encode(given.alloc, bytes.as_slice())?;
     Ok(format!(in given.alloc; "service {service} number {number} flags {flags:04x}: {bytes}")?)
 }
@@ -107,8 +107,8 @@ pub fn write_udp(given: &mut Given) -> Result<String> {
     let mut bytes = given.bytes()?;
     UdpView::parse(bytes.as_slice())?;
     let mut header = UdpViewMut::new(bytes.as_mut_slice());
-    header.set_source_port(given.port()?);
-    header.set_destination_port(given.port()?);
+    header.set_source_port(given.hex_port()?);
+    header.set_destination_port(given.hex_port()?);
     header.set_checksum(given.short()?);
     Ok(hex::encode(given.alloc, bytes.as_slice())?)
 }
@@ -120,8 +120,8 @@ pub fn write_tcp(given: &mut Given) -> Result<String> {
     let mut header = TcpViewMut::new(bytes.as_mut_slice());
     let (sequence, acknowledgement) = (header.sequence(), header.acknowledgement());
     let (window, urgent) = (header.window(), header.urgent());
-    header.set_source_port(given.port()?);
-    header.set_destination_port(given.port()?);
+    header.set_source_port(given.hex_port()?);
+    header.set_destination_port(given.hex_port()?);
     header.set_checksum(given.short()?);
     let bytes = hex::encode(given.alloc, bytes.as_slice())?;
     Ok(format!(in given.alloc;
@@ -142,9 +142,9 @@ fn is_carried(bytes: &[u8]) -> bool
 /// The packet afterwards, behind the refusal where there is one.
 pub fn rewritten(given: &mut Given, call: &str) -> Result<String> {
     let mut bytes = given.bytes()?;
-    let (address, port) = (given.ip()?, given.port()?);
+    let (address, port) = (given.hex_ip()?, given.hex_port()?);
     let (to, to_port) = if call == "hairpin" {
-        (given.ip()?, given.port()?)
+        (given.hex_ip()?, given.hex_port()?)
     } else {
         (address, port)
     };

@@ -1,17 +1,21 @@
-//! The words of a case.
+//! What is given to a case's call, word by word.
+
 use anyhow::{Context, Result, bail};
-use nat_types::GatewayId;
+use nat_types::{GatewayId, Side};
 use std::alloc::Global;
 
-/// What is given to a case's call, word by word.
+/// The words of a line, and how many of them are read. Each call that reads some answers an `Err` where they are missing,
+/// or spell something else.
 #[derive(Drop)]
 pub struct Given<'a> {
+    /// What the words spell has its memory from here.
     pub alloc: Global,
     words: &'a [&'a str],
     next: usize,
 }
 
 impl<'a> Given<'a> {
+    /// None of the words is read.
     pub fn new(alloc: Global, words: &'a [&'a str]) -> Given<'a> {
         Given {
             alloc,
@@ -20,9 +24,10 @@ impl<'a> Given<'a> {
         }
     }
 
+    /// The next word.
     pub fn word(&mut self) -> Result<&'a str> {
         let word = self.words.get(self.next).context("a word is missing")?;
-        self.next += 1;
+        self.next = self.next.saturating_add(1);
         Ok(*word)
     }
 
@@ -31,16 +36,7 @@ impl<'a> Given<'a> {
         self.words.get(self.next..).unwrap_or(&[])
     }
 
-    /// The bytes that pairs of hexadecimal digits spell, or none for `-`.
-    pub fn bytes(&mut self) -> Result<Vec<u8>> {
-        let word = self.word()?;
-        if word == "-" {
-            return Ok(Vec::new(self.alloc));
-        }
-        Ok(hex::decode(self.alloc, word)?)
-    }
-
-    /// A decimal number.
+    /// A decimal number, as a moment in centiseconds or a boot.
     pub fn number(&mut self) -> Result<u64> {
         Ok(self.word()?.parse::<u64>()?)
     }
@@ -56,6 +52,15 @@ impl<'a> Given<'a> {
             "0" => Ok(GatewayId::Zero),
             "1" => Ok(GatewayId::One),
             word => bail!("no gateway {word}"),
+        }
+    }
+
+    /// `inside` or `outside`.
+    pub fn side(&mut self) -> Result<Side> {
+        match self.word()? {
+            "inside" => Ok(Side::Inside),
+            "outside" => Ok(Side::Outside),
+            word => bail!("no side {word}"),
         }
     }
 }
