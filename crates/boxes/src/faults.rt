@@ -4,7 +4,7 @@ ghost use Rattle.run_faults.specs.Faults.{status_of};
 
 use boot_file::FileFault;
 use boot_store::BootFault;
-use gateway::NoMemory;
+use nat_types::NoMemory;
 use run_faults::Fault;
 use settings_file::SettingFault;
 use std::io::{self, Write};

@@ -12,7 +12,7 @@ use Rattle.step_parts.specs.declared.events.Outcome.{Outcome}
 use Rattle.step_parts.specs.Shown.{Shown}
 use Rattle.frame_sim.specs.World.{Half, World, gateway_at, half, with_half}
 use Rattle.frame_sim.specs.Events.{Comes, TakesAt, kth, since, unless}
-use Rattle.world_events.specs.declared.events.WorldEvent.TheVariants.{Deliver}
+use Rattle.nat_types.specs.declared.events.WorldEvent.TheVariants.{Deliver}
 use Rattle.frame_sim.specs.declared.events.WorldFault.{WorldFault}
 use Rattle.frame_sim.specs.declared.events.WorldFault.TheVariants.{NoSuchDatagram}
 use Rattle.frame_sim.specs.Runs.{Answers, fault_of}

@@ -15,8 +15,8 @@ use Rattle.step_parts.specs.Founding.{begun}
 use Rattle.step_parts.specs.Shown.{Shown, scene}
 use Rattle.step_parts.specs.Steps.{IsStepOn, outcome_on}
 use Rattle.step_parts.specs.Truly.{Tells, hand_of}
-use Rattle.world_events.specs.declared.events.WorldEvent.{WorldEvent}
-use Rattle.world_events.specs.declared.events.WorldEvent.TheVariants.{Frame, Tick, Stop, Deliver, Crash, Boot, PeerOff}
+use Rattle.nat_types.specs.declared.events.WorldEvent.{WorldEvent}
+use Rattle.nat_types.specs.declared.events.WorldEvent.TheVariants.{Frame, Tick, Stop, Deliver, Crash, Boot, PeerOff}
 use Rattle.frame_sim.specs.declared.events.WorldFault.{WorldFault}
 use Rattle.frame_sim.specs.declared.events.WorldFault.TheVariants.{PremiseBroken, NoSuchDatagram}
 use Rattle.frame_sim.specs.World.{Half, World, gateway_at, half, is_up, moment_of, synced_at, with_half}

@@ -3,3 +3,4 @@ pub mod Events
 pub mod Halves
 pub mod Scene
 pub mod Runs
+pub mod Status

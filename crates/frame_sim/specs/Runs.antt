@@ -3,7 +3,7 @@ use Rattle.std.specs.Prelude.{◌≡◌, Option, Some, None, Result, Ok, Err, Li
 use Rattle.told.specs.Told.{Told, none_told}
 use Rattle.step_parts.specs.declared.events.Outcome.{Outcome}
 use Rattle.frame_sim.specs.declared.events.Step.{Step}
-use Rattle.world_events.specs.declared.events.WorldEvent.{WorldEvent}
+use Rattle.nat_types.specs.declared.events.WorldEvent.{WorldEvent}
 use Rattle.frame_sim.specs.declared.events.WorldFault.{WorldFault}
 use Rattle.frame_sim.specs.declared.events.WorldFault.TheVariants.{NoMemory}
 use Rattle.frame_sim.specs.World.{World}

@@ -1,7 +1,8 @@
 //! What an event gave.
 ghost use Rattle.std.specs.Prelude.{◌≡◌};
 
-use gateway::{NoMemory, Out, Outcome};
+use gateway::{Out, Outcome};
+use nat_types::NoMemory;
 use std::alloc::AllocError;
 use thiserror::Error;
 

@@ -16,9 +16,9 @@ ghost use Rattle.frame_sim.specs.World.{HasKeys};
 
 use crate::WorldFault;
 use addresses::Port;
-use gateway::{Event, Gateway, NoMemory, Out, Outcome};
+use gateway::{Event, Gateway, Out, Outcome};
 use link::limits_law;
-use nat_types::{Note, Pair};
+use nat_types::{NoMemory, Note, Pair};
 use std::alloc::Global;
 use std::marker::Model;
 use step_parts::{steps_go, steps_note, steps_tell};

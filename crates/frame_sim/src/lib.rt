@@ -1,11 +1,13 @@
 //! The world of a script: two gateways, their events, and the trace of what they note.
 #![tactic(auto)]
 
+mod beginnings;
 mod events;
 mod halves;
+mod standings;
 mod worlds;
 
 pub use events::{Step, WorldFault};
+pub use nat_types::WorldEvent;
 pub use trace_words::{AuditFault, audit};
-pub use world_events::WorldEvent;
 pub use worlds::World;

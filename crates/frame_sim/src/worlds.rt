@@ -4,7 +4,7 @@ ghost use Rattle.bindings.specs.Entries.{is_pair, translates};
 ghost use Rattle.trace_words.specs.OneBox.{IsOneBox};
 ghost use Rattle.trace_words.specs.Trace.{Fits, GoesOn, Idle, Kept, Silent};
 ghost use Rattle.told.specs.Told.{none_told, with_note};
-ghost use Rattle.world_events.specs.declared.events.WorldEvent.TheVariants as events;
+ghost use Rattle.nat_types.specs.declared.events.WorldEvent.TheVariants as events;
 ghost use Rattle.frame_sim.specs.declared.events.WorldFault.TheVariants as faults;
 ghost use Rattle.frame_sim.specs.Events.{TakesAt, datagram_for, may_be_told, may_boot, may_crash};
 ghost use Rattle.frame_sim.specs.Runs.{Answers, AreSteps, fault_of};
@@ -15,9 +15,9 @@ use crate::halves::Half;
 use crate::{Step, WorldEvent, WorldFault};
 use addresses::Port;
 use binding_step::books_begin;
-use gateway::{Event, Gateway, Hashers, NoMemory, Out, Outcome};
+use gateway::{Event, Gateway, Hashers, Out, Outcome};
 use link::one_spelling;
-use nat_types::{GatewayId, Happening, Note, Pair};
+use nat_types::{GatewayId, Happening, NoMemory, Note, Pair};
 use pair_machine::laws::{
     a_step_keeps, begins, goes_to, promises, promises_in_order, steps_anywhere,
 };

@@ -7,7 +7,6 @@ mod begins;
 mod datagrams;
 mod ends;
 mod gateways;
-mod memory;
 mod records;
 mod rooms;
 mod routers;
@@ -17,7 +16,7 @@ mod words;
 
 pub use bindings::Hashers;
 pub use gateways::Gateway;
-pub use memory::NoMemory;
+pub use nat_types::NoMemory;
 pub use packet_rules::Reason;
 pub use step_parts::{Event, Outcome};
 pub use told::Out;

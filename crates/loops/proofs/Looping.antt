@@ -1,9 +1,9 @@
 -- A run whose events have all had their turns.
 use Rattle.std.proofs.Common.{refl, ◌∙◌, ℕ, Bool, List, IfOk, Result, Ok, Err, ap, subst, if◌then◌else◌}
 use Rattle.settings.specs.declared.whole.Settings.{Settings}
-use Rattle.world_events.specs.declared.events.WorldEvent.{WorldEvent}
+use Rattle.nat_types.specs.declared.events.WorldEvent.{WorldEvent}
 use Rattle.frame_sim.specs.World.{World, founding}
-use Rattle.worlds.specs.Runs.{IsNew}
+use Rattle.frame_sim.specs.Status.{IsNew}
 use Rattle.loops.specs.Loops.{IsLoop}
 use Rattle.loops.specs.Turns.{AreTurns, Passes, TakesTurns, steps_in}
 use Rattle.loops.proofs.Turning.{steps_of_turns}

@@ -2,7 +2,7 @@
 use Rattle.std.proofs.Common.{◌≡◌, ◌∙◌, ◌+◌, ◌≤◌, ◌⊎◌, inl, inr, ℕ, suc, Bool, List, length, take, Result, Ok, Err, IfErr, OnErr, sym, subst, arith}
 use Rattle.std.proofs.lemmas.List.{take_all}
 use Rattle.settings.specs.declared.whole.Settings.{Settings}
-use Rattle.world_events.specs.declared.events.WorldEvent.{WorldEvent}
+use Rattle.nat_types.specs.declared.events.WorldEvent.{WorldEvent}
 use Rattle.wires.specs.declared.sockets.SocketFault.{SocketFault}
 use Rattle.wires.specs.declared.sockets.SocketFault.TheVariants as sockets
 use Rattle.frame_sim.specs.World.{World}
@@ -11,7 +11,7 @@ use Rattle.run_faults.specs.declared.faults.Fault.{Fault}
 use Rattle.run_faults.specs.declared.faults.Fault.TheVariants.{Words, Setting, BadLine, NoFile, Exists, NotWritten, NotText, NoSocket, NoMemory}
 use Rattle.run_faults.specs.declared.prints.PrintFault.{PrintFault}
 use Rattle.run_faults.specs.declared.prints.PrintFault.TheVariants as prints
-use Rattle.worlds.specs.Runs.{IsNew}
+use Rattle.frame_sim.specs.Status.{IsNew}
 use Rattle.loops.specs.Turns.{AreTurns, HasTurned, Passes, of_socket}
 use Rattle.loops.specs.Stops.{HaveBegun, HaveEnded, IsRefused, IsStopped, Leaves, Opens, Refuses, Stops, StopsLoop}
 

@@ -2,10 +2,10 @@
 use Rattle.std.proofs.Common.{◌≡◌, ◌∙◌, ◌||◌, Bool, true, false, List, [], ◌∷◌, ◌++◌, Option, Some, None, refl, sym, ap, subst}
 use Rattle.told.specs.Told.{none_told}
 use Rattle.frame_sim.specs.declared.events.Step.{Step}
-use Rattle.world_events.specs.declared.events.WorldEvent.{WorldEvent}
+use Rattle.nat_types.specs.declared.events.WorldEvent.{WorldEvent}
 use Rattle.frame_sim.specs.World.{World}
 use Rattle.frame_sim.specs.Runs.{Answers, AreSteps}
-use Rattle.worlds.specs.Runs.{has_refusal}
+use Rattle.frame_sim.specs.Status.{has_refusal}
 use Rattle.passages.specs.declared.passage.Passed.{Passed}
 use Rattle.passages.specs.declared.passage.Passed.TheVariants.{Received, Lost}
 use Rattle.passages.specs.Parcels.{Parcel}

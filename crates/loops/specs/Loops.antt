@@ -3,14 +3,14 @@ use Rattle.std.specs.Prelude.{◌≡◌, ℕ, List, None}
 use Rattle.toml.specs.Parse.{parse_document}
 use Rattle.settings.specs.declared.whole.Settings.{Settings}
 use Rattle.settings_file.specs.Settings.{IsReadFrom}
-use Rattle.world_events.specs.declared.events.WorldEvent.{WorldEvent}
+use Rattle.nat_types.specs.declared.events.WorldEvent.{WorldEvent}
 use Rattle.frame_sim.specs.World.{founding}
 use Rattle.run_faults.specs.declared.faults.Fault.{Fault}
 use Rattle.run_faults.specs.declared.faults.Fault.TheVariants.{NoSocket}
-use Rattle.plans.specs.declared.plans.Plan.{Plan}
+use Rattle.run_faults.specs.declared.jobs.Job.{Job}
 use Rattle.scripts.specs.Script.{first_bad_line}
-use Rattle.plans.specs.Plans.{IsPlanOf, TellsRun}
-use Rattle.worlds.specs.Runs.{IsRun}
+use Rattle.run_faults.specs.Jobs.{IsJobOf, TellsRun}
+use Rattle.frame_sim.specs.Status.{IsRun}
 use Rattle.loops.specs.Turns.{AreTurns, Passes, Turn, left, steps_in}
 
 -- A run of these events on a new world of these settings, with a passage before and after: each event has its turn, and
@@ -23,11 +23,11 @@ pub record IsLoop {P : Type 0} (passes : Passes P) (settings : Settings) (events
 
 -- such a run of a script's events, with the settings that a text holds, for which the passage had its ports
 pub record LoopsScript {P : Type 0} (opens : P → Settings → P → Type 0) (passes : Passes P) (text script : List ℕ) (before after : P) (status : ℕ) : Type 0 where
-  pub plan : Plan
-  pub is : IsPlanOf text script plan
+  pub job : Job
+  pub is : IsJobOf text script job
   pub open_passage : P
-  pub opened : opens before plan.settings open_passage
-  pub run : IsLoop passes plan.settings plan.events.items open_passage after status
+  pub opened : opens before job.settings open_passage
+  pub run : IsLoop passes job.settings job.events.items open_passage after status
 
 -- why a script isn't run so to its end: as without a passage; or ports aren't had, where both texts are good
 abbrev pub TellsLoop : List ℕ → List ℕ → Fault → Type 0

@@ -1,15 +1,15 @@
 -- What a run through a passage leaves where a fault ends it.
 use Rattle.std.specs.Prelude.{◌≡◌, ◌⊎◌, ◌<◌, ℕ, List, None, take}
 use Rattle.settings.specs.declared.whole.Settings.{Settings}
-use Rattle.world_events.specs.declared.events.WorldEvent.{WorldEvent}
+use Rattle.nat_types.specs.declared.events.WorldEvent.{WorldEvent}
 use Rattle.wires.specs.declared.sockets.SocketFault.{SocketFault}
 use Rattle.wires.specs.declared.sockets.SocketFault.TheVariants as sockets
 use Rattle.frame_sim.specs.World.{World, founding}
 use Rattle.run_faults.specs.declared.faults.Fault.{Fault}
 use Rattle.run_faults.specs.declared.faults.Fault.TheVariants.{Setting, BadLine, NotWritten, NoSocket, NoMemory}
 use Rattle.scripts.specs.Script.{first_bad_line}
-use Rattle.plans.specs.declared.plans.Plan.{Plan}
-use Rattle.plans.specs.Plans.{IsPlanOf}
+use Rattle.run_faults.specs.declared.jobs.Job.{Job}
+use Rattle.run_faults.specs.Jobs.{IsJobOf}
 use Rattle.loops.specs.Turns.{AreTurns, Passes, Turn}
 use Rattle.loops.specs.Loops.{TellsLoop}
 
@@ -49,10 +49,10 @@ StopsLoop passes settings events before after output printed others = ⊥
 
 -- ---- a script's run
 
--- both texts are good, and hold this plan
-pub record HoldPlan (text script : List ℕ) : Type 0 where
-  pub plan : Plan
-  pub is : IsPlanOf text script plan
+-- both texts are good, and hold this job
+pub record HoldJob (text script : List ℕ) : Type 0 where
+  pub job : Job
+  pub is : IsJobOf text script job
   pub good : first_bad_line script ≡ None
 
 -- how a passage is opened, and how it is refused its ports
@@ -64,16 +64,16 @@ Refuses P = P → Settings → SocketFault → P → Type 0
 
 -- both texts are good, and the passage was refused the ports of those settings for this; nothing is written
 pub record IsRefused {P O : Type 0} (refuses : Refuses P) (text script : List ℕ) (before after : P) (output printed : O) (want : SocketFault) : Type 0 where
-  pub texts : HoldPlan text script
-  pub refused : refuses before texts.plan.settings want after
+  pub texts : HoldJob text script
+  pub refused : refuses before texts.job.settings want after
   pub unwritten : printed ≡ output
 
 -- both texts are good, the passage got its ports, and then this fault ended the run
 pub record IsStopped {P O : Type 0} (opens : Opens P) (passes : Passes P) (text script : List ℕ) (before after : P) (output printed : O) (fault : Fault) : Type 0 where
-  pub texts : HoldPlan text script
+  pub texts : HoldJob text script
   pub open_passage : P
-  pub opened : opens before texts.plan.settings open_passage
-  pub stopped : StopsLoop passes texts.plan.settings texts.plan.events.items open_passage after output printed fault
+  pub opened : opens before texts.job.settings open_passage
+  pub stopped : StopsLoop passes texts.job.settings texts.job.events.items open_passage after output printed fault
 
 -- What a fault leaves: one of the texts nothing touched, one of a port the passage refused and the output as it was, and
 -- refused output a run that has begun. Memory may be wanted at each of these.

@@ -6,14 +6,14 @@ use Rattle.wires.specs.declared.sockets.SocketFault.{SocketFault}
 use Rattle.wires.specs.declared.sockets.SocketFault.TheVariants as sockets
 use Rattle.told.specs.Told.{none_told}
 use Rattle.frame_sim.specs.declared.events.Step.{Step}
-use Rattle.world_events.specs.declared.events.WorldEvent.{WorldEvent}
-use Rattle.world_events.specs.declared.events.WorldEvent.TheVariants.{Frame, Deliver}
+use Rattle.nat_types.specs.declared.events.WorldEvent.{WorldEvent}
+use Rattle.nat_types.specs.declared.events.WorldEvent.TheVariants.{Frame, Deliver}
 use Rattle.frame_sim.specs.World.{World}
 use Rattle.frame_sim.specs.Events.{datagram_for}
 use Rattle.frame_sim.specs.Runs.{Answers}
 use Rattle.run_faults.specs.declared.faults.Fault.{Fault}
 use Rattle.run_faults.specs.declared.faults.Fault.TheVariants as faults
-use Rattle.worlds.specs.Runs.{has_refusal}
+use Rattle.frame_sim.specs.Status.{has_refusal}
 use Rattle.passages.specs.declared.passage.Passed.{Passed}
 use Rattle.passages.specs.declared.passage.Passed.TheVariants.{Received, Lost}
 use Rattle.passages.specs.Parcels.{Parcel, parcel_of}

@@ -7,20 +7,18 @@ ghost use Rattle.scripts.specs.Script.{first_bad_line};
 ghost use Rattle.run_faults.specs.declared.faults.Fault.TheVariants as faults;
 ghost use Rattle.loops.specs.Turns.{HasSent, HasTurned, TakesTurn, TakesTurns, handed, is_lost, is_refusal, of_socket};
 ghost use Rattle.loops.specs.Loops.{IsLoop, LoopsScript, TellsLoop};
-ghost use Rattle.loops.specs.Stops.{FailsScript, HaveBegun, HoldPlan, Leaves, Stops, StopsLoop, Untouched};
+ghost use Rattle.loops.specs.Stops.{FailsScript, HaveBegun, HoldJob, Leaves, Stops, StopsLoop, Untouched};
 
 use frame_sim::{Step, World};
 use gateway::Out;
+use nat_types::WorldEvent;
 use passages::{Passage, Passed};
-use plans::plan_of;
 use printing::Printer;
-use run_faults::Fault;
+use run_faults::{Fault, job_of};
 use settings::Settings;
 use std::alloc::Global;
 use std::io::{self, Write};
 use wires::{Place, SocketFault};
-use world_events::WorldEvent;
-use worlds::{founded, tables};
 
 /// Runs a script as `runs::simulate` does, but each frame and each datagram that an event hands in is first sent
 /// through the passage. Where it is lost, its event is left out: that is printed, and the world doesn't take it.
@@ -40,7 +38,7 @@ pub fn run_loop<P: Passage, O: Write, E: Write>(
         script.now passage.old passage.new result }
     ensures fault { result ≡ 1 → FailsScript P.opens P.refuses P.passes settings.now script.now
         passage.old passage.new output.old output.new }
-    ensures untouched { (HoldPlan settings.now script.now → ⊥)
+    ensures untouched { (HoldJob settings.now script.now → ⊥)
         → Untouched passage.old passage.new output.old output.new }
     ensures quiet { (result ≡ 0) ⊎ (result ≡ 3) → errors.new ≡ errors.old }
 {
@@ -74,18 +72,12 @@ pub fn loop_script<P: Passage, O: Write>(
     ensures status { IfOk result (λ status. (status ≡ 0) ⊎ (status ≡ 3)) }
     ensures leaves { IfErr result (Leaves P.opens P.refuses P.passes settings.now script.now
         passage.old passage.new output.old output.new) }
-    ensures untouched { (HoldPlan settings.now script.now → ⊥)
+    ensures untouched { (HoldJob settings.now script.now → ⊥)
         → Untouched passage.old passage.new output.old output.new }
 {
-    let plan = plan_of(alloc, settings, script)?;
-    match passage.open(&plan.settings) {
-        Ok(()) => play(
-            alloc,
-            &plan.settings,
-            plan.events.as_slice(),
-            passage,
-            output,
-        ),
+    let job = job_of(alloc, settings, script)?;
+    match passage.open(&job.settings) {
+        Ok(()) => play(alloc, &job.settings, job.events.as_slice(), passage, output),
         Err(fault) => Err(of_socket(fault)),
     }
 }
@@ -120,7 +112,7 @@ pub fn play<P: Passage, O: Write>(
     ensures stops { IfErr result (StopsLoop P.passes settings.now events.now passage.old
         passage.new output.old output.new) }
 {
-    match founded(alloc, settings) {
+    match World::founded(alloc, settings) {
         Ok(mut world) => {
             let status = played(alloc, &mut world, events, passage, output);
             world.end();
@@ -146,7 +138,7 @@ fn played<P: Passage, O: Write>(
     ensures stops { IfErr result (Stops P.passes world.old passage.old events.now passage.new) }
 {
     let refused = turned(alloc, world, events, passage, output)?;
-    tables(output, world)?;
+    world.tables(output)?;
     output.flush()?;
     Ok(status_of(refused))
 }

@@ -1,12 +1,11 @@
 //! Prints what each event of a run gave, in order.
 
 use crate::hexes::bytes;
-use nat_types::GatewayId;
+use nat_types::{GatewayId, WorldEvent};
 use std::fmt::Display;
 use std::io::{self, Write};
 use step_parts::Outcome;
 use told::Out;
-use world_events::WorldEvent;
 
 /// How many datagrams each gateway has sent so far.
 #[derive(Clone, Copy)]

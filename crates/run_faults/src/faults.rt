@@ -2,7 +2,7 @@
 ghost use Rattle.std.specs.Prelude.{◌≡◌};
 
 use crate::PrintFault;
-use gateway::NoMemory;
+use nat_types::NoMemory;
 use scripts::ScriptFault;
 use settings_file::SettingFault;
 use std::alloc::AllocError;

@@ -1,10 +1,12 @@
-//! Why the program ends without its work done, and the texts of its files.
+//! What a run needs, the texts of its files, and why the program ends without its work done.
 #![tactic(auto)]
 
 mod faults;
+mod jobs;
 mod prints;
 mod texts;
 
 pub use faults::Fault;
+pub use jobs::{Job, job_of};
 pub use prints::PrintFault;
 pub use texts::text_of;

@@ -1,6 +1,6 @@
 //! Why a run isn't printed.
 
-use gateway::NoMemory;
+use nat_types::NoMemory;
 use std::io;
 
 /// Why a run wasn't printed to its end.

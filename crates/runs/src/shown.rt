@@ -1,9 +1,9 @@
 //! Prints the steps of a run.
 
 use frame_sim::Step;
+use nat_types::WorldEvent;
 use printing::Printer;
 use std::io::{self, Write};
-use world_events::WorldEvent;
 
 /// Prints what each event gave, in order.
 pub(crate) fn print_steps<O: Write>(

@@ -3,22 +3,19 @@ ghost use Rattle.std.specs.Prelude.{◌≡◌, ◌⊎◌, None, IfOk, IfErr, OnO
 ghost use Rattle.frame_sim.specs.Runs.{AreSteps};
 ghost use Rattle.run_faults.specs.Faults.{status_of};
 ghost use Rattle.scripts.specs.Script.{first_bad_line};
-ghost use Rattle.plans.specs.Plans.{TellsRun};
-ghost use Rattle.worlds.specs.Runs.{has_refusal, run_status, IsRun, TakesSteps};
+ghost use Rattle.run_faults.specs.Jobs.{TellsRun};
+ghost use Rattle.frame_sim.specs.Status.{has_refusal, run_status, IsRun, TakesSteps};
 ghost use Rattle.runs.specs.Status.{RunsScript};
 ghost use Rattle.run_faults.specs.declared.faults.Fault.TheVariants as faults;
 
 use crate::shown::print_steps;
 use crate::{Progress, Unwatched};
 use frame_sim::{Step, World};
-use gateway::NoMemory;
-use plans::plan_of;
-use run_faults::{Fault, PrintFault};
+use nat_types::{NoMemory, WorldEvent};
+use run_faults::{Fault, PrintFault, job_of};
 use settings::Settings;
 use std::alloc::Global;
 use std::io::Write;
-use world_events::WorldEvent;
-use worlds::{founded, tables};
 
 /// Runs a script on a new world of the settings that a text in TOML holds, and prints its steps and tables.
 ///
@@ -59,11 +56,11 @@ pub fn simulate_watched<P: Progress, O: Write>(
     ensures run { IfOk result (RunsScript settings.now script.now) }
     ensures status { IfOk result (λ status. (status ≡ 0) ⊎ (status ≡ 3)) }
 {
-    let plan = plan_of(alloc, settings, script)?;
+    let job = job_of(alloc, settings, script)?;
     play(
         alloc,
-        &plan.settings,
-        plan.events.as_slice(),
+        &job.settings,
+        job.events.as_slice(),
         progress,
         output,
     )
@@ -87,7 +84,7 @@ pub fn play<P: Progress, O: Write>(
     ensures fault { IfErr result
         (λ fault. (fault ≡ faults.NotWritten) ⊎ (fault ≡ faults.NoMemory)) }
 {
-    match founded(alloc, settings) {
+    match World::founded(alloc, settings) {
         Ok(mut world) => {
             let status = played(alloc, &mut world, events, progress, output);
             world.end();
@@ -123,7 +120,7 @@ fn print<O: Write>(
     output: &mut O,
 ) -> Result<(), PrintFault> {
     print_steps(output, events, steps)?;
-    tables(output, world)?;
+    world.tables(output)?;
     output.flush()?;
     Ok(())
 }

@@ -12,8 +12,8 @@ use Rattle.nat_types.specs.declared.gateways.GatewayId.TheVariants.{Zero, One}
 use Rattle.nat_types.specs.declared.gateways.Side.{Side}
 use Rattle.nat_types.specs.declared.gateways.Side.TheVariants.{Inside, Outside}
 use Rattle.scripts.specs.declared.reading.TheConstants.{EVENTS, FRAME}
-use Rattle.world_events.specs.declared.events.WorldEvent.{WorldEvent}
-use Rattle.world_events.specs.declared.events.WorldEvent.TheVariants.{Frame, Tick, Deliver, Boot, PeerOff, Stop, Crash}
+use Rattle.nat_types.specs.declared.events.WorldEvent.{WorldEvent}
+use Rattle.nat_types.specs.declared.events.WorldEvent.TheVariants.{Frame, Tick, Deliver, Boot, PeerOff, Stop, Crash}
 
 -- an event in a script's words: each happens to a gateway
 pub data Said : Type 0 where

@@ -10,9 +10,8 @@ ghost use Rattle.scripts.specs.Faults.{IsTold};
 ghost use Rattle.scripts.specs.declared.reading.TheConstants.{EVENTS};
 
 use crate::ScriptFault;
-use nat_types::{GatewayId, Side};
+use nat_types::{GatewayId, Side, WorldEvent};
 use std::alloc::{AllocError, Global};
-use world_events::WorldEvent;
 
 /// The most events that a script may have.
 const EVENTS: usize = 1_000_000;

@@ -2,7 +2,7 @@
 //! bound.
 ghost use Rattle.std.specs.Prelude.{◌≡◌, ◌+◌};
 
-use gateway::NoMemory;
+use nat_types::NoMemory;
 use std::marker::Model;
 use std::snapshot::Snapshot;
 

@@ -1,8 +1,8 @@
 //! The lines that a box writes for its operator.
 
 use crate::View;
-use gateway::{Event, NoMemory, Outcome};
-use nat_types::Side;
+use gateway::{Event, Outcome};
+use nat_types::{NoMemory, Side};
 use std::io::{self, Write};
 
 /// Writes a line where an event was dropped, or was left out for want of memory, and one for each

@@ -1,6 +1,6 @@
 use Rattle.std.proofs.Common.{◌||◌, ◌+◌, subst, take}
 use Rattle.std.proofs.lemmas.List.{take_more}
-use Rattle.world_events.specs.declared.events.WorldEvent.{WorldEvent}
+use Rattle.nat_types.specs.declared.events.WorldEvent.{WorldEvent}
 use Rattle.loops.specs.Turns.{HasTurned, TakesTurn, is_refusal}
 use Rattle.loops.proofs.Turning.{one_turned}
 use Rattle.loops.proofs.Stopping.{on_err, some_turned}

@@ -1,5 +1,5 @@
 use Rattle.std.proofs.Common.{◌∙◌, ap}
-use Rattle.worlds.specs.Runs.{run_status}
+use Rattle.frame_sim.specs.Status.{run_status}
 use Rattle.runs.proofs.simulation.played.Goals as goal
 
 pub returns-clause-run : goal.returns-clause-run

@@ -1,6 +1,6 @@
 use Rattle.std.proofs.Common.{ℕ, List, IfOk, Result, Ok, Err, subst}
-use Rattle.world_events.specs.declared.events.WorldEvent.{WorldEvent}
-use Rattle.worlds.specs.Runs.{IsRun}
+use Rattle.nat_types.specs.declared.events.WorldEvent.{WorldEvent}
+use Rattle.frame_sim.specs.Status.{IsRun}
 use Rattle.runs.proofs.simulation.simulate_watched.Goals as goal
 
 -- what holds of the value of a result holds by what follows from it
@@ -10,7 +10,7 @@ in_ok (Err e) f h = tt
 
 pub returns-clause-run : goal.returns-clause-run
 returns-clause-run g c = in_ok c.play.result (λ n h. record {
-  plan = c.in_ok-plan.plan;
-  is = c.in_ok-plan.ensures.plan;
-  run = subst (λ (es : List WorldEvent). IsRun c.in_ok-plan.plan.settings es n) c.as_slice.ensures.value h;
+  job = c.in_ok-job.job;
+  is = c.in_ok-job.ensures.job;
+  run = subst (λ (es : List WorldEvent). IsRun c.in_ok-job.job.settings es n) c.as_slice.ensures.value h;
 }) c.play.ensures.run

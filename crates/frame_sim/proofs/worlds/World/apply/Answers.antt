@@ -1,5 +1,5 @@
 use Rattle.std.proofs.Common.{◌≡◌, None, refl, sym, subst}
-use Rattle.world_events.specs.declared.events.WorldEvent.{WorldEvent}
+use Rattle.nat_types.specs.declared.events.WorldEvent.{WorldEvent}
 use Rattle.frame_sim.specs.World.{gateway_at}
 use Rattle.frame_sim.specs.Events.{Does, refusal}
 use Rattle.frame_sim.proofs.Lending.{takes-lent}

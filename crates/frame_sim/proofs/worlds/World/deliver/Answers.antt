@@ -1,7 +1,7 @@
 use Rattle.std.proofs.Common.{subst, sym}
 use Rattle.nat_types.specs.declared.gateways.GatewayId.{GatewayId}
 use Rattle.nat_types.specs.declared.gateways.GatewayId.TheVariants.{Zero, One}
-use Rattle.world_events.specs.declared.events.WorldEvent.TheVariants.{Deliver}
+use Rattle.nat_types.specs.declared.events.WorldEvent.TheVariants.{Deliver}
 use Rattle.frame_sim.specs.World.{World}
 use Rattle.frame_sim.specs.Runs.{Answers}
 use Rattle.frame_sim.proofs.Taking.{receive-answers, receive-sound}

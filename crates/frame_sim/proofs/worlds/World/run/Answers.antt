@@ -1,7 +1,7 @@
 use Rattle.std.proofs.Common.{take, arith, subst}
 use Rattle.std.proofs.lemmas.List.{take_more}
 use Rattle.told.specs.Told.{none_told}
-use Rattle.world_events.specs.declared.events.WorldEvent.{WorldEvent}
+use Rattle.nat_types.specs.declared.events.WorldEvent.{WorldEvent}
 use Rattle.frame_sim.specs.Runs.{Answers}
 use Rattle.frame_sim.proofs.Runs.{steps-push}
 use Rattle.frame_sim.proofs.worlds.World.run.Goals as goal

@@ -1,6 +1,6 @@
 //! What can happen to the world.
 
-use nat_types::{GatewayId, Side};
+use crate::{GatewayId, Side};
 
 /// What can happen to the world.
 #[derive(Debug, Drop)]

@@ -7,12 +7,12 @@ use Rattle.settings_file.specs.Settings.{IsReadFrom, Tells}
 use Rattle.scripts.specs.Script.{said, events_of, first_bad_line}
 use Rattle.run_faults.specs.declared.faults.Fault.{Fault}
 use Rattle.run_faults.specs.declared.faults.Fault.TheVariants.{Setting, BadLine, NotWritten, NoMemory}
-use Rattle.plans.specs.declared.plans.Plan.{Plan}
+use Rattle.run_faults.specs.declared.jobs.Job.{Job}
 
 -- the settings that a text holds, and a script's events
-pub record IsPlanOf (text script : List ℕ) (plan : Plan) : Type 0 where
-  pub held : IsReadFrom (parse_document text) plan.settings
-  pub read : map said plan.events.items ≡ events_of (lines script)
+pub record IsJobOf (text script : List ℕ) (job : Job) : Type 0 where
+  pub held : IsReadFrom (parse_document text) job.settings
+  pub read : map said job.events.items ≡ events_of (lines script)
 
 -- why a script isn't run to its end: the settings' fault, else the script's first bad line, else want of memory or
 -- output that is refused

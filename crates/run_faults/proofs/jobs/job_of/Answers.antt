@@ -6,10 +6,10 @@ use Rattle.settings.specs.declared.whole.Settings.{Settings}
 use Rattle.settings_file.specs.Settings.{IsReadFrom}
 use Rattle.scripts.specs.Faults.{IsTold}
 use Rattle.run_faults.specs.Faults.{of_script}
-use Rattle.plans.specs.Plans.{TellsRun}
+use Rattle.run_faults.specs.Jobs.{TellsRun}
 use Rattle.scripts.specs.declared.faults.ScriptFault.{ScriptFault}
 use Rattle.scripts.specs.declared.faults.ScriptFault.TheVariants as scripts
-use Rattle.plans.proofs.plans.plan_of.Goals as goal
+use Rattle.run_faults.proofs.jobs.job_of.Goals as goal
 
 -- a script's fault, where the settings are read
 told_bad : (text script : List ℕ) (fault : ScriptFault) → ((settings : Settings) × IsReadFrom (parse_document text) settings)

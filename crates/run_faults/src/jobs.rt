@@ -3,27 +3,27 @@ ghost use Rattle.std.specs.Prelude.{◌≡◌, ◌≢◌, None, IfOk, IfErr, OnO
 ghost use Rattle.run_faults.specs.Faults.{status_of};
 ghost use Rattle.run_faults.specs.declared.faults.Fault.TheVariants as faults;
 ghost use Rattle.scripts.specs.Script.{first_bad_line};
-ghost use Rattle.plans.specs.Plans.{IsPlanOf, TellsRun};
+ghost use Rattle.run_faults.specs.Jobs.{IsJobOf, TellsRun};
 
-use run_faults::Fault;
+use crate::Fault;
+use nat_types::WorldEvent;
 use settings::Settings;
 use std::alloc::Global;
-use world_events::WorldEvent;
 
 /// What a run needs: what the pair is set up with, and what happens to it.
 #[derive(Drop)]
-pub struct Plan {
+pub struct Job {
     pub settings: Settings,
     pub events: Vec<WorldEvent>,
 }
 
-/// The plan of two texts: settings in TOML, and a script.
+/// The job of two texts: settings in TOML, and a script.
 ///
 /// # Errors
 ///
 /// The settings' fault, else the script's first bad line; `NoMemory`.
-pub fn plan_of(alloc: Global, settings: &str, script: &str) -> Result<Plan, Fault>
-    ensures plan { IfOk result (IsPlanOf settings.now script.now) }
+pub fn job_of(alloc: Global, settings: &str, script: &str) -> Result<Job, Fault>
+    ensures job { IfOk result (IsJobOf settings.now script.now) }
     ensures good { OnOk result (first_bad_line script.now ≡ None) }
     ensures told { IfErr result (TellsRun settings.now script.now) }
     ensures known { IfErr result (λ fault. status_of fault ≡ 1) }
@@ -31,5 +31,5 @@ pub fn plan_of(alloc: Global, settings: &str, script: &str) -> Result<Plan, Faul
 {
     let settings = settings_file::read(alloc, settings)?;
     let events = scripts::read(alloc, script)?;
-    Ok(Plan { settings, events })
+    Ok(Job { settings, events })
 }

@@ -1,0 +1,6 @@
+use Rattle.frame_sim.specs.Status.{IsNew}
+use Rattle.frame_sim.proofs.beginnings.World.founded.Goals as goal
+
+pub returns : goal.returns
+unfolding IsNew
+returns c = c.new.ensures

@@ -1,0 +1,17 @@
+//! A world's beginning, as the run of a script and its loop want it.
+ghost use Rattle.std.specs.Prelude.{IfOk};
+ghost use Rattle.frame_sim.specs.Status.{IsNew};
+
+use crate::World;
+use nat_types::NoMemory;
+use settings::Settings;
+use std::alloc::Global;
+
+impl<'a> World<'a> {
+    /// A new world of these settings, as `new` gives it: what it is has one name here (`IsNew`).
+    pub fn founded(alloc: Global, settings: &'a Settings) -> Result<World<'a>, NoMemory>
+        ensures { IfOk result (IsNew settings.now) }
+    {
+        World::new(alloc, settings)
+    }
+}
