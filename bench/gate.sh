@@ -1,14 +1,14 @@
 #!/usr/bin/env bash
 # Frames a second that one gateway passes on loopback, beside a bare loop in plain Rust that only passes frames between
 # the same sockets; and the ratio of the two.   usage: bench/gate.sh [SECONDS [WINDOW]]
-# It needs crates/natpair/out/natpair (cd crates/natpair && rt run -- --help builds it) and rustc. The two take turns,
+# It needs crates/natpair/out/natpair (./build makes it) and rustc. The two take turns,
 # nine times each; the medians are compared. A benchmark and no test: nothing compares its numbers.
 set -euo pipefail
 here="$(cd "$(dirname "$0")" && pwd)"
 natpair="$here/../crates/natpair/out/natpair"
 seconds="${1:-2}"
 window="${2:-64}"
-[ -x "$natpair" ] || { echo "build natpair first: cd crates/natpair && rt run -- --help"; exit 1; }
+[ -x "$natpair" ] || { echo "build natpair first: ./build"; exit 1; }
 # A UDP packet of an inside host to 198.51.100.7, port 53, at the virtual hardware address of the inside.
 frame=00005e00010b02000000000a08004500001e0001000040118ee1c0a8010ac633640713880035000a97c66869
 made="$(mktemp -d)"

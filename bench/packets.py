@@ -3,7 +3,7 @@
 
 usage: bench/packets.py [PACKETS [ENDPOINTS]]     (100000 and 1000 by default)
 
-Run it from the top of the repository, after `cd crates/natpair && rt run -- sim ../../examples/S.toml ../../examples/first.script`
+Run it from the top of the repository, after `./build`
 has built crates/natpair/out/natpair. It is a benchmark and no test: nothing compares its numbers.
 """
 import os

@@ -1,12 +1,12 @@
 #!/usr/bin/env bash
 # Two gateways as two processes with boot files, side by side on loopback.   usage: bench/two_gates.sh [ROUNDS]
-# It needs crates/natpair/out/natpair (cd crates/natpair && rt run -- --help builds it). It prints what each process
+# It needs crates/natpair/out/natpair (./build makes it). It prints what each process
 # printed, its status, and the lines on standard error that tell how the two found each other.
 set -euo pipefail
 here="$(cd "$(dirname "$0")" && pwd)"
 natpair="$here/../crates/natpair/out/natpair"
 rounds="${1:-1000}"
-[ -x "$natpair" ] || { echo "build natpair first: cd crates/natpair && rt run -- --help"; exit 1; }
+[ -x "$natpair" ] || { echo "build natpair first: ./build"; exit 1; }
 made="$(mktemp -d)"
 trap 'rm -rf "$made"' EXIT
 cp "$here/../examples/S.toml" "$made/S.toml"
