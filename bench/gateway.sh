@@ -1,7 +1,7 @@
 #!/usr/bin/env bash
 # What a packet costs a gateway, beside the same work in plain Rust, and how many requests for memory it makes.
 # usage: bench/gateway.sh [COUNT [PAIRS..]]        (200000 packets of each kind, at 1, 1,000 and 40,000 pairs)
-# It builds and runs crates/gateway_timed, and bench/gateway/bare.rs where there is rustc, for the same processor. The two
+# It builds and runs crates/bench_gateway, and bench/gateway/bare.rs where there is rustc, for the same processor. The two
 # take turns, three times each; what is compared is the best of each. Then each runs under a malloc that counts, where
 # there is cc, with COUNT packets and with twice as many: what the second run asked for more was for its packets.
 # A gateway of 1,000 pairs has them of one protocol; of 40,000, all the ports that it has, 20,000 are of each.
@@ -16,9 +16,9 @@ pairs=("$@")
 [ "${#pairs[@]}" -gt 0 ] || pairs=(1 1000 40000)
 made="$(mktemp -d)"
 trap 'rm -rf "$made"' EXIT
-(cd "$here/../crates/gateway_timed" && rt run -- packets 1 1) > "$made/built" 2>&1 || { tail -n 5 "$made/built"; exit 1; }
+(cd "$here/../crates/bench_gateway" && rt run -- packets 1 1) > "$made/built" 2>&1 || { tail -n 5 "$made/built"; exit 1; }
 programs=(gateway)
-cp "$here/../crates/gateway_timed/out/gateway_timed" "$made/gateway"
+cp "$here/../crates/bench_gateway/out/bench_gateway" "$made/gateway"
 if command -v rustc > /dev/null; then
     cpu=()
     [ "$(uname -m)" != x86_64 ] || cpu=(-C target-cpu=x86-64-v2)

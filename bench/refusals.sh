@@ -1,12 +1,12 @@
 #!/usr/bin/env bash
-# Refuses each request for memory of crates/refusal_cases in turn, up to the first number that none has. It says in how
+# Refuses each request for memory of crates/cases_refusals in turn, up to the first number that none has. It says in how
 # many runs a step was refused and went when it was asked for again, and in how many what was printed isn't what is owed,
 # which shows where a refused step had changed something.   usage: bench/refusals.sh [FIRST [LAST]]
 # It builds the program, and needs cc. `rt try --fail-alloc N` refuses a request too, but builds anew for each.
 # Its status is 1 where a run printed something else.
 set -euo pipefail
 here="$(cd "$(dirname "$0")" && pwd)"
-crate="$here/../crates/refusal_cases"
+crate="$here/../crates/cases_refusals"
 made="$(mktemp -d)"
 trap 'rm -rf "$made"' EXIT
 # Its files don't lie where rt runs it, so there it only ends.
@@ -14,13 +14,13 @@ trap 'rm -rf "$made"' EXIT
 grep -q '^rt: running ' "$made/built" || { tail -n 5 "$made/built"; exit 1; }
 cc -shared -fPIC -O1 -o "$made/count.so" "$here/memory/count.c" -ldl
 cd "$crate/data"
-last="${2:-$(LD_PRELOAD="$made/count.so" ../out/refusal_cases 2>&1 > /dev/null | tail -n 1)}"
+last="${2:-$(LD_PRELOAD="$made/count.so" ../out/cases_refusals 2>&1 > /dev/null | tail -n 1)}"
 runs=0
 refused=0
 other=0
 for number in $(seq "${1:-1}" "$last"); do
     runs=$((runs + 1))
-    REFUSED="$number" LD_PRELOAD="$made/count.so" ../out/refusal_cases > "$made/printed" 2> /dev/null || true
+    REFUSED="$number" LD_PRELOAD="$made/count.so" ../out/cases_refusals > "$made/printed" 2> /dev/null || true
     ! grep -q '^  refused$' "$made/printed" || refused=$((refused + 1))
     grep -v '^  refused$' "$made/printed" | cmp -s - ../stdout || { other=$((other + 1)); echo "request $number: something else"; }
 done

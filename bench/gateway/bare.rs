@@ -1,4 +1,4 @@
-//! A packet's work in plain Rust, without contracts: what bench/gateway.sh sets beside crates/gateway_timed.
+//! A packet's work in plain Rust, without contracts: what bench/gateway.sh sets beside crates/bench_gateway.
 //! It parses, tests the header sum, looks up the pair, the session and the next hop in tables of the standard library,
 //! rewrites by increments, copies the frame out and notes that its pair was used. It makes pairs, and never drops one.
 //! usage: bare COUNT PAIRS..

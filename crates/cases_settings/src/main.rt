@@ -1,0 +1,32 @@
+//! Reads the sample settings, and texts that differ from them, and prints why each is refused; prints the built-in
+//! settings; and reads command lines.
+#![tactic(auto)]
+
+mod edits;
+mod lines;
+mod lists;
+mod sample;
+
+use anyhow::Result;
+use settings::Settings;
+use std::fs;
+use std::io::{self, BufWriter, Write};
+
+fn main(rt: HostRuntime) -> Result<()> {
+    let alloc = rt.alloc();
+    let mut output = BufWriter::new(alloc, io::writer(&rt))?;
+    let sample = fs::read_to_string(&rt, "S.toml")?;
+    let read = settings_file::read(alloc, sample.as_str())?;
+    let built = Settings::sample(alloc)?;
+    let same = format!(in alloc; "{read:?}")? == format!(in alloc; "{built:?}")?;
+    writeln!(output, "sample: {same}")?;
+    let cases = fs::read_to_string(&rt, "settings.cases")?;
+    edits::run(alloc, sample.as_str(), cases.as_str(), &mut output)?;
+    let cases = fs::read_to_string(&rt, "lists.cases")?;
+    lists::run(alloc, sample.as_str(), cases.as_str(), &mut output)?;
+    sample::print(&mut output, &built)?;
+    let cases = fs::read_to_string(&rt, "lines.cases")?;
+    lines::run(alloc, cases.as_str(), &mut output)?;
+    output.flush()?;
+    Ok(())
+}

@@ -1,0 +1,41 @@
+//! Calls the packet crates and the link with the cases of the files that its words name, and prints a line for
+//! each: what the call answers, or why it refuses. A line of a file is empty, begins with `#`, or
+//! has a name, a call and what is given to it.
+#![tactic(auto)]
+
+mod calls;
+mod datagrams;
+mod neighbours;
+mod packets;
+
+use anyhow::Result;
+use cases_words::Given;
+use std::alloc::Global;
+use std::{env, fs};
+
+/// The lines for the cases of a file.
+fn answers(alloc: Global, text: &str) -> Result<String> {
+    let mut out = String::new(alloc);
+    for line in text.lines() {
+        if line.is_empty() || line.starts_with("#") {
+            continue;
+        }
+        let words = line.split_whitespace().collect::<Vec<&str>>(alloc)?;
+        let mut given = Given::new(alloc, words.as_slice());
+        let name = given.word()?;
+        match calls::answer(&mut given) {
+            Ok(answer) => writeln!(out, "{name}: {answer}")?,
+            Err(refusal) => writeln!(out, "{name}: refused, {refusal}")?,
+        }
+    }
+    Ok(out)
+}
+
+fn main(rt: HostRuntime) -> Result<()> {
+    for file in env::args(&rt)?.skip(1).collect::<Vec<String>>(rt.alloc())? {
+        let text = fs::read_to_string(&rt, file.as_str())?;
+        let answers = answers(rt.alloc(), text.as_str())?;
+        print!(rt; "== {file}\n{answers}")?;
+    }
+    Ok(())
+}

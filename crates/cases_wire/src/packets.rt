@@ -1,0 +1,162 @@
+//! Frames, IPv4 packets, and what they carry.
+ghost use Rattle.std.specs.Prelude.{IsTrue};
+ghost use Rattle.ipv4.specs.Header.{IsIpv4};
+ghost use Rattle.ipv4.specs.Carried.{IsTransport};
+
+use addresses::TcpFlags;
+use anyhow::{Result, ensure};
+use cases_words::Given;
+use frames::{EthView, EthViewMut, EtherType};
+use ipv4::{Ipv4View, Ipv4ViewMut, TcpView, TcpViewMut, Transport, UdpView, UdpViewMut};
+use std::alloc::Global;
+
+pub fn frame(alloc: Global, bytes: &[u8]) -> Result<String> {
+    let frame = EthView::parse(bytes)?;
+    let (dst, src, kind) = (frame.dst(), frame.src(), frame.ethertype().0);
+    let body = hex::encode(alloc, frame.body())?;
+    Ok(format!(in alloc; "to {dst} from {src} type {kind:04x} body [{body}]")?)
+}
+
+pub fn write_frame(given: &mut Given) -> Result<String> {
+    let mut bytes = given.bytes()?;
+    EthView::parse(bytes.as_slice())?;
+    let mut frame = EthViewMut::new(bytes.as_mut_slice());
+    frame.set_dst(given.mac()?);
+    frame.set_src(given.mac()?);
+    frame.set_ethertype(EtherType(given.short()?));
+    Ok(hex::encode(given.alloc, bytes.as_slice())?)
+}
+
+/// The same header over a body whose bytes are all the given one, after a look at the header lent.
+pub fn write_body(given: &mut Given) -> Result<String> {
+    let mut bytes = given.bytes()?;
+    EthView::parse(bytes.as_slice())?;
+    let frame = EthViewMut::new(bytes.as_mut_slice());
+    let kind = frame.ethertype().0;
+    let (header, body) = frame.body_mut();
+    let [byte] = given.octets::<1>()?;
+    body.fill(byte);
+    let header = hex::encode(given.alloc, header)?;
+    let bytes = hex::encode(given.alloc, bytes.as_slice())?;
+    Ok(format!(in given.alloc; "type {kind:04x} header [{header}] frame [{bytes}]")?)
+}
+
+pub fn ipv4(alloc: Global, bytes: &[u8]) -> Result<String> {
+    let packet = Ipv4View::parse(bytes)?;
+    let (header, service) = (packet.header_length(), packet.type_of_service());
+    let (total, number) = (packet.total_length(), packet.identification());
+    let flags = packet.flags_word();
+    let (ttl, protocol, transport) = (packet.ttl(), packet.protocol(), packet.transport());
+    let (sum, from, to) = (packet.checksum(), packet.source(), packet.destination());
+    let (options, payload) = (
+        hex::encode(alloc, packet.options())?,
+        hex::encode(alloc, packet.payload())?,
+    );
+    Ok(format!(in alloc;
+        "header {header} service {service} total {total} number {number} flags {flags:04x} ttl {ttl} protocol {protocol} {transport:?} sum {sum:04x} from {from} to {to} options [{options}] payload [{payload}]"
+    )?)
+}
+
+pub fn carried(alloc: Global, bytes: &[u8]) -> Result<String> {
+    match Transport::parse(&Ipv4View::parse(bytes)?)? {
+        Transport::Udp(datagram) => udp(alloc, &datagram),
+        Transport::Tcp(segment) => tcp(alloc, &segment),
+    }
+}
+
+fn udp(alloc: Global, datagram: &UdpView<'_>) -> Result<String> {
+    let (from, to) = (datagram.source_port(), datagram.destination_port());
+    let (length, sum) = (datagram.length(), datagram.checksum());
+    let payload = hex::encode(alloc, datagram.payload())?;
+    Ok(format!(in alloc;
+        "udp from {from} to {to} length {length} sum {sum:04x} payload [{payload}]"
+    )?)
+}
+
+fn tcp(alloc: Global, segment: &TcpView<'_>) -> Result<String> {
+    let (from, to) = (segment.source_port(), segment.destination_port());
+    let (sequence, acknowledgement) = (segment.sequence(), segment.acknowledgement());
+    let TcpFlags { fin, syn, rst, ack } = segment.flags();
+    let (header, window) = (segment.header_length(), segment.window());
+    let (sum, urgent) = (segment.checksum(), segment.urgent());
+    let (options, payload) = (
+        hex::encode(alloc, segment.options())?,
+        hex::encode(alloc, segment.payload())?,
+    );
+    Ok(format!(in alloc;
+        "tcp from {from} to {to} sequence {sequence} acknowledgement {acknowledgement} header {header} fin {fin} syn {syn} rst {rst} ack {ack} window {window} sum {sum:04x} urgent {urgent} options [{options}] payload [{payload}]"
+    )?)
+}
+
+/// What the header says that isn't written, and the packet afterwards.
+pub fn write_ipv4(given: &mut Given) -> Result<String> {
+    let mut bytes = given.bytes()?;
+    Ipv4View::parse(bytes.as_slice())?;
+    let mut header = Ipv4ViewMut::new(bytes.as_mut_slice());
+    let (service, number) = (header.type_of_service(), header.identification());
+    let flags = header.flags_word();
+    header.set_ttl(u8::from_be_bytes(given.octets::<1>()?));
+    header.set_checksum(given.short()?);
+    header.set_source(given.hex_ip()?);
+    header.set_destination(given.hex_ip()?);
+    let bytes = hex::encode(given.alloc, bytes.as_slice())?;
+    Ok(format!(in given.alloc; "service {service} number {number} flags {flags:04x}: {bytes}")?)
+}
+
+pub fn write_udp(given: &mut Given) -> Result<String> {
+    let mut bytes = given.bytes()?;
+    UdpView::parse(bytes.as_slice())?;
+    let mut header = UdpViewMut::new(bytes.as_mut_slice());
+    header.set_source_port(given.hex_port()?);
+    header.set_destination_port(given.hex_port()?);
+    header.set_checksum(given.short()?);
+    Ok(hex::encode(given.alloc, bytes.as_slice())?)
+}
+
+/// What the header says that isn't written, and the segment afterwards.
+pub fn write_tcp(given: &mut Given) -> Result<String> {
+    let mut bytes = given.bytes()?;
+    TcpView::parse(bytes.as_slice())?;
+    let mut header = TcpViewMut::new(bytes.as_mut_slice());
+    let (sequence, acknowledgement) = (header.sequence(), header.acknowledgement());
+    let (window, urgent) = (header.window(), header.urgent());
+    header.set_source_port(given.hex_port()?);
+    header.set_destination_port(given.hex_port()?);
+    header.set_checksum(given.short()?);
+    let bytes = hex::encode(given.alloc, bytes.as_slice())?;
+    Ok(format!(in given.alloc;
+        "sequence {sequence} acknowledgement {acknowledgement} window {window} urgent {urgent}: {bytes}"
+    )?)
+}
+
+fn is_carried(bytes: &[u8]) -> bool
+    ensures ipv4 { IsTrue result → IsIpv4 bytes.now }
+    ensures transport { IsTrue result → IsTransport bytes.now }
+{
+    match Ipv4View::parse(bytes) {
+        Ok(packet) => Transport::parse(&packet).is_ok(),
+        Err(_) => false,
+    }
+}
+
+/// The packet afterwards, behind the refusal where there is one.
+pub fn rewritten(given: &mut Given, call: &str) -> Result<String> {
+    let mut bytes = given.bytes()?;
+    let (address, port) = (given.hex_ip()?, given.hex_port()?);
+    let (to, to_port) = if call == "hairpin" {
+        (given.hex_ip()?, given.hex_port()?)
+    } else {
+        (address, port)
+    };
+    ensure!(is_carried(bytes.as_slice()), "nothing that is translated");
+    let done = match call {
+        "outward" => rewrite::outward(bytes.as_mut_slice(), address, port),
+        "inward" => rewrite::inward(bytes.as_mut_slice(), address, port),
+        _ => rewrite::hairpin(bytes.as_mut_slice(), address, port, to, to_port),
+    };
+    let bytes = hex::encode(given.alloc, bytes.as_slice())?;
+    match done {
+        Ok(()) => Ok(bytes),
+        Err(fault) => Ok(format!(in given.alloc; "refused, {fault}: {bytes}")?),
+    }
+}
