@@ -27,8 +27,9 @@ fn with_script<'a>(alloc: Global, command: Command<'a>) -> Result<Command<'a>, A
     ensures local { IfOk result (λ c. (fields_of c).has_globals ≡ false) }
 {
     let settings = options::file(alloc, "SETTINGS", "The settings in TOML, as in S.toml");
+    let command = command.arg(settings)?;
     let script = options::file(alloc, "SCRIPT", "The events, a line each, as in day.script");
-    command.arg(settings)?.arg(script)
+    command.arg(script)
 }
 
 fn sim<'a>(alloc: Global) -> Result<Command<'a>, AllocError>
@@ -61,8 +62,7 @@ fn with_gateway<'a>(alloc: Global, command: Command<'a>) -> Result<Command<'a>, 
     ensures local { IfOk result (λ c. (fields_of c).has_globals ≡ false) }
 {
     let settings = options::file(alloc, "SETTINGS", "The settings in TOML, as in S.toml");
-    let id = options::id(alloc);
-    command.arg(settings)?.arg(id)
+    command.arg(settings)?.arg(options::id(alloc))
 }
 
 fn gate<'a>(alloc: Global) -> Result<Command<'a>, AllocError>
@@ -72,9 +72,8 @@ fn gate<'a>(alloc: Global) -> Result<Command<'a>, AllocError>
     let command = Command::new(alloc, "gate")
         .about("Runs one gateway on loopback sockets")
         .after_help("Example: natpair gate S.toml --id 0 --rounds 1000 --found");
-    let rounds = options::rounds(alloc);
-    let found = options::found(alloc);
-    with_gateway(alloc, command)?.arg(rounds)?.arg(found)
+    let command = with_gateway(alloc, command)?.arg(options::rounds(alloc))?;
+    command.arg(options::found(alloc))
 }
 
 fn peer_off<'a>(alloc: Global) -> Result<Command<'a>, AllocError>
@@ -84,8 +83,7 @@ fn peer_off<'a>(alloc: Global) -> Result<Command<'a>, AllocError>
     let command = Command::new(alloc, "peer-off")
         .about("Tells a running gateway that a boot of its peer has ended for good")
         .after_help("Example: natpair peer-off S.toml --id 0 --boot 7");
-    let boot = options::boot(alloc);
-    with_gateway(alloc, command)?.arg(boot)
+    with_gateway(alloc, command)?.arg(options::boot(alloc))
 }
 
 fn top<'a>(alloc: Global) -> Command<'a>
@@ -114,14 +112,9 @@ fn with_command<'a>(command: Command<'a>, beneath: Command<'a>) -> Result<Comman
 pub(crate) fn line<'a>(alloc: Global) -> Result<Command<'a>, AllocError>
     ensures { IfOk result (λ c. app_of c ≡ line_app) }
 {
-    let init = init(alloc)?;
-    let sim = sim(alloc)?;
-    let repeat = repeat(alloc)?;
-    let gate = gate(alloc)?;
-    let peer_off = peer_off(alloc)?;
-    let line = with_command(top(alloc), init)?;
-    let line = with_command(line, sim)?;
-    let line = with_command(line, repeat)?;
-    let line = with_command(line, gate)?;
-    with_command(line, peer_off)
+    let line = with_command(top(alloc), init(alloc)?)?;
+    let line = with_command(line, sim(alloc)?)?;
+    let line = with_command(line, repeat(alloc)?)?;
+    let line = with_command(line, gate(alloc)?)?;
+    with_command(line, peer_off(alloc)?)
 }

@@ -34,7 +34,7 @@ pub enum SettingFault {
 }
 
 /// Why a value can't be read.
-#[derive(Clone, Copy, Debug, PartialEq, Eq)]
+#[derive(Clone, Copy)]
 pub(crate) enum ValueFault {
     BadValue(Key),
     NoMemory,

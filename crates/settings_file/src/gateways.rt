@@ -15,7 +15,7 @@ use std::alloc::Global;
 use toml::Table;
 
 /// The addresses of a gateway's two interfaces.
-#[derive(Clone, Copy, Debug, PartialEq, Eq)]
+#[derive(Clone, Copy)]
 struct Addresses {
     inside_ip: Ip,
     inside_mac: Mac,
@@ -95,7 +95,7 @@ fn read_role(alloc: Global, document: &Table, section: Section) -> Result<Role, 
 }
 
 /// A gateway's loopback ports.
-#[derive(Clone, Copy, Debug, PartialEq, Eq)]
+#[derive(Clone, Copy)]
 struct Sockets {
     link: u16,
     inside: u16,
