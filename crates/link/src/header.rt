@@ -46,7 +46,7 @@ ghost use Rattle.link.specs.Reading.{is_ours as is_datagram_of_ours};
 ghost use Rattle.link.specs.Reading.{is_sender as names_sender, is_in_range as fields_are_in_range};
 
 use crate::writing::{Bytes, put};
-use crate::{Datagram, LinkFault};
+use crate::{Datagram, LinkFault, RECORDS_IN_A_DATAGRAM};
 use byteorder::{BigEndian, ByteOrder};
 use nat_types::GatewayId;
 use std::ops::Range;
@@ -121,7 +121,10 @@ fn is_in_range(status: u8, count: u8, first: u64) -> bool
     ensures exact { result ≡ fields_are_in_range status count first }
     ensures count { result ≡ true → count ≤ 64 }
 {
-    status < 2 && count <= 64 && first > 0 && first <= NUMBERS_END - u64::from(count)
+    status < 2
+        && usize::from(count) <= RECORDS_IN_A_DATAGRAM
+        && first > 0
+        && first <= NUMBERS_END - u64::from(count)
 }
 
 fn number_in(bytes: &[u8], place: Range<usize>) -> u64

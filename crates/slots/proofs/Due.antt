@@ -1,14 +1,13 @@
 -- The cells that are due, in order, and the keys of cells.
-use Rattle.std.proofs.Common.{◌≡◌, ℕ, zero, suc, ◌+◌, ◌<◌, ◌≤◌, Bool, true, false, cond, eqb, inl, inr, Option, Some, None, List, [], ◌∷◌, length, map, get_or, slice_set, refl, ap, subst, sym, ◌∙◌, arith}
+use Rattle.std.proofs.Common.{◌≡◌, ℕ, zero, suc, ◌+◌, ◌<◌, ◌≤◌, Bool, true, false, cond, eqb, inl, inr, Option, None, List, [], ◌∷◌, length, get_or, replicate, refl, ap, subst, sym, ◌∙◌, arith}
 use Rattle.std.specs.List.{All, AllByRecursion, sum_by}
 use Rattle.std.specs.List.Sorted.{IsPermutation, IsSorted, IsNonDecreasing}
 use Rattle.std.specs.Ordering.{nat_cmp}
 use Rattle.std.proofs.lemmas.Bool.{cond-false, cases_lt, ne_eqb}
-use Rattle.std.proofs.lemmas.List.Elements.{All-from_recursion, recursion_from_All}
+use Rattle.std.proofs.lemmas.List.Elements.{All-from_recursion}
 use Rattle.std.proofs.lemmas.List.Sums.{sum_by-cons}
 use Rattle.std.proofs.lemmas.List.Sorted.{sum_by-IsPermutation, IsNonDecreasingBy-from_sort}
-use Rattle.timers.specs.declared.links.Links.{Links}
-use Rattle.timers.specs.Chains.{times, moments, unset_links}
+use Rattle.timers.specs.Chains.{times}
 use Rattle.timers.specs.Due.{is_due, due_from, due_slots}
 use Rattle.timers.proofs.Leading.{here}
 
@@ -88,14 +87,11 @@ due-below now first most (m ∷ ms) h = at (is_due now m) (due-below now (first 
 pub due-within : (now : ℕ) (ms : List (Option ℕ)) → All (λ c. c < length ms) (due_slots now ms)
 due-within now ms = All-from_recursion (λ c. c < length ms) (due_slots now ms) (due-below now 0 (length ms) ms (omega arith))
 
-none-set : (ls : List Links) (c : ℕ) → AllByRecursion (λ l. l ≡ unset_links) ls → get_or (moments ls) c None ≡ None
-none-set [] c all = refl
-none-set (l ∷ ls) zero all = ap (λ (x : Links). x.due) all.0
-none-set (l ∷ ls) (suc c) all = none-set ls c all.1
-
--- slots that aren't set have no moments
-pub no-moments : (ls : List Links) (c : ℕ) → All (λ l. l ≡ unset_links) ls → get_or (moments ls) c None ≡ None
-no-moments ls c all = none-set ls c (recursion_from_All (λ l. l ≡ unset_links) ls all)
+-- where no cell is set, none has a moment
+pub none-at : (count cell : ℕ) → get_or (replicate {A = Option ℕ} count None) cell None ≡ None
+none-at zero cell = refl
+none-at (suc count) zero = refl
+none-at (suc count) (suc cell) = none-at count cell
 
 -- no more slots are due than there are
 pub few-due : (now first : ℕ) (ms : List (Option ℕ)) → length (due_from now first ms) ≤ length ms

@@ -1,8 +1,6 @@
 //! Due moments by protocol and port.
 ghost use Rattle.std.specs.Prelude.{◌≡◌, ◌+◌, ◌<◌, ◌≤◌, ◌++◌, [], None, Some, All, length, map, slice_set, vec_len, vec_capacity, IfOk};
-ghost use Rattle.timers.specs.Chains.{unset_links, moments};
 ghost use Rattle.timers.specs.Due.{cleared, due_slots};
-ghost use Rattle.timers.specs.Linked.{IsLinked};
 ghost use Rattle.slots.specs.Cells.{cell_of, key_at};
 ghost use Rattle.slots.specs.Dues.{due_keys, moment_of};
 ghost use Rattle.nat_types.specs.declared.pairs.Key.{Key as OutsidePort};
@@ -11,48 +9,38 @@ use crate::port_slots::{CELLS, cell_of_key, key_of_cell};
 use nat_types::Key;
 use std::alloc::{AllocError, Global};
 use std::marker::Model;
-use timers::{Links, Wheel};
+use timers::Timers;
 
 /// A moment in centiseconds for each protocol and port that is set.
 #[derive(Drop)]
 pub struct Dues {
-    wheel: Wheel,
-    links: Vec<Links>,
+    // A slot for each cell.
+    timers: Timers,
     // The cells that are due now.
     found: Vec<usize>,
 }
 
 impl Model for Dues {
     ghost use Rattle.std.specs.Prelude.{ℕ, List, Option, vec_capacity};
-    ghost use Rattle.timers.specs.Chains.{moments};
-    ghost use Rattle.slots.specs.Dues.{IsWheeled};
+    ghost use Rattle.slots.specs.Dues.{HasAllCells};
 
     ghost Value = { List (Option ℕ) };
 
-    ghost view = { λ d. moments d.links.items };
+    ghost view = { λ d. d.timers };
 
-    ghost invariant = { λ d. IsWheeled d.wheel d.links.items (vec_capacity d.found) };
+    ghost invariant = { λ d. HasAllCells d.timers (vec_capacity d.found) };
 }
 
-fn unset(alloc: Global, count: usize) -> Result<Vec<Links>, AllocError>
-    ensures unset { IfOk result (λ v. All (λ links. links ≡ unset_links) v.items) }
-    ensures count { IfOk result (λ v. length v.items ≡ count) }
-{
-    vec![in alloc; Links::unset(); count]
-}
-
-/// Takes the due slots out of a wheel, and lists them, lowest first.
-fn list_due(wheel: &mut Wheel, links: &mut Vec<Links>, now: u64, found: &mut Vec<usize>)
-    requires linked { IsLinked wheel.old links.old.items }
-    requires all { length links.old.items ≡ 131072 }
+/// Takes the due slots out of the timers, and lists them, lowest first.
+fn list_due(timers: &mut Timers, now: u64, found: &mut Vec<usize>)
+    requires all { length timers.old ≡ 131072 }
     requires empty { found.old.items ≡ [] }
     requires room { 131072 ≤ vec_capacity found.old }
-    ensures linked { IsLinked wheel.new links.new.items }
-    ensures cleared { moments links.new.items ≡ map (cleared now) (moments links.old.items) }
-    ensures found { found.new.items ≡ due_slots now (moments links.old.items) }
+    ensures cleared { timers.new ≡ map (cleared now) timers.old }
+    ensures found { found.new.items ≡ due_slots now timers.old }
     ensures room { 131072 ≤ vec_capacity found.new }
 {
-    match wheel.due(links, now, found) {
+    match timers.due(now, found) {
         Ok(()) => {}
         Err(_) => unreachable!(),
     }
@@ -76,14 +64,9 @@ impl Dues {
     pub fn new(alloc: Global) -> Result<Dues, AllocError>
         ensures { IfOk result (λ d. (key : OutsidePort) → moment_of d key ≡ None) }
     {
-        let wheel = Wheel::new(alloc)?;
-        let links = unset(alloc, CELLS)?;
         let found = Vec::with_capacity(alloc, CELLS)?;
-        Ok(Dues {
-            wheel,
-            links,
-            found,
-        })
+        let timers = Timers::with_capacity(alloc, CELLS)?;
+        Ok(Dues { timers, found })
     }
 
     /// Reminds the prover of how many moments there may be; it does nothing when it runs.
@@ -97,7 +80,7 @@ impl Dues {
     pub fn get(&self, key: Key) -> Option<u64>
         ensures { result ≡ moment_of self.now key }
     {
-        self.links[cell_of_key(key)].due()
+        self.timers.get(cell_of_key(key))
     }
 
     /// Makes a key due at that moment, and at no other.
@@ -106,7 +89,7 @@ impl Dues {
         ensures own { key_at (cell_of key) ≡ key }
         ensures within { cell_of key < length self.old }
     {
-        self.wheel.set(&mut self.links, cell_of_key(key), due);
+        self.timers.set(cell_of_key(key), due);
     }
 
     /// Appends the keys whose moment is at most `now`, by protocol (tcp first) and port, and clears
@@ -118,7 +101,7 @@ impl Dues {
         ensures capacity { vec_capacity out.new ≡ vec_capacity out.old }
     {
         self.found.clear();
-        list_due(&mut self.wheel, &mut self.links, now, &mut self.found);
+        list_due(&mut self.timers, now, &mut self.found);
         list_keys(&self.found, out);
     }
 }

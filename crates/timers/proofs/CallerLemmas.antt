@@ -1,5 +1,5 @@
 -- For callers: a fresh store of slots, and one that grows.
-use Rattle.std.proofs.Common.{◌≡◌, ℕ, zero, suc, ◌+◌, ◌<◌, ◌^◌, cond, is_some, None, List, [], ◌∷◌, ◌++◌, length, length-append, get_or, replicate, refl, sym, ap, ◌∙◌, arith}
+use Rattle.std.proofs.Common.{◌≡◌, ℕ, zero, suc, ◌+◌, ◌<◌, ◌^◌, cond, is_some, Option, None, List, [], ◌∷◌, ◌++◌, length, length-append, get_or, replicate, refl, sym, ap, ◌∙◌, arith}
 use Rattle.std.specs.List.{All}
 use Rattle.std.proofs.lemmas.List.Elements.{All-replicate}
 use Rattle.std.proofs.lemmas.List.Sums.{sum_by-cons}
@@ -12,6 +12,11 @@ use Rattle.timers.proofs.Leading.{leads_same}
 
 pub all_unset : (count : ℕ) → All (λ slot. slot ≡ unset_links) (replicate count unset_links)
 all_unset count = All-replicate (λ slot. slot ≡ unset_links) count unset_links refl
+
+-- slots that aren't set have no moments
+pub unset_moments : (count : ℕ) → moments (replicate count unset_links) ≡ replicate {A = Option ℕ} count None
+unset_moments zero = refl
+unset_moments (suc count) = ap (λ ms. None ∷ ms) (unset_moments count)
 
 same_links : (links : List Links) (s : ℕ) → links_of (links ++ unset_links ∷ []) s ≡ links_of links s
 same_links [] zero = refl

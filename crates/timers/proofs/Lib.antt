@@ -1,4 +1,3 @@
-pub mod Lists
 pub mod Found
 pub mod Leading
 pub mod Writing

@@ -2,33 +2,39 @@
 #![tactic(auto)]
 
 ghost use Rattle.std.specs.Prelude.{◌≡◌, ◌+◌, ◌<◌, ◌≤◌, None, Some, length, map, take, drop, replicate, slice_set, vec_len, vec_capacity, IfOk, OnOk, OnErr, IsOk};
+ghost use Rattle.std.proofs.Common.{get_or};
 ghost use Rattle.std.specs.List.Sorted.{IsPermutation};
 ghost use Rattle.timers.specs.Due.{due_slots, cleared, set_count};
 
 mod links;
-mod scan;
 #[cfg(test)]
 mod tests;
 mod wheel;
 
+use crate::links::unset_slots;
 pub use crate::links::{Links, Slots};
-use crate::scan::{clear_due, count_due, list_due, unset, write_slot};
 pub use crate::wheel::Wheel;
 use std::alloc::{AllocError, Global};
 use std::marker::Model;
 
-/// A moment for each slot that is set, in centiseconds. Slots are numbered from 0 on.
+/// A moment for each slot that is set, in centiseconds: a wheel and its slots, which are numbered
+/// from 0 on.
 #[derive(Drop)]
 pub struct Timers {
-    slots: Vec<Option<u64>>,
+    wheel: Wheel,
+    links: Vec<Links>,
 }
 
 impl Model for Timers {
     ghost use Rattle.std.specs.Prelude.{ℕ, List, Option};
+    ghost use Rattle.timers.specs.Chains.{moments};
+    ghost use Rattle.timers.specs.Linked.{IsLinked};
 
     ghost Value = { List (Option ℕ) };
 
-    ghost view = { λ t. t.slots.items };
+    ghost view = { λ t. moments t.links.items };
+
+    ghost invariant = { λ t. IsLinked t.wheel t.links.items };
 }
 
 impl Timers {
@@ -36,8 +42,17 @@ impl Timers {
     pub fn with_capacity(alloc: Global, count: usize) -> Result<Timers, AllocError>
         ensures { IfOk result (λ timers. timers ≡ replicate count None) }
     {
-        let slots = unset(alloc, count)?;
-        Ok(Timers { slots })
+        let wheel = Wheel::new(alloc)?;
+        let links = unset_slots(alloc, count)?;
+        Ok(Timers { wheel, links })
+    }
+
+    /// The moment at which a slot is due, if it is set.
+    pub fn get(&self, slot: usize) -> Option<u64>
+        requires { slot < length self.now }
+        ensures { result ≡ get_or self.now slot None }
+    {
+        self.links[slot].due()
     }
 
     /// Makes a slot due at that moment, and at no other.
@@ -45,7 +60,7 @@ impl Timers {
         requires { slot < length self.old }
         ensures { self.new ≡ slice_set self.old slot (Some due) }
     {
-        write_slot(&mut self.slots, slot, Some(due));
+        self.wheel.set(&mut self.links, slot, due);
     }
 
     /// Makes a slot due at no moment.
@@ -53,10 +68,11 @@ impl Timers {
         requires { slot < length self.old }
         ensures { self.new ≡ slice_set self.old slot None }
     {
-        write_slot(&mut self.slots, slot, None);
+        self.wheel.clear(&mut self.links, slot);
     }
 
-    /// Appends the slots whose moment is at most `now`, in any order, and clears them.
+    /// Appends the slots whose moment is at most `now`, in any order, and clears them. Makes room
+    /// for all slots that are set.
     pub fn due(&mut self, now: u64, out: &mut Vec<usize>) -> Result<(), AllocError>
         ensures kept { take (length out.old.items) out.new.items ≡ out.old.items }
         ensures found { OnOk result (IsPermutation (due_slots now self.old) (drop (length
@@ -68,10 +84,8 @@ impl Timers {
         ensures err_list { OnErr result (out.new.items ≡ out.old.items) }
         ensures room { vec_len out.old + set_count self.old ≤ vec_capacity out.old
             → IsOk result }
+        ensures capacity { vec_capacity out.old ≤ vec_capacity out.new }
     {
-        out.reserve(count_due(&self.slots, now))?;
-        list_due(&self.slots, now, out);
-        clear_due(&mut self.slots, now);
-        Ok(())
+        self.wheel.due(&mut self.links, now, out)
     }
 }

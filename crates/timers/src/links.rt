@@ -1,8 +1,10 @@
 //! What a wheel keeps of its caller's slots.
-ghost use Rattle.std.specs.Prelude.{◌≡◌, ◌<◌, ⊤, List, length, slice_set};
+ghost use Rattle.std.specs.Prelude.{◌≡◌, ◌<◌, ⊤, IfOk, List, length, replicate, slice_set};
 ghost use Rattle.timers.specs.declared.links.Links.{Links};
 ghost use Rattle.timers.specs.Chains.{due_of, unset_links, links_of, IsSlot};
 ghost use Rattle.timers.specs.Steps.{with_next, with_previous};
+
+use std::alloc::{AllocError, Global};
 
 /// A slot's neighbours in its chain, and its due moment in centiseconds where it is set.
 #[derive(Clone, Copy, Debug, PartialEq, Eq)]
@@ -30,6 +32,13 @@ impl Links {
     {
         self.due
     }
+}
+
+/// Slots that aren't set.
+pub(crate) fn unset_slots(alloc: Global, count: usize) -> Result<Vec<Links>, AllocError>
+    ensures { IfOk result (λ slots. slots.items ≡ replicate count unset_links) }
+{
+    vec![in alloc; Links::unset(); count]
 }
 
 /// A store of slots, numbered from 0 on, that keeps a wheel's links for it.

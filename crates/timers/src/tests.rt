@@ -1,10 +1,11 @@
 //! What no clause says: that the slots of a row of moments come due when they ought to, in a list
 //! of links and in a caller's own entries.
-ghost use Rattle.std.specs.Prelude.{◌≡◌, ℕ, List, length, map, replicate, IfOk};
+ghost use Rattle.std.specs.Prelude.{◌≡◌, ℕ, List, length, map, replicate};
 ghost use Rattle.timers.specs.Chains.{unset_links};
 ghost use Rattle.timers.specs.Linked.{IsLinked};
 ghost use Rattle.timers.specs.declared.links.Links.{Links};
 
+use crate::links::unset_slots;
 use crate::{Links, Slots, Wheel};
 use std::alloc::{AllocError, Global};
 use std::test::Fail;
@@ -36,13 +37,6 @@ impl Slots for Entries {
     fn set_links(&mut self, slot: usize, links: Links) {
         self.entries[slot].links = links;
     }
-}
-
-/// Slots that aren't set.
-fn unset_slots(alloc: Global, count: usize) -> Result<Vec<Links>, AllocError>
-    ensures { IfOk result (λ slots. slots.items ≡ replicate count unset_links) }
-{
-    vec![in alloc; Links::unset(); count]
 }
 
 fn unset_entry(name: u8) -> Entry
