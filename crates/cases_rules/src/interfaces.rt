@@ -81,6 +81,13 @@ impl Interfaces {
 /// The frames that an action sends, end to end.
 pub fn acted(alloc: Global, station: &Station, action: Action) -> Result<String> {
     let mut bytes = Vec::with_capacity(alloc, 88)?;
-    station.append_action(&mut bytes, action);
+    match action {
+        Action::Nothing => {}
+        Action::Advertise(priority) => station.append_advert(&mut bytes, priority),
+        Action::AdvertiseAndArp(priority) => {
+            station.append_advert(&mut bytes, priority);
+            station.append_gratuitous(&mut bytes);
+        }
+    }
     Ok(hex::encode(alloc, bytes.as_slice())?)
 }

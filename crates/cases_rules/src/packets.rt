@@ -48,7 +48,7 @@ fn reading_text(alloc: Global, reading: Result<Reading, Reason>) -> Result<Strin
             let advert = advert_text(alloc, advert)?;
             Ok(format!(in alloc; "{advert}, from {from}")?)
         }
-        Ok(Reading::Packet(flow)) => flow_text(alloc, flow),
+        Ok(Reading::Packet(packet)) => flow_text(alloc, packet.flow),
         Err(reason) => {
             let number = reason.number();
             Ok(format!(in alloc; "dropped {number}, {reason}")?)
@@ -149,14 +149,15 @@ pub fn send(interfaces: &Interfaces, given: &mut Given) -> Result<String> {
     let mac = given.mac()?;
     let networks = &interfaces.networks;
     match interfaces.at(side).read_frame(true, bytes.as_slice()) {
-        Ok(Reading::Packet(flow)) => {
+        Ok(Reading::Packet(packet)) => {
+            let flow = packet.flow;
             match direction_taken(networks, side, flow.source, flow.destination) {
                 Ok(way) => {
                     let translation = translation(given, way, flow.protocol)?;
                     let hop = translation.next_hop(networks, flow.destination);
                     let exit = translation.direction().exit();
                     let mut out = Vec::with_capacity(given.alloc, bytes.len())?;
-                    append_sent(&mut out, networks, &translation, mac, bytes.as_slice());
+                    append_sent(&mut out, networks, &translation, mac, bytes.as_slice(), &packet);
                     let sent = hex::encode(given.alloc, out.as_slice())?;
                     Ok(format!(in given.alloc; "{way:?} to {hop} at {exit} [{sent}]")?)
                 }

@@ -27,13 +27,12 @@ pub fn write_frame(given: &mut Given) -> Result<String> {
     Ok(hex::encode(given.alloc, bytes.as_slice())?)
 }
 
-/// The same header over a body whose bytes are all the given one, after a look at the header lent.
+/// The same header over a body whose bytes are all the given one, after a look at the header.
 pub fn write_body(given: &mut Given) -> Result<String> {
     let mut bytes = given.bytes()?;
     EthView::parse(bytes.as_slice())?;
-    let frame = EthViewMut::new(bytes.as_mut_slice());
-    let kind = frame.ethertype().0;
-    let (header, body) = frame.body_mut();
+    let kind = EthViewMut::new(bytes.as_mut_slice()).ethertype().0;
+    let (header, body) = frames::split_mut(bytes.as_mut_slice());
     let [byte] = given.octets::<1>()?;
     body.fill(byte);
     let header = hex::encode(given.alloc, header)?;

@@ -25,6 +25,9 @@ use addresses::Mac;
 use byteorder::{BigEndian, ByteOrder};
 use thiserror::Error;
 
+/// The bytes of the longest frame: its header and a body of 1,500 bytes.
+pub const LONGEST: usize = 1514;
+
 /// Where the header's fields lie.
 mod field {
     use std::ops::Range;
@@ -191,17 +194,6 @@ impl<'a> EthViewMut<'a> {
         ensures same_reference { self.new.bytes.ghost_name ≡ self.old.bytes.ghost_name }
     {
         BigEndian::write_u16(&mut self.bytes[field::ETHERTYPE], ethertype.0);
-    }
-
-    /// The header, to be read, and the body, to be written. [`split_mut`] also tells its caller
-    /// what the whole frame ends as.
-    pub fn body_mut(self) -> (&'a [u8], &'a mut [u8])
-        ensures header { result.0.now ≡ take 14 self.entry.bytes.now }
-        ensures body { result.1.now ≡ (frame_of self.entry.bytes.now).body }
-    {
-        let EthViewMut { bytes } = self;
-        let (header, body) = bytes.split_at_mut(field::HEADER);
-        (header, body)
     }
 }
 

@@ -23,11 +23,6 @@ datagram_of payload = record {
 abbrev pub data_of : List ℕ → List ℕ
 data_of payload = take ((datagram_of payload).udp_length - HEADER) (drop HEADER payload)
 
--- the datagram's data lies in the bytes
-pub record HoldsData (payload : List ℕ) : Type 0 where
-  pub holds_header : HEADER ≤ (datagram_of payload).udp_length
-  pub there : (datagram_of payload).udp_length ≤ length payload
-
 -- a payload begins with a whole datagram between ports that aren't 0
 pub record IsDatagram (payload : List ℕ) : Type 0 where
   pub long : HEADER ≤ length payload

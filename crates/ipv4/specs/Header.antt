@@ -56,12 +56,6 @@ payload_of bytes =
     let header = header_of bytes in
     take (header.total_length - header.header_length) (drop header.header_length bytes)
 
--- the header's options and the payload lie in the bytes
-pub record HoldsPayload (bytes : List ℕ) : Type 0 where
-  pub holds_fields : FIXED ≤ (header_of bytes).header_length
-  pub holds_header : (header_of bytes).header_length ≤ (header_of bytes).total_length
-  pub there : (header_of bytes).total_length ≤ length bytes
-
 -- the bytes begin with a whole IPv4 packet, its header right and it no fragment
 pub record IsIpv4 (bytes : List ℕ) : Type 0 where
   pub long : FIXED ≤ length bytes

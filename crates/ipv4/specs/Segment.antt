@@ -49,11 +49,6 @@ segment_options payload = take ((segment_of payload).header_length - FIXED) (dro
 abbrev pub segment_data : List ℕ → List ℕ
 segment_data payload = drop (segment_of payload).header_length payload
 
--- the header, its options included, lies in the bytes
-pub record HoldsHeader (payload : List ℕ) : Type 0 where
-  pub holds_fields : FIXED ≤ (segment_of payload).header_length
-  pub there : (segment_of payload).header_length ≤ length payload
-
 -- a payload is a segment between ports that aren't 0, its data offset 5 or more and inside
 pub record IsSegment (payload : List ℕ) : Type 0 where
   pub long : FIXED ≤ length payload

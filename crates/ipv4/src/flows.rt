@@ -1,7 +1,8 @@
 //! Flows: what a translation reads of a packet, and what it writes.
 ghost use Rattle.std.specs.Prelude.{◌≡◌};
-ghost use Rattle.ipv4.specs.Carried.{IsTransport};
-ghost use Rattle.ipv4.specs.Flow.{flow_of};
+ghost use Rattle.ipv4.specs.Carried.{IsTransport, carried_bytes, carried_protocol};
+ghost use Rattle.ipv4.specs.Flow.{flow_of, protocol_of};
+ghost use Rattle.ipv4.specs.Header.{payload_of};
 
 use crate::{Ipv4View, Transport};
 use addresses::{Ip, Port, Protocol};
@@ -22,7 +23,15 @@ impl Flow {
         requires { IsTransport packet.now.bytes.now }
         ensures { result ≡ flow_of packet.now.bytes.now }
     {
-        let transport = Transport::of(packet);
+        Flow::carrying(packet, &Transport::of(packet))
+    }
+
+    /// The flow of a packet that carries this.
+    pub(crate) fn carrying(packet: &Ipv4View<'_>, transport: &Transport<'_>) -> Flow
+        requires bytes { carried_bytes transport.now ≡ payload_of packet.now.bytes.now }
+        requires protocol { carried_protocol transport.now ≡ protocol_of packet.now.bytes.now }
+        ensures { result ≡ flow_of packet.now.bytes.now }
+    {
         Flow {
             protocol: transport.protocol(),
             source: packet.source(),

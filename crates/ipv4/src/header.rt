@@ -18,12 +18,12 @@
 //! 45         00 001e     0001   0000  40     11  8ee1     c0a8010a     c6336407
 //! 4, 5 words -- 30 bytes number flags TTL 64 UDP checksum 192.168.1.10 198.51.100.7
 //! ```
-ghost use Rattle.std.specs.Prelude.{◌≡◌, ◌≤◌, ◌↔◌, length, ◌∷◌, [], take, IsOk, IfOk, IfErr, None, Some, List, ℕ};
+ghost use Rattle.std.specs.Prelude.{◌≡◌, ◌≤◌, ◌↔◌, length, ◌∷◌, [], IsOk, IfOk, IfErr, None, Some, List, ℕ};
 ghost use Rattle.std.specs.Result.{result_err};
 ghost use Rattle.byteorder.specs.Endian.{big_bytes};
 ghost use Rattle.addresses.specs.Transport.{protocol_numbered};
 ghost use Rattle.frames.specs.Bytes.{Puts};
-ghost use Rattle.ipv4.specs.Header.{header_of, options_of, payload_of, HoldsPayload, IsIpv4, is_fragment, ipv4_refusal};
+ghost use Rattle.ipv4.specs.Header.{header_of, options_of, payload_of, IsIpv4, is_fragment, ipv4_refusal};
 ghost use Rattle.ipv4.specs.declared.header.TheConstants.{MORE_FRAGMENTS};
 ghost use Rattle.ipv4.specs.declared.header.field.TheConstants.{FIXED};
 
@@ -411,19 +411,5 @@ impl<'a> Ipv4ViewMut<'a> {
         ensures same_reference { self.new.bytes.ghost_name ≡ self.old.bytes.ghost_name }
     {
         BigEndian::write_u32(&mut self.bytes[field::DESTINATION], destination.0);
-    }
-
-    /// The header with its options, to be read, and the payload, to be written.
-    pub fn payload_mut(self) -> (&'a [u8], &'a mut [u8])
-        requires { HoldsPayload self.bytes.now }
-        ensures header { result.0.now
-            ≡ take (header_of self.entry.bytes.now).header_length self.entry.bytes.now }
-        ensures payload { result.1.now ≡ payload_of self.entry.bytes.now }
-    {
-        let Ipv4ViewMut { bytes } = self;
-        let length = header_length(bytes);
-        let total = total_length(bytes);
-        let (header, rest) = bytes.split_at_mut(length);
-        (header, &mut rest[..total - length])
     }
 }

@@ -17,10 +17,10 @@
 //! 1388 0050 00000001 00000000        50      02  2000   901c     0000
 //! 5000 80   sequence acknowledgement 5 words SYN window checksum urgent
 //! ```
-ghost use Rattle.std.specs.Prelude.{◌≡◌, ◌≤◌, ◌<◌, ◌↔◌, ◌/◌, ◌%◌, ◌==◌, not, length, take, IsOk, IfOk, IfErr, List, ℕ, false};
+ghost use Rattle.std.specs.Prelude.{◌≡◌, ◌≤◌, ◌<◌, ◌↔◌, ◌/◌, ◌%◌, ◌==◌, not, length, IsOk, IfOk, IfErr, List, ℕ, false};
 ghost use Rattle.byteorder.specs.Endian.{big_bytes};
 ghost use Rattle.frames.specs.Bytes.{Puts};
-ghost use Rattle.ipv4.specs.Segment.{segment_of, flags_of, segment_options, segment_data, HoldsHeader, IsSegment, has_no_segment};
+ghost use Rattle.ipv4.specs.Segment.{segment_of, flags_of, segment_options, segment_data, IsSegment, has_no_segment};
 ghost use Rattle.ipv4.specs.declared.tcp.TheConstants.{FIN, SYN, RST, ACK};
 ghost use Rattle.ipv4.specs.declared.tcp.field.TheConstants.{FIXED};
 
@@ -200,16 +200,24 @@ fn is_set(bits: u8, flag: u8) -> bool
     bits / flag % 2 != 0
 }
 
-fn flags(bytes: &[u8]) -> TcpFlags
-    requires { 20 ≤ length bytes.now }
-    ensures { result ≡ (segment_of bytes.now).flags }
+fn flags_by(bits: u8) -> TcpFlags
+    ensures { result ≡ flags_of bits }
 {
-    let bits = bytes[field::FLAGS];
     TcpFlags {
         fin: is_set(bits, FIN),
         syn: is_set(bits, SYN),
         rst: is_set(bits, RST),
         ack: is_set(bits, ACK),
+    }
+}
+
+/// The flags that a payload's control bits set: none where the payload ends before them.
+pub(crate) fn flags(payload: &[u8]) -> TcpFlags
+    ensures { result ≡ (segment_of payload.now).flags }
+{
+    match payload.get(field::FLAGS) {
+        Some(bits) => flags_by(*bits),
+        None => flags_by(0),
     }
 }
 
@@ -378,18 +386,5 @@ impl<'a> TcpViewMut<'a> {
         ensures same_reference { self.new.bytes.ghost_name ≡ self.old.bytes.ghost_name }
     {
         BigEndian::write_u16(&mut self.bytes[field::CHECKSUM], checksum);
-    }
-
-    /// The header with its options, to be read, and the data, to be written.
-    pub fn payload_mut(self) -> (&'a [u8], &'a mut [u8])
-        requires { HoldsHeader self.bytes.now }
-        ensures header { result.0.now
-            ≡ take (segment_of self.entry.bytes.now).header_length self.entry.bytes.now }
-        ensures payload { result.1.now ≡ segment_data self.entry.bytes.now }
-    {
-        let TcpViewMut { bytes } = self;
-        let length = header_length(bytes);
-        let (header, data) = bytes.split_at_mut(length);
-        (header, data)
     }
 }

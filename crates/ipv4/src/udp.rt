@@ -13,10 +13,10 @@
 //! 1388 0035 000a     97c6     6869
 //! 5000 53   10 bytes checksum "hi"
 //! ```
-ghost use Rattle.std.specs.Prelude.{◌≡◌, ◌≤◌, ◌↔◌, length, take, IsOk, IfOk, IfErr, List, ℕ, false};
+ghost use Rattle.std.specs.Prelude.{◌≡◌, ◌≤◌, ◌↔◌, length, IsOk, IfOk, IfErr, List, ℕ, false};
 ghost use Rattle.byteorder.specs.Endian.{big_bytes};
 ghost use Rattle.frames.specs.Bytes.{Puts};
-ghost use Rattle.ipv4.specs.Datagram.{datagram_of, data_of, HoldsData, IsDatagram, has_no_datagram};
+ghost use Rattle.ipv4.specs.Datagram.{datagram_of, data_of, IsDatagram, has_no_datagram};
 ghost use Rattle.ipv4.specs.declared.udp.field.TheConstants.{HEADER};
 
 use crate::Ipv4Fault;
@@ -234,17 +234,5 @@ impl<'a> UdpViewMut<'a> {
         ensures same_reference { self.new.bytes.ghost_name ≡ self.old.bytes.ghost_name }
     {
         BigEndian::write_u16(&mut self.bytes[field::CHECKSUM], checksum);
-    }
-
-    /// The header, to be read, and the data, to be written.
-    pub fn payload_mut(self) -> (&'a [u8], &'a mut [u8])
-        requires { HoldsData self.bytes.now }
-        ensures header { result.0.now ≡ take 8 self.entry.bytes.now }
-        ensures payload { result.1.now ≡ data_of self.entry.bytes.now }
-    {
-        let UdpViewMut { bytes } = self;
-        let data = udp_length(bytes) - field::HEADER;
-        let (header, rest) = bytes.split_at_mut(field::HEADER);
-        (header, &mut rest[..data])
     }
 }

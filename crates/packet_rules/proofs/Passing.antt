@@ -8,7 +8,7 @@ use Rattle.frames.specs.Frame.{frame_of}
 use Rattle.arp.specs.Packet.{arp_refusal, IsArp, packet_of}
 use Rattle.ipv4.specs.Header.{IsIpv4, header_of, payload_of, ipv4_refusal, word_at}
 use Rattle.ipv4.specs.Carried.{IsTransport, transport_refusal as carried_refusal}
-use Rattle.ipv4.specs.Flow.{flow_of}
+use Rattle.ipv4.specs.Flow.{packet_of as packet_read}
 use Rattle.ipv4.specs.declared.faults.Ipv4Fault.{Ipv4Fault}
 use Rattle.vrrp_packet.specs.Message.{advert_refusal, IsAdvert, advert_of}
 use Rattle.packet_rules.specs.declared.networks.Network.{Network}
@@ -16,7 +16,7 @@ use Rattle.packet_rules.specs.declared.readings.Reading.{Reading}
 use Rattle.packet_rules.specs.declared.readings.Reading.TheVariants.{Arp, Advert, Packet}
 use Rattle.packet_rules.specs.declared.reasons.Reason.{Reason}
 use Rattle.packet_rules.specs.declared.reasons.Reason.TheVariants.{ShortFrame, TtlOver, BadArp, BadAdvert}
-use Rattle.packet_rules.specs.declared.steps.TheConstants.{LONGEST_FRAME}
+use Rattle.frames.specs.declared.ethernet.TheConstants.{LONGEST}
 use Rattle.packet_rules.specs.Flows.{flow_in}
 use Rattle.packet_rules.specs.Steps.{reason_of, size_refusal, up_refusal, destination_refusal, header_refusal, virtual_refusal, transport_refusal, ttl_refusal, is_vrrp, is_from_peer, arp_reading, advert_reading, packet_reading, ipv4_reading, body_reading, reading_of, unless, IsForwardable, Carries}
 
@@ -51,11 +51,11 @@ both-true : (a b : Bool) → (a && b) ≡ true → (a ≡ true) × (b ≡ true)
 both-true true b is = (refl, is)
 both-true false b is = cc
 
-size-passes : (bytes : List ℕ) → size_refusal bytes ≡ None → (14 ≤ length bytes) × (length bytes ≤ LONGEST_FRAME)
+size-passes : (bytes : List ℕ) → size_refusal bytes ≡ None → (14 ≤ length bytes) × (length bytes ≤ LONGEST)
 unfolding size_refusal
 size-passes bytes is =
     let both = both-true _ _ (none-passes _ ShortFrame is) in
-    (leb-true 14 (length bytes) both.0, leb-true (length bytes) LONGEST_FRAME both.1)
+    (leb-true 14 (length bytes) both.0, leb-true (length bytes) LONGEST both.1)
 
 arp-passes : (g : Grammars) (bytes : List ℕ) (r : Reading) → arp_reading (frame_of bytes).body ≡ Ok r → Carries bytes r
 unfolding arp_reading
@@ -89,7 +89,7 @@ packet-passes g network bytes r size ipv4 is =
       transport = (g.transport packet).0 (map-none (carried_refusal packet) s2.0);
       ttl = leb-true 2 (header_of packet).ttl (none-passes _ TtlOver s3.0);
     } in
-    let same : Packet (flow_of packet) ≡ r = cc in
+    let same : Packet (packet_read packet) ≡ r = cc in
     subst (Carries bytes) same (known, refl)
 
 vrrp-passes : (g : Grammars) (network : Network) (bytes : List ℕ) (r : Reading) (b : Bool) → size_refusal bytes ≡ None → IsIpv4 (frame_of bytes).body

@@ -108,9 +108,7 @@ own-six networks (Hairpin own other) wired = wired.inside_mac
 -- a translation keeps the byte of the protocol
 translation-nine : (networks : Networks) (t : Translation) (packet : List ℕ) (total : ℕ) → 9 < total → 20 ≤ length packet → 20 ≤ (header_of packet).header_length → slice_index (take total (translated_by networks t packet)) 9 ≡ slice_index packet 9
 unfolding translated_by
-translation-nine networks (Outward pair) packet total far long holds = translated-nine _ packet total far long holds
-translation-nine networks (Inward pair) packet total far long holds = translated-nine _ packet total far long holds
-translation-nine networks (Hairpin own other) packet total far long holds = translated-nine _ packet total far long holds
+translation-nine networks t packet total far long holds = translated-nine _ packet total far long holds
 
 -- the frame by which a packet is sent on is a translation's
 pub sent-is_translation : (networks : Networks) (t : Translation) (next : Mac) (bytes : List ℕ) → IsWired networks → length next.0 ≡ 6 → IsForwardable bytes → is_translation (sent_frame networks t next bytes) ≡ true

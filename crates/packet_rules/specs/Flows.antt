@@ -4,11 +4,22 @@ use Rattle.nat_types.specs.declared.pairs.Endpoint.{Endpoint}
 use Rattle.nat_types.specs.declared.pairs.Key.{Key}
 use Rattle.frames.specs.Frame.{frame_of}
 use Rattle.ipv4.specs.declared.flows.Flow.{Flow}
+use Rattle.ipv4.specs.declared.packets.Packet.{Packet}
 use Rattle.ipv4.specs.Flow.{flow_of}
+use Rattle.ipv4.specs.Header.{header_of, payload_of}
+use Rattle.ipv4.specs.Segment.{segment_of}
 
 -- the flow of a frame's packet
 unfoldable pub flow_in : List ℕ → Flow
 flow_in bytes = flow_of (frame_of bytes).body
+
+-- what the first reading finds out of a frame's packet
+abbrev pub packet_in : List ℕ → Packet
+packet_in bytes = let packet = (frame_of bytes).body in record {
+  flow = flow_in bytes;
+  flags = (segment_of (payload_of packet)).flags;
+  length = (header_of packet).total_length;
+}
 
 -- the endpoint that a packet comes from
 abbrev pub source_of : Flow → Endpoint

@@ -3,8 +3,10 @@ use Rattle.std.specs.Prelude.{ℕ, Bool, ◌==◌, ◌&&◌, ◌||◌, List, [],
 use Rattle.addresses.specs.declared.ethernet.Mac.{Mac}
 use Rattle.nat_types.specs.Pair.{Pair}
 use Rattle.frames.specs.Frame.{frame_of, header_bytes}
+use Rattle.ipv4.specs.declared.flows.Flow.{Flow}
+use Rattle.ipv4.specs.Flow.{flow_of}
 use Rattle.ipv4.specs.Header.{header_of}
-use Rattle.rewrite.specs.Translated.{outward_of, inward_of, hairpin_of}
+use Rattle.rewrite.specs.Translated.{translated}
 use Rattle.packet_rules.specs.declared.networks.Networks.{Networks}
 use Rattle.packet_rules.specs.declared.networks.Direction as way
 use Rattle.packet_rules.specs.declared.networks.Direction.{Direction}
@@ -24,17 +26,29 @@ pairs_of (Outward pair) = pair ∷ []
 pairs_of (Inward pair) = pair ∷ []
 pairs_of (Hairpin own other) = own ∷ other ∷ []
 
--- an IPv4 packet translated: outward it gets the outside virtual address and the pair's port as its
--- source, inward the pair's endpoint as its destination; a hairpin gets the outside virtual address
--- and the sender's own port as its source, and the other pair's endpoint as its destination
+-- the flow of a translated packet: outward it gets the outside virtual address and the pair's port
+-- as its source, inward the pair's endpoint as its destination; a hairpin gets the outside virtual
+-- address and the sender's own port as its source, and the other pair's endpoint as its destination
+abbrev pub new_flow : Networks → Translation → Flow → Flow
+new_flow networks (Outward pair) flow = record flow {
+  source = networks.outside.interface.virtual_ip;
+  source_port = pair.key.port;
+}
+new_flow networks (Inward pair) flow = record flow {
+  destination = pair.endpoint.address;
+  destination_port = pair.endpoint.port;
+}
+new_flow networks (Hairpin own other) flow = record flow {
+  source = networks.outside.interface.virtual_ip;
+  source_port = own.key.port;
+  destination = other.endpoint.address;
+  destination_port = other.endpoint.port;
+}
+
+-- an IPv4 packet translated: it gets that flow
 unfoldable pub translated_by : Networks → Translation → List ℕ → List ℕ
-translated_by networks (Outward pair) packet =
-    outward_of networks.outside.interface.virtual_ip pair.key.port packet
-translated_by networks (Inward pair) packet =
-    inward_of pair.endpoint.address pair.endpoint.port packet
-translated_by networks (Hairpin own other) packet =
-    hairpin_of networks.outside.interface.virtual_ip own.key.port
-    other.endpoint.address other.endpoint.port packet
+translated_by networks translation packet =
+    translated (new_flow networks translation (flow_of packet)) packet
 
 -- the next hop of a packet to this destination
 abbrev pub hop_of : Networks → Translation → ℕ → ℕ

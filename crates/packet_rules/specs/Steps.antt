@@ -5,7 +5,7 @@ use Rattle.std.specs.Option.{option_map}
 use Rattle.frames.specs.Frame.{Frame, frame_of}
 use Rattle.ipv4.specs.Header.{IsIpv4, header_of, payload_of, ipv4_refusal}
 use Rattle.ipv4.specs.Carried.{IsTransport, transport_refusal as carried_refusal}
-use Rattle.ipv4.specs.Flow.{flow_of}
+use Rattle.ipv4.specs.Flow.{packet_of as packet_read}
 use Rattle.ipv4.specs.declared.faults.Ipv4Fault as fault
 use Rattle.ipv4.specs.declared.faults.Ipv4Fault.{Ipv4Fault}
 use Rattle.arp.specs.Packet.{arp_refusal, packet_of}
@@ -15,8 +15,8 @@ use Rattle.packet_rules.specs.declared.reasons.Reason.TheVariants.{ShortFrame, N
 use Rattle.packet_rules.specs.declared.readings.Reading.{Reading}
 use Rattle.packet_rules.specs.declared.readings.Reading.TheVariants.{Arp, Advert, Packet}
 use Rattle.packet_rules.specs.declared.networks.Network.{Network}
-use Rattle.packet_rules.specs.declared.steps.TheConstants.{LONGEST_FRAME}
-use Rattle.packet_rules.specs.Flows.{flow_in}
+use Rattle.frames.specs.declared.ethernet.TheConstants.{LONGEST}
+use Rattle.packet_rules.specs.Flows.{packet_in}
 use Rattle.packet_rules.specs.Networks.{is_addressed, is_virtual}
 
 -- the reason for a fault of the packet
@@ -32,7 +32,7 @@ reason_of fault.TheVariants.BadTransport = BadTransport
 -- 1. a frame has 14 to 1,514 bytes
 unfoldable pub size_refusal : List ℕ → Option Reason
 size_refusal bytes =
-    (if nat_le 14 (length bytes) && nat_le (length bytes) LONGEST_FRAME then None
+    (if nat_le 14 (length bytes) && nat_le (length bytes) LONGEST then None
     else Some ShortFrame)
 
 -- 1. the gateway is up
@@ -101,7 +101,7 @@ packet_reading network frame =
     unless (virtual_refusal network frame) (
     unless (transport_refusal frame.body) (
     unless (ttl_refusal frame.body) (
-    Ok (Packet (flow_of frame.body)))))
+    Ok (Packet (packet_read frame.body)))))
 
 -- 4 to 6. an IPv4 packet
 unfoldable pub ipv4_reading : Network → Frame → Result Reading Reason
@@ -128,7 +128,7 @@ reading_of network active up bytes =
 -- what is known of a frame whose packet passes, and what a translation asks for
 pub record IsForwardable (bytes : List ℕ) : Type 0 where
   pub whole : 14 ≤ length bytes
-  pub short : length bytes ≤ LONGEST_FRAME
+  pub short : length bytes ≤ LONGEST
   pub ipv4 : IsIpv4 (frame_of bytes).body
   pub transport : IsTransport (frame_of bytes).body
   pub ttl : 2 ≤ (header_of (frame_of bytes).body).ttl
@@ -138,4 +138,4 @@ pub record IsForwardable (bytes : List ℕ) : Type 0 where
 abbrev pub Carries : List ℕ → Reading → Type 0
 Carries bytes (Arp packet) = length packet.sender_mac.0 ≡ 6
 Carries bytes (Advert advert from) = (1 ≤ advert.interval) × (advert.interval ≤ 4095)
-Carries bytes (Packet flow) = IsForwardable bytes × (flow ≡ flow_in bytes)
+Carries bytes (Packet packet) = IsForwardable bytes × (packet ≡ packet_in bytes)

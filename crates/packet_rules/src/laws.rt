@@ -7,7 +7,7 @@ ghost use Rattle.packet_rules.specs.declared.networks.Network.{Network as Networ
 ghost use Rattle.packet_rules.specs.declared.networks.Networks.{Networks as NetworksValue};
 ghost use Rattle.packet_rules.specs.declared.readings.Reading.{Reading as ReadingValue};
 ghost use Rattle.packet_rules.specs.declared.translations.Translation.{Translation as TranslationValue};
-ghost use Rattle.packet_rules.specs.declared.steps.TheConstants.{LONGEST_FRAME};
+ghost use Rattle.frames.specs.declared.ethernet.TheConstants.{LONGEST};
 ghost use Rattle.vrrp_packet.specs.Message.{IsWritable};
 ghost use Rattle.packet_rules.specs.declared.readings.Reading.TheVariants.{Advert};
 ghost use Rattle.packet_rules.specs.Adverts.{own_advert, advert_frame};
@@ -22,7 +22,7 @@ use vrrp_packet::{advert_grammar, written_is_read};
 
 /// The longest frame that is taken, in bytes: an Ethernet header and 1,500 bytes.
 pub fn limits_law()
-    ensures longest_frame { LONGEST_FRAME ≡ 1514 }
+    ensures longest_frame { LONGEST ≡ 1514 }
 {}
 
 /// What is known of a frame by what it is read as.

@@ -20,5 +20,5 @@ pub use laws::{advert_law, frames_law, limits_law, readings_law};
 pub use networks::{Direction, Network, Networks, direction_taken, next_hop_outside};
 pub use readings::Reading;
 pub use reasons::Reason;
-pub use steps::{LONGEST_FRAME, read_frame};
+pub use steps::read_frame;
 pub use translations::{Translation, append_sent};

@@ -1,7 +1,7 @@
 //! What a frame that passes the first steps is read as.
 use addresses::Ip;
 use arp::ArpPacket;
-use ipv4::Flow;
+use ipv4::Packet;
 use vrrp_packet::Advert;
 
 /// What a frame is read as.
@@ -12,6 +12,6 @@ pub enum Reading {
     /// An advertisement of the interface's virtual router, and the primary address that it comes
     /// from (RFC 9568).
     Advert(Advert, Ip),
-    /// A UDP or TCP packet to be translated, by its flow.
-    Packet(Flow),
+    /// A UDP or TCP packet to be translated, by what was read of it.
+    Packet(Packet),
 }

@@ -1,21 +1,18 @@
 //! The first steps of the packet path: which frames are taken, and what they are read as.
 ghost use Rattle.std.specs.Prelude.{◌≡◌, ◌≤◌, IfOk, OnOk, length};
 ghost use Rattle.std.specs.Result.{result_err};
-ghost use Rattle.frames.specs.Frame.{IsFrame, frame_of};
+ghost use Rattle.frames.specs.Frame.{frame_of};
+ghost use Rattle.frames.specs.declared.ethernet.TheConstants.{LONGEST};
 ghost use Rattle.ipv4.specs.Header.{IsIpv4, header_of};
-ghost use Rattle.ipv4.specs.Carried.{IsTransport};
+ghost use Rattle.ipv4.specs.Flow.{packet_of};
 ghost use Rattle.packet_rules.specs.Steps.{reason_of, size_refusal, destination_refusal, header_refusal, virtual_refusal, transport_refusal, ttl_refusal, is_vrrp, is_from_peer, arp_reading, advert_reading, packet_reading, ipv4_reading, body_reading, reading_of, Carries};
-ghost use Rattle.packet_rules.specs.declared.steps.TheConstants.{LONGEST_FRAME};
 
 use crate::laws::readings_law;
 use crate::networks::{Network, is_for_gateway, is_to_virtual};
 use crate::{Reading, Reason};
 use frames::{EthView, EtherType};
-use ipv4::{Flow, Ipv4Fault, Ipv4View, Transport};
+use ipv4::{Ipv4Fault, Ipv4View, Packet};
 use vrrp_packet::Advert;
-
-/// The bytes of the longest frame that is taken.
-pub const LONGEST_FRAME: usize = 1514;
 
 fn reason_for(fault: Ipv4Fault) -> Reason
     ensures { result ≡ reason_of fault }
@@ -34,10 +31,10 @@ fn reason_for(fault: Ipv4Fault) -> Reason
 #[tactic(auto, unfolding(crate::specs::Steps::size_refusal))]
 fn view_frame(bytes: &[u8]) -> Result<EthView<'_>, Reason>
     ensures refusal { result_err result ≡ size_refusal bytes.now }
-    ensures short { OnOk result (length bytes.now ≤ LONGEST_FRAME) }
+    ensures short { OnOk result (length bytes.now ≤ LONGEST) }
     ensures bytes { IfOk result (λ v. v.bytes.now ≡ bytes.now) }
 {
-    if bytes.len() > LONGEST_FRAME {
+    if bytes.len() > frames::LONGEST {
         return Err(Reason::ShortFrame);
     }
     match EthView::parse(bytes) {
@@ -119,12 +116,12 @@ fn test_virtual(network: &Network, frame: &EthView<'_>) -> Result<(), Reason>
 }
 
 #[tactic(auto, unfolding(crate::specs::Steps::transport_refusal))]
-fn test_transport(packet: &Ipv4View<'_>) -> Result<(), Reason>
-    ensures refusal { result_err result ≡ transport_refusal packet.now.bytes.now }
-    ensures transport { OnOk result (IsTransport packet.now.bytes.now) }
+fn read_transport(view: &Ipv4View<'_>) -> Result<Packet, Reason>
+    ensures refusal { result_err result ≡ transport_refusal view.now.bytes.now }
+    ensures packet { IfOk result (λ p. p ≡ packet_of view.now.bytes.now) }
 {
-    match Transport::parse(packet) {
-        Ok(_transport) => Ok(()),
+    match Packet::parse(view) {
+        Ok(packet) => Ok(packet),
         Err(fault) => Err(reason_for(fault)),
     }
 }
@@ -146,15 +143,15 @@ fn test_ttl(packet: &Ipv4View<'_>) -> Result<(), Reason>
 fn read_packet(
     network: &Network,
     frame: &EthView<'_>,
-    packet: &Ipv4View<'_>,
+    view: &Ipv4View<'_>,
 ) -> Result<Reading, Reason>
-    requires { packet.now.bytes.now ≡ (frame_of frame.now.bytes.now).body }
+    requires { view.now.bytes.now ≡ (frame_of frame.now.bytes.now).body }
     ensures reading { result ≡ packet_reading network.now (frame_of frame.now.bytes.now) }
 {
     test_virtual(network, frame)?;
-    test_transport(packet)?;
-    test_ttl(packet)?;
-    Ok(Reading::Packet(Flow::of(packet)))
+    let packet = read_transport(view)?;
+    test_ttl(view)?;
+    Ok(Reading::Packet(packet))
 }
 
 #[tactic(auto, unfolding(crate::specs::Steps::ipv4_reading))]

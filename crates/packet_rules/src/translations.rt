@@ -3,14 +3,16 @@ ghost use Rattle.std.specs.Prelude.{◌≡◌, ◌+◌, ◌-◌, ◌≤◌, ◌+
 ghost use Rattle.frames.specs.Frame.{frame_of};
 ghost use Rattle.ipv4.specs.Header.{IsIpv4, header_of};
 ghost use Rattle.ipv4.specs.Carried.{IsTransport};
+ghost use Rattle.ipv4.specs.Flow.{flow_of};
 ghost use Rattle.packet_rules.specs.Steps.{IsForwardable};
-ghost use Rattle.packet_rules.specs.Frames.{way_of, translated_by, hop_of, sent_header, sent_frame};
+ghost use Rattle.packet_rules.specs.Flows.{packet_in};
+ghost use Rattle.packet_rules.specs.Frames.{way_of, new_flow, translated_by, hop_of, sent_header, sent_frame};
 
 use crate::appending::append_reserved;
 use crate::networks::{Direction, Networks, next_hop_outside};
 use addresses::{Ip, Mac, Port};
-use frames::{EthView, EtherType, write_header};
-use ipv4::Ipv4View;
+use frames::{EtherType, write_header};
+use ipv4::{Flow, Packet};
 use nat_types::Pair;
 
 /// By which pairs a packet is translated.
@@ -67,58 +69,59 @@ impl Translation {
     }
 }
 
-/// The bytes of a frame as far as its packet goes, without padding.
-fn unpadded_length(bytes: &[u8]) -> usize
-    requires whole { 14 ≤ length bytes.now }
-    requires ipv4 { IsIpv4 (frame_of bytes.now).body }
-    ensures { result ≡ 14 + (header_of (frame_of bytes.now).body).total_length }
+/// The flow that a packet of this flow has once it is translated.
+fn flow_by(networks: &Networks, translation: &Translation, old: Flow) -> Flow
+    ensures { result ≡ new_flow networks.now translation.now old }
 {
-    let frame = EthView { bytes };
-    let packet = Ipv4View {
-        bytes: frame.body(),
-    };
-    14 + packet.total_length()
+    let outside = networks.outside.interface.virtual_ip;
+    match translation {
+        Translation::Outward(pair) => Flow {
+            source: outside,
+            source_port: outside_port(*pair),
+            ..old
+        },
+        Translation::Inward(pair) => Flow {
+            destination: inside_address(*pair),
+            destination_port: inside_port(*pair),
+            ..old
+        },
+        Translation::Hairpin(own, other) => Flow {
+            source: outside,
+            source_port: outside_port(*own),
+            destination: inside_address(*other),
+            destination_port: inside_port(*other),
+            ..old
+        },
+    }
 }
 
-/// Translates a packet in place.
+/// Translates a packet of this flow in place.
 #[tactic(auto, unfolding(crate::specs::Frames::translated_by))]
-fn translate(packet: &mut [u8], networks: &Networks, translation: &Translation)
+fn translate(packet: &mut [u8], old: Flow, networks: &Networks, translation: &Translation)
     requires ipv4 { IsIpv4 packet.old }
     requires transport { IsTransport packet.old }
     requires ttl { 2 ≤ (header_of packet.old).ttl }
+    requires read { old ≡ flow_of packet.old }
     ensures { packet.new ≡ translated_by networks.now translation.now packet.old }
 {
-    let outside = networks.outside.interface.virtual_ip;
-    let answer = match translation {
-        Translation::Outward(pair) => rewrite::outward(packet, outside, outside_port(*pair)),
-        Translation::Inward(pair) => {
-            rewrite::inward(packet, inside_address(*pair), inside_port(*pair))
-        }
-        Translation::Hairpin(own, other) => rewrite::hairpin(
-            packet,
-            outside,
-            outside_port(*own),
-            inside_address(*other),
-            inside_port(*other),
-        ),
-    };
-    match answer {
+    match rewrite::rewrite_packet(packet, old, flow_by(networks, translation, old)) {
         Ok(()) => {}
         Err(_ttl_over) => unreachable!(),
     }
 }
 
 /// Translates the packet of a frame in place.
-fn translate_body(frame: &mut [u8], networks: &Networks, translation: &Translation)
+fn translate_body(frame: &mut [u8], old: Flow, networks: &Networks, translation: &Translation)
     requires whole { 14 ≤ length frame.old }
     requires ipv4 { IsIpv4 (frame_of frame.old).body }
     requires transport { IsTransport (frame_of frame.old).body }
     requires ttl { 2 ≤ (header_of (frame_of frame.old).body).ttl }
+    requires read { old ≡ flow_of (frame_of frame.old).body }
     ensures { frame.new
         ≡ take 14 frame.old ++ translated_by networks.now translation.now (drop 14 frame.old) }
 {
     let (_header, packet) = frame.split_at_mut(14);
-    translate(packet, networks, translation);
+    translate(packet, old, networks, translation);
 }
 
 /// Gives a frame the header of one that is sent on.
@@ -136,16 +139,23 @@ fn readdress(frame: &mut [u8], networks: &Networks, translation: &Translation, n
 /// Makes of a frame that came the one by which its packet is sent on, with the padding still behind
 /// it.
 #[tactic(auto, using(crate::proofs::Cut::drop_kept))]
-fn translate_frame(frame: &mut [u8], networks: &Networks, translation: &Translation, next_mac: Mac)
+fn translate_frame(
+    frame: &mut [u8],
+    old: Flow,
+    networks: &Networks,
+    translation: &Translation,
+    next_mac: Mac,
+)
     requires whole { 14 ≤ length frame.old }
     requires ipv4 { IsIpv4 (frame_of frame.old).body }
     requires transport { IsTransport (frame_of frame.old).body }
     requires ttl { 2 ≤ (header_of (frame_of frame.old).body).ttl }
+    requires read { old ≡ flow_of (frame_of frame.old).body }
     ensures bytes { frame.new ≡ sent_header networks.now translation.now next_mac
         ++ translated_by networks.now translation.now (drop 14 frame.old) }
     ensures fourteen { length (sent_header networks.now translation.now next_mac) ≡ 14 }
 {
-    translate_body(frame, networks, translation);
+    translate_body(frame, old, networks, translation);
     readdress(frame, networks, translation, next_mac);
 }
 
@@ -153,6 +163,7 @@ fn translate_frame(frame: &mut [u8], networks: &Networks, translation: &Translat
 fn translate_tail(
     list: &mut Vec<u8>,
     start: usize,
+    old: Flow,
     networks: &Networks,
     translation: &Translation,
     next_mac: Mac,
@@ -161,6 +172,7 @@ fn translate_tail(
     requires ipv4 { IsIpv4 (frame_of (drop start list.old.items)).body }
     requires transport { IsTransport (frame_of (drop start list.old.items)).body }
     requires ttl { 2 ≤ (header_of (frame_of (drop start list.old.items)).body).ttl }
+    requires read { old ≡ flow_of (frame_of (drop start list.old.items)).body }
     ensures items { list.new.items ≡ take start list.old.items
         ++ (sent_header networks.now translation.now next_mac
         ++ translated_by networks.now translation.now (drop 14 (drop start list.old.items))) }
@@ -169,10 +181,11 @@ fn translate_tail(
     ensures capacity { vec_capacity list.new ≡ vec_capacity list.old }
 {
     let (_before, frame) = list.split_at_mut(start);
-    translate_frame(frame, networks, translation, next_mac);
+    translate_frame(frame, old, networks, translation, next_mac);
 }
 
-/// Puts the frame by which a packet is sent on behind a list with room for the frame that came.
+/// Puts the frame by which a packet is sent on behind a list with room for the frame that came,
+/// `bytes`, of which `packet` was read.
 #[tactic(auto, unfolding(crate::specs::Frames::sent_frame), using(crate::proofs::Cut::tail_cut))]
 pub fn append_sent(
     list: &mut Vec<u8>,
@@ -180,9 +193,11 @@ pub fn append_sent(
     translation: &Translation,
     next_mac: Mac,
     bytes: &[u8],
+    packet: &Packet,
 )
     requires room { vec_len list.old + length bytes.now ≤ vec_capacity list.old }
     requires forwardable { IsForwardable bytes.now }
+    requires read { packet.now ≡ packet_in bytes.now }
     ensures items { list.new.items
         ≡ list.old.items ++ sent_frame networks.now translation.now next_mac bytes.now }
     ensures len { vec_len list.new ≤ vec_len list.old + length bytes.now }
@@ -190,6 +205,6 @@ pub fn append_sent(
 {
     let start = list.len();
     append_reserved(list, bytes);
-    translate_tail(list, start, networks, translation, next_mac);
-    list.truncate(start + unpadded_length(bytes));
+    translate_tail(list, start, packet.flow, networks, translation, next_mac);
+    list.truncate(start + (14 + packet.length));
 }

@@ -17,4 +17,4 @@ mod packets;
 mod segments;
 
 pub use laws::{header_law, moved_sum_law, tcp_law, udp_law};
-pub use packets::{RewriteFault, hairpin, inward, outward};
+pub use packets::{RewriteFault, hairpin, inward, outward, rewrite_packet};

@@ -86,8 +86,9 @@ fn sent_to(flow: Flow, to: Ip, port: Port) -> Flow
     }
 }
 
-/// Gives a packet of the flow `old` the flow `new`.
-fn rewrite_packet(packet: &mut [u8], old: Flow, new: Flow) -> Result<(), RewriteFault>
+/// Gives a packet of the flow `old`, which its reader has found, the flow `new`. Bytes behind the
+/// segment stay.
+pub fn rewrite_packet(packet: &mut [u8], old: Flow, new: Flow) -> Result<(), RewriteFault>
     requires ipv4 { IsIpv4 packet.old }
     requires transport { IsTransport packet.old }
     requires flow { old ≡ flow_of packet.old }

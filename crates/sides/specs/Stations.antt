@@ -14,11 +14,9 @@ use Rattle.arp.specs.Neighbours.{Neighbours, with_entry}
 use Rattle.vrrp_states.specs.declared.State.{State}
 use Rattle.vrrp_states.specs.declared.State.TheVariants.{Initialize, Backup, Active}
 use Rattle.vrrp_states.specs.declared.Action.{Action}
-use Rattle.vrrp_states.specs.declared.Action.TheVariants.{Nothing, Advertise, AdvertiseAndArp}
 use Rattle.vrrp_states.specs.Table.{Router, Event, IsStep, new_router}
 use Rattle.packet_rules.specs.declared.networks.Network.{Network}
-use Rattle.packet_rules.specs.Adverts.{advert_frame}
-use Rattle.packet_rules.specs.Arping.{is_learnable, gratuitous_frame}
+use Rattle.packet_rules.specs.Arping.{is_learnable}
 use Rattle.packet_rules.specs.Networks.{network_of, networks_of}
 
 -- an interface: its network, the interval (cs) at which it advertises, its virtual router, and the
@@ -88,21 +86,6 @@ with_neighbour station p now = record station {
 unfoldable pub after_arp : Station → ArpPacket → ℕ → Station
 after_arp station p now =
     (if is_learnable station.network p then with_neighbour station p now else station)
-
--- the frames that an action sends, in order
-abbrev pub frames_of : Station → Action → List (List ℕ)
-frames_of station Nothing = []
-frames_of station (Advertise priority) =
-    advert_frame station.network priority station.interval ∷ []
-frames_of station (AdvertiseAndArp priority) =
-    advert_frame station.network priority station.interval
-    ∷ gratuitous_frame station.network
-    ∷ []
-
--- frames end to end
-abbrev pub joined : List (List ℕ) → List ℕ
-joined [] = []
-joined (frame ∷ frames) = frame ++ joined frames
 
 -- all hardware addresses have six bytes
 pub record IsWired (station : Station) : Type 0 where

@@ -7,7 +7,7 @@ ghost use Rattle.packet_rules.specs.Arping.{is_learnable, answer_to};
 ghost use Rattle.packet_rules.specs.Adverts.{advert_frame};
 ghost use Rattle.packet_rules.specs.Arping.{gratuitous_frame};
 ghost use Rattle.packet_rules.specs.Steps.{reading_of, Carries};
-ghost use Rattle.sides.specs.Stations.{is_active, is_active_in, is_on, fixed_of, fixed_on, new_station, IsRouterStep, after_arp, frames_of, joined, IsWired};
+ghost use Rattle.sides.specs.Stations.{is_active, is_active_in, is_on, fixed_of, fixed_on, new_station, IsRouterStep, after_arp, IsWired};
 
 use addresses::{Ip, Mac};
 use arp::{ArpPacket, Cache, Neighbour};
@@ -220,23 +220,5 @@ impl Station {
         ensures capacity { vec_capacity list.old ≤ vec_capacity list.new }
     {
         packet_rules::append_gratuitous(list, &self.network);
-    }
-
-    /// Puts the frames that an action sends behind a list with room for two of them (46 bytes and
-    /// 42), in their order.
-    pub fn append_action(&self, list: &mut Vec<u8>, action: Action)
-        requires { vec_len list.old + 88 ≤ vec_capacity list.old }
-        ensures items { list.new.items ≡ list.old.items ++ joined (frames_of self.now action) }
-        ensures len { vec_len list.new ≤ vec_len list.old + 88 }
-        ensures capacity { vec_capacity list.old ≤ vec_capacity list.new }
-    {
-        match action {
-            Action::Nothing => {}
-            Action::Advertise(priority) => self.append_advert(list, priority),
-            Action::AdvertiseAndArp(priority) => {
-                self.append_advert(list, priority);
-                self.append_gratuitous(list);
-            }
-        }
     }
 }

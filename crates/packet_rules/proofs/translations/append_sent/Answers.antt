@@ -1,9 +1,20 @@
-use Rattle.std.proofs.Common.{◌≡◌, ◌++◌, length, drop, ap, ◌∙◌, arith}
-use Rattle.std.proofs.Math.Seq.{drop-append_seam}
+use Rattle.std.proofs.Common.{◌≡◌, ◌++◌, length, drop, ap, sym, ◌∙◌, arith, rules}
+use Rattle.frames.specs.Frame.{frame_of}
+use Rattle.ipv4.specs.Flow.{flow_of}
 use Rattle.ipv4.specs.Header.{header_of}
+use Rattle.packet_rules.specs.Flows.{flow_in}
 use Rattle.packet_rules.specs.Frames.{translated_by, sent_header, sent_frame}
-use Rattle.packet_rules.proofs.Cut.{tail_cut}
+use Rattle.packet_rules.proofs.Cut.{tail_cut, tail_there}
 use Rattle.packet_rules.proofs.translations.append_sent.Goals as goal
+
+pub translate_tail-requires-clause-read : goal.translate_tail-requires-clause-read
+unfolding flow_in
+translate_tail-requires-clause-read c =
+    let list = c.args.list.now.items in
+    let bytes = c.args.bytes.now in
+    let at : c.len-start.result ≡ length list = search rules in
+    let behind : drop c.len-start.result (list ++ bytes) ≡ bytes = tail_there list bytes c.len-start.result at in
+    ap (λ p. p.flow) c.requires.read ∙ sym (ap (λ xs. flow_of (frame_of xs).body) (ap (λ xs. drop c.len-start.result xs) c.append_reserved.ensures.items ∙ behind))
 
 pub returns-clause-items : goal.returns-clause-items
 unfolding sent_frame
@@ -11,7 +22,7 @@ returns-clause-items c =
     let list = c.args.list.now.items in
     let bytes = c.args.bytes.now in
     let at : c.len-start.result ≡ length list = omega (arith, c.len-start.ensures, c.type_inv.list) in
-    let behind : drop c.len-start.result (list ++ bytes) ≡ bytes = ap (λ n. drop n (list ++ bytes)) at ∙ drop-append_seam list bytes in
+    let behind : drop c.len-start.result (list ++ bytes) ≡ bytes = tail_there list bytes c.len-start.result at in
     let body = translated_by c.args.networks.now c.args.translation.now (drop 14 bytes) in
     let cut = tail_cut list bytes (sent_header c.args.networks.now c.args.translation.now c.args.next_mac) body c.len-start.result (header_of (drop 14 bytes)).total_length at c.translate_tail.ensures.fourteen in
-    simp (c.truncate.ensures.items, c.translate_tail.ensures.items, c.append_reserved.ensures.items, behind, c.unpadded_length.ensures) cut
+    simp (c.truncate.ensures.items, c.translate_tail.ensures.items, c.append_reserved.ensures.items, behind, ap (λ p. p.length) c.requires.read) cut

@@ -1,0 +1,36 @@
+//! What the first reading of a packet finds out, so that nobody has to read it again.
+ghost use Rattle.std.specs.Prelude.{◌≡◌, ◌↔◌, IsOk, IfOk};
+ghost use Rattle.std.specs.Result.{result_err};
+ghost use Rattle.ipv4.specs.Carried.{IsTransport, transport_refusal};
+ghost use Rattle.ipv4.specs.Flow.{packet_of};
+
+use crate::tcp::flags;
+use crate::{Flow, Ipv4Fault, Ipv4View, Transport};
+use addresses::TcpFlags;
+
+/// What a UDP or TCP packet says of itself.
+#[derive(Clone, Copy, Debug, PartialEq, Eq)]
+pub struct Packet {
+    pub flow: Flow,
+    /// The flags of a TCP segment. Of a UDP datagram nobody reads them: they are whatever stands at
+    /// their place.
+    pub flags: TcpFlags,
+    /// The IPv4 total length: the bytes of header and payload, without padding.
+    pub length: usize,
+}
+
+impl Packet {
+    /// Reads a packet, or refuses it as [`Transport::parse`] does.
+    pub fn parse(view: &Ipv4View<'_>) -> Result<Packet, Ipv4Fault>
+        ensures refusal { result_err result ≡ transport_refusal view.now.bytes.now }
+        ensures ok { IsOk result ↔ IsTransport view.now.bytes.now }
+        ensures packet { IfOk result (λ p. p ≡ packet_of view.now.bytes.now) }
+    {
+        let transport = Transport::parse(view)?;
+        Ok(Packet {
+            flow: Flow::carrying(view, &transport),
+            flags: flags(view.payload()),
+            length: view.total_length(),
+        })
+    }
+}
