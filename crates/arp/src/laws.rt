@@ -2,6 +2,7 @@
 ghost use Rattle.std.specs.Prelude.{◌≡◌, ◌<◌, ◌↔◌, ℕ, List, None, slice_index};
 ghost use Rattle.arp.specs.declared.caches.TheConstants.{ENTRIES, VALID_FOR};
 ghost use Rattle.arp.specs.declared.packets.ArpPacket.{ArpPacket};
+ghost use Rattle.arp.specs.declared.packets.TheConstants.{ARP_FRAME};
 ghost use Rattle.arp.specs.declared.packets.field.TheConstants.{PACKET};
 ghost use Rattle.arp.specs.Packet.{arp_refusal, IsArp, packet_of, IsPacket, Spells, IsReadAs};
 
@@ -22,10 +23,11 @@ pub fn read_is_spelled()
         → Spells bytes (packet_of bytes) }
 {}
 
-/// The numbers that the definitions take from the code: a packet's bytes, the cache's places, and
-/// for how many centiseconds an entry is valid.
+/// The numbers that the definitions take from the code: a packet's bytes, a frame's, the cache's
+/// places, and for how many centiseconds an entry is valid.
 pub fn limits_law()
     ensures packet { PACKET ≡ 28 }
+    ensures frame { ARP_FRAME ≡ 42 }
     ensures entries { ENTRIES ≡ 1024 }
     ensures valid_for { VALID_FOR ≡ 120000 }
 {}

@@ -8,4 +8,4 @@ mod packets;
 
 pub use caches::{Cache, Interface, Neighbour, is_learnable};
 pub use laws::{arp_grammar, limits_law, read_is_spelled, written_is_read};
-pub use packets::{ArpFault, ArpPacket, Operation, gratuitous, parse, reply, request};
+pub use packets::{ARP_FRAME, ArpFault, ArpPacket, Operation, gratuitous, parse, reply, request};

@@ -50,6 +50,9 @@ mod field {
     pub const PACKET: usize = 28;
 }
 
+/// The bytes of a frame: an Ethernet header of 14 and a packet of 28.
+pub const ARP_FRAME: usize = 42;
+
 /// The bytes of a header before a packet.
 const HEADER: usize = 14;
 
@@ -145,7 +148,7 @@ fn mac_at(bytes: &[u8]) -> Mac
 }
 
 /// Asks everyone for the hardware address of `target`.
-pub fn request(out: &mut [u8; 42], mac: Mac, ip: Ip, target: Ip)
+pub fn request(out: &mut [u8; ARP_FRAME], mac: Mac, ip: Ip, target: Ip)
     ensures { out.new ≡ frame_bytes Mac.BROADCAST.0 mac.0 (request_packet mac ip target) }
 {
     let packet = ArpPacket {
@@ -160,7 +163,7 @@ pub fn request(out: &mut [u8; 42], mac: Mac, ip: Ip, target: Ip)
 
 /// Answers `asked`: its target address has the hardware address `answer`. The frame comes from
 /// `own`.
-pub fn reply(out: &mut [u8; 42], own: Mac, answer: Mac, asked: &ArpPacket)
+pub fn reply(out: &mut [u8; ARP_FRAME], own: Mac, answer: Mac, asked: &ArpPacket)
     ensures { out.new
         ≡ frame_bytes asked.now.sender_mac.0 own.0 (reply_packet answer asked.now) }
 {
@@ -175,7 +178,7 @@ pub fn reply(out: &mut [u8; 42], own: Mac, answer: Mac, asked: &ArpPacket)
 }
 
 /// Tells everyone that `ip` has the hardware address `mac`, as a request for itself.
-pub fn gratuitous(out: &mut [u8; 42], mac: Mac, ip: Ip)
+pub fn gratuitous(out: &mut [u8; ARP_FRAME], mac: Mac, ip: Ip)
     ensures { out.new ≡ frame_bytes Mac.BROADCAST.0 mac.0 (gratuitous_packet mac ip) }
 {
     let packet = ArpPacket {
@@ -188,7 +191,7 @@ pub fn gratuitous(out: &mut [u8; 42], mac: Mac, ip: Ip)
     write_frame(out, Mac::BROADCAST, mac, &packet);
 }
 
-fn write_frame(out: &mut [u8; 42], dst: Mac, src: Mac, packet: &ArpPacket)
+fn write_frame(out: &mut [u8; ARP_FRAME], dst: Mac, src: Mac, packet: &ArpPacket)
     ensures { out.new ≡ frame_bytes dst.0 src.0 packet.now }
 {
     write_header(out, dst, src, EtherType::ARP);
@@ -206,7 +209,7 @@ pub(crate) fn octets_of(mac: Mac) -> [u8; 6]
 }
 
 /// The bytes of a packet.
-fn body_of(packet: &ArpPacket) -> [u8; 28]
+fn body_of(packet: &ArpPacket) -> [u8; field::PACKET]
     ensures { result ≡ packet_bytes packet.now }
 {
     let s = octets_of(packet.sender_mac);

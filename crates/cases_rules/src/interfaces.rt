@@ -80,7 +80,7 @@ impl Interfaces {
 
 /// The frames that an action sends, end to end.
 pub fn acted(alloc: Global, station: &Station, action: Action) -> Result<String> {
-    let mut bytes = Vec::with_capacity(alloc, 88)?;
+    let mut bytes = Vec::with_capacity(alloc, vrrp_packet::ADVERT_FRAME + arp::ARP_FRAME)?;
     match action {
         Action::Nothing => {}
         Action::Advertise(priority) => station.append_advert(&mut bytes, priority),

@@ -87,7 +87,7 @@ pub fn hear_advert(interfaces: &mut Interfaces, given: &mut Given) -> Result<Str
 
 /// The answer to a packet, if there is one.
 fn answered(alloc: Global, station: &Station, packet: &ArpPacket) -> Result<String> {
-    let mut bytes = Vec::with_capacity(alloc, 42)?;
+    let mut bytes = Vec::with_capacity(alloc, arp::ARP_FRAME)?;
     if let Some(mac) = station.answer_to(packet) {
         append_answer(&mut bytes, &station.network(), packet, mac);
     }
@@ -119,7 +119,7 @@ pub fn find_mac(interfaces: &Interfaces, given: &mut Given) -> Result<String> {
 pub fn request(interfaces: &Interfaces, given: &mut Given) -> Result<String> {
     let station = interfaces.at(given.side()?);
     let address = given.hex_ip()?;
-    let mut bytes = Vec::with_capacity(given.alloc, 42)?;
+    let mut bytes = Vec::with_capacity(given.alloc, arp::ARP_FRAME)?;
     append_request(&mut bytes, &station.network(), address);
     Ok(hex::encode(given.alloc, bytes.as_slice())?)
 }

@@ -1,6 +1,8 @@
 //! The frames of a virtual router: its advertisement, and its gratuitous ARP (RFC 9568).
 ghost use Rattle.std.specs.Prelude.{◌≡◌, ◌≤◌, ◌<◌, ◌+◌, ◌++◌, vec_len, vec_capacity};
+ghost use Rattle.arp.specs.declared.packets.TheConstants.{ARP_FRAME};
 ghost use Rattle.frames.specs.Frame.{header_bytes};
+ghost use Rattle.vrrp_packet.specs.declared.TheConstants.{ADVERT_FRAME};
 ghost use Rattle.vrrp_packet.specs.Message.{advert_bytes};
 ghost use Rattle.sums.specs.Sum.{checksum_of};
 ghost use Rattle.packet_rules.specs.Networks.{vrrp_mac};
@@ -10,6 +12,7 @@ ghost use Rattle.packet_rules.specs.Adverts.{own_advert, advert_header as header
 use crate::appending::append_reserved;
 use crate::networks::Network;
 use addresses::{Ip, Mac};
+use arp::ARP_FRAME;
 use frames::{EtherType, write_header};
 use vrrp_packet::{Advert, PROTOCOL};
 
@@ -62,12 +65,12 @@ fn message(network: &Network, priority: u8, interval: u16) -> [u8; 12]
 /// Puts the frame of an advertisement with this priority and interval (cs) behind a list with room
 /// for it: from the virtual router's Ethernet address and the own IPv4 address.
 pub fn append_advert(list: &mut Vec<u8>, network: &Network, priority: u8, interval: u16)
-    requires room { vec_len list.old + 46 ≤ vec_capacity list.old }
+    requires room { vec_len list.old + ADVERT_FRAME ≤ vec_capacity list.old }
     requires positive { 0 < interval }
     requires twelve_bits { interval ≤ 4095 }
     ensures items { list.new.items
         ≡ list.old.items ++ advert_frame network.now priority interval }
-    ensures len { vec_len list.new ≡ vec_len list.old + 46 }
+    ensures len { vec_len list.new ≡ vec_len list.old + ADVERT_FRAME }
     ensures capacity { vec_capacity list.old ≤ vec_capacity list.new }
 {
     append_reserved(list, &frame_header(network));
@@ -77,12 +80,12 @@ pub fn append_advert(list: &mut Vec<u8>, network: &Network, priority: u8, interv
 
 /// Puts the frame that tells everyone where the virtual address is behind a list with room for it.
 pub fn append_gratuitous(list: &mut Vec<u8>, network: &Network)
-    requires { vec_len list.old + 42 ≤ vec_capacity list.old }
+    requires { vec_len list.old + ARP_FRAME ≤ vec_capacity list.old }
     ensures items { list.new.items ≡ list.old.items ++ gratuitous_frame network.now }
-    ensures len { vec_len list.new ≡ vec_len list.old + 42 }
+    ensures len { vec_len list.new ≡ vec_len list.old + ARP_FRAME }
     ensures capacity { vec_capacity list.old ≤ vec_capacity list.new }
 {
-    let mut frame = [0; 42];
+    let mut frame = [0; ARP_FRAME];
     let router = Mac::of_virtual_router(network.interface.virtual_router);
     arp::gratuitous(&mut frame, router, network.interface.virtual_ip);
     append_reserved(list, &frame);

@@ -1,11 +1,12 @@
 //! What an interface does with ARP packets (RFC 826): whom it learns, and what it answers.
 ghost use Rattle.std.specs.Prelude.{◌≡◌, ◌≤◌, ◌+◌, ◌++◌, vec_len, vec_capacity};
+ghost use Rattle.arp.specs.declared.packets.TheConstants.{ARP_FRAME};
 ghost use Rattle.packet_rules.specs.Arping.{is_learnable, mac_here, answer_to, answer_frame, request_frame};
 
 use crate::appending::append_reserved;
 use crate::networks::Network;
 use addresses::{Ip, Mac};
-use arp::{ArpPacket, Interface, Neighbour, Operation};
+use arp::{ARP_FRAME, ArpPacket, Interface, Neighbour, Operation};
 
 /// Whether the sender of a packet is learnt.
 pub fn is_learnt(network: &Network, packet: &ArpPacket) -> bool
@@ -49,24 +50,24 @@ pub fn answer_to(network: &Network, active: bool, packet: &ArpPacket) -> Option<
 
 /// Puts the frame that answers a request behind a list with room for it.
 pub fn append_answer(list: &mut Vec<u8>, network: &Network, packet: &ArpPacket, mac: Mac)
-    requires { vec_len list.old + 42 ≤ vec_capacity list.old }
+    requires { vec_len list.old + ARP_FRAME ≤ vec_capacity list.old }
     ensures items { list.new.items ≡ list.old.items ++ answer_frame network.now packet.now mac }
-    ensures len { vec_len list.new ≡ vec_len list.old + 42 }
+    ensures len { vec_len list.new ≡ vec_len list.old + ARP_FRAME }
     ensures capacity { vec_capacity list.old ≤ vec_capacity list.new }
 {
-    let mut frame = [0; 42];
+    let mut frame = [0; ARP_FRAME];
     arp::reply(&mut frame, network.own_mac, mac, packet);
     append_reserved(list, &frame);
 }
 
 /// Puts the frame that asks everyone for an address behind a list with room for it.
 pub fn append_request(list: &mut Vec<u8>, network: &Network, address: Ip)
-    requires { vec_len list.old + 42 ≤ vec_capacity list.old }
+    requires { vec_len list.old + ARP_FRAME ≤ vec_capacity list.old }
     ensures items { list.new.items ≡ list.old.items ++ request_frame network.now address }
-    ensures len { vec_len list.new ≡ vec_len list.old + 42 }
+    ensures len { vec_len list.new ≡ vec_len list.old + ARP_FRAME }
     ensures capacity { vec_capacity list.old ≤ vec_capacity list.new }
 {
-    let mut frame = [0; 42];
+    let mut frame = [0; ARP_FRAME];
     arp::request(&mut frame, network.own_mac, network.own_ip, address);
     append_reserved(list, &frame);
 }

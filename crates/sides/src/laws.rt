@@ -1,12 +1,14 @@
 //! How long the frames of a virtual router are.
 ghost use Rattle.std.specs.Prelude.{◌≡◌, ℕ, length};
+ghost use Rattle.arp.specs.declared.packets.TheConstants.{ARP_FRAME};
+ghost use Rattle.vrrp_packet.specs.declared.TheConstants.{ADVERT_FRAME};
 ghost use Rattle.packet_rules.specs.declared.networks.Network.{Network};
 ghost use Rattle.packet_rules.specs.Adverts.{advert_frame};
 ghost use Rattle.packet_rules.specs.Arping.{gratuitous_frame};
 
-/// An advertisement's frame has 46 bytes, that of a gratuitous ARP 42.
+/// An advertisement's frame has as many bytes as the constant says, and so has a gratuitous ARP's.
 pub fn sizes_law()
     ensures advert { (network : Network) (priority interval : ℕ)
-        → length (advert_frame network priority interval) ≡ 46 }
-    ensures gratuitous { (network : Network) → length (gratuitous_frame network) ≡ 42 }
+        → length (advert_frame network priority interval) ≡ ADVERT_FRAME }
+    ensures gratuitous { (network : Network) → length (gratuitous_frame network) ≡ ARP_FRAME }
 {}

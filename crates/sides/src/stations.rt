@@ -1,6 +1,8 @@
 //! An interface with its state.
 ghost use Rattle.std.specs.Prelude.{◌≡◌, ℕ, ◌≤◌, ◌+◌, ◌++◌, IfOk, IfSome, length, vec_len, vec_capacity};
 ghost use Rattle.arp.specs.Neighbours.{mac_at};
+ghost use Rattle.arp.specs.declared.packets.TheConstants.{ARP_FRAME};
+ghost use Rattle.vrrp_packet.specs.declared.TheConstants.{ADVERT_FRAME};
 ghost use Rattle.vrrp_states.specs.declared.Action.TheVariants.{Nothing};
 ghost use Rattle.vrrp_states.specs.Table.{IsMoment, IsInterval, Start, Stop, Heard, Tick};
 ghost use Rattle.packet_rules.specs.Arping.{is_learnable, answer_to};
@@ -199,24 +201,23 @@ impl Station {
         packet_rules::answer_to(&self.network, self.is_active(), packet)
     }
 
-    /// Puts the frame of an advertisement with this priority behind a list with room for its 46
-    /// bytes.
+    /// Puts the frame of an advertisement with this priority behind a list with room for it.
     pub fn append_advert(&self, list: &mut Vec<u8>, priority: u8)
-        requires { vec_len list.old + 46 ≤ vec_capacity list.old }
+        requires { vec_len list.old + ADVERT_FRAME ≤ vec_capacity list.old }
         ensures items { list.new.items
             ≡ list.old.items ++ advert_frame self.now.network priority self.now.interval }
-        ensures len { vec_len list.new ≡ vec_len list.old + 46 }
+        ensures len { vec_len list.new ≡ vec_len list.old + ADVERT_FRAME }
         ensures capacity { vec_capacity list.old ≤ vec_capacity list.new }
     {
         packet_rules::append_advert(list, &self.network, priority, self.interval);
     }
 
     /// Puts the frame that tells everyone where the virtual address is behind a list with room for
-    /// its 42 bytes.
+    /// it.
     pub fn append_gratuitous(&self, list: &mut Vec<u8>)
-        requires { vec_len list.old + 42 ≤ vec_capacity list.old }
+        requires { vec_len list.old + ARP_FRAME ≤ vec_capacity list.old }
         ensures items { list.new.items ≡ list.old.items ++ gratuitous_frame self.now.network }
-        ensures len { vec_len list.new ≡ vec_len list.old + 42 }
+        ensures len { vec_len list.new ≡ vec_len list.old + ARP_FRAME }
         ensures capacity { vec_capacity list.old ≤ vec_capacity list.new }
     {
         packet_rules::append_gratuitous(list, &self.network);

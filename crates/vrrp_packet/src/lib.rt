@@ -23,7 +23,7 @@ ghost use Rattle.std.specs.Result.{result_err};
 ghost use Rattle.sums.specs.Sum.{IsRight};
 ghost use Rattle.ipv4.specs.Header.{header_of, payload_of, has_wrong_sum};
 ghost use Rattle.vrrp_packet.specs.declared.Advert.{Advert as Sent};
-ghost use Rattle.vrrp_packet.specs.declared.TheConstants.{PROTOCOL, VERSION, ADVERTISEMENT, INTERVALS};
+ghost use Rattle.vrrp_packet.specs.declared.TheConstants.{PROTOCOL, VERSION, ADVERTISEMENT, INTERVALS, ADVERT_FRAME};
 ghost use Rattle.vrrp_packet.specs.declared.field.TheConstants.{HEADER};
 ghost use Rattle.vrrp_packet.specs.Message.{pseudo_header as pseudo_bytes, IsAdvert, advert_refusal, advert_of, advert_bytes, IsWritable};
 
@@ -38,6 +38,10 @@ pub const PROTOCOL: u8 = 112;
 
 /// 224.0.0.18, the group to which advertisements go.
 pub const GROUP: Ip = Ip(0xe000_0012);
+
+/// The bytes of an advertisement's frame: an Ethernet header of 14, an IPv4 header of 20, and a
+/// message of 12.
+pub const ADVERT_FRAME: usize = 46;
 
 /// Where the message's fields lie.
 mod field {
@@ -198,6 +202,7 @@ pub fn limits_law()
     ensures advertisement { ADVERTISEMENT ≡ 1 }
     ensures intervals { INTERVALS ≡ 4096 }
     ensures header { HEADER ≡ 8 }
+    ensures frame { ADVERT_FRAME ≡ 46 }
 {}
 
 /// What is written is read again, from any packet with TTL 255 that carries it.
