@@ -1,7 +1,7 @@
-use Rattle.std.proofs.Common.{◌≡◌, Bool, true, ap, sym, ◌∙◌}
+use Rattle.std.proofs.Common.{ap, sym, ◌∙◌}
 use Rattle.nat_types.specs.declared.pairs.Pair.{Pair}
 use Rattle.bindings.specs.Entries.{slot_of}
-use Rattle.bind_core.specs.Cores.{book_of, carries_pair, is_carried}
+use Rattle.bind_core.specs.Cores.{book_of, is_carried}
 use Rattle.bind_core.specs.View.{core_of}
 use Rattle.bind_core.proofs.Carried.{wish-port, wish-quiet}
 use Rattle.bind_core.proofs.cores.Core.carries.Goals as goal
