@@ -6,3 +6,5 @@ pub mod Porting
 pub mod Releasing
 pub mod Steady
 pub mod Walking
+pub mod Carried
+pub mod Hearing

@@ -1,12 +1,13 @@
 -- What callers see of a core.
-use Rattle.std.specs.Prelude.{ℕ, Bool, List, Option, Some, None, true, false, [], map, if◌then◌else◌}
+use Rattle.std.specs.Prelude.{ℕ, Bool, List, Option, Some, None, true, false, ◌&&◌, [], map, if◌then◌else◌}
 use Rattle.nat_types.specs.declared.gateways.GatewayId.{GatewayId}
 use Rattle.nat_types.specs.declared.records.Record.{Record}
 use Rattle.nat_types.specs.declared.records.Record.TheVariants.{Install, Accept, Refuse, Ask, Yes, No, Begin, Put, Done, Want, Grant, Owner}
 use Rattle.nat_types.specs.declared.notes.Happening.{Happening}
 use Rattle.nat_types.specs.declared.notes.Happening.TheVariants.{Retaken, Synced}
-use Rattle.nat_types.specs.declared.pairs.Endpoint.{Endpoint}
 use Rattle.nat_types.specs.declared.pairs.Key.{Key}
+use Rattle.nat_types.specs.declared.pairs.Pair.{Pair}
+use Rattle.nat_types.specs.Same.{same_pair}
 use Rattle.bindings.specs.declared.entries.Entry.{Entry}
 use Rattle.bindings.specs.Entries.{slot_of, translates}
 use Rattle.bindings.specs.Runs.{port_at}
@@ -59,14 +60,14 @@ core_after now c r = record c { table = table_after now r.change c.table; wants 
 
 -- ---- packets
 
--- the endpoint of a pair that translates
-abbrev pub endpoint_in : Option Entry → Option Endpoint
-endpoint_in None = None
-endpoint_in (Some x) = (if translates x.state then Some x.pair.endpoint else None)
+-- an entry is that pair's, and translates
+abbrev pub is_carried : Option Entry → Pair → Bool
+is_carried None p = false
+is_carried (Some x) p = translates x.state && same_pair x.pair p
 
--- where a packet to an outside port goes: a gateway that isn't synced translates nothing
-abbrev pub inbound_of : Book → Key → Option Endpoint
-inbound_of b k = (if is_synced b.stage then endpoint_in (slot_of b.entries k) else None)
+-- the pair's key has that very pair, and it translates
+abbrev pub carries_pair : Book → Pair → Bool
+carries_pair b p = is_carried (slot_of b.entries p.key) p
 
 -- ---- loading
 

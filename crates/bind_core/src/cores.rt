@@ -1,6 +1,6 @@
 //! One gateway's table, and how far it is.
 ghost use Rattle.std.specs.Prelude.{◌≡◌, ◌+◌, ◌-◌, ◌*◌, ◌<◌, ◌≤◌, ◌++◌, ◌&&◌, not};
-ghost use Rattle.std.specs.Prelude.{ℕ, [], true};
+ghost use Rattle.std.specs.Prelude.{ℕ, Bool, [], true};
 ghost use Rattle.std.specs.Prelude.{IsTrue, IfOk, IfSome, is_some, length, vec_len, vec_capacity};
 ghost use Rattle.std.specs.Prelude.{slice_get, Some, false, OnOk, OnErr, drop, take, List};
 ghost use Rattle.nat_types.specs.declared.pairs.Key.{Key as OutsidePort};
@@ -21,6 +21,8 @@ ghost use Rattle.binding_step.specs.Rows.{is_theirs as is_theirs_port, proposed_
 ghost use Rattle.binding_step.specs.Rows.{grant_row, want_row, none_row, synced_row, new_wish};
 ghost use Rattle.binding_step.specs.Rows.{wish_of, carry_row, noted_by, after, answered, is_full};
 ghost use Rattle.binding_step.specs.Rows.{idle_row, row_of, unsynced_after, unsynced_what};
+ghost use Rattle.binding_step.specs.Rows.{quiet as quiet_row, wish as wish_with};
+ghost use Rattle.binding_step.specs.declared.changes.Want.TheVariants.{Port as PortOf};
 ghost use Rattle.bind_core.specs.Changes.{adds, IsSteady, LivesOn};
 ghost use Rattle.bindings.specs.Table.{idle_keys_of};
 ghost use Rattle.bindings.specs.Ports.{AreBounds, key_count};
@@ -34,12 +36,12 @@ ghost use Rattle.resync.specs.Loading.{loaded};
 ghost use Rattle.binding_step.specs.Books.{load_of};
 ghost use Rattle.binding_step.specs.Ledgers.{carried_ledger, lives_loaded, rests_for};
 ghost use Rattle.binding_step.specs.Resets.{restart_batch};
-ghost use Rattle.bind_core.specs.Cores.{book_of, core_after, inbound_of, ledger_of};
+ghost use Rattle.bind_core.specs.Cores.{book_of, carries_pair, core_after, ledger_of};
 ghost use Rattle.bind_core.specs.Cores.{owned_of, revived_with};
 
 use crate::deeds::{
-    Bounds, carry_by, change_table, count_keys, is_link_full, is_wanting, lies_in_either, note,
-    own_range, recall_port, tell,
+    Bounds, carry_by, change_table, count_keys, is_carried, is_link_full, is_wanting,
+    lies_in_either, note, own_range, recall_port, tell,
 };
 use crate::loads::{loading_of, stage_after};
 use crate::resets::note_back;
@@ -122,20 +124,18 @@ impl Core {
         &self.table
     }
 
-    /// Where a packet to an outside port goes: the endpoint of a Live or Held pair. A gateway that isn't synced has none.
-    pub fn inbound(&self, key: Key) -> Option<Endpoint>
-        ensures { result ≡ inbound_of (book_of self.now) key }
+    /// Whether the table has that very pair, Live or Held: asked by the pair's key alone. `want` changes nothing for the
+    /// endpoint of such a pair, and a gateway that is synced answers its port.
+    pub fn carries(&self, pair: Pair) -> bool
+        ensures exact { result ≡ carries_pair (book_of self.now) pair }
+        ensures quiet { result ≡ true → (full : Bool)
+            → (wish_of (book_of self.now) full pair.endpoint).row ≡ quiet_row }
+        ensures port { result ≡ true → is_synced_at self.now.stage ≡ true → (full : Bool)
+            → wish_of (book_of self.now) full pair.endpoint
+            ≡ wish_with (PortOf pair.key.port) quiet_row }
     {
-        if !is_synced(self.stage) {
-            return None;
-        }
-        match self.table.pair_of_port(key) {
-            Some(entry) => match entry.state {
-                EntryState::Live | EntryState::Held => Some(entry.pair.endpoint),
-                EntryState::Pending | EntryState::Doomed | EntryState::Closing => None,
-            },
-            None => None,
-        }
+        self.table.recall();
+        is_carried(self.table.pair_of_port(pair.key), pair)
     }
 
     // ---- the record table

@@ -18,15 +18,17 @@ ghost use Rattle.binding_step.specs.Books.{ports_of};
 ghost use Rattle.binding_step.specs.Fits.{Fits, GivesWay, HasPair, MayGive};
 ghost use Rattle.binding_step.specs.Rows.{answered, changed, noted_by, is_gained as is_gained_in};
 ghost use Rattle.binding_step.specs.Rows.{is_full, with_gained, without_ports, numbers_of};
-ghost use Rattle.binding_step.specs.Ledgers.{is_heard, is_held, lives_after};
+ghost use Rattle.binding_step.specs.Ledgers.{is_held, lives_after};
 ghost use Rattle.binding_step.specs.Ledgers.{may_ask as may_ask_at};
 ghost use Rattle.bind_core.specs.Changes.{table_book, wants_after, adds};
+ghost use Rattle.bind_core.specs.Cores.{is_carried as is_carried_by};
+ghost use Rattle.nat_types.specs.Same.{same_pair};
 ghost use Rattle.bind_core.specs.Changes.{IsBetween, LivesOn, table_after};
 
 use addresses::Port;
 use binding_step::{Change, Row};
 use bindings::{Entry, PortBounds, Table};
-use link::Link;
+use link::{Link, RECORDS_IN_A_DATAGRAM};
 use lives::Packet;
 use nat_types::{EntryState, GatewayId, Granted, Happening, Key, Note, Pair, Record};
 
@@ -296,26 +298,37 @@ pub(crate) fn carry_by(table: &mut Table, is_used: bool, key: Key, packet: Packe
     }
 }
 
-/// Whether the peer was heard at most 300 cs ago.
-fn was_heard(heard: Option<u64>, now: u64) -> bool
-    ensures { result ≡ is_heard heard now }
-{
-    match heard {
-        None => false,
-        Some(heard) => now.saturating_sub(heard) <= 300,
-    }
-}
-
-/// Whether fewer than 65 places are free.
+/// Whether fewer than 65 places are free: with a record more, the answers to a whole datagram might find none.
 pub(crate) fn is_link_full(link: &Link) -> bool
     ensures { result ≡ is_full link.now }
 {
-    link.room() < 65
+    link.room() <= RECORDS_IN_A_DATAGRAM
+}
+
+#[tactic(auto, unfolding(nat_types::specs::Same::same_pair, nat_types::specs::Same::same_key, nat_types::specs::Same::same_endpoint))]
+fn is_same_pair(a: Pair, b: Pair) -> bool
+    ensures { result ≡ same_pair a b }
+{
+    a == b
+}
+
+/// Whether an entry is that pair's, and translates.
+pub(crate) fn is_carried(entry: Option<Entry>, pair: Pair) -> bool
+    ensures { result ≡ is_carried_by entry pair }
+{
+    match entry {
+        Some(entry) => match entry.state {
+            EntryState::Live | EntryState::Held => is_same_pair(entry.pair, pair),
+            EntryState::Pending | EntryState::Doomed | EntryState::Closing => false,
+        },
+        None => false,
+    }
 }
 
 /// Whether an idle pair's end may be asked for.
+#[tactic(auto, using(crate::proofs::Hearing::same_heard))]
 pub(crate) fn may_ask(link: &Link, now: u64) -> bool
     ensures { result ≡ may_ask_at now link.now }
 {
-    was_heard(link.heard(), now) && !is_link_full(link)
+    link.hears(now) && !is_link_full(link)
 }

@@ -17,7 +17,7 @@ use binding_step::rows_leave;
 use bindings::{PortBounds, Table};
 use cases_words::Given;
 use link::{Datagram, Link, write};
-use nat_types::{Endpoint, GatewayId, Key, Note, Record};
+use nat_types::{Endpoint, EntryState, GatewayId, Key, Note, Record};
 use std::alloc::Global;
 
 /// A core that has boot 1, its end of the link, and its clock.
@@ -273,9 +273,15 @@ impl Side {
         Ok(ports + pairs + 2)
     }
 
-    /// Where a packet to an outside port goes.
+    /// Where a packet to an outside port goes: to the endpoint of a Live or Held pair, once the core is synced.
     pub fn inbound(&self, key: Key) -> Option<Endpoint> {
-        self.core.inbound(key)
+        let entry = self.core.table().pair_of_port(key)?;
+        match entry.state {
+            EntryState::Live | EntryState::Held if self.core.is_synced() => {
+                Some(entry.pair.endpoint)
+            }
+            _ => None,
+        }
     }
 
     /// The operator says that the peer's boots up to one are over.
