@@ -1,0 +1,136 @@
+#!/usr/bin/env python3
+"""Looks whether the house is in order: says what isn't, a line each, with status 1.
+
+    scripts/house.py [FOLDER]      this repository, or the one in FOLDER
+    scripts/house.py --self-test   plants one fault of each kind in a copy, and shows that it is found
+
+A dependency of a crate in crates.txt has to be named by the crate's own sources. The lemmas that other crates cite
+stand in proofs/Offered.antt, the one file that proofs/Lib.antt shows (`pub mod`); no crate imports another's other
+proof files. Each folder of crates/ has its line in crates.txt and in crates/README.md.
+"""
+import argparse
+import pathlib
+import re
+import shutil
+import sys
+import tempfile
+
+# A library that a crate's sources name nowhere, and that its check asks for all the same: a public clause of a crate
+# below, or the code of a derive, leads to it. Each was left out once, and the check was refused.
+LED_TO = {}
+
+
+def crates_of(top):
+    """The crates of crates.txt, each with what it stands on."""
+    found = {}
+    for line in (top / "crates.txt").read_text(encoding="utf-8").splitlines():
+        line = line.split("#")[0].strip()
+        if ":" in line:
+            name, libraries = line.split(":", 1)
+            found[name.split()[0]] = libraries.split()
+    return found
+
+
+def sources_of(folder):
+    for part in ("src", "specs", "proofs"):
+        for path in sorted((folder / part).rglob("*")):
+            if path.suffix in (".rt", ".antt"):
+                yield path
+
+
+def names_in(text):
+    """The libraries that a source may name: heads of paths, and of modules of definitions and lemmas."""
+    return set(re.findall(r"\bRattle\.(\w+)\.", text)) | set(re.findall(r"(?<![\w:])(\w+)::", text)) \
+        | set(re.findall(r"(?m)^\s*(?:pub )?use (\w+);", text))
+
+
+def unused(top, crates):
+    for name, libraries in crates.items():
+        named = set()
+        for path in sources_of(top / "crates" / name):
+            named |= names_in(path.read_text(encoding="utf-8"))
+        for library in libraries:
+            if library not in named and library not in LED_TO.get(name, ()):
+                yield f"crates.txt: {name} names {library} nowhere"
+
+
+def past_the_door(top, crates):
+    for name in crates:
+        lib = top / "crates" / name / "proofs" / "Lib.antt"
+        if lib.exists():
+            for module in re.findall(r"(?m)^pub mod (\w+)", lib.read_text(encoding="utf-8")):
+                if module != "Offered":
+                    yield f"crates/{name}/proofs/Lib.antt: shows {module}, and only Offered may be shown"
+        for path in sources_of(top / "crates" / name):
+            text = path.read_text(encoding="utf-8")
+            for owner, module in re.findall(r"\bRattle\.(\w+)\.proofs\.(\w+)", text):
+                if owner != name and owner in crates and module != "Offered":
+                    yield f"{path.relative_to(top)}: cites {owner}'s {module}, and not its Offered"
+
+
+def without_a_sign(top, crates):
+    plan = (top / "crates" / "README.md").read_text(encoding="utf-8")
+    for folder in sorted((top / "crates").iterdir()):
+        if folder.is_dir() and folder.name not in crates:
+            yield f"crates/{folder.name}: no line of crates.txt"
+    for name in crates:
+        if f"`{name}`" not in plan:
+            yield f"crates/README.md: no line for {name}"
+
+
+def faults(top):
+    crates = crates_of(top)
+    return [*unused(top, crates), *past_the_door(top, crates), *without_a_sign(top, crates)]
+
+
+def copy_of(top, room):
+    copy = room / "copy"
+    shutil.copytree(top, copy, ignore=shutil.ignore_patterns(".git", "out", "data", "must-fail"))
+    return copy
+
+
+def plant(top, fault):
+    """Makes a copy wrong in one way; gives a part of the line that has to be said of it."""
+    if fault == "dependency":
+        path = top / "crates.txt"
+        path.write_text(re.sub(r"(?m)^(sums:.*)$", r"\1 slab", path.read_text()))
+        return "sums names slab nowhere"
+    if fault == "lemma":
+        path = top / "crates" / "rewrite" / "proofs" / "Planted.antt"
+        path.write_text("use Rattle.sums.proofs.Words.{word_sum-append}\n")
+        return "cites sums's Words"
+    if fault == "door":
+        path = top / "crates" / "sums" / "proofs" / "Lib.antt"
+        path.write_text(path.read_text() + "pub mod Words\n")
+        return "shows Words"
+    (top / "crates" / "planted").mkdir()
+    return "crates/planted: no line"
+
+
+def self_test(top):
+    for fault in ("dependency", "lemma", "door", "folder"):
+        with tempfile.TemporaryDirectory(prefix="house-") as room:
+            copy = copy_of(top, pathlib.Path(room))
+            wanted = plant(copy, fault)
+            found = [line for line in faults(copy) if wanted in line]
+            if len(found) != 1:
+                sys.exit(f"house: the planted {fault} isn't found")
+            print(f"house: found {found[0]}")
+
+
+def main():
+    parser = argparse.ArgumentParser(description=__doc__, formatter_class=argparse.RawDescriptionHelpFormatter)
+    parser.add_argument("folder", nargs="?", type=pathlib.Path, default=pathlib.Path(__file__).resolve().parent.parent)
+    parser.add_argument("--self-test", action="store_true")
+    given = parser.parse_args()
+    if given.self_test:
+        return self_test(given.folder)
+    found = faults(given.folder)
+    for line in found:
+        print(line)
+    if found:
+        sys.exit(f"house: {len(found)} out of order")
+    print(f"house: {len(crates_of(given.folder))} crates in order")
+
+
+main()
