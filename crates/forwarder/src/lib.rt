@@ -1,7 +1,6 @@
 //! What takes packets: a gateway but for its clock, its routers and the other gateway's datagrams.
 #![tactic(auto)]
 
-mod flags;
 mod forwarders;
 mod hosts;
 mod outgoing;

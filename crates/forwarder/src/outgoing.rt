@@ -1,11 +1,13 @@
 //! The frames that are made where they are to lie.
-ghost use Rattle.std.specs.Prelude.{length, ⊤};
+ghost use Rattle.std.specs.Prelude.{◌≡◌, length, ⊤};
 ghost use Rattle.packet_rules.specs.Arping.{answer_frame, request_frame};
+ghost use Rattle.packet_rules.specs.Flows.{packet_in};
 ghost use Rattle.packet_rules.specs.Frames.{sent_frame};
 ghost use Rattle.packet_rules.specs.Steps.{IsForwardable};
 
 use addresses::{Ip, Mac};
 use arp::ArpPacket;
+use ipv4::Packet;
 use packet_rules::{Network, Networks, Translation, append_answer, append_request, append_sent};
 use told::WriteBytes;
 
@@ -17,17 +19,26 @@ pub(crate) struct SentFrame<'a> {
     pub next: Mac,
     /// The frame that came.
     pub bytes: &'a [u8],
+    /// What was read of it.
+    pub packet: &'a Packet,
 }
 
 impl WriteBytes for SentFrame<'_> {
-    ghost can_write = { λ f. IsForwardable f.bytes.now };
+    ghost can_write = { λ f. IsForwardable f.bytes.now × (f.packet.now ≡ packet_in f.bytes.now) };
 
     ghost bytes = { λ f. sent_frame f.networks.now f.by.now f.next f.bytes.now };
 
     ghost room = { λ f. length f.bytes.now };
 
     fn write_to(&self, list: &mut Vec<u8>) {
-        append_sent(list, self.networks, self.by, self.next, self.bytes);
+        append_sent(
+            list,
+            self.networks,
+            self.by,
+            self.next,
+            self.bytes,
+            self.packet,
+        );
     }
 }
 

@@ -4,7 +4,7 @@ ghost use Rattle.link.specs.Link.{free_places};
 ghost use Rattle.lives.specs.declared.packets.Packet.{Packet as Carried};
 ghost use Rattle.binding_step.specs.Fits.{IsWellFormedEndpoint};
 ghost use Rattle.nat_types.specs.declared.gateways.Side.{Side};
-ghost use Rattle.packet_rules.specs.Flows.{source_of};
+ghost use Rattle.packet_rules.specs.Flows.{packet_in, source_of};
 ghost use Rattle.packet_rules.specs.Frames.{sent_frame};
 ghost use Rattle.packet_rules.specs.Steps.{IsForwardable};
 ghost use Rattle.step_parts.specs.declared.plans.Plan.TheVariants.{Send};
@@ -14,10 +14,9 @@ ghost use Rattle.step_parts.specs.Verdict.{exit_by};
 ghost use Rattle.forwarder.specs.Forwarder.{scene_on};
 
 use crate::Forwarder;
-use crate::flags::read_flags;
 use crate::outgoing::SentFrame;
 use addresses::{Ip, Mac, Port, TcpFlags};
-use ipv4::Flow;
+use ipv4::{Flow, Packet};
 use lives::{Remote, Way};
 use nat_types::{Endpoint, Key};
 use packet_rules::{Translation, limits_law, source_endpoint};
@@ -124,8 +123,16 @@ impl Forwarder {
     }
 
     /// The frame by which a packet is sent on.
-    fn send_frame(&self, page: &mut Page, by: &Translation, next: Mac, bytes: &[u8])
+    fn send_frame(
+        &self,
+        page: &mut Page,
+        by: &Translation,
+        next: Mac,
+        bytes: &[u8],
+        packet: &Packet,
+    )
         requires forwardable { IsForwardable bytes.now }
+        requires read { packet.now ≡ packet_in bytes.now }
         requires frames { 1 ≤ page.old.room.frames }
         ensures scene { scene_on self.now page.new
             ≡ framed (scene_on self.now page.old) (exit_by by.now)
@@ -139,6 +146,7 @@ impl Forwarder {
             by,
             next,
             bytes,
+            packet,
         };
         page.make_frame(by.direction().exit(), &frame);
     }
@@ -148,25 +156,26 @@ impl Forwarder {
         &mut self,
         page: &mut Page,
         bytes: &[u8],
-        flow: Flow,
+        packet: Packet,
         by: Translation,
         next: Mac,
     )
         requires forwardable { IsForwardable bytes.now }
-        requires formed { IsWellFormedEndpoint (source_of flow) }
+        requires read { packet ≡ packet_in bytes.now }
+        requires formed { IsWellFormedEndpoint (source_of packet.flow) }
         requires frames { 1 ≤ page.old.room.frames }
         requires notes { 3 ≤ page.old.room.notes }
         requires ready { 1 ≤ self.old.core.table.ready }
         ensures scene { (side : Side) → scene_on self.new page.new
-            ≡ by_plan (scene_on self.old page.old) side bytes.now flow (Send by next) }
+            ≡ by_plan (scene_on self.old page.old) side bytes.now packet.flow (Send by next) }
         ensures frames { page.old.room.frames ≤ page.new.room.frames + 1 }
         ensures datagrams { page.new.room.datagrams ≡ page.old.room.datagrams }
         ensures notes { page.old.room.notes ≤ page.new.room.notes + 3 }
         ensures ready { self.old.core.table.ready ≤ self.new.core.table.ready + 1 }
         ensures places { min 64 (free_places self.old.link) ≤ free_places self.new.link }
     {
-        self.wish_for(page, flow, &by);
-        self.send_frame(page, &by, next, bytes);
-        self.carry_all(page, flow, read_flags(bytes), &by);
+        self.wish_for(page, packet.flow, &by);
+        self.send_frame(page, &by, next, bytes, &packet);
+        self.carry_all(page, packet.flow, packet.flags, &by);
     }
 }

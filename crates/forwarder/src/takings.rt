@@ -3,14 +3,14 @@ ghost use Rattle.std.specs.Prelude.{◌≡◌, ◌≤◌, ◌+◌, [], length, m
 ghost use Rattle.kept.specs.declared.waits.Ended.TheVariants.{One, AllPairs};
 ghost use Rattle.link.specs.Link.{free_places};
 ghost use Rattle.binding_step.specs.Fits.{IsWellFormedEndpoint};
-ghost use Rattle.packet_rules.specs.Flows.{flow_in, source_of};
+ghost use Rattle.packet_rules.specs.Flows.{packet_in, source_of};
 ghost use Rattle.packet_rules.specs.Steps.{IsForwardable};
 ghost use Rattle.step_parts.specs.Parts.{flow_taken, released, taken_again};
 ghost use Rattle.step_parts.specs.Verdict.{plan_of};
 ghost use Rattle.forwarder.specs.Forwarder.{copy_for, scene_on, shown_of, wait_in};
 
 use crate::Forwarder;
-use ipv4::Flow;
+use ipv4::Packet;
 use kept::{Ended, Wait, Waiting};
 use nat_types::Side;
 use packet_rules::{Reading, Reason};
@@ -19,13 +19,13 @@ use told::Page;
 
 /// Reminds the prover that a packet that is translated comes from a port above 0; it does nothing
 /// when it runs.
-fn recall_source(bytes: &[u8], flow: Flow)
+fn recall_source(bytes: &[u8], packet: Packet)
     requires forwardable { IsForwardable bytes.now }
-    requires read { flow ≡ flow_in bytes.now }
-    ensures { IsWellFormedEndpoint (source_of flow) }
+    requires read { packet ≡ packet_in bytes.now }
+    ensures { IsWellFormedEndpoint (source_of packet.flow) }
 {
-    let _ = flow.source.0;
-    let _ = flow.source_port.0;
+    let _ = packet.flow.source.0;
+    let _ = packet.flow.source_port.0;
 }
 
 impl Forwarder {
@@ -37,19 +37,19 @@ impl Forwarder {
         page: &mut Page,
         side: Side,
         bytes: &[u8],
-        flow: Flow,
+        packet: Packet,
         plan: Result<Plan, Reason>,
         copy: Option<Waiting>,
     )
-        requires planned { plan ≡ plan_of (shown_of self.old) side flow }
+        requires planned { plan ≡ plan_of (shown_of self.old) side packet.flow }
         requires copied { copy ≡ copy_for side bytes.now self.old.moment (wait_in plan) }
         requires forwardable { IsForwardable bytes.now }
-        requires read { flow ≡ flow_in bytes.now }
+        requires read { packet ≡ packet_in bytes.now }
         requires frames { 1 ≤ page.old.room.frames }
         requires notes { 3 ≤ page.old.room.notes }
         requires ready { 1 ≤ self.old.core.table.ready }
         ensures scene { scene_on self.new page.new
-            ≡ flow_taken (scene_on self.old page.old) side bytes.now flow }
+            ≡ flow_taken (scene_on self.old page.old) side bytes.now packet.flow }
         ensures frames { page.old.room.frames ≤ page.new.room.frames + 1 }
         ensures datagrams { page.new.room.datagrams ≡ page.old.room.datagrams }
         ensures notes { page.old.room.notes ≤ page.new.room.notes + 3 }
@@ -57,39 +57,40 @@ impl Forwarder {
         // What is pushed leaves 64 places of the link free, where they were.
         ensures places { min 64 (free_places self.old.link) ≤ free_places self.new.link }
     {
-        recall_source(bytes, flow);
+        recall_source(bytes, packet);
         match plan {
-            Ok(Plan::Send { by, next }) => self.send(page, bytes, flow, by, next),
+            Ok(Plan::Send { by, next }) => self.send(page, bytes, packet, by, next),
             Ok(Plan::Ask { by, hop }) => match copy {
-                Some(copy) => self.ask(page, flow, by, hop, copy),
+                Some(copy) => self.ask(page, packet.flow, by, hop, copy),
                 None => unreachable!(),
             },
             Ok(Plan::Wait(_)) => match copy {
-                Some(copy) => self.wait(page, flow, copy),
+                Some(copy) => self.wait(page, packet.flow, copy),
                 None => unreachable!(),
             },
-            Err(reason) => self.refuse(page, flow, reason),
+            Err(reason) => self.refuse(page, packet.flow, reason),
         }
     }
 
     /// Takes a kept packet, which was read again.
-    fn take_flow_again(&mut self, page: &mut Page, flow: Flow, packet: Waiting)
+    fn take_flow_again(&mut self, page: &mut Page, reading: Packet, packet: Waiting)
         requires forwardable { IsForwardable packet.bytes }
-        requires read { flow ≡ flow_in packet.bytes }
+        requires read { reading ≡ packet_in packet.bytes }
         requires frames { 1 ≤ page.old.room.frames }
         requires notes { 3 ≤ page.old.room.notes }
         requires ready { 1 ≤ self.old.core.table.ready }
         ensures scene { scene_on self.new page.new
-            ≡ flow_taken (scene_on self.old page.old) packet.side packet.bytes flow }
+            ≡ flow_taken (scene_on self.old page.old) packet.side packet.bytes reading.flow }
         ensures frames { page.old.room.frames ≤ page.new.room.frames + 1 }
         ensures datagrams { page.new.room.datagrams ≡ page.old.room.datagrams }
         ensures notes { page.old.room.notes ≤ page.new.room.notes + 3 }
         ensures ready { self.old.core.table.ready ≤ self.new.core.table.ready + 1 }
         ensures places { min 64 (free_places self.old.link) ≤ free_places self.new.link }
     {
-        recall_source(&packet.bytes, flow);
+        recall_source(&packet.bytes, reading);
+        let flow = reading.flow;
         match self.plan(packet.side, flow) {
-            Ok(Plan::Send { by, next }) => self.send(page, &packet.bytes, flow, by, next),
+            Ok(Plan::Send { by, next }) => self.send(page, &packet.bytes, reading, by, next),
             Ok(Plan::Ask { by, hop }) => {
                 let wait = Wait::Hop(by.direction().exit(), hop);
                 let copy = packet.again(self.moment, wait);
@@ -117,7 +118,7 @@ impl Forwarder {
         ensures places { min 64 (free_places self.old.link) ≤ free_places self.new.link }
     {
         match self.read_frame(packet.side, &packet.bytes) {
-            Ok(Reading::Packet(flow)) => self.take_flow_again(page, flow, packet),
+            Ok(Reading::Packet(reading)) => self.take_flow_again(page, reading, packet),
             Ok(Reading::Arp(_)) => {}
             Ok(Reading::Advert(_, _)) => {}
             Err(_) => {}

@@ -1,3 +1,3 @@
 mod Moving
-mod Places
+pub mod Places
 mod Singles

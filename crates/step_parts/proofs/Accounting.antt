@@ -36,7 +36,7 @@ use Rattle.packet_rules.specs.declared.readings.Reading.TheVariants.{Arp, Advert
 use Rattle.packet_rules.specs.declared.reasons.Reason.{Reason}
 use Rattle.packet_rules.specs.declared.reasons.Reason.TheVariants.{NotUp, OldWord}
 use Rattle.packet_rules.specs.Arping.{answer_to, is_learnable}
-use Rattle.sides.specs.Stations.{Station, after_arp, frames_of, is_active}
+use Rattle.sides.specs.Stations.{Station, after_arp, is_active}
 use Rattle.told.specs.Told.{Told, with_datagram}
 use Rattle.vrrp_states.specs.declared.Action.{Action}
 use Rattle.vrrp_states.specs.Table as table
@@ -44,7 +44,7 @@ use Rattle.vrrp_states.specs.Table.{Event as RouterEvent}
 use Rattle.step_parts.specs.declared.events.Event.{Event}
 use Rattle.step_parts.specs.declared.events.Event.TheVariants.{Frame, Datagram as Comes, Tick, Stop, PeerOff}
 use Rattle.step_parts.specs.Machine.{AreBytes, HasBytes, KeepsBytes}
-use Rattle.step_parts.specs.Parts.{acted, all_framed, all_idle_done, answered_by, arp_taken, datagram_in, datagram_read, framed, handed_in, has_synced, heard_by, heard_unless, idle_done, idle_taken, link_answered, link_ticked, old_dropped, record_done, record_shown, record_told, records_done, released, reset, started, wait_ended, with_link, word_taken}
+use Rattle.step_parts.specs.Parts.{acted, all_framed, all_idle_done, answered_by, arp_taken, datagram_in, datagram_read, framed, frames_of, handed_in, has_synced, heard_by, heard_unless, idle_done, idle_taken, link_answered, link_ticked, old_dropped, record_done, record_shown, record_told, records_done, released, reset, started, wait_ended, with_link, word_taken}
 use Rattle.step_parts.specs.Rests.{AreBy, Rests}
 use Rattle.step_parts.specs.Shown.{Scene, Shown, id_of, scene, station_on, with_notes, with_station}
 use Rattle.step_parts.specs.Steps.{BothAct, Does, FrameDoes, IsStepOn, RouterActs, clock_after, ended_on, stopped, ticked, word_by, word_refusal}
@@ -96,7 +96,7 @@ both-rest s event s2 both = resting-then s both.between s2 (router-rests s Insid
 frame-rests : Reads → (s : Scene) (side : Side) (bytes : List ℕ) (r : Result Reading Reason) (s2 : Scene) → reading_on s.shown side bytes ≡ r → AreBytes bytes → FrameDoes s side bytes r s2 → Resting s s2
 frame-rests reads s side bytes (Ok (Arp p)) s2 read are does = subst (λ (x : Scene). Resting s x) (sym does) (arp-rests reads s side p)
 frame-rests reads s side bytes (Ok (Advert a from)) s2 read are does = router-rests s side _ s2 does
-frame-rests reads s side bytes (Ok (Packet flow)) s2 read are does = subst (λ (x : Scene). Resting s x) (sym does) (flow-rests s side bytes flow are (read-formed [] [] reads s.shown side bytes flow are read))
+frame-rests reads s side bytes (Ok (Packet packet)) s2 read are does = subst (λ (x : Scene). Resting s x) (sym does) (flow-rests s side bytes packet.flow are (read-formed [] [] reads s.shown side bytes packet are read))
 frame-rests reads s side bytes (Err reason) s2 read are does = subst (λ (x : Scene). Resting s x) (sym does) (resting-nothing s)
 
 -- ---- records

@@ -13,6 +13,7 @@ use Rattle.nat_types.specs.declared.pairs.Endpoint.{Endpoint}
 use Rattle.nat_types.specs.declared.pairs.Pair.{Pair}
 use Rattle.arp.specs.Neighbours.{mac_at}
 use Rattle.ipv4.specs.declared.flows.Flow.{Flow}
+use Rattle.ipv4.specs.declared.packets.Packet.{Packet as PacketRead}
 use Rattle.bindings.specs.declared.entries.Entry.{Entry}
 use Rattle.pair_machine.specs.Box.{In}
 use Rattle.binding_step.specs.declared.changes.Row.{Row}
@@ -404,16 +405,16 @@ flow-asks frames s side bytes flow read = at (plan_of s.shown side flow) refl (p
     at (Ok plan) is says = plan-asks frames s side bytes flow plan read is says
     at (Err reason) is says = refusal-leaves (λ x. Ask-on (at_hand side bytes ∷ []) nobody s x) s flow reason (nothing-asks (at_hand side bytes ∷ []) s) (quiet-asks (at_hand side bytes ∷ []) s (wanted_by s (source_of flow)) (wanted-quiet s (source_of flow)))
 
-pub packet-asks : Frames → (s : Scene) (side : Side) (bytes : List ℕ) (flow : Flow) → reading_on s.shown side bytes ≡ Ok (Packet flow) → Ask-on (at_hand side bytes ∷ []) nobody s (flow_taken s side bytes flow)
-packet-asks frames s side bytes flow is =
+pub packet-asks : Frames → (s : Scene) (side : Side) (bytes : List ℕ) (packet : PacketRead) → reading_on s.shown side bytes ≡ Ok (Packet packet) → Ask-on (at_hand side bytes ∷ []) nobody s (flow_taken s side bytes packet.flow)
+packet-asks frames s side bytes packet is =
     let at = station_on s.shown side in
-    let carries = frames.reads at.network (is_active at) (is_up s.shown) bytes (Packet flow) is in
-    flow-asks frames s side bytes flow (record { synced = reading-synced s.shown side bytes (Packet flow) is; passes = carries.0; flow_is = carries.1 })
+    let carries = frames.reads at.network (is_active at) (is_up s.shown) bytes (Packet packet) is in
+    flow-asks frames s side bytes packet.flow (record { synced = reading-synced s.shown side bytes (Packet packet) is; passes = carries.0; flow_is = ap (λ (p : PacketRead). p.flow) carries.1 })
 
 -- ---- those whose wait is over
 
 retaken-asks : Frames → (s : Scene) (side : Side) (bytes : List ℕ) (r : Result Reading Reason) → reading_on s.shown side bytes ≡ r → Ask-on (at_hand side bytes ∷ []) nobody s (retaken_by s side bytes r)
-retaken-asks frames s side bytes (Ok (Packet flow)) is = packet-asks frames s side bytes flow is
+retaken-asks frames s side bytes (Ok (Packet packet)) is = packet-asks frames s side bytes packet is
 retaken-asks frames s side bytes (Ok (Arp p)) is = nothing-asks (at_hand side bytes ∷ []) s
 retaken-asks frames s side bytes (Ok (Advert a from)) is = nothing-asks (at_hand side bytes ∷ []) s
 retaken-asks frames s side bytes (Err reason) is = nothing-asks (at_hand side bytes ∷ []) s

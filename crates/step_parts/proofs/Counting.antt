@@ -46,7 +46,7 @@ use Rattle.packet_rules.specs.declared.translations.Translation.{Translation}
 use Rattle.packet_rules.specs.declared.translations.Translation.TheVariants.{Outward, Inward, Hairpin}
 use Rattle.packet_rules.specs.Arping.{answer_to, is_learnable}
 use Rattle.packet_rules.specs.Flows.{source_of}
-use Rattle.sides.specs.Stations.{Station, after_arp, frames_of, is_active}
+use Rattle.sides.specs.Stations.{Station, after_arp, is_active}
 use Rattle.told.specs.Told.{Told, with_datagram}
 use Rattle.vrrp_states.specs.Table as table
 use Rattle.vrrp_states.specs.Table.{Event as RouterEvent}
@@ -55,7 +55,7 @@ use Rattle.step_parts.specs.declared.events.Event.TheVariants.{Frame, Datagram a
 use Rattle.step_parts.specs.declared.plans.Plan.{Plan}
 use Rattle.step_parts.specs.declared.plans.Plan.TheVariants.{Send, Ask, Wait as WaitFor}
 use Rattle.step_parts.specs.Machine.{AreBytes, HasBytes}
-use Rattle.step_parts.specs.Parts.{all_framed, all_idle_done, all_taken, answered_by, arp_taken, by_plan, by_row, by_verdict, carried_all, carried_by, datagram_in, datagram_read, flow_taken, framed, handed_in, has_synced, heard_by, heard_unless, idle_done, idle_taken, keeping, link_answered, link_ticked, old_dropped, record_done, record_shown, record_told, records_done, released, reset, retaken_by, started, taken_again, wait_ended, wanted_by, wanted_for, with_link, word_taken}
+use Rattle.step_parts.specs.Parts.{all_framed, all_idle_done, all_taken, answered_by, arp_taken, by_plan, by_row, by_verdict, carried_all, carried_by, datagram_in, datagram_read, flow_taken, framed, frames_of, handed_in, has_synced, heard_by, heard_unless, idle_done, idle_taken, keeping, link_answered, link_ticked, old_dropped, record_done, record_shown, record_told, records_done, released, reset, retaken_by, started, taken_again, wait_ended, wanted_by, wanted_for, with_link, word_taken}
 use Rattle.step_parts.specs.Rests.{most_notes}
 use Rattle.step_parts.specs.Shown.{Scene, Shown, id_of, scene, station_on, with_notes, with_station}
 use Rattle.step_parts.specs.Steps.{BothAct, Does, FrameDoes, IsStepOn, RouterActs, ended_on, ticked, word_by, word_refusal}
@@ -153,7 +153,7 @@ flow-adds s side bytes flow = verdict-adds s side bytes flow (plan_of s.shown si
 -- ---- those whose wait is over
 
 retaken-adds : (s : Scene) (side : Side) (bytes : List ℕ) (r : Result Reading Reason) → Adds 3 1 s (retaken_by s side bytes r)
-retaken-adds s side bytes (Ok (Packet flow)) = flow-adds s side bytes flow
+retaken-adds s side bytes (Ok (Packet packet)) = flow-adds s side bytes packet.flow
 retaken-adds s side bytes (Ok (Arp p)) = adds-fewer 0 0 3 1 s s (omega arith) (omega arith) (adds-none s s refl refl)
 retaken-adds s side bytes (Ok (Advert a from)) = adds-fewer 0 0 3 1 s s (omega arith) (omega arith) (adds-none s s refl refl)
 retaken-adds s side bytes (Err reason) = adds-fewer 0 0 3 1 s s (omega arith) (omega arith) (adds-none s s refl refl)
@@ -421,7 +421,7 @@ does-few s (Frame side bytes) done does has = at (reading_on s.shown side bytes.
         let x = arp-within (length s.shown.kept) s side p (omega arith) in
         omega (arith, x.0, ap (λ (z : Scene). length z.told.notes) is)
     at (Ok (Advert a from)) is = omega (arith, (router-adds s side _ done is).notes)
-    at (Ok (Packet flow)) is = omega (arith, (flow-adds s side bytes.now flow).notes, ap (λ (z : Scene). length z.told.notes) is)
+    at (Ok (Packet packet)) is = omega (arith, (flow-adds s side bytes.now packet.flow).notes, ap (λ (z : Scene). length z.told.notes) is)
     at (Err reason) is = omega (arith, ap (λ (z : Scene). length z.told.notes) is)
 does-few s (Comes bytes) done does has =
     let x = datagram-within (length s.shown.kept) s bytes.now (reading bytes.now) refl has in

@@ -11,7 +11,6 @@ pub mod Idle
 pub mod Others
 pub mod Packets
 pub mod Passing
-pub mod Places
 pub mod Records
 pub mod Resting
 pub mod Rooting

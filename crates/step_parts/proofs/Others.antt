@@ -35,14 +35,14 @@ use Rattle.packet_rules.specs.declared.readings.Reading.TheVariants.{Arp, Advert
 use Rattle.packet_rules.specs.declared.reasons.Reason.{Reason}
 use Rattle.packet_rules.specs.Arping.{answer_frame, answer_to, is_learnable}
 use Rattle.packet_rules.specs.Frames.{is_translation}
-use Rattle.sides.specs.Stations.{IsRouterStep, IsWired, Station, after_arp, frames_of, is_active, with_neighbour}
+use Rattle.sides.specs.Stations.{IsRouterStep, IsWired, Station, after_arp, is_active, with_neighbour}
 use Rattle.told.specs.Told.{Sent, Told, with_datagram}
 use Rattle.vrrp_states.specs.Table as table
 use Rattle.vrrp_states.specs.Table.{Event as RouterEvent}
 use Rattle.step_parts.specs.declared.events.Event.{Event}
 use Rattle.step_parts.specs.declared.events.Event.TheVariants.{Frame, Datagram as Comes, Tick, Stop, PeerOff}
 use Rattle.step_parts.specs.Others.{AreOfBoth, AreOthers, FrameOwes, MayGoBy, IsNew, Owes, answers_by, free_by, frees_as, frees_for, frees_heard, frees_read, frees_unless, is_freed, is_old, other_frames, packet_as, packet_in, requests, retaken_pairs, sent_on}
-use Rattle.step_parts.specs.Parts.{acted, all_framed, all_idle_done, answered_by, arp_taken, datagram_in, datagram_read, datagram_taken, flow_taken, framed, handed_in, has_synced, heard_by, heard_unless, idle_done, idle_taken, link_answered, link_ticked, old_dropped, record_done, record_shown, record_told, records_done, released, reset, started, wait_ended, with_link, word_taken}
+use Rattle.step_parts.specs.Parts.{acted, all_framed, all_idle_done, answered_by, arp_taken, datagram_in, datagram_read, datagram_taken, flow_taken, framed, frames_of, handed_in, has_synced, heard_by, heard_unless, idle_done, idle_taken, link_answered, link_ticked, old_dropped, record_done, record_shown, record_told, records_done, released, reset, started, wait_ended, with_link, word_taken}
 use Rattle.step_parts.specs.Shown.{Scene, Shown, id_of, scene, station_on, with_notes, with_station}
 use Rattle.step_parts.specs.Steps.{BothAct, Does, FrameDoes, IsStepOn, RouterActs, clock_after, ended_on, stopped, ticked, word_by, word_refusal}
 use Rattle.step_parts.specs.Truly.{AreWired, AtHand, Known, known_of, packets_of}
@@ -229,10 +229,10 @@ frame-others frames s side bytes (Ok (Advert a from)) s2 read w does =
     let gives = router-gives frames s side (table.Heard a.priority a.interval from.0) s2 does w in
     others-then (FrameOwes s.shown side (Ok (Advert a from))) [] (frees_as s.shown side (Ok (Advert a from))) own s s2 s2
     (record { station = does.station; action = does.action; step = does.step; are = refl }) gives (nothing-asks [] s2 gives.wired).asks
-frame-others frames s side bytes (Ok (Packet flow)) s2 read w does =
-    subst (λ (x : Scene). Sends-others (FrameOwes s.shown side (Ok (Packet flow))) (at_hand side bytes ∷ []) (frees_as s.shown side (Ok (Packet flow))) s x) (sym does)
-    (others-then (FrameOwes s.shown side (Ok (Packet flow))) (at_hand side bytes ∷ []) (frees_as s.shown side (Ok (Packet flow))) [] s s (flow_taken s side bytes flow) refl
-    (gives-nothing s s refl refl refl refl (refl, refl) w) (packet-asks frames s side bytes flow read w).asks)
+frame-others frames s side bytes (Ok (Packet packet)) s2 read w does =
+    subst (λ (x : Scene). Sends-others (FrameOwes s.shown side (Ok (Packet packet))) (at_hand side bytes ∷ []) (frees_as s.shown side (Ok (Packet packet))) s x) (sym does)
+    (others-then (FrameOwes s.shown side (Ok (Packet packet))) (at_hand side bytes ∷ []) (frees_as s.shown side (Ok (Packet packet))) [] s s (flow_taken s side bytes packet.flow) refl
+    (gives-nothing s s refl refl refl refl (refl, refl) w) (packet-asks frames s side bytes packet read w).asks)
 frame-others frames s side bytes (Err reason) s2 read w does =
     subst (λ (x : Scene). Sends-others (FrameOwes s.shown side (Err reason)) [] (frees_as s.shown side (Err reason)) s x) (sym does)
     (others-then (FrameOwes s.shown side (Err reason)) [] (frees_as s.shown side (Err reason)) [] s s s refl

@@ -17,6 +17,7 @@ use Rattle.frames.specs.Frame.{frame_of}
 use Rattle.ipv4.specs.declared.flows.Flow.{Flow}
 use Rattle.ipv4.specs.Carried.{IsTransport}
 use Rattle.ipv4.specs.Header.{header_of, payload_of, word_at}
+use Rattle.ipv4.specs.declared.packets.Packet.{Packet as PacketRead}
 use Rattle.lives.specs.declared.packets.Packet.{Packet as Carried}
 use Rattle.lives.specs.declared.packets.Way.TheVariants as goes
 use Rattle.link.specs.Link.{Link}
@@ -256,14 +257,14 @@ module _ (letters : List Letter) (words : List ℕ) where
 
   -- ---- those whose wait is over
 
-  pub read-formed : Reads → (g : Shown) (side : Side) (bytes : List ℕ) (flow : Flow) → AreBytes bytes → reading_on g side bytes ≡ Ok (Packet flow) → IsWellFormedEndpoint (source_of flow)
-  read-formed reads g side bytes flow are read =
+  pub read-formed : Reads → (g : Shown) (side : Side) (bytes : List ℕ) (packet : PacketRead) → AreBytes bytes → reading_on g side bytes ≡ Ok (Packet packet) → IsWellFormedEndpoint (source_of packet.flow)
+  read-formed reads g side bytes packet are read =
       let at = station_on g side in
-      let known = reads at.network (is_active at) (is_up g) bytes (Packet flow) read in
-      subst (λ (f : Flow). IsWellFormedEndpoint (source_of f)) (sym known.1) (source-formed bytes are known.0)
+      let known = reads at.network (is_active at) (is_up g) bytes (Packet packet) read in
+      subst (λ (p : PacketRead). IsWellFormedEndpoint (source_of p.flow)) (sym known.1) (source-formed bytes are known.0)
 
   retaken-goes : Reads → (s : Scene) (side : Side) (bytes : List ℕ) (r : Result Reading Reason) → reading_on s.shown side bytes ≡ r → AreBytes bytes → Going letters words s (retaken_by s side bytes r)
-  retaken-goes reads s side bytes (Ok (Packet flow)) read are = flow-goes s side bytes flow are (read-formed reads s.shown side bytes flow are read)
+  retaken-goes reads s side bytes (Ok (Packet packet)) read are = flow-goes s side bytes packet.flow are (read-formed reads s.shown side bytes packet are read)
   retaken-goes reads s side bytes (Ok (Arp p)) read are = here s
   retaken-goes reads s side bytes (Ok (Advert a from)) read are = here s
   retaken-goes reads s side bytes (Err reason) read are = here s

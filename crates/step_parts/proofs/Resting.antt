@@ -179,7 +179,7 @@ flow-rests s side bytes flow are formed = verdict-rests s side bytes flow (plan_
 -- ---- those whose wait is over
 
 retaken-rests : Reads → (s : Scene) (side : Side) (bytes : List ℕ) (r : Result Reading Reason) → reading_on s.shown side bytes ≡ r → AreBytes bytes → Resting s (retaken_by s side bytes r)
-retaken-rests reads s side bytes (Ok (Packet flow)) read are = flow-rests s side bytes flow are (read-formed [] [] reads s.shown side bytes flow are read)
+retaken-rests reads s side bytes (Ok (Packet packet)) read are = flow-rests s side bytes packet.flow are (read-formed [] [] reads s.shown side bytes packet are read)
 retaken-rests reads s side bytes (Ok (Arp p)) read are = resting-nothing s
 retaken-rests reads s side bytes (Ok (Advert a from)) read are = resting-nothing s
 retaken-rests reads s side bytes (Err reason) read are = resting-nothing s

@@ -5,6 +5,7 @@ use Rattle.addresses.specs.declared.ethernet.Mac.{Mac}
 use Rattle.nat_types.specs.declared.gateways.Side.{Side}
 use Rattle.nat_types.specs.declared.pairs.Endpoint.{Endpoint}
 use Rattle.ipv4.specs.declared.flows.Flow.{Flow}
+use Rattle.ipv4.specs.declared.packets.Packet.{Packet as PacketRead}
 use Rattle.binding_step.specs.declared.changes.Row.{Row}
 use Rattle.binding_step.specs.Books.{IsBook, is_synced}
 use Rattle.binding_step.specs.Fits.{IsWellFormedEndpoint}
@@ -212,15 +213,15 @@ reading-synced g side bytes x is =
     let two = unless-none (up_refusal (is_up g)) _ x one.1 in
     and-first (is_synced g.ledger.book.stage) (not g.stopped) (up-none (is_up g) two.0)
 
-pub packet-says : Frames → (s : Scene) (side : Side) (bytes : List ℕ) (flow : Flow) → reading_on s.shown side bytes ≡ Ok (Packet flow) → AreBytes bytes
-    → Saying (at_hand side bytes ∷ []) s (flow_taken s side bytes flow)
-packet-says frames s side bytes flow is are =
+pub packet-says : Frames → (s : Scene) (side : Side) (bytes : List ℕ) (packet : PacketRead) → reading_on s.shown side bytes ≡ Ok (Packet packet) → AreBytes bytes
+    → Saying (at_hand side bytes ∷ []) s (flow_taken s side bytes packet.flow)
+packet-says frames s side bytes packet is are =
     let at = station_on s.shown side in
-    let carries = frames.reads at.network (is_active at) (is_up s.shown) bytes (Packet flow) is in
-    flow-says frames s side bytes flow (record { are = are; synced = reading-synced s.shown side bytes (Packet flow) is; passes = carries.0; flow_is = carries.1 })
+    let carries = frames.reads at.network (is_active at) (is_up s.shown) bytes (Packet packet) is in
+    flow-says frames s side bytes packet.flow (record { are = are; synced = reading-synced s.shown side bytes (Packet packet) is; passes = carries.0; flow_is = ap (λ (p : PacketRead). p.flow) carries.1 })
 
 retaken-says : Frames → (s : Scene) (side : Side) (bytes : List ℕ) (r : Result Reading Reason) → reading_on s.shown side bytes ≡ r → AreBytes bytes → Saying (at_hand side bytes ∷ []) s (retaken_by s side bytes r)
-retaken-says frames s side bytes (Ok (Packet flow)) is are = packet-says frames s side bytes flow is are
+retaken-says frames s side bytes (Ok (Packet packet)) is are = packet-says frames s side bytes packet is are
 retaken-says frames s side bytes (Ok (Arp p)) is are = saying-nothing s (at_hand side bytes ∷ [])
 retaken-says frames s side bytes (Ok (Advert a from)) is are = saying-nothing s (at_hand side bytes ∷ [])
 retaken-says frames s side bytes (Err reason) is are = saying-nothing s (at_hand side bytes ∷ [])

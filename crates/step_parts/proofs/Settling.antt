@@ -28,6 +28,7 @@ use Rattle.kept.specs.declared.waits.Ended.TheVariants.{AllPairs, One}
 use Rattle.kept.specs.declared.waits.Wait.{Wait}
 use Rattle.kept.specs.declared.waits.Wait.TheVariants as wait
 use Rattle.kept.specs.Packets.{IsKept, Waiting, ended_by, has_place, left_by}
+use Rattle.kept.proofs.Places.{kept-filter, kept-push}
 use Rattle.packet_rules.specs.declared.readings.Reading.{Reading}
 use Rattle.packet_rules.specs.declared.readings.Reading.TheVariants.{Arp, Advert, Packet}
 use Rattle.packet_rules.specs.declared.reasons.Reason.{Reason}
@@ -37,7 +38,7 @@ use Rattle.packet_rules.specs.Arping.{answer_to, is_learnable}
 use Rattle.packet_rules.specs.Flows.{source_of}
 use Rattle.packet_rules.specs.Frames.{sent_frame}
 use Rattle.sides.specs.Stations as stations
-use Rattle.sides.specs.Stations.{Station, after_arp, frames_of, is_active, with_neighbour}
+use Rattle.sides.specs.Stations.{Station, after_arp, is_active, with_neighbour}
 use Rattle.told.specs.Told.{with_datagram}
 use Rattle.vrrp_states.specs.declared.Action.{Action}
 use Rattle.vrrp_states.specs.declared.State.TheVariants.{Initialize, Backup, Active}
@@ -48,14 +49,13 @@ use Rattle.step_parts.specs.declared.events.Event.TheVariants.{Frame, Datagram a
 use Rattle.step_parts.specs.declared.plans.Plan.{Plan}
 use Rattle.step_parts.specs.declared.plans.Plan.TheVariants.{Send, Ask, Wait as WaitFor}
 use Rattle.step_parts.specs.Founding.{begun, founded}
-use Rattle.step_parts.specs.Parts.{all_idle_done, all_taken, answered_by, arp_taken, by_plan, by_row, by_verdict, carried_all, datagram_in, datagram_read, flags_in, flow_taken, framed, handed_in, has_synced, heard_by, heard_unless, idle_done, idle_taken, keeping, link_answered, link_ticked, old_dropped, record_done, record_shown, record_told, records_done, released, reset, retaken_by, started, taken_again, wait_ended, wanted_by, wanted_for, with_link, with_routers}
+use Rattle.step_parts.specs.Parts.{all_idle_done, all_taken, answered_by, arp_taken, by_plan, by_row, by_verdict, carried_all, datagram_in, datagram_read, flags_in, flow_taken, framed, frames_of, handed_in, has_synced, heard_by, heard_unless, idle_done, idle_taken, keeping, link_answered, link_ticked, old_dropped, record_done, record_shown, record_told, records_done, released, reset, retaken_by, started, taken_again, wait_ended, wanted_by, wanted_for, with_link, with_routers}
 use Rattle.step_parts.specs.Settled.{HasIdleRouters, IsSettled}
 use Rattle.step_parts.specs.Shown.{Scene, Shown, is_up, scene, station_on, with_station}
 use Rattle.step_parts.specs.Steps.{BothAct, Does, FrameDoes, IsStepOn, RouterActs, ended_on, stopped, ticked, word_by, word_refusal}
 use Rattle.step_parts.specs.Verdict.{exit_by, plan_of, reading_on}
 use Rattle.step_parts.proofs.Others.{all-framed-shown}
 use Rattle.step_parts.proofs.Packets.{refusal-leaves}
-use Rattle.step_parts.proofs.Places.{place-filter, place-push}
 use Rattle.step_parts.proofs.Asked.{PlanSays, plan-says}
 
 -- what the parts of a step keep
@@ -109,7 +109,7 @@ carried-all-calms s flow flags (Hairpin own other) = calm-by s.shown (carried_al
 keeping-calms : (s : Scene) (side : Side) (bytes : List ℕ) (w : Wait) → has_place s.shown.kept w ≡ true → Calming s (keeping s side bytes w)
 keeping-calms s side bytes w place =
     calm-by s.shown (keeping s side bytes w).shown (λ d. d) refl refl
-    (λ k. place-push s.shown.kept (record { side = side; bytes = bytes; since = s.shown.moment; wait = w }) k place)
+    (λ k. kept-push s.shown.kept (record { side = side; bytes = bytes; since = s.shown.moment; wait = w }) k place)
 
 plan-calms : (s : Scene) (side : Side) (bytes : List ℕ) (flow : Flow) (plan : Plan) → PlanSays s.shown side flow (Ok plan) → Calming s (by_plan s side bytes flow plan)
 plan-calms s side bytes flow (Send by next) says =
@@ -134,7 +134,7 @@ flow-calms s side bytes flow = at (plan_of s.shown side flow) (plan-says s.shown
 -- ---- those whose wait is over
 
 retaken-calms : (s : Scene) (side : Side) (bytes : List ℕ) (r : Result Reading Reason) → Calming s (retaken_by s side bytes r)
-retaken-calms s side bytes (Ok (Packet flow)) = flow-calms s side bytes flow
+retaken-calms s side bytes (Ok (Packet packet)) = flow-calms s side bytes packet.flow
 retaken-calms s side bytes (Ok (Arp p)) = nothing-calms s
 retaken-calms s side bytes (Ok (Advert a from)) = nothing-calms s
 retaken-calms s side bytes (Err reason) = nothing-calms s
@@ -146,7 +146,7 @@ all-calm s (w ∷ ws) = calming-then s (taken_again s w) (all_taken s (w ∷ ws)
 released-calms : (s : Scene) (ended : Ended) → Calming s (released s ended)
 released-calms s ended =
     let start = scene (record s.shown { kept = left_by ended s.shown.kept }) s.told in
-    calming-then s start (released s ended) (calm-by s.shown start.shown (λ d. d) refl refl (λ k. place-filter _ s.shown.kept k))
+    calming-then s start (released s ended) (calm-by s.shown start.shown (λ d. d) refl refl (λ k. kept-filter _ s.shown.kept k))
     (all-calm start (ended_by ended s.shown.kept))
 
 -- ---- interfaces
@@ -349,7 +349,7 @@ all-idle-calm s (k ∷ ks) =
     calming-then s (idle_done s k) (all_idle_done s (k ∷ ks)) (row-calms s (idle_row s.shown.ledger.book (may_ask s.shown.moment s.shown.link) k)) (all-idle-calm (idle_done s k) ks)
 
 old-calms : (s : Scene) → Calming s (old_dropped s)
-old-calms s = calm-by s.shown (old_dropped s).shown (λ d. d) refl refl (λ k. place-filter _ s.shown.kept k)
+old-calms s = calm-by s.shown (old_dropped s).shown (λ d. d) refl refl (λ k. kept-filter _ s.shown.kept k)
 
 tick-calms : (s : Scene) (now : ℕ) (middle : Scene) → BothAct (ticked s now) table.Tick middle → Calming s (idle_taken (old_dropped middle))
 tick-calms s now middle both = λ is.
@@ -363,7 +363,7 @@ tick-calms s now middle both = λ is.
 frame-calms : (s : Scene) (side : Side) (bytes : List ℕ) (r : Result Reading Reason) (s2 : Scene) → FrameDoes s side bytes r s2 → Calming s s2
 frame-calms s side bytes (Ok (Arp p)) s2 does = subst (λ (x : Scene). Calming s x) (sym does) (arp-calms s side p)
 frame-calms s side bytes (Ok (Advert a from)) s2 does = router-calms s side (table.Heard a.priority a.interval from.0) s2 (λ no. absurd (cc)) does
-frame-calms s side bytes (Ok (Packet flow)) s2 does = subst (λ (x : Scene). Calming s x) (sym does) (flow-calms s side bytes flow)
+frame-calms s side bytes (Ok (Packet packet)) s2 does = subst (λ (x : Scene). Calming s x) (sym does) (flow-calms s side bytes packet.flow)
 frame-calms s side bytes (Err reason) s2 does = subst (λ (x : Scene). Calming s x) (sym does) (nothing-calms s)
 
 does-calms : (s : Scene) (event : Event) (done : Scene) → Does s event done → Calming s done

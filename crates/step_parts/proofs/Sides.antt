@@ -9,10 +9,10 @@ use Rattle.kept.specs.declared.waits.Ended.TheVariants.{One}
 use Rattle.kept.specs.declared.waits.Wait.TheVariants as wait
 use Rattle.pair_machine.specs.Box.{Letter}
 use Rattle.packet_rules.specs.Arping.{answer_to, is_learnable}
-use Rattle.sides.specs.Stations.{Station, after_arp, frames_of, is_active}
+use Rattle.sides.specs.Stations.{Station, after_arp, is_active}
 use Rattle.vrrp_states.specs.declared.Action.{Action}
 use Rattle.vrrp_states.specs.Table.{Event as RouterEvent}
-use Rattle.step_parts.specs.Parts.{acted, all_framed, answered_by, arp_taken, framed, old_dropped, released}
+use Rattle.step_parts.specs.Parts.{acted, all_framed, answered_by, arp_taken, framed, frames_of, old_dropped, released}
 use Rattle.step_parts.specs.Shown.{Scene, scene, station_on, with_station}
 use Rattle.step_parts.specs.Steps.{BothAct, RouterActs, stopped}
 use Rattle.step_parts.proofs.Passing.{Going, going-then, going-unseen}

@@ -25,7 +25,7 @@ use Rattle.step_parts.proofs.Sides.{arp-goes, both-go, old-goes, router-goes, st
 frame-goes : Reads → (s : Scene) (side : Side) (bytes : List ℕ) (r : Result Reading Reason) (s2 : Scene) → reading_on s.shown side bytes ≡ r → AreBytes bytes → FrameDoes s side bytes r s2 → Going [] [] s s2
 frame-goes reads s side bytes (Ok (Arp p)) s2 read are does = subst (λ (x : Scene). Going [] [] s x) (sym does) (arp-goes [] [] reads s side p)
 frame-goes reads s side bytes (Ok (Advert a from)) s2 read are does = router-goes [] [] s side _ s2 does
-frame-goes reads s side bytes (Ok (Packet flow)) s2 read are does = subst (λ (x : Scene). Going [] [] s x) (sym does) (flow-goes [] [] s side bytes flow are (read-formed [] [] reads s.shown side bytes flow are read))
+frame-goes reads s side bytes (Ok (Packet packet)) s2 read are does = subst (λ (x : Scene). Going [] [] s x) (sym does) (flow-goes [] [] s side bytes packet.flow are (read-formed [] [] reads s.shown side bytes packet are read))
 frame-goes reads s side bytes (Err reason) s2 read are does = subst (λ (x : Scene). Going [] [] s x) (sym does) (here [] [] s)
 
 -- where the event's own parts begin: a tick moves the clock first

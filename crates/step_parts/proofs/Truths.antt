@@ -32,7 +32,7 @@ use Rattle.packet_rules.specs.declared.reasons.Reason.{Reason}
 use Rattle.packet_rules.specs.declared.reasons.Reason.TheVariants.{NotUp, OldWord}
 use Rattle.packet_rules.specs.Arping.{answer_frame, answer_to, is_learnable}
 use Rattle.packet_rules.specs.Frames.{is_translation}
-use Rattle.sides.specs.Stations.{IsWired, Station, after_arp, frames_of, is_active, with_neighbour}
+use Rattle.sides.specs.Stations.{IsWired, Station, after_arp, is_active, with_neighbour}
 use Rattle.told.specs.Told.{Told, with_datagram}
 use Rattle.vrrp_states.specs.declared.Action.{Action}
 use Rattle.vrrp_states.specs.declared.Action.TheVariants.{Nothing, Advertise, AdvertiseAndArp}
@@ -41,7 +41,7 @@ use Rattle.vrrp_states.specs.Table.{Event as RouterEvent, Router}
 use Rattle.step_parts.specs.declared.events.Event.{Event}
 use Rattle.step_parts.specs.declared.events.Event.TheVariants.{Frame, Datagram as Comes, Tick, Stop, PeerOff}
 use Rattle.step_parts.specs.Machine.{AreBytes, HasBytes}
-use Rattle.step_parts.specs.Parts.{acted, all_framed, all_idle_done, answered_by, arp_taken, datagram_in, datagram_read, flow_taken, framed, handed_in, has_synced, heard_by, heard_unless, idle_done, idle_taken, link_answered, link_ticked, old_dropped, record_done, record_shown, record_told, records_done, released, reset, started, wait_ended, with_link, word_taken}
+use Rattle.step_parts.specs.Parts.{acted, all_framed, all_idle_done, answered_by, arp_taken, datagram_in, datagram_read, flow_taken, framed, frames_of, handed_in, has_synced, heard_by, heard_unless, idle_done, idle_taken, link_answered, link_ticked, old_dropped, record_done, record_shown, record_told, records_done, released, reset, started, wait_ended, with_link, word_taken}
 use Rattle.step_parts.specs.Shown.{Scene, Shown, id_of, scene, station_on, with_notes, with_station}
 use Rattle.step_parts.specs.Steps.{BothAct, Does, FrameDoes, IsStepOn, RouterActs, ended_on, stopped, ticked, word_by, word_refusal}
 use Rattle.step_parts.specs.Truly.{AreWired, AtHand, Known, Tells, hand_of, known_of}
@@ -157,9 +157,9 @@ frame-speaks frames s side bytes (Ok (Arp p)) s2 read are does =
 frame-speaks frames s side bytes (Ok (Advert a from)) s2 read are does =
     let hand = at_hand side bytes ∷ [] in
     speaks-then [] hand s s2 s2 (speaks-of [] s s2 (router-says frames s side _ s2 does)) (saying-nothing s2 hand)
-frame-speaks frames s side bytes (Ok (Packet flow)) s2 read are does =
+frame-speaks frames s side bytes (Ok (Packet packet)) s2 read are does =
     let hand = at_hand side bytes ∷ [] in
-    subst (λ (x : Scene). Speaks hand s x) (sym does) (speaks-of hand s (flow_taken s side bytes flow) (packet-says frames s side bytes flow read are))
+    subst (λ (x : Scene). Speaks hand s x) (sym does) (speaks-of hand s (flow_taken s side bytes packet.flow) (packet-says frames s side bytes packet read are))
 frame-speaks frames s side bytes (Err reason) s2 read are does =
     let hand = at_hand side bytes ∷ [] in
     subst (λ (x : Scene). Speaks hand s x) (sym does) (speaks-of hand s s (saying-nothing s hand))

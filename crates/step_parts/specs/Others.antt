@@ -37,14 +37,14 @@ use Rattle.packet_rules.specs.Arping.{answer_frame, answer_to, is_learnable, req
 use Rattle.packet_rules.specs.Flows.{flow_in, source_of}
 use Rattle.packet_rules.specs.Frames.{hop_of, is_translation, way_of}
 use Rattle.packet_rules.specs.Networks.{direction_of}
-use Rattle.sides.specs.Stations.{IsRouterStep, Station, frames_of, is_active}
+use Rattle.sides.specs.Stations.{IsRouterStep, Station, is_active}
 use Rattle.told.specs.Told.{Sent}
 use Rattle.vrrp_states.specs.declared.Action.{Action}
 use Rattle.vrrp_states.specs.Table as table
 use Rattle.vrrp_states.specs.Table.{Event as RouterEvent}
 use Rattle.step_parts.specs.declared.events.Event.{Event}
 use Rattle.step_parts.specs.declared.events.Event.TheVariants.{Frame, Datagram, Tick, Stop, PeerOff}
-use Rattle.step_parts.specs.Parts.{record_done, reset, with_link}
+use Rattle.step_parts.specs.Parts.{frames_of, record_done, reset, with_link}
 use Rattle.step_parts.specs.Shown.{Scene, Shown, station_on}
 use Rattle.step_parts.specs.Steps.{clock_after, word_refusal}
 use Rattle.step_parts.specs.Truly.{AreItsPairs, AtHand, Known, known_of, near_on, packets_of}
@@ -83,7 +83,7 @@ pub record AreOfBoth (g : Shown) (event : RouterEvent) (moment : ℕ) (frames : 
 abbrev pub FrameOwes : Shown → Side → Result Reading Reason → List Sent → Type 0
 FrameOwes g side (Ok (Arp p)) own = own ≡ sent_on side (answers (station_on g side) p)
 FrameOwes g side (Ok (Advert a from)) own = AreOfAction g side (table.Heard a.priority a.interval from.0) g.moment own
-FrameOwes g side (Ok (Packet flow)) own = own ≡ []
+FrameOwes g side (Ok (Packet packet)) own = own ≡ []
 FrameOwes g side (Err reason) own = own ≡ []
 
 abbrev pub Owes : Shown → Event → List Sent → Type 0
@@ -107,7 +107,7 @@ requests g waiting = flat_map (λ w. request_for g w.wait) waiting
 abbrev pub frees_as : Shown → Side → Result Reading Reason → Waiting → Bool
 frees_as g side (Ok (Arp p)) w = is_learnable (station_on g side).network p && ends (One (wait.Hop side p.sender_ip)) w.wait
 frees_as g side (Ok (Advert a from)) w = false
-frees_as g side (Ok (Packet flow)) w = false
+frees_as g side (Ok (Packet packet)) w = false
 frees_as g side (Err reason) w = false
 
 -- a record: those that wait for the pair of the endpoint that it answers
@@ -159,7 +159,7 @@ is_old g (PeerOff n) w = false
 abbrev pub packet_as : Side → List ℕ → Result Reading Reason → List AtHand
 packet_as side bytes (Ok (Arp p)) = []
 packet_as side bytes (Ok (Advert a from)) = []
-packet_as side bytes (Ok (Packet flow)) = record { side = side; bytes = bytes } ∷ []
+packet_as side bytes (Ok (Packet packet)) = record { side = side; bytes = bytes } ∷ []
 packet_as side bytes (Err reason) = []
 
 abbrev pub packet_in : Shown → Event → List AtHand

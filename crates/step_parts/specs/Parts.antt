@@ -41,11 +41,13 @@ use Rattle.packet_rules.specs.declared.reasons.Reason.{Reason}
 use Rattle.packet_rules.specs.declared.reasons.Reason.TheVariants.{ShortFrame, NotMine, BadHeader, BadLength, BadHeaderSum, Fragment, TtlOver, NotUdpTcp, BadTransport, BadArp, BadAdvert, NotUp, NoBinding, NoPort, CannotWait, BadDatagram, OldWord}
 use Rattle.packet_rules.specs.declared.translations.Translation.{Translation}
 use Rattle.packet_rules.specs.declared.translations.Translation.TheVariants.{Outward, Inward, Hairpin}
-use Rattle.packet_rules.specs.Arping.{answer_frame, answer_to, is_learnable, request_frame}
+use Rattle.packet_rules.specs.Adverts.{advert_frame}
+use Rattle.packet_rules.specs.Arping.{answer_frame, answer_to, gratuitous_frame, is_learnable, request_frame}
 use Rattle.packet_rules.specs.Flows.{source_of}
 use Rattle.packet_rules.specs.Frames.{sent_frame}
-use Rattle.sides.specs.Stations.{Station, after_arp, frames_of, is_active}
+use Rattle.sides.specs.Stations.{Station, after_arp, is_active}
 use Rattle.vrrp_states.specs.declared.Action.{Action}
+use Rattle.vrrp_states.specs.declared.Action.TheVariants.{Nothing, Advertise, AdvertiseAndArp}
 use Rattle.vrrp_states.specs.declared.State.{State}
 use Rattle.vrrp_states.specs.declared.State.TheVariants.{Initialize, Backup, Active}
 use Rattle.vrrp_states.specs.Table.{Router, active_down_interval}
@@ -154,7 +156,7 @@ flow_taken s side bytes flow = by_verdict s side bytes flow (plan_of s.shown sid
 
 -- a kept packet is read again from the first step on
 abbrev pub retaken_by : Scene → Side → List ℕ → Result Reading Reason → Scene
-retaken_by s side bytes (Ok (Packet flow)) = flow_taken s side bytes flow
+retaken_by s side bytes (Ok (Packet packet)) = flow_taken s side bytes packet.flow
 retaken_by s side bytes (Ok (Arp p)) = s
 retaken_by s side bytes (Ok (Advert a from)) = s
 retaken_by s side bytes (Err reason) = s
@@ -189,6 +191,16 @@ arp_taken s side p =
 abbrev pub all_framed : Scene → Side → List (List ℕ) → Scene
 all_framed s side [] = s
 all_framed s side (frame ∷ frames) = all_framed (framed s side frame) side frames
+
+-- the frames that an action sends, in order
+abbrev pub frames_of : Station → Action → List (List ℕ)
+frames_of station Nothing = []
+frames_of station (Advertise priority) =
+    advert_frame station.network priority station.interval ∷ []
+frames_of station (AdvertiseAndArp priority) =
+    advert_frame station.network priority station.interval
+    ∷ gratuitous_frame station.network
+    ∷ []
 
 -- a router moved: its interface is this one, and its action's frames are sent
 abbrev pub acted : Scene → Side → Station → Action → Scene

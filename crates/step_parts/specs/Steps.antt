@@ -48,7 +48,7 @@ pub record BothAct (s : Scene) (event : RouterEvent) (s2 : Scene) : Type 0 where
 abbrev pub FrameDoes : Scene → Side → List ℕ → Result Reading Reason → Scene → Type 0
 FrameDoes s side bytes (Ok (Arp p)) s2 = s2 ≡ arp_taken s side p
 FrameDoes s side bytes (Ok (Advert a from)) s2 = RouterActs s side (table.Heard a.priority a.interval from.0) s2
-FrameDoes s side bytes (Ok (Packet flow)) s2 = s2 ≡ flow_taken s side bytes flow
+FrameDoes s side bytes (Ok (Packet packet)) s2 = s2 ≡ flow_taken s side bytes packet.flow
 FrameDoes s side bytes (Err reason) s2 = s2 ≡ s
 
 abbrev pub ticked : Scene → ℕ → Scene

@@ -106,7 +106,7 @@ outcome_by (Err reason) = Dropped reason
 abbrev pub outcome_read : Shown → Side → Result Reading Reason → Outcome
 outcome_read g side (Ok (Arp p)) = Done
 outcome_read g side (Ok (Advert a from)) = Done
-outcome_read g side (Ok (Packet flow)) = outcome_by (plan_of g side flow)
+outcome_read g side (Ok (Packet packet)) = outcome_by (plan_of g side packet.flow)
 outcome_read g side (Err reason) = Dropped reason
 
 abbrev pub verdict : Shown → Side → List ℕ → Outcome
