@@ -24,13 +24,13 @@ use Rattle.packet_rules.specs.declared.readings.Reading.{Reading}
 use Rattle.packet_rules.specs.declared.readings.Reading.TheVariants.{Arp, Advert, Packet}
 use Rattle.packet_rules.specs.declared.reasons.Reason.{Reason}
 use Rattle.packet_rules.specs.Arping.{answer_to, is_learnable}
-use Rattle.sides.specs.Stations.{Station, after_arp, frames_of, is_active}
+use Rattle.sides.specs.Stations.{Station, after_arp, is_active}
 use Rattle.vrrp_states.specs.Table as table
 use Rattle.vrrp_states.specs.Table.{Event as RouterEvent, IsMoment}
 use Rattle.vrrp_states.specs.declared.Action.{Action}
 use Rattle.step_parts.specs.declared.events.Event.{Event}
 use Rattle.step_parts.specs.declared.events.Event.TheVariants.{Frame, Datagram as Comes, Tick, Stop, PeerOff}
-use Rattle.step_parts.specs.Parts.{acted, all_framed, all_idle_done, answered_by, arp_taken, datagram_read, datagram_taken, framed, handed_in, has_synced, heard_by, heard_unless, idle_done, idle_taken, link_answered, link_ticked, old_dropped, record_done, record_shown, records_done, released, reset, wait_ended, with_link, with_routers}
+use Rattle.step_parts.specs.Parts.{acted, all_framed, all_idle_done, answered_by, arp_taken, datagram_read, datagram_taken, framed, frames_of, handed_in, has_synced, heard_by, heard_unless, idle_done, idle_taken, link_answered, link_ticked, old_dropped, record_done, record_shown, records_done, released, reset, wait_ended, with_link, with_routers}
 use Rattle.step_parts.specs.Shown.{Scene, Shown, id_of, scene, station_on, with_notes, with_station}
 use Rattle.step_parts.specs.Steps.{BothAct, Does, FrameDoes, RouterActs, ended_on, stopped, ticked, word_by, word_refusal}
 use Rattle.step_parts.specs.Verdict.{reading_on}
@@ -82,7 +82,7 @@ arp-stays s side p =
 frame-stays : (s : Scene) (side : Side) (bytes : List ℕ) (r : Result Reading Reason) (s2 : Scene) → FrameDoes s side bytes r s2 → Stays s.shown s2.shown
 frame-stays s side bytes (Ok (Arp p)) s2 does = stays-as s.shown (arp_taken s side p) s2 does (arp-stays s side p)
 frame-stays s side bytes (Ok (Advert a from)) s2 does = router-stays s side _ s2 does
-frame-stays s side bytes (Ok (Packet flow)) s2 does = stays-as s.shown _ s2 does (flow-stays s side bytes flow)
+frame-stays s side bytes (Ok (Packet packet)) s2 does = stays-as s.shown _ s2 does (flow-stays s side bytes packet.flow)
 frame-stays s side bytes (Err reason) s2 does = stays-as s.shown s s2 does (stays-here s.shown)
 
 -- ---- datagrams

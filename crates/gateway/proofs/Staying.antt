@@ -109,7 +109,7 @@ pub flow-stays : (s : Scene) (side : Side) (bytes : List ℕ) (flow : Flow) → 
 flow-stays s side bytes flow = verdict-stays s side bytes flow (plan_of s.shown side flow)
 
 retaken-stays : (s : Scene) (side : Side) (bytes : List ℕ) (r : Result Reading Reason) → Stays s.shown (retaken_by s side bytes r).shown
-retaken-stays s side bytes (Ok (Packet flow)) = flow-stays s side bytes flow
+retaken-stays s side bytes (Ok (Packet packet)) = flow-stays s side bytes packet.flow
 retaken-stays s side bytes (Ok (Arp p)) = stays-here s.shown
 retaken-stays s side bytes (Ok (Advert a from)) = stays-here s.shown
 retaken-stays s side bytes (Err reason) = stays-here s.shown

@@ -1,33 +1,23 @@
 //! A frame that came in.
 ghost use Rattle.std.specs.Prelude.{◌≡◌, ◌≤◌, IfOk, Ok, OnErr, OnOk};
 ghost use Rattle.vrrp_states.specs.Table.{IsMoment};
-ghost use Rattle.packet_rules.specs.Flows.{flow_in};
+ghost use Rattle.packet_rules.specs.Flows.{packet_in};
 ghost use Rattle.packet_rules.specs.Steps.{Carries, IsForwardable};
 ghost use Rattle.step_parts.specs.Parts.{flow_taken};
 ghost use Rattle.step_parts.specs.Steps.{FrameDoes};
-ghost use Rattle.step_parts.specs.Verdict.{exit_by, outcome_by, outcome_read, plan_of};
+ghost use Rattle.step_parts.specs.Verdict.{outcome_by, outcome_read, plan_of};
 ghost use Rattle.forwarder.specs.Forwarder.{copy_for, scene_on, shown_of, wait_in};
 
 use crate::NoMemory;
 use crate::routers::{Cue, cue_router};
 use forwarder::Forwarder;
-use ipv4::Flow;
+use ipv4::Packet;
 use kept::{Wait, Waiting};
 use nat_types::Side;
-use packet_rules::{Reading, Reason, Translation};
+use packet_rules::{Reading, Reason};
 use std::alloc::Global;
 use step_parts::{Outcome, Plan};
 use told::Page;
-
-/// The side at which a translated packet leaves.
-fn exit_by(by: Translation) -> Side
-    ensures { result ≡ exit_by by }
-{
-    match by {
-        Translation::Outward(_) => Side::Outside,
-        Translation::Inward(_) | Translation::Hairpin(..) => Side::Inside,
-    }
-}
 
 /// What a plan makes a packet wait for.
 fn wait_in(plan: &Result<Plan, Reason>) -> Option<Wait>
@@ -35,7 +25,7 @@ fn wait_in(plan: &Result<Plan, Reason>) -> Option<Wait>
 {
     match plan {
         Ok(Plan::Send { by: _, next: _ }) => None,
-        Ok(Plan::Ask { by, hop }) => Some(Wait::Hop(exit_by(*by), *hop)),
+        Ok(Plan::Ask { by, hop }) => Some(Wait::Hop(by.direction().exit(), *hop)),
         Ok(Plan::Wait(endpoint)) => Some(Wait::Pair(*endpoint)),
         Err(_reason) => None,
     }
@@ -78,27 +68,27 @@ fn take_flow(
     page: &mut Page,
     side: Side,
     bytes: &[u8],
-    flow: Flow,
+    packet: Packet,
 ) -> Result<Outcome, NoMemory>
     requires forwardable { IsForwardable bytes.now }
-    requires read { flow ≡ flow_in bytes.now }
+    requires read { packet ≡ packet_in bytes.now }
     requires frames { 1 ≤ page.old.room.frames }
     requires notes { 3 ≤ page.old.room.notes }
     requires ready { 1 ≤ forwarder.old.core.table.ready }
     ensures outcome { IfOk result (λ o. o
-        ≡ outcome_by (plan_of (shown_of forwarder.old) side flow)) }
+        ≡ outcome_by (plan_of (shown_of forwarder.old) side packet.flow)) }
     ensures scene { OnOk result (scene_on forwarder.new page.new
-        ≡ flow_taken (scene_on forwarder.old page.old) side bytes.now flow) }
+        ≡ flow_taken (scene_on forwarder.old page.old) side bytes.now packet.flow) }
     ensures datagrams { page.new.room.datagrams ≡ page.old.room.datagrams }
     ensures err { OnErr result (scene_on forwarder.new page.new
         ≡ scene_on forwarder.old page.old) }
 {
-    let plan = forwarder.plan(side, flow);
+    let plan = forwarder.plan(side, packet.flow);
     let outcome = outcome_by(&plan);
     let now = forwarder.moment;
     match copy_for(alloc, side, bytes, now, wait_in(&plan)) {
         Ok(copy) => {
-            forwarder.take_packet(page, side, bytes, flow, plan, copy);
+            forwarder.take_packet(page, side, bytes, packet, plan, copy);
             Ok(outcome)
         }
         Err(fault) => Err(fault),
@@ -137,6 +127,6 @@ pub(crate) fn take_reading(
             cue_router(forwarder, page, side, Cue::Heard(advert, from));
             Ok(Outcome::Done)
         }
-        Reading::Packet(flow) => take_flow(alloc, forwarder, page, side, bytes, flow),
+        Reading::Packet(packet) => take_flow(alloc, forwarder, page, side, bytes, packet),
     }
 }
