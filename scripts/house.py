@@ -4,7 +4,8 @@
     scripts/house.py [FOLDER]      this repository, or the one in FOLDER
     scripts/house.py --self-test   plants one fault of each kind in a copy, and shows that it is found
 
-A dependency of a crate in crates.txt has to be named by the crate's own sources. The lemmas that other crates cite
+A dependency of a crate in crates.txt has to be named by the crate's own sources; comments and quoted texts don't
+count. The lemmas that other crates cite
 stand in proofs/Offered.antt, the one file that proofs/Lib.antt shows (`pub mod`); no crate imports another's other
 proof files. Each folder of crates/ has its line in crates.txt and in crates/README.md.
 """
@@ -18,6 +19,13 @@ import tempfile
 # A library that a crate's sources name nowhere, and that its check asks for all the same: a public clause of a crate
 # below, or the code of a derive, leads to it. Each was left out once, and the check was refused.
 LED_TO = {}
+
+# What of a source is no code: comments, quoted texts, characters.
+QUOTED = r'b?"(?:\\.|[^"\\])*"'
+NO_CODE = {
+    ".rt": re.compile(r"//[^\n]*|/\*.*?\*/|b?'(?:\\.[^']*|[^'\\])'|" + QUOTED, re.S),
+    ".antt": re.compile(r"(?<!\S)--[^\n]*|\{-.*?-\}|" + QUOTED, re.S),
+}
 
 
 def crates_of(top):
@@ -38,6 +46,10 @@ def sources_of(folder):
                 yield path
 
 
+def code_of(path):
+    return NO_CODE[path.suffix].sub(" ", path.read_text(encoding="utf-8"))
+
+
 def names_in(text):
     """The libraries that a source may name: heads of paths, and of modules of definitions and lemmas."""
     return set(re.findall(r"\bRattle\.(\w+)\.", text)) | set(re.findall(r"(?<![\w:])(\w+)::", text)) \
@@ -48,7 +60,7 @@ def unused(top, crates):
     for name, libraries in crates.items():
         named = set()
         for path in sources_of(top / "crates" / name):
-            named |= names_in(path.read_text(encoding="utf-8"))
+            named |= names_in(code_of(path))
         for library in libraries:
             if library not in named and library not in LED_TO.get(name, ()):
                 yield f"crates.txt: {name} names {library} nowhere"
@@ -62,8 +74,7 @@ def past_the_door(top, crates):
                 if module != "Offered":
                     yield f"crates/{name}/proofs/Lib.antt: shows {module}, and only Offered may be shown"
         for path in sources_of(top / "crates" / name):
-            text = path.read_text(encoding="utf-8")
-            for owner, module in re.findall(r"\bRattle\.(\w+)\.proofs\.(\w+)", text):
+            for owner, module in re.findall(r"\bRattle\.(\w+)\.proofs\.(\w+)", code_of(path)):
                 if owner != name and owner in crates and module != "Offered":
                     yield f"{path.relative_to(top)}: cites {owner}'s {module}, and not its Offered"
 
@@ -90,30 +101,34 @@ def copy_of(top, room):
 
 
 def plant(top, fault):
-    """Makes a copy wrong in one way; gives a part of the line that has to be said of it."""
+    """Makes a copy wrong in one way; gives the beginning of the one line that has to be said of it."""
     if fault == "dependency":
         path = top / "crates.txt"
         path.write_text(re.sub(r"(?m)^(sums:.*)$", r"\1 slab", path.read_text()))
-        return "sums names slab nowhere"
+        path = top / "crates" / "sums" / "src" / "planted.rt"
+        path.write_text('//! slab::Slab, in a comment\nconst TEXT: &str = "slab::Slab";\n')
+        return "crates.txt: sums names slab nowhere"
     if fault == "lemma":
         path = top / "crates" / "rewrite" / "proofs" / "Planted.antt"
-        path.write_text("use Rattle.sums.proofs.Words.{word_sum-append}\n")
-        return "cites sums's Words"
+        path.write_text("use Rattle.sums.proofs.Planted.{a}\nuse Rattle.sums.proofs.Offered.{b}\n")
+        return "crates/rewrite/proofs/Planted.antt: cites sums's Planted"
     if fault == "door":
         path = top / "crates" / "sums" / "proofs" / "Lib.antt"
-        path.write_text(path.read_text() + "pub mod Words\n")
-        return "shows Words"
+        path.write_text(path.read_text() + "\npub mod Planted\n")
+        return "crates/sums/proofs/Lib.antt: shows Planted"
     (top / "crates" / "planted").mkdir()
     return "crates/planted: no line"
 
 
 def self_test(top):
+    """Each planted fault gives its own line and no other, also where the repository isn't in order yet."""
     for fault in ("dependency", "lemma", "door", "folder"):
         with tempfile.TemporaryDirectory(prefix="house-") as room:
             copy = copy_of(top, pathlib.Path(room))
+            before = set(faults(copy))
             wanted = plant(copy, fault)
-            found = [line for line in faults(copy) if wanted in line]
-            if len(found) != 1:
+            found = [line for line in faults(copy) if line not in before]
+            if len(found) != 1 or not found[0].startswith(wanted):
                 sys.exit(f"house: the planted {fault} isn't found")
             print(f"house: found {found[0]}")
 
