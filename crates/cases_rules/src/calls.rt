@@ -1,5 +1,5 @@
 //! Which call a case names.
-use crate::interfaces::Interfaces;
+use crate::both_sides::Interfaces;
 use crate::packets;
 use anyhow::{Result, bail};
 use cases_words::Given;

@@ -4,14 +4,14 @@
 //! it; in `rules.cases` a name stands before the call.
 #![tactic(auto)]
 
+mod both_sides;
 mod calls;
-mod interfaces;
 mod packets;
 mod routers;
 
 use anyhow::Result;
+use both_sides::Interfaces;
 use cases_words::{Given, is_silent, words_of};
-use interfaces::Interfaces;
 use routers::Routers;
 use settings::Settings;
 use std::alloc::Global;

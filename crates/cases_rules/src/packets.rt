@@ -1,5 +1,5 @@
 //! Frames that come in, and what is sent on.
-use crate::interfaces::{Interfaces, acted, moment};
+use crate::both_sides::{Interfaces, acted, moment};
 use addresses::Protocol;
 use anyhow::{Context, Result};
 use arp::ArpPacket;
@@ -157,7 +157,14 @@ pub fn send(interfaces: &Interfaces, given: &mut Given) -> Result<String> {
                     let hop = translation.next_hop(networks, flow.destination);
                     let exit = translation.direction().exit();
                     let mut out = Vec::with_capacity(given.alloc, bytes.len())?;
-                    append_sent(&mut out, networks, &translation, mac, bytes.as_slice(), &packet);
+                    append_sent(
+                        &mut out,
+                        networks,
+                        &translation,
+                        mac,
+                        bytes.as_slice(),
+                        &packet,
+                    );
                     let sent = hex::encode(given.alloc, out.as_slice())?;
                     Ok(format!(in given.alloc; "{way:?} to {hop} at {exit} [{sent}]")?)
                 }

@@ -1,5 +1,5 @@
 use Rattle.frame_sim.specs.Status.{IsNew}
-use Rattle.frame_sim.proofs.beginnings.World.founded.Goals as goal
+use Rattle.frame_sim.proofs.worlds.World.founded.Goals as goal
 
 pub returns : goal.returns
 unfolding IsNew
