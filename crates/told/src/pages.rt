@@ -119,19 +119,6 @@ impl Page {
         self.notes.clear();
     }
 
-    /// Adds a frame that goes to this side.
-    pub fn send_frame(&mut self, side: Side, frame: &[u8])
-        requires room { 0 < self.old.room.frames }
-        requires short { length frame.now ≤ 1514 }
-        ensures told { self.new.told ≡ with_frame self.old.told side frame.now }
-        ensures room { self.old.room
-            ≡ record self.new.room { frames = self.new.room.frames + 1 } }
-    {
-        self.sides.push_reserved(side);
-        self.frames.push(frame);
-        self.room.frames -= 1;
-    }
-
     /// Adds a frame that goes to this side, and is made where it lies.
     pub fn make_frame<W: WriteBytes>(&mut self, side: Side, frame: &W)
         requires ready { W.can_write frame.now }
@@ -144,18 +131,6 @@ impl Page {
         self.sides.push_reserved(side);
         self.frames.write(frame);
         self.room.frames -= 1;
-    }
-
-    /// Adds a datagram.
-    pub fn send_datagram(&mut self, datagram: &[u8])
-        requires room { 0 < self.old.room.datagrams }
-        requires short { length datagram.now ≤ 2214 }
-        ensures told { self.new.told ≡ with_datagram self.old.told datagram.now }
-        ensures room { self.old.room
-            ≡ record self.new.room { datagrams = self.new.room.datagrams + 1 } }
-    {
-        self.datagrams.push(datagram);
-        self.room.datagrams -= 1;
     }
 
     /// Adds a datagram that is made where it lies.

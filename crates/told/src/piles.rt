@@ -61,21 +61,6 @@ impl Pile {
         self.bytes.clear();
     }
 
-    /// Puts a string behind the others.
-    pub(crate) fn push(&mut self, string: &[u8])
-        requires place { 0 < self.old.places }
-        requires octets { length string.now ≤ self.old.octets }
-        ensures strings { self.new.strings ≡ self.old.strings ++ string.now ∷ [] }
-        ensures places { self.old.places ≤ self.new.places + 1 }
-        ensures octets { self.old.octets ≤ self.new.octets + length string.now }
-    {
-        self.sizes.push_reserved(string.len());
-        match self.bytes.extend_from_slice(string) {
-            Ok(()) => {}
-            Err(_full) => unreachable!(),
-        }
-    }
-
     /// Lets a string be made behind the others.
     pub(crate) fn write<W: WriteBytes>(&mut self, source: &W)
         requires ready { W.can_write source.now }

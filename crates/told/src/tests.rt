@@ -34,6 +34,22 @@ impl WriteBytes for Twice<'_> {
     }
 }
 
+/// A frame of just these bytes.
+#[derive(Drop)]
+struct Plain<'a>(&'a [u8]);
+
+impl WriteBytes for Plain<'_> {
+    ghost can_write = { λ _. ⊤ };
+
+    ghost bytes = { λ p. p.0.now };
+
+    ghost room = { λ p. length p.0.now };
+
+    fn write_to(&self, list: &mut Vec<u8>) {
+        append(list, self.0);
+    }
+}
+
 const NOTE: Note = Note {
     by: GatewayId::Zero,
     at: 360,
@@ -49,7 +65,7 @@ fn what_is_told_is_read_in_order(rt: HostRuntime) -> Result<(), Fail> {
         notes: 1,
     };
     out.page.ready(room)?;
-    out.page.send_frame(Side::Inside, b"one");
+    out.page.make_frame(Side::Inside, &Plain(b"one"));
     let made = Twice(b"ab");
     out.page.make_frame(Side::Outside, &made);
     out.page.make_datagram(&made);
@@ -73,7 +89,7 @@ fn what_is_told_is_read_in_order(rt: HostRuntime) -> Result<(), Fail> {
     assert!(rt; out.frames().next().is_none());
     // It takes no memory again.
     out.page.ready(room)?;
-    out.page.send_frame(Side::Inside, b"three");
+    out.page.make_frame(Side::Inside, &Plain(b"three"));
     assert_eq!(rt; out.frames().count(), 1);
     Ok(())
 }
@@ -86,7 +102,7 @@ fn refused_growth_leaves_all(rt: HostRuntime) -> Result<(), Fail> {
         datagrams: 0,
         notes: 0,
     })?;
-    out.page.send_frame(Side::Inside, b"one");
+    out.page.make_frame(Side::Inside, &Plain(b"one"));
     let refused = out.page.ready(Room {
         frames: 9,
         datagrams: 1,
@@ -94,7 +110,7 @@ fn refused_growth_leaves_all(rt: HostRuntime) -> Result<(), Fail> {
     });
     assert!(rt; refused.is_err());
     assert_eq!(rt; out.frames().count(), 1);
-    out.page.send_frame(Side::Inside, b"two");
+    out.page.make_frame(Side::Inside, &Plain(b"two"));
     assert_eq!(rt; out.frames().count(), 2);
     Ok(())
 }
