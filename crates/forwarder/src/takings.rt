@@ -8,6 +8,7 @@ ghost use Rattle.packet_rules.specs.Steps.{IsForwardable};
 ghost use Rattle.step_parts.specs.Parts.{flow_taken, released, taken_again};
 ghost use Rattle.step_parts.specs.Verdict.{plan_of};
 ghost use Rattle.forwarder.specs.Forwarder.{copy_for, scene_on, shown_of, wait_in};
+ghost use Rattle.forwarder.specs.Room.{HasRoom, Spends, one_packet};
 
 use crate::Forwarder;
 use ipv4::Flow;
@@ -76,16 +77,10 @@ impl Forwarder {
     fn take_flow_again(&mut self, page: &mut Page, flow: Flow, packet: Waiting)
         requires forwardable { IsForwardable packet.bytes }
         requires read { flow ≡ flow_in packet.bytes }
-        requires frames { 1 ≤ page.old.room.frames }
-        requires notes { 3 ≤ page.old.room.notes }
-        requires ready { 1 ≤ self.old.core.table.ready }
+        requires room { HasRoom one_packet self.old page.old }
         ensures scene { scene_on self.new page.new
             ≡ flow_taken (scene_on self.old page.old) packet.side packet.bytes flow }
-        ensures frames { page.old.room.frames ≤ page.new.room.frames + 1 }
-        ensures datagrams { page.new.room.datagrams ≡ page.old.room.datagrams }
-        ensures notes { page.old.room.notes ≤ page.new.room.notes + 3 }
-        ensures ready { self.old.core.table.ready ≤ self.new.core.table.ready + 1 }
-        ensures places { min 64 (free_places self.old.link) ≤ free_places self.new.link }
+        ensures spends { Spends one_packet self.old page.old self.new page.new }
     {
         recall_source(&packet.bytes, flow);
         match self.plan(packet.side, flow) {
@@ -105,16 +100,10 @@ impl Forwarder {
 
     /// Takes a kept packet, which is read again from the first step on.
     fn take_again(&mut self, page: &mut Page, packet: Waiting)
-        requires frames { 1 ≤ page.old.room.frames }
-        requires notes { 3 ≤ page.old.room.notes }
-        requires ready { 1 ≤ self.old.core.table.ready }
+        requires room { HasRoom one_packet self.old page.old }
         ensures scene { scene_on self.new page.new
             ≡ taken_again (scene_on self.old page.old) packet }
-        ensures frames { page.old.room.frames ≤ page.new.room.frames + 1 }
-        ensures datagrams { page.new.room.datagrams ≡ page.old.room.datagrams }
-        ensures notes { page.old.room.notes ≤ page.new.room.notes + 3 }
-        ensures ready { self.old.core.table.ready ≤ self.new.core.table.ready + 1 }
-        ensures places { min 64 (free_places self.old.link) ≤ free_places self.new.link }
+        ensures spends { Spends one_packet self.old page.old self.new page.new }
     {
         match self.read_frame(packet.side, &packet.bytes) {
             Ok(Reading::Packet(flow)) => self.take_flow_again(page, flow, packet),

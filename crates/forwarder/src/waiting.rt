@@ -11,6 +11,7 @@ ghost use Rattle.step_parts.specs.Parts.{by_plan, by_refusal, framed};
 ghost use Rattle.step_parts.specs.Shown.{station_on};
 ghost use Rattle.step_parts.specs.Verdict.{exit_by};
 ghost use Rattle.forwarder.specs.Forwarder.{scene_on, shown_of};
+ghost use Rattle.forwarder.specs.Room.{HasRoom, Spends, one_kept, one_wish};
 
 use crate::Forwarder;
 use crate::outgoing::Request;
@@ -51,16 +52,10 @@ impl Forwarder {
         requires place { has_place self.old.kept copy.wait ≡ true }
         requires since { copy.since ≡ self.old.moment }
         requires wait { copy.wait ≡ Hop (exit_by by) hop }
-        requires frames { 1 ≤ page.old.room.frames }
-        requires notes { 1 ≤ page.old.room.notes }
-        requires ready { 1 ≤ self.old.core.table.ready }
+        requires room { HasRoom one_kept self.old page.old }
         ensures scene { scene_on self.new page.new
             ≡ by_plan (scene_on self.old page.old) copy.side copy.bytes flow (Ask by hop) }
-        ensures frames { page.old.room.frames ≤ page.new.room.frames + 1 }
-        ensures datagrams { page.new.room.datagrams ≡ page.old.room.datagrams }
-        ensures notes { page.old.room.notes ≤ page.new.room.notes + 1 }
-        ensures ready { self.old.core.table.ready ≤ self.new.core.table.ready + 1 }
-        ensures places { min 64 (free_places self.old.link) ≤ free_places self.new.link }
+        ensures spends { Spends one_kept self.old page.old self.new page.new }
     {
         self.wish_for(page, flow, &by);
         self.kept.keep(copy);
@@ -73,16 +68,12 @@ impl Forwarder {
         requires place { has_place self.old.kept copy.wait ≡ true }
         requires since { copy.since ≡ self.old.moment }
         requires wait { copy.wait ≡ Pair (source_of flow) }
-        requires notes { 1 ≤ page.old.room.notes }
-        requires ready { 1 ≤ self.old.core.table.ready }
+        requires room { HasRoom one_wish self.old page.old }
         ensures scene { scene_on self.new page.new
             ≡ by_plan (scene_on self.old page.old) copy.side copy.bytes flow
             (WaitFor (source_of flow)) }
         ensures frames { page.new.room.frames ≡ page.old.room.frames }
-        ensures datagrams { page.new.room.datagrams ≡ page.old.room.datagrams }
-        ensures notes { page.old.room.notes ≤ page.new.room.notes + 1 }
-        ensures ready { self.old.core.table.ready ≤ self.new.core.table.ready + 1 }
-        ensures places { min 64 (free_places self.old.link) ≤ free_places self.new.link }
+        ensures spends { Spends one_wish self.old page.old self.new page.new }
     {
         self.wish(page, source_endpoint(flow));
         self.kept.keep(copy);
@@ -91,15 +82,11 @@ impl Forwarder {
     /// A packet is dropped; where no port was free, ports may be asked for.
     pub(crate) fn refuse(&mut self, page: &mut Page, flow: Flow, reason: Reason)
         requires formed { IsWellFormedEndpoint (source_of flow) }
-        requires notes { 1 ≤ page.old.room.notes }
-        requires ready { 1 ≤ self.old.core.table.ready }
+        requires room { HasRoom one_wish self.old page.old }
         ensures scene { scene_on self.new page.new
             ≡ by_refusal (scene_on self.old page.old) flow reason }
         ensures frames { page.new.room.frames ≡ page.old.room.frames }
-        ensures datagrams { page.new.room.datagrams ≡ page.old.room.datagrams }
-        ensures notes { page.old.room.notes ≤ page.new.room.notes + 1 }
-        ensures ready { self.old.core.table.ready ≤ self.new.core.table.ready + 1 }
-        ensures places { min 64 (free_places self.old.link) ≤ free_places self.new.link }
+        ensures spends { Spends one_wish self.old page.old self.new page.new }
     {
         match reason {
             Reason::NoPort => self.wish(page, source_endpoint(flow)),
