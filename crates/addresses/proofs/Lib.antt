@@ -1,1 +1,2 @@
-pub mod Equal
+mod Equal
+pub mod Offered

@@ -8,7 +8,7 @@ use Rattle.std.proofs.lemmas.Cmp.{ranked}
 use Rattle.std.proofs.lemmas.List.Sorted.{IsNonDecreasingBy-from_default}
 use Rattle.std.proofs.lemmas.List.{length-map, map-set, set-get_or, length-append, length-set, take-append-le, take-map, drop-map, map-append, get_or-map}
 use Rattle.std.proofs.lemmas.List.Edits.{length-insert, length-remove}
-use Rattle.arp.specs.declared.caches.Entry.{Entry}
+use Rattle.arp.specs.declared.caches.CacheEntry.{CacheEntry}
 use Rattle.arp.specs.declared.learnt.Spot.{Spot}
 use Rattle.arp.specs.Neighbours.{without, newest}
 use Rattle.arp.specs.Log.{kept, entry_addresses, spot_addresses, tally, IsRising, IsAt, IsGapFor, place_without, IsFirst, IsIndexed}
@@ -31,7 +31,7 @@ pub newest-few : {X : Type 0} (n : ℕ) (xs : List X) → length xs ≤ n → ne
 newest-few n xs few = let none : length xs - n ≡ 0 = omega (arith, few) in rw none refl
 
 -- the log's empty places were thrown out
-pub indexed-renumbered : (log log' : List (Option Entry)) (start : ℕ) (index index' : List Spot) → IsIndexed log start index → kept log' ≡ kept log → spot_addresses index' ≡ spot_addresses index → IsIndexed log' 0 index'
+pub indexed-renumbered : (log log' : List (Option CacheEntry)) (start : ℕ) (index index' : List Spot) → IsIndexed log start index → kept log' ≡ kept log → spot_addresses index' ≡ spot_addresses index → IsIndexed log' 0 index'
 indexed-renumbered log log' start index index' old entries spots = record {
   rising = subst IsRising (sym spots) old.rising;
   same = λ a. rw (entries, spots) (old.same a);
@@ -42,7 +42,7 @@ indexed-renumbered log log' start index index' old entries spots = record {
 }
 
 -- an entry was renewed
-pub indexed-renewed : (log log' : List (Option Entry)) (start : ℕ) (index index' : List Spot) (e : Entry) (i : ℕ) → IsIndexed log start index → IsAt (spot_addresses index) e.address.0 i → kept log' ≡ without e.address.0 (kept log) → length log' ≡ length log → kept (take start log') ≡ [] → spot_addresses index' ≡ spot_addresses index → IsIndexed (log' ++ Some e ∷ []) start index'
+pub indexed-renewed : (log log' : List (Option CacheEntry)) (start : ℕ) (index index' : List Spot) (e : CacheEntry) (i : ℕ) → IsIndexed log start index → IsAt (spot_addresses index) e.address.0 i → kept log' ≡ without e.address.0 (kept log) → length log' ≡ length log → kept (take start log') ≡ [] → spot_addresses index' ≡ spot_addresses index → IsIndexed (log' ++ Some e ∷ []) start index'
 indexed-renewed log log' start index index' e i old at entries len front spots = record {
   rising = subst IsRising (sym spots) old.rising;
   same = λ a. rw (kept-append, spots, entries) (tally-push a (without e.address.0 (kept log)) e ∙ (rw tally-without (by a (eqb e.address.0 a) refl)));
@@ -60,15 +60,15 @@ indexed-renewed log log' start index index' e i old at entries len front spots =
     by a false is = omega (arith, old.same a)
 
 -- the address of a spot is counted once
-pub indexed-once : (log : List (Option Entry)) (start : ℕ) (index : List Spot) (a i : ℕ) → IsIndexed log start index → IsAt (spot_addresses index) a i → tally a (entry_addresses (kept log)) ≡ 1
+pub indexed-once : (log : List (Option CacheEntry)) (start : ℕ) (index : List Spot) (a i : ℕ) → IsIndexed log start index → IsAt (spot_addresses index) a i → tally a (entry_addresses (kept log)) ≡ 1
 indexed-once log start index a i old at = old.same a ∙ tally-at (spot_addresses index) old.rising a i at
 
 -- one that renews another keeps within the most
-pub renewed-few : (log : List (Option Entry)) (start : ℕ) (index : List Spot) (a i : ℕ) → IsIndexed log start index → IsAt (spot_addresses index) a i → newest 1023 (without a (kept log)) ≡ without a (kept log)
+pub renewed-few : (log : List (Option CacheEntry)) (start : ℕ) (index : List Spot) (a i : ℕ) → IsIndexed log start index → IsAt (spot_addresses index) a i → newest 1023 (without a (kept log)) ≡ without a (kept log)
 renewed-few log start index a i old at = newest-few 1023 (without a (kept log)) (omega (arith, length-without a (kept log), indexed-once log start index a i old at, old.count, old.most))
 
 -- an entry of another address was added
-pub indexed-added : (log : List (Option Entry)) (start : ℕ) (index : List Spot) (e : Entry) (s : Spot) (i : ℕ) → IsIndexed log start index → length index < 1024 → s.address.0 ≡ e.address.0 → IsGapFor (spot_addresses index) e.address.0 i → IsIndexed (log ++ Some e ∷ []) start (insert index i s)
+pub indexed-added : (log : List (Option CacheEntry)) (start : ℕ) (index : List Spot) (e : CacheEntry) (s : Spot) (i : ℕ) → IsIndexed log start index → length index < 1024 → s.address.0 ≡ e.address.0 → IsGapFor (spot_addresses index) e.address.0 i → IsIndexed (log ++ Some e ∷ []) start (insert index i s)
 indexed-added log start index e s i old fewer is gap = record {
   rising = rw (spots-insert, is) (rising-insert (spot_addresses index) e.address.0 i gap old.rising);
   same = λ a. rw (kept-append, spots-insert, is) (omega (arith, tally-push a (kept log) e, tally-insert a (spot_addresses index) i e.address.0, old.same a));
@@ -82,7 +82,7 @@ indexed-added log start index e s i old fewer is gap = record {
     len = length-insert index i s (omega (arith, gap.within, length-map index (λ (t : Spot). t.address.0)))
 
 -- the first entry was dropped
-pub indexed-dropped : (log : List (Option Entry)) (start : ℕ) (index : List Spot) (e : Entry) (p i : ℕ) → IsIndexed log start index → IsFirst log p e → IsAt (spot_addresses index) e.address.0 i → IsIndexed (set log p None) (p + 1) (remove index i)
+pub indexed-dropped : (log : List (Option CacheEntry)) (start : ℕ) (index : List Spot) (e : CacheEntry) (p i : ℕ) → IsIndexed log start index → IsFirst log p e → IsAt (spot_addresses index) e.address.0 i → IsIndexed (set log p None) (p + 1) (remove index i)
 indexed-dropped log start index e p i old first at = record {
   rising = rw spots-remove (rising-remove (spot_addresses index) i at.within old.rising);
   same = λ a. rw spots-remove (omega (arith, subst (λ x. tally a (spot_addresses index) ≡ cond (eqb x a) 1 0 + tally a (remove (spot_addresses index) i)) at.is (tally-remove a (spot_addresses index) i at.within), ap (λ es. tally a (entry_addresses es)) entries, old.same a));
@@ -99,7 +99,7 @@ indexed-dropped log start index e p i old first at = record {
     len = length-remove index i (omega (arith, at.within, length-map index (λ (t : Spot). t.address.0)))
 
 -- the first entry was dropped, and one of another address added
-pub indexed-supplanted : (log : List (Option Entry)) (start : ℕ) (index : List Spot) (old : Entry) (p out : ℕ) (e : Entry) (s : Spot) (at : ℕ) → IsIndexed log start index → IsFirst log p old → IsAt (spot_addresses index) old.address.0 out → s.address.0 ≡ e.address.0 → IsGapFor (spot_addresses index) e.address.0 at → IsIndexed (set log p None ++ Some e ∷ []) (p + 1) (insert (remove index out) (place_without out at) s)
+pub indexed-supplanted : (log : List (Option CacheEntry)) (start : ℕ) (index : List Spot) (old : CacheEntry) (p out : ℕ) (e : CacheEntry) (s : Spot) (at : ℕ) → IsIndexed log start index → IsFirst log p old → IsAt (spot_addresses index) old.address.0 out → s.address.0 ≡ e.address.0 → IsGapFor (spot_addresses index) e.address.0 at → IsIndexed (set log p None ++ Some e ∷ []) (p + 1) (insert (remove index out) (place_without out at) s)
 indexed-supplanted log start index old p out e s at holds first there is gap = indexed-added (set log p None) (p + 1) (remove index out) e s (place_without out at) (indexed-dropped log start index old p out holds first there) (omega (arith, length-remove index out within, holds.most)) is (rw spots-remove (gap-remove (spot_addresses index) e.address.0 at out gap there.within))
   where
     within : out < length index

@@ -5,4 +5,5 @@ mod Shifts
 mod Spelling
 mod Spelt
 mod Tallies
-pub mod Wholes
+mod Wholes
+pub mod Offered

@@ -4,22 +4,22 @@ use Rattle.std.proofs.lemmas.Bool.Decides.{nat_tests}
 use Rattle.std.proofs.lemmas.List.{map-append, take_more}
 use Rattle.std.specs.List.{filter}
 use Rattle.std.specs.Prelude.{is_some}
-use Rattle.arp.specs.declared.caches.Entry.{Entry}
+use Rattle.arp.specs.declared.caches.CacheEntry.{CacheEntry}
 use Rattle.arp.specs.Neighbours.{without, learnt_mac}
 use Rattle.arp.specs.Log.{kept, is_of, valid_mac, entry_addresses, tally, IsPlaceOf}
 use Rattle.arp.proofs.Tallies.{tally-append}
 
-pub kept-append : (xs ys : List (Option Entry)) → kept (xs ++ ys) ≡ kept xs ++ kept ys
+pub kept-append : (xs ys : List (Option CacheEntry)) → kept (xs ++ ys) ≡ kept xs ++ kept ys
 kept-append [] ys = refl
 kept-append (None ∷ xs) ys = kept-append xs ys
 kept-append (Some e ∷ xs) ys = ap (λ es. e ∷ es) (kept-append xs ys)
 
-pub tally-push : (x : ℕ) (es : List Entry) (e : Entry) → tally x (entry_addresses (es ++ e ∷ [])) ≡ tally x (entry_addresses es) + cond (eqb e.address.0 x) 1 0
+pub tally-push : (x : ℕ) (es : List CacheEntry) (e : CacheEntry) → tally x (entry_addresses (es ++ e ∷ [])) ≡ tally x (entry_addresses es) + cond (eqb e.address.0 x) 1 0
 tally-push x [] e = omega arith
 tally-push x (d ∷ es) e = omega (arith, tally-push x es e)
 
 -- without an address
-pub without-none : (a : ℕ) (es : List Entry) → tally a (entry_addresses es) ≡ 0 → without a es ≡ es
+pub without-none : (a : ℕ) (es : List CacheEntry) → tally a (entry_addresses es) ≡ 0 → without a es ≡ es
 without-none a [] none = refl
 without-none a (e ∷ es) none = by (eqb e.address.0 a) none (without-none a es)
   where
@@ -27,7 +27,7 @@ without-none a (e ∷ es) none = by (eqb e.address.0 a) none (without-none a es)
     by true none rest = absurd (omega (arith, none))
     by false none rest = ap (λ es. e ∷ es) (rest (omega (arith, none)))
 
-pub length-without : (a : ℕ) (es : List Entry) → length (without a es) + tally a (entry_addresses es) ≡ length es
+pub length-without : (a : ℕ) (es : List CacheEntry) → length (without a es) + tally a (entry_addresses es) ≡ length es
 length-without a [] = refl
 length-without a (e ∷ es) = by (eqb e.address.0 a) (length-without a es)
   where
@@ -35,7 +35,7 @@ length-without a (e ∷ es) = by (eqb e.address.0 a) (length-without a es)
     by true rest = omega (arith, rest)
     by false rest = omega (arith, rest)
 
-pub tally-without : (x a : ℕ) (es : List Entry) → tally x (entry_addresses (without a es)) ≡ cond (eqb a x) 0 (tally x (entry_addresses es))
+pub tally-without : (x a : ℕ) (es : List CacheEntry) → tally x (entry_addresses (without a es)) ≡ cond (eqb a x) 0 (tally x (entry_addresses es))
 tally-without x a [] = grind arith
 tally-without x a (e ∷ es) = by (eqb e.address.0 a) refl (tally-without x a es)
   where
@@ -44,7 +44,7 @@ tally-without x a (e ∷ es) = by (eqb e.address.0 a) refl (tally-without x a es
     by false is rest = grind (arith, nat_tests)
 
 -- a place of an address is counted
-tally-place : (a : ℕ) (log : List (Option Entry)) (i : ℕ) → IsPlaceOf a log i → 1 ≤ tally a (entry_addresses (kept log))
+tally-place : (a : ℕ) (log : List (Option CacheEntry)) (i : ℕ) → IsPlaceOf a log i → 1 ≤ tally a (entry_addresses (kept log))
 tally-place a [] i at = absurd (omega (arith, at.within))
 tally-place a (None ∷ log) zero at = cc
 tally-place a (Some e ∷ log) zero at = let is : eqb e.address.0 a ≡ true = at.is in grind (arith, is)
@@ -52,7 +52,7 @@ tally-place a (None ∷ log) (suc i) at = tally-place a log i (record { within =
 tally-place a (Some e ∷ log) (suc i) at = omega (arith, tally-place a log i (record { within = omega (arith, at.within); is = at.is }))
 
 -- the place is emptied
-pub kept-clear : (a : ℕ) (log : List (Option Entry)) (i : ℕ) → IsPlaceOf a log i → tally a (entry_addresses (kept log)) ≤ 1 → kept (set log i None) ≡ without a (kept log)
+pub kept-clear : (a : ℕ) (log : List (Option CacheEntry)) (i : ℕ) → IsPlaceOf a log i → tally a (entry_addresses (kept log)) ≤ 1 → kept (set log i None) ≡ without a (kept log)
 kept-clear a [] i at once = absurd (omega (arith, at.within))
 kept-clear a (None ∷ log) zero at once = cc
 kept-clear a (Some e ∷ log) zero at once = by (eqb e.address.0 a) at.is once
@@ -70,7 +70,7 @@ kept-clear a (Some e ∷ log) (suc i) at once = by (eqb e.address.0 a) once (tal
     by true once one rest = absurd (omega (arith, once, one))
     by false once one rest = ap (λ es. e ∷ es) (rest (omega (arith, once)))
 
-pub front-clear : (n : ℕ) (log : List (Option Entry)) (i : ℕ) → kept (take n log) ≡ [] → kept (take n (set log i None)) ≡ []
+pub front-clear : (n : ℕ) (log : List (Option CacheEntry)) (i : ℕ) → kept (take n log) ≡ [] → kept (take n (set log i None)) ≡ []
 front-clear zero log i front = refl
 front-clear (suc n) [] i front = refl
 front-clear (suc n) (None ∷ log) zero front = front
@@ -78,25 +78,25 @@ front-clear (suc n) (Some e ∷ log) i front = cc
 front-clear (suc n) (None ∷ log) (suc i) front = front-clear n log i front
 
 -- the first entry's place is emptied
-pub kept-first : (log : List (Option Entry)) (i : ℕ) (e : Entry) → i < length log → get_or log i None ≡ Some e → kept (take i log) ≡ [] → kept log ≡ e ∷ kept (set log i None)
+pub kept-first : (log : List (Option CacheEntry)) (i : ℕ) (e : CacheEntry) → i < length log → get_or log i None ≡ Some e → kept (take i log) ≡ [] → kept log ≡ e ∷ kept (set log i None)
 kept-first [] i e within is front = absurd (omega (arith, within))
 kept-first (None ∷ log) zero e within is front = cc
 kept-first (Some d ∷ log) zero e within is front = let same : d ≡ e = cc in ap (λ x. x ∷ kept log) same
 kept-first (None ∷ log) (suc i) e within is front = kept-first log i e (omega (arith, within)) is front
 kept-first (Some d ∷ log) (suc i) e within is front = cc
 
-pub front-first : (log : List (Option Entry)) (i : ℕ) → kept (take i log) ≡ [] → kept (take (suc i) (set log i None)) ≡ []
+pub front-first : (log : List (Option CacheEntry)) (i : ℕ) → kept (take i log) ≡ [] → kept (take (suc i) (set log i None)) ≡ []
 front-first [] i front = refl
 front-first (x ∷ log) zero front = refl
 front-first (None ∷ log) (suc i) front = front-first log i front
 front-first (Some e ∷ log) (suc i) front = cc
 
 -- what a look-up gives
-pub mac-none : (a now : ℕ) (es : List Entry) → tally a (entry_addresses es) ≡ 0 → learnt_mac a now es ≡ None
+pub mac-none : (a now : ℕ) (es : List CacheEntry) → tally a (entry_addresses es) ≡ 0 → learnt_mac a now es ≡ None
 mac-none a now [] none = refl
 mac-none a now (e ∷ es) none = grind (arith, nat_tests, mac-none a now es (omega (arith, none)))
 
-pub mac-place : (a now : ℕ) (log : List (Option Entry)) (i : ℕ) → IsPlaceOf a log i → tally a (entry_addresses (kept log)) ≤ 1 → valid_mac now (get_or log i None) ≡ learnt_mac a now (kept log)
+pub mac-place : (a now : ℕ) (log : List (Option CacheEntry)) (i : ℕ) → IsPlaceOf a log i → tally a (entry_addresses (kept log)) ≤ 1 → valid_mac now (get_or log i None) ≡ learnt_mac a now (kept log)
 mac-place a now [] i at once = absurd (omega (arith, at.within))
 mac-place a now (None ∷ log) zero at once = cc
 mac-place a now (Some e ∷ log) zero at once =
@@ -110,36 +110,36 @@ mac-place a now (Some e ∷ log) (suc i) at once = grind (arith, nat_tests, tall
     there = record { within = omega (arith, at.within); is = at.is }
 
 -- the empty places are thrown out
-pub kept-filter : (log : List (Option Entry)) → kept (filter is_some log) ≡ kept log
+pub kept-filter : (log : List (Option CacheEntry)) → kept (filter is_some log) ≡ kept log
 kept-filter [] = refl
 kept-filter (None ∷ log) = kept-filter log
 kept-filter (Some e ∷ log) = ap (λ es. e ∷ es) (kept-filter log)
 
-pub length-filter : (log : List (Option Entry)) → length (filter is_some log) ≡ length (kept log)
+pub length-filter : (log : List (Option CacheEntry)) → length (filter is_some log) ≡ length (kept log)
 length-filter [] = refl
 length-filter (None ∷ log) = length-filter log
 length-filter (Some e ∷ log) = ap suc (length-filter log)
 
-pub length-kept : (log : List (Option Entry)) → length (kept log) ≤ length log
+pub length-kept : (log : List (Option CacheEntry)) → length (kept log) ≤ length log
 length-kept [] = omega arith
 length-kept (None ∷ log) = omega (arith, length-kept log)
 length-kept (Some e ∷ log) = omega (arith, length-kept log)
 
 -- one place more of a search
-pub tally-more : (a : ℕ) (log : List (Option Entry)) (i : ℕ) → i < length log → tally a (entry_addresses (kept (take i log))) ≡ 0 → is_of a (get_or log i None) ≡ false → tally a (entry_addresses (kept (take (i + 1) log))) ≡ 0
+pub tally-more : (a : ℕ) (log : List (Option CacheEntry)) (i : ℕ) → i < length log → tally a (entry_addresses (kept (take i log))) ≡ 0 → is_of a (get_or log i None) ≡ false → tally a (entry_addresses (kept (take (i + 1) log))) ≡ 0
 tally-more a log i within none other = rw (take_more log i None within, kept-append, map-append, tally-append) (one (get_or log i None) other)
   where
-    one : (p : Option Entry) → is_of a p ≡ false → tally a (entry_addresses (kept (take i log))) + tally a (entry_addresses (kept (p ∷ []))) ≡ 0
+    one : (p : Option CacheEntry) → is_of a p ≡ false → tally a (entry_addresses (kept (take i log))) + tally a (entry_addresses (kept (p ∷ []))) ≡ 0
     one None other = omega (arith, none)
     one (Some e) other = grind (arith, none, other)
 
-pub front-more : (log : List (Option Entry)) (i : ℕ) → i < length log → kept (take i log) ≡ [] → get_or log i None ≡ None → kept (take (i + 1) log) ≡ []
+pub front-more : (log : List (Option CacheEntry)) (i : ℕ) → i < length log → kept (take i log) ≡ [] → get_or log i None ≡ None → kept (take (i + 1) log) ≡ []
 front-more log i within none empty = rw (take_more log i None within, empty, kept-append, none) refl
 
-pub nothing-left : (p : Option Entry) → ((e : Entry) → p ≡ Some e → ⊥) → p ≡ None
+pub nothing-left : (p : Option CacheEntry) → ((e : CacheEntry) → p ≡ Some e → ⊥) → p ≡ None
 nothing-left None other = refl
 nothing-left (Some e) other = absurd (other e refl)
 
 -- an entry is counted
-pub tally-first : (e : Entry) (es es' : List Entry) → es ≡ e ∷ es' → 1 ≤ tally e.address.0 (entry_addresses es)
+pub tally-first : (e : CacheEntry) (es es' : List CacheEntry) → es ≡ e ∷ es' → 1 ≤ tally e.address.0 (entry_addresses es)
 tally-first e es es' is = rw is (grind (arith, nat_tests))

@@ -2,7 +2,7 @@
 use Rattle.std.proofs.Common.{◌≡◌, ℕ, zero, suc, ◌-◌, Bool, true, false, cond, not, ◌==◌, ◌&&◌, nat_lt, Option, Some, None, List, [], ◌∷◌, ◌++◌, length, drop, refl, ◌∙◌, subst}
 use Rattle.addresses.specs.declared.ethernet.Mac.{Mac}
 use Rattle.arp.specs.declared.caches.Neighbour.{Neighbour}
-use Rattle.arp.specs.declared.caches.Entry.{Entry}
+use Rattle.arp.specs.declared.caches.CacheEntry.{CacheEntry}
 use Rattle.arp.specs.Neighbours.{Neighbours, fixed_mac, learnt_mac, mac_at, or_else, with_entry, without}
 use Rattle.arp.specs.Macs.{AllSix, KnowsMacs}
 
@@ -17,7 +17,7 @@ fixed-six : (address : ℕ) (ns : List Neighbour) (mac : Mac) → AllSix (λ n. 
 fixed-six address [] mac all is = cc
 fixed-six address (n ∷ ns) mac all is = first-six (n.address.0 == address) n.mac (fixed_mac address ns) mac all.0 (fixed-six address ns mac all.1) is
 
-learnt-six : (address now : ℕ) (es : List Entry) (mac : Mac) → AllSix (λ e. e.mac) es → learnt_mac address now es ≡ Some mac → length mac.0 ≡ 6
+learnt-six : (address now : ℕ) (es : List CacheEntry) (mac : Mac) → AllSix (λ e. e.mac) es → learnt_mac address now es ≡ Some mac → length mac.0 ≡ 6
 learnt-six address now [] mac all is = cc
 learnt-six address now (e ∷ es) mac all is = first-six (e.address.0 == address && nat_lt (now - e.at) 120000) e.mac (learnt_mac address now es) mac all.0 (learnt-six address now es mac all.1) is
 
@@ -28,15 +28,15 @@ near-six address now near mac knows is = by (fixed_mac address near.fixed) refl 
     by (Some m) there is = fixed-six address near.fixed mac knows.fixed (there ∙ is)
     by None there is = learnt-six address now near.learnt mac knows.learnt is
 
-without-six : (address : ℕ) (es : List Entry) → AllSix (λ e. e.mac) es → AllSix (λ e. e.mac) (without address es)
+without-six : (address : ℕ) (es : List CacheEntry) → AllSix (λ e. e.mac) es → AllSix (λ e. e.mac) (without address es)
 without-six address [] all = tt
 without-six address (e ∷ es) all = by (not (e.address.0 == address)) (without-six address es all.1)
   where
-    by : (b : Bool) → AllSix (λ (x : Entry). x.mac) (without address es) → AllSix (λ (x : Entry). x.mac) (cond b (e ∷ without address es) (without address es))
+    by : (b : Bool) → AllSix (λ (x : CacheEntry). x.mac) (without address es) → AllSix (λ (x : CacheEntry). x.mac) (cond b (e ∷ without address es) (without address es))
     by true rest = (all.0, rest)
     by false rest = rest
 
-drop-six : (n : ℕ) (es : List Entry) → AllSix (λ e. e.mac) es → AllSix (λ e. e.mac) (drop n es)
+drop-six : (n : ℕ) (es : List CacheEntry) → AllSix (λ e. e.mac) es → AllSix (λ e. e.mac) (drop n es)
 drop-six zero es all = all
 drop-six (suc n) [] all = tt
 drop-six (suc n) (e ∷ es) all = drop-six n es all.1
@@ -46,8 +46,8 @@ push-six mac_in [] x all is = (is, tt)
 push-six mac_in (y ∷ xs) x all is = (all.0, push-six mac_in xs x all.1 is)
 
 -- a cache that learns one more
-pub learn-six : (near : Neighbours) (e : Entry) → KnowsMacs near → length e.mac.0 ≡ 6 → KnowsMacs (record near { learnt = with_entry e near.learnt })
+pub learn-six : (near : Neighbours) (e : CacheEntry) → KnowsMacs near → length e.mac.0 ≡ 6 → KnowsMacs (record near { learnt = with_entry e near.learnt })
 learn-six near e knows six = record {
   fixed = knows.fixed;
-  learnt = push-six (λ (x : Entry). x.mac) _ e (drop-six _ _ (without-six e.address.0 near.learnt knows.learnt)) six;
+  learnt = push-six (λ (x : CacheEntry). x.mac) _ e (drop-six _ _ (without-six e.address.0 near.learnt knows.learnt)) six;
 }

@@ -2,28 +2,28 @@
 use Rattle.std.specs.Prelude.{◌≡◌, ◌≤◌, ◌<◌, ◌+◌, ◌-◌, ℕ, Bool, true, false, ◌==◌, nat_lt, List, [], ◌∷◌, length, map, take, slice_index, slice_index_or, vec_capacity, Option, Some, None, if◌then◌else◌}
 use Rattle.addresses.specs.declared.ethernet.Mac.{Mac}
 use Rattle.arp.specs.declared.caches.TheConstants.{ENTRIES, VALID_FOR}
-use Rattle.arp.specs.declared.caches.Entry.{Entry}
+use Rattle.arp.specs.declared.caches.CacheEntry.{CacheEntry}
 use Rattle.arp.specs.declared.learnt.TheConstants.{PLACES}
 use Rattle.arp.specs.declared.learnt.Learnt.{Learnt}
 use Rattle.arp.specs.declared.learnt.Spot.{Spot}
 
 -- the entries of the places that aren't empty
-abbrev pub kept : List (Option Entry) → List Entry
+abbrev pub kept : List (Option CacheEntry) → List CacheEntry
 kept [] = []
 kept (None ∷ places) = kept places
 kept (Some e ∷ places) = e ∷ kept places
 
 -- a place has an entry of that address
-abbrev pub is_of : ℕ → Option Entry → Bool
+abbrev pub is_of : ℕ → Option CacheEntry → Bool
 is_of address None = false
 is_of address (Some e) = e.address.0 == address
 
 -- the hardware address that a place gives, if its entry is valid
-abbrev pub valid_mac : ℕ → Option Entry → Option Mac
+abbrev pub valid_mac : ℕ → Option CacheEntry → Option Mac
 valid_mac now None = None
 valid_mac now (Some e) = if nat_lt (now - e.at) VALID_FOR then Some e.mac else None
 
-abbrev pub entry_addresses : List Entry → List ℕ
+abbrev pub entry_addresses : List CacheEntry → List ℕ
 entry_addresses entries = map (λ e. e.address.0) entries
 
 abbrev pub spot_addresses : List Spot → List ℕ
@@ -53,18 +53,18 @@ abbrev pub place_without : ℕ → ℕ → ℕ
 place_without out at = if nat_lt out at then at - 1 else at
 
 -- place i of the log has an entry of that address
-pub record IsPlaceOf (address : ℕ) (log : List (Option Entry)) (i : ℕ) : Type 0 where
+pub record IsPlaceOf (address : ℕ) (log : List (Option CacheEntry)) (i : ℕ) : Type 0 where
   pub within : i < length log
   pub is : is_of address (slice_index_or log i None) ≡ true
 
 -- the first entry is that of place i
-pub record IsFirst (log : List (Option Entry)) (i : ℕ) (e : Entry) : Type 0 where
+pub record IsFirst (log : List (Option CacheEntry)) (i : ℕ) (e : CacheEntry) : Type 0 where
   pub within : i < length log
   pub is : slice_index_or log i None ≡ Some e
   pub before : kept (take i log) ≡ []
 
 -- the index has each entry's address once, in order; the places before the start are empty
-pub record IsIndexed (log : List (Option Entry)) (start : ℕ) (index : List Spot) : Type 0 where
+pub record IsIndexed (log : List (Option CacheEntry)) (start : ℕ) (index : List Spot) : Type 0 where
   pub rising : IsRising (spot_addresses index)
   pub same : (a : ℕ) → tally a (entry_addresses (kept log)) ≡ tally a (spot_addresses index)
   pub count : length (kept log) ≡ length index

@@ -7,15 +7,15 @@ use Rattle.addresses.specs.Address.{IsIn}
 use Rattle.arp.specs.declared.caches.TheConstants.{ENTRIES, VALID_FOR}
 use Rattle.arp.specs.declared.caches.Interface.{Interface}
 use Rattle.arp.specs.declared.caches.Neighbour.{Neighbour}
-use Rattle.arp.specs.declared.caches.Entry.{Entry}
+use Rattle.arp.specs.declared.caches.CacheEntry.{CacheEntry}
 
 -- the fixed neighbours, and the entries in the order in which they were learnt or renewed
 pub record Neighbours : Type 0 where
   pub fixed : List Neighbour
-  pub learnt : List Entry
+  pub learnt : List CacheEntry
 
 -- the entries of other addresses
-abbrev pub without : ℕ → List Entry → List Entry
+abbrev pub without : ℕ → List CacheEntry → List CacheEntry
 without address entries = filter (λ e. not (e.address.0 == address)) entries
 
 -- the newest so many
@@ -23,7 +23,7 @@ abbrev pub newest : {X : Type 0} → ℕ → List X → List X
 newest n entries = drop (length entries - n) entries
 
 -- an entry is learnt or renewed; a full cache loses its oldest
-abbrev pub with_entry : Entry → List Entry → List Entry
+abbrev pub with_entry : CacheEntry → List CacheEntry → List CacheEntry
 with_entry entry entries = newest (ENTRIES - 1) (without entry.address.0 entries) ++ entry ∷ []
 
 -- the first fixed neighbour of that address
@@ -33,7 +33,7 @@ fixed_mac address (n ∷ neighbours) =
     if n.address.0 == address then Some n.mac else fixed_mac address neighbours
 
 -- the first valid entry of that address: fewer than 120,000 centiseconds old
-abbrev pub learnt_mac : ℕ → ℕ → List Entry → Option Mac
+abbrev pub learnt_mac : ℕ → ℕ → List CacheEntry → Option Mac
 learnt_mac address now [] = None
 learnt_mac address now (e ∷ entries) =
     if e.address.0 == address && nat_lt (now - e.at) VALID_FOR then Some e.mac

@@ -24,7 +24,7 @@ pub struct Neighbour {
 
 /// A neighbour that was learnt or renewed at a moment.
 #[derive(Clone, Copy, Debug, PartialEq, Eq)]
-pub struct Entry {
+pub struct CacheEntry {
     pub address: Ip,
     pub mac: Mac,
     pub at: u64,
@@ -79,7 +79,7 @@ impl Cache {
         ensures learnt { self.new.learnt
             ≡ with_entry (record { address = address; mac = mac; at = now }) self.old.learnt }
     {
-        let entry = Entry {
+        let entry = CacheEntry {
             address,
             mac: Mac(octets_of(mac)),
             at: now,

@@ -4,7 +4,7 @@ ghost use Rattle.std.specs.List.{insert, remove};
 ghost use Rattle.arp.specs.Neighbours.{without, with_entry, learnt_mac};
 ghost use Rattle.arp.specs.Log.{kept, is_of, valid_mac, entry_addresses, spot_addresses, tally, IsRising, IsAt, IsGapFor, IsPlaceOf, IsFirst, IsLearnt, place_without};
 
-use crate::caches::{ENTRIES, Entry, VALID_FOR};
+use crate::caches::{CacheEntry, ENTRIES, VALID_FOR};
 use addresses::{Ip, Mac};
 use std::alloc::{AllocError, Global};
 
@@ -23,7 +23,7 @@ pub struct Spot {
 pub struct Learnt {
     /// The entries in the order in which they were learnt or renewed. A place is empty where its
     /// entry was renewed later, or dropped.
-    pub log: Vec<Option<Entry>>,
+    pub log: Vec<Option<CacheEntry>>,
     /// All places before this one are empty.
     pub start: usize,
     /// A spot for each entry, by rising address.
@@ -46,7 +46,7 @@ impl Learnt {
 }
 
 /// Learns or renews: an entry of the same address gives way to it, and of 1,024 others the oldest.
-pub fn learn(learnt: &mut Learnt, entry: Entry)
+pub fn learn(learnt: &mut Learnt, entry: CacheEntry)
     requires { IsLearnt learnt.old }
     ensures entries { kept learnt.new.log.items ≡ with_entry entry (kept learnt.old.log.items) }
     ensures holds { IsLearnt learnt.new }
@@ -69,7 +69,7 @@ pub fn mac_in(learnt: &Learnt, address: Ip, now: u64) -> Option<Mac>
     }
 }
 
-fn mac_in_log(log: &[Option<Entry>], address: Ip, hint: u32, now: u64) -> Option<Mac>
+fn mac_in_log(log: &[Option<CacheEntry>], address: Ip, hint: u32, now: u64) -> Option<Mac>
     requires { tally address.0 (entry_addresses (kept log.now)) ≤ 1 }
     ensures { result ≡ learnt_mac address.0 now (kept log.now) }
 {
@@ -79,7 +79,7 @@ fn mac_in_log(log: &[Option<Entry>], address: Ip, hint: u32, now: u64) -> Option
     }
 }
 
-fn valid_mac(place: Option<Entry>, now: u64) -> Option<Mac>
+fn valid_mac(place: Option<CacheEntry>, now: u64) -> Option<Mac>
     ensures { result ≡ valid_mac now place }
 {
     match place {
@@ -108,7 +108,7 @@ fn spot_of(index: &[Spot], address: Ip) -> usize
     }
 }
 
-fn is_of(place: &Option<Entry>, address: Ip) -> bool
+fn is_of(place: &Option<CacheEntry>, address: Ip) -> bool
     ensures { result ≡ is_of address.0 place.now }
 {
     match place {
@@ -118,7 +118,7 @@ fn is_of(place: &Option<Entry>, address: Ip) -> bool
 }
 
 /// The place of an address: the hint, or else the first.
-fn place_of(log: &[Option<Entry>], address: Ip, hint: u32) -> Option<usize>
+fn place_of(log: &[Option<CacheEntry>], address: Ip, hint: u32) -> Option<usize>
     ensures { MatchOption result (tally address.0 (entry_addresses (kept log.now)) ≡ 0)
         (IsPlaceOf address.0 log.now) }
 {
@@ -130,7 +130,7 @@ fn place_of(log: &[Option<Entry>], address: Ip, hint: u32) -> Option<usize>
     }
 }
 
-fn first_place_of(log: &[Option<Entry>], address: Ip) -> Option<usize>
+fn first_place_of(log: &[Option<CacheEntry>], address: Ip) -> Option<usize>
     ensures { MatchOption result (tally address.0 (entry_addresses (kept log.now)) ≡ 0)
         (IsPlaceOf address.0 log.now) }
 {
@@ -143,7 +143,7 @@ fn first_place_of(log: &[Option<Entry>], address: Ip) -> Option<usize>
 }
 
 /// Renews the entry of a spot.
-fn renew(learnt: &mut Learnt, at: usize, entry: Entry)
+fn renew(learnt: &mut Learnt, at: usize, entry: CacheEntry)
     requires holds { IsLearnt learnt.old }
     requires room { length learnt.old.log.items < PLACES }
     requires at { IsAt (spot_addresses learnt.old.index.items) entry.address.0 at }
@@ -160,7 +160,7 @@ fn renew(learnt: &mut Learnt, at: usize, entry: Entry)
 }
 
 /// Adds an entry of another address, whose spot goes to `at`.
-fn add(learnt: &mut Learnt, at: usize, entry: Entry)
+fn add(learnt: &mut Learnt, at: usize, entry: CacheEntry)
     requires holds { IsLearnt learnt.old }
     requires room { length learnt.old.log.items < PLACES }
     requires at { IsGapFor (spot_addresses learnt.old.index.items) entry.address.0 at }
@@ -175,7 +175,7 @@ fn add(learnt: &mut Learnt, at: usize, entry: Entry)
 }
 
 /// Adds an entry where there is room.
-fn append(learnt: &mut Learnt, at: usize, entry: Entry)
+fn append(learnt: &mut Learnt, at: usize, entry: CacheEntry)
     requires holds { IsLearnt learnt.old }
     requires room { length learnt.old.log.items < PLACES }
     requires fewer { length learnt.old.index.items < ENTRIES }
@@ -193,7 +193,7 @@ fn append(learnt: &mut Learnt, at: usize, entry: Entry)
 }
 
 /// Adds an entry for the oldest one.
-fn supplant(learnt: &mut Learnt, at: usize, entry: Entry)
+fn supplant(learnt: &mut Learnt, at: usize, entry: CacheEntry)
     requires holds { IsLearnt learnt.old }
     requires room { length learnt.old.log.items < PLACES }
     requires some { 0 < length learnt.old.index.items }
@@ -235,7 +235,7 @@ fn put_for(index: &mut Vec<Spot>, out: usize, at: usize, spot: Spot)
 }
 
 /// Empties the place of an address.
-fn clear(log: &mut Vec<Option<Entry>>, address: Ip, hint: u32)
+fn clear(log: &mut Vec<Option<CacheEntry>>, address: Ip, hint: u32)
     requires { tally address.0 (entry_addresses (kept log.old.items)) ≤ 1 }
     ensures entries { kept log.new.items ≡ without address.0 (kept log.old.items) }
     ensures len { length log.new.items ≡ length log.old.items }
@@ -248,7 +248,7 @@ fn clear(log: &mut Vec<Option<Entry>>, address: Ip, hint: u32)
     }
 }
 
-fn push(log: &mut Vec<Option<Entry>>, entry: Entry)
+fn push(log: &mut Vec<Option<CacheEntry>>, entry: CacheEntry)
     requires { vec_len log.old < vec_capacity log.old }
     ensures items { log.new.items ≡ log.old.items ++ Some entry ∷ [] }
     ensures capacity { vec_capacity log.new ≡ vec_capacity log.old }
@@ -257,7 +257,7 @@ fn push(log: &mut Vec<Option<Entry>>, entry: Entry)
 }
 
 /// The first entry, which lies at `start` or behind it, and its place.
-fn first_entry(log: &[Option<Entry>], start: usize) -> Option<(usize, Entry)>
+fn first_entry(log: &[Option<CacheEntry>], start: usize) -> Option<(usize, CacheEntry)>
     requires within { start ≤ length log.now }
     requires front { kept (take start log.now) ≡ [] }
     ensures { MatchOption result (kept log.now ≡ []) (λ r. IsFirst log.now r.0 r.1) }
@@ -286,7 +286,7 @@ fn make_room(learnt: &mut Learnt)
     }
 }
 
-fn throw_out(log: &mut Vec<Option<Entry>>)
+fn throw_out(log: &mut Vec<Option<CacheEntry>>)
     ensures entries { kept log.new.items ≡ kept log.old.items }
     ensures full { length log.new.items ≡ length (kept log.old.items) }
     ensures capacity { vec_capacity log.new ≡ vec_capacity log.old }
@@ -295,7 +295,7 @@ fn throw_out(log: &mut Vec<Option<Entry>>)
 }
 
 /// Notes the places of the log's entries.
-fn renumber(log: &[Option<Entry>], index: &mut [Spot])
+fn renumber(log: &[Option<CacheEntry>], index: &mut [Spot])
     requires places { length log.now ≤ PLACES }
     requires rising { IsRising (spot_addresses index.old) }
     ensures { spot_addresses index.new ≡ spot_addresses index.old }

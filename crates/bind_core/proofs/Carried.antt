@@ -5,13 +5,13 @@ use Rattle.nat_types.specs.declared.pairs.EntryState.{EntryState}
 use Rattle.nat_types.specs.declared.pairs.EntryState.TheVariants.{Pending, Doomed, Live, Closing, Held}
 use Rattle.nat_types.specs.declared.pairs.Pair.{Pair}
 use Rattle.nat_types.specs.Same.{same_pair}
-use Rattle.nat_types.proofs.Equal.{pair-eq}
+use Rattle.nat_types.proofs.Offered.{pair-eq}
 use Rattle.bindings.specs.declared.entries.Entry.{Entry}
 use Rattle.bindings.specs.Entries.{is_pair, translates, has_key, slot_of, entry_of, HasDistinctEndpoints}
-use Rattle.bindings.proofs.Slots.{found-entry}
-use Rattle.binding_step.specs.declared.changes.Want.TheVariants.{Port}
-use Rattle.binding_step.specs.Books.{Book, is_synced}
-use Rattle.binding_step.specs.Rows.{known_wish, quiet, wish, wish_by, wish_of}
+use Rattle.bindings.proofs.Offered.{found-entry}
+use Rattle.spec_binding.specs.declared.changes.Want.TheVariants.{Port}
+use Rattle.spec_binding.specs.Books.{Book, is_synced}
+use Rattle.spec_binding.specs.Rows.{known_wish, quiet, wish, wish_by, wish_of}
 use Rattle.bind_core.specs.Cores.{is_carried, carries_pair}
 
 is-pair : (s : EntryState) → translates s ≡ true → is_pair s ≡ true

@@ -8,19 +8,16 @@ use Rattle.nat_types.specs.declared.pairs.Endpoint.{Endpoint}
 use Rattle.nat_types.specs.declared.pairs.Key.{Key}
 use Rattle.nat_types.specs.declared.pairs.Pair.{Pair}
 use Rattle.nat_types.specs.Same.{same_key}
-use Rattle.nat_types.proofs.Equal.{key-eq, key-true}
-use Rattle.lives.specs.Lives.{Past, Life, renewed}
+use Rattle.nat_types.proofs.Offered.{key-eq, key-true}
+use Rattle.activity.specs.Lives.{History, Activity, renewed}
 use Rattle.bindings.specs.declared.entries.Entry.{Entry}
 use Rattle.bindings.specs.Entries.{slot_of, entry_of, entry_in, is_pair, has_key, refusal_of, HasDistinctKeys}
 use Rattle.bindings.specs.Lists.{place_in, with_state, IsOneToOne}
 use Rattle.bindings.specs.Lives.{KeepsOthers}
 use Rattle.bindings.specs.Ports.{in_either}
 use Rattle.bindings.specs.Table.{Table, IsTable, IsPast, AreInRanges, with_entry_state}
-use Rattle.binding_step.proofs.Staying.{turned-place}
-use Rattle.bindings.proofs.Edits.{slot-with_state, either_slot, restated}
-use Rattle.bindings.proofs.Pasts.{no-past}
-use Rattle.bindings.proofs.Rooms.{has-room}
-use Rattle.bindings.proofs.Slots.{refusal-none, entry-serves, found-slot, keys-map}
+use Rattle.spec_binding.proofs.Offered.{turned-place}
+use Rattle.bindings.proofs.Offered.{slot-with_state, either_slot, restated, no-past, has-room, refusal-none, entry-serves, found-slot, keys-map}
 
 -- a new entry in the ranges is refused for no reason
 pub welcomed : (t : Table) (e : Entry) → IsTable t → AreInRanges t → in_either t.zero t.one e.pair.key.port.0 ≡ true → slot_of t.entries e.pair.key ≡ None → entry_of t.entries e.pair.endpoint ≡ None → refusal_of t.capacity t.entries e ≡ None
@@ -28,14 +25,14 @@ welcomed t e is ranges within key endpoint =
     refusal-none t.capacity t.entries e (has-room t is ranges e.pair.key within key) key (λ pair. endpoint)
 
 -- another key's past stays where an entry comes in
-pub stays-added : (k : Key) (t t2 : Table) → slot_of t.entries k ≡ None → KeepsOthers k t.entries t.lives t2.entries t2.lives → (q : Key) (past : Past) → IsPast t q past → IsPast t2 q past
+pub stays-added : (k : Key) (t t2 : Table) → slot_of t.entries k ≡ None → KeepsOthers k t.entries t.lives t2.entries t2.lives → (q : Key) (past : History) → IsPast t q past → IsPast t2 q past
 stays-added k t t2 free others q past has = at (same_key k q) refl
   where
     at : (b : Bool) → same_key k q ≡ b → IsPast t2 q past
     at true same = absurd (no-past k t.entries t.lives past free (subst (λ (z : Key). IsPast t z past) (sym (key-eq k q same)) has))
     at false same = others q past same has
 
-pub stays-renewed : (now : ℕ) (k : Key) (t t2 : Table) → ((past : Past) → IsPast t k past → IsPast t2 k (renewed now past)) → KeepsOthers k t.entries t.lives t2.entries t2.lives → (q : Key) (past : Past) → IsPast t q past → IsPast t2 q (cond (same_key k q) (renewed now past) past)
+pub stays-renewed : (now : ℕ) (k : Key) (t t2 : Table) → ((past : History) → IsPast t k past → IsPast t2 k (renewed now past)) → KeepsOthers k t.entries t.lives t2.entries t2.lives → (q : Key) (past : History) → IsPast t q past → IsPast t2 q (cond (same_key k q) (renewed now past) past)
 stays-renewed now k t t2 renews others q past has = at (same_key k q) refl
   where
     at : (b : Bool) → same_key k q ≡ b → IsPast t2 q (cond b (renewed now past) past)
@@ -90,6 +87,6 @@ yielded-distinct es q keys = keys-map (λ x. cond (has_key q x) (entry_in Doomed
     at x false = refl
 
 -- so a pair that a proposal gives way to has its life where it would have had it before
-pub turned-life : (p : Pair) (q : Key) (s : EntryState) (t t1 t2 : Table) (l : Life) → t1 ≡ with_entry_state t q s → t2.lives ≡ insert t1.lives (place_in p t1.entries) l → t2.lives ≡ insert t.lives (place_in p t.entries) l
+pub turned-life : (p : Pair) (q : Key) (s : EntryState) (t t1 t2 : Table) (l : Activity) → t1 ≡ with_entry_state t q s → t2.lives ≡ insert t1.lives (place_in p t1.entries) l → t2.lives ≡ insert t.lives (place_in p t.entries) l
 turned-life p q s t t1 t2 l made is =
     is ∙ ap (λ (u : Table). insert u.lives (place_in p u.entries) l) made ∙ ap (λ (n : ℕ). insert t.lives n l) (turned-place p q s t.entries)

@@ -7,23 +7,23 @@ use Rattle.nat_types.specs.declared.pairs.EntryState.{EntryState}
 use Rattle.nat_types.specs.declared.pairs.EntryState.TheVariants as state
 use Rattle.nat_types.specs.declared.pairs.Key.{Key}
 use Rattle.nat_types.specs.declared.pairs.Pair.{Pair}
-use Rattle.nat_types.specs.declared.notes.Happening.TheVariants as happens
+use Rattle.nat_types.specs.declared.notes.NoteKind.TheVariants as happens
 use Rattle.nat_types.specs.declared.records.Record.TheVariants as rec
 use Rattle.bindings.specs.declared.entries.Entry.{Entry}
 use Rattle.bindings.specs.Entries.{slot_of, entry_of, entry_in}
-use Rattle.bindings.proofs.Slots.{slot-key}
+use Rattle.bindings.proofs.Offered.{slot-key}
 use Rattle.link.specs.Link.{Link, free_places}
 use Rattle.resync.specs.Batch.{is_settled}
-use Rattle.binding_step.specs.declared.setups.Stage.{Stage}
-use Rattle.binding_step.specs.declared.setups.Stage.TheVariants.{Paired}
-use Rattle.binding_step.specs.declared.changes.Change.TheVariants as change
-use Rattle.binding_step.specs.declared.changes.Row.{Row}
-use Rattle.binding_step.specs.declared.changes.Wish.{Wish}
-use Rattle.binding_step.specs.declared.changes.Want.TheVariants as want
-use Rattle.binding_step.specs.Books.{Book, IsBook, is_synced, is_lone, is_promised}
-use Rattle.binding_step.specs.Rows.{row, quiet, wish, wish_of, wish_by, known_wish, new_wish, new_pair, none_row, may_want, port_for, idle_row, release_row, released_row, is_full}
+use Rattle.spec_binding.specs.declared.setups.Stage.{Stage}
+use Rattle.spec_binding.specs.declared.setups.Stage.TheVariants.{Paired}
+use Rattle.spec_binding.specs.declared.changes.Change.TheVariants as change
+use Rattle.spec_binding.specs.declared.changes.Transition.{Transition}
+use Rattle.spec_binding.specs.declared.changes.PortRequest.{PortRequest}
+use Rattle.spec_binding.specs.declared.changes.Want.TheVariants as want
+use Rattle.spec_binding.specs.Books.{Book, IsBook, is_synced, is_lone, is_promised}
+use Rattle.spec_binding.specs.Rows.{row, quiet, wish, wish_of, wish_by, known_wish, new_wish, new_pair, none_row, may_want, port_for, idle_row, release_row, released_row, is_full}
 use Rattle.bind_core.specs.Changes.{IsSteady, adds}
-use Rattle.binding_step.specs.Ledgers.{may_ask, is_heard}
+use Rattle.spec_binding.specs.Ledgers.{may_ask, is_heard}
 
 known-steady : (b : Book) (p : Pair) (s : EntryState) → IsSteady b (known_wish p s).row.change
 known-steady b p state.Pending = tt
@@ -35,7 +35,7 @@ known-steady b p state.Held = tt
 none-steady : (b : Book) (full : Bool) → IsSteady b (none_row b full).change
 none-steady b full = at (may_want b full)
   where
-    at : (t : Bool) → IsSteady b (let r : Row = cond t (row change.Want (Some rec.Want) None) quiet in r).change
+    at : (t : Bool) → IsSteady b (let r : Transition = cond t (row change.Want (Some rec.Want) None) quiet in r).change
     at true = tt
     at false = tt
 
@@ -43,7 +43,7 @@ new-steady : (b : Book) (full : Bool) (e : Endpoint) (o : Option Port) → is_lo
 new-steady b full e None h = none-steady b full
 new-steady b full e (Some port) h = at (is_lone b.stage) full h
   where
-    at : (lone full : Bool) → lone ≡ false → IsSteady b (let w : Wish = cond lone (wish (want.Port port) (row (change.Add (entry_in state.Live (new_pair e port))) None (Some (happens.Retaken (new_pair e port))))) (cond full (wish want.NotNow quiet) (wish want.Wait (row (change.Add (entry_in state.Pending (new_pair e port))) (Some (rec.Install (new_pair e port))) None))) in w).row.change
+    at : (lone full : Bool) → lone ≡ false → IsSteady b (let w : PortRequest = cond lone (wish (want.Port port) (row (change.Add (entry_in state.Live (new_pair e port))) None (Some (happens.Retaken (new_pair e port))))) (cond full (wish want.NotNow quiet) (wish want.Wait (row (change.Add (entry_in state.Pending (new_pair e port))) (Some (rec.Install (new_pair e port))) None))) in w).row.change
     at true full h = cc
     at false true h = tt
     at false false h = refl
@@ -54,7 +54,7 @@ lone-paired s is = ap is_lone is
 pub wish-steady : (b : Book) (full : Bool) (e : Endpoint) → IsBook b → is_promised b ≡ true → IsSteady b (wish_of b full e).row.change
 wish-steady b full e is promised = at (is_synced b.stage) (entry_of b.entries e)
   where
-    at : (t : Bool) (o : Option Entry) → IsSteady b (let w : Wish = cond t (wish_by b full e o) (wish want.NotNow quiet) in w).row.change
+    at : (t : Bool) (o : Option Entry) → IsSteady b (let w : PortRequest = cond t (wish_by b full e o) (wish want.NotNow quiet) in w).row.change
     at true (Some x) = known-steady b x.pair x.state
     at true None = new-steady b full e (port_for b e) (lone-paired b.stage (is.promised promised))
     at false o = tt
@@ -73,7 +73,7 @@ released-steady b ask x state.Held at found = tt
 pub idle-steady : (b : Book) (ask : Bool) (k : Key) → IsBook b → is_promised b ≡ true → IsSteady b (idle_row b ask k).change
 idle-steady b ask k is promised = at (is_synced b.stage) (is_lone b.stage) (lone-paired b.stage (is.promised promised)) (slot_of b.entries k) refl
   where
-    at : (t lone : Bool) → lone ≡ false → (o : Option Entry) → slot_of b.entries k ≡ o → IsSteady b (let r : Row = cond t (release_row lone ask o) quiet in r).change
+    at : (t lone : Bool) → lone ≡ false → (o : Option Entry) → slot_of b.entries k ≡ o → IsSteady b (let r : Transition = cond t (release_row lone ask o) quiet in r).change
     at false lone h o there = tt
     at true lone h None there = tt
     at true true h (Some x) there = cc
@@ -92,7 +92,7 @@ released-adds false ask p state.Held = refl
 pub idle-adds : (b : Book) (ask : Bool) (k : Key) → adds (idle_row b ask k).change ≡ false
 idle-adds b ask k = at (is_synced b.stage) (slot_of b.entries k)
   where
-    at : (t : Bool) (o : Option Entry) → adds (let r : Row = cond t (release_row (is_lone b.stage) ask o) quiet in r).change ≡ false
+    at : (t : Bool) (o : Option Entry) → adds (let r : Transition = cond t (release_row (is_lone b.stage) ask o) quiet in r).change ≡ false
     at false o = refl
     at true None = refl
     at true (Some x) = released-adds (is_lone b.stage) ask x.pair x.state
@@ -110,7 +110,7 @@ released-asks false ask p state.Held h = cc
 idle-asks : (b : Book) (ask : Bool) (k : Key) → is_some (idle_row b ask k).answer ≡ true → ask ≡ true
 idle-asks b ask k = at (is_synced b.stage) (slot_of b.entries k)
   where
-    at : (t : Bool) (o : Option Entry) → is_some (let r : Row = cond t (release_row (is_lone b.stage) ask o) quiet in r).answer ≡ true → ask ≡ true
+    at : (t : Bool) (o : Option Entry) → is_some (let r : Transition = cond t (release_row (is_lone b.stage) ask o) quiet in r).answer ≡ true → ask ≡ true
     at false o h = cc
     at true None h = cc
     at true (Some x) h = released-asks (is_lone b.stage) ask x.pair x.state h

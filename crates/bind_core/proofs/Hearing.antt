@@ -1,7 +1,7 @@
 -- The link's word for a peer that was heard lately, and the protocol's, are one.
 use Rattle.std.proofs.Common.{◌≡◌, ℕ, Option, Some, None, refl}
 use Rattle.link.specs.Hearing as link
-use Rattle.binding_step.specs.Ledgers.{is_heard}
+use Rattle.spec_binding.specs.Ledgers.{is_heard}
 
 pub same_heard : (heard : Option ℕ) (now : ℕ) → link.is_heard heard now ≡ is_heard heard now
 same_heard None now = refl

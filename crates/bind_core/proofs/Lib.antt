@@ -1,10 +1,10 @@
-pub mod Changing
-pub mod Deciding
-pub mod Founding
-pub mod Performing
-pub mod Porting
-pub mod Releasing
-pub mod Steady
-pub mod Walking
-pub mod Carried
-pub mod Hearing
+mod Changing
+mod Deciding
+mod Founding
+mod Performing
+mod Porting
+mod Releasing
+mod Steady
+mod Walking
+mod Carried
+mod Hearing

@@ -9,14 +9,14 @@ use Rattle.nat_types.specs.declared.notes.Note.{Note}
 use Rattle.link.specs.Link.{Link, with_fed, with_promised}
 use Rattle.std.proofs.Common.{length}
 use Rattle.std.proofs.lemmas.List.{take-append-drop}
-use Rattle.pair_machine.specs.Box.{Letter}
-use Rattle.binding_step.specs.Machine.{Works}
+use Rattle.spec_pair.specs.Box.{Letter}
+use Rattle.spec_binding.specs.Machine.{Works}
 use Rattle.nat_types.specs.declared.gateways.GatewayId.{GatewayId}
 use Rattle.bindings.specs.declared.entries.Entry.{Entry}
 use Rattle.bindings.specs.Revivals.{revived_entries, woken_entry}
-use Rattle.bindings.proofs.Places.{length-keep}
+use Rattle.bindings.proofs.Offered.{length-keep}
 use Rattle.resync.specs.Batch.{batch_of}
-use Rattle.resync.proofs.Few.{few-of}
+use Rattle.resync.proofs.Offered.{few-of}
 use Rattle.std.specs.List.{filter}
 use Rattle.std.proofs.lemmas.List.{length-map}
 use Rattle.bindings.specs.Entries.{slot_of, is_pair}
@@ -27,16 +27,16 @@ use Rattle.nat_types.specs.declared.pairs.Pair.{Pair}
 use Rattle.port_range.specs.Ports.{is_listed}
 use Rattle.std.proofs.Common.{◌==◌}
 use Rattle.std.proofs.lemmas.Bool.{or_left, eq-eqb}
-use Rattle.binding_step.specs.Resets.{revived, restarted, restart_batch, restart_link}
-use Rattle.lives.specs.Lives.{Life}
+use Rattle.spec_binding.specs.Resets.{revived, restarted, restart_batch, restart_link}
+use Rattle.activity.specs.Lives.{Activity}
 use Rattle.bindings.specs.Table.{Table, IsTable}
-use Rattle.binding_step.specs.declared.changes.Change.{Change}
-use Rattle.binding_step.specs.declared.changes.Change.TheVariants.{Keep, Add, Turn, Renew, Drop, Yield, Want, Give, Gain}
-use Rattle.binding_step.specs.declared.changes.Row.{Row}
-use Rattle.binding_step.specs.Books.{Book, IsBook, is_any, is_promised, is_synced, load_of, empty_book}
-use Rattle.binding_step.specs.Rows.{after, changed, with_gained, is_gained, numbers_of, row_of, carry_row, use_row, used_row, quiet, answered, taken_book, taken_answer, unsynced_after, load_taken, stage_after}
-use Rattle.binding_step.specs.declared.setups.Stage.{Stage}
-use Rattle.binding_step.specs.declared.setups.Stage.TheVariants.{Paired, Unsynced}
+use Rattle.spec_binding.specs.declared.changes.Change.{Change}
+use Rattle.spec_binding.specs.declared.changes.Change.TheVariants.{Keep, Add, Turn, Renew, Drop, Yield, Want, Give, Gain}
+use Rattle.spec_binding.specs.declared.changes.Transition.{Transition}
+use Rattle.spec_binding.specs.Books.{Book, IsBook, is_any, is_promised, is_synced, load_of, empty_book}
+use Rattle.spec_binding.specs.Rows.{after, changed, with_gained, is_gained, numbers_of, row_of, carry_row, use_row, used_row, quiet, answered, taken_book, taken_answer, unsynced_after, load_taken, stage_after}
+use Rattle.spec_binding.specs.declared.setups.Stage.{Stage}
+use Rattle.spec_binding.specs.declared.setups.Stage.TheVariants.{Paired, Unsynced}
 use Rattle.nat_types.specs.declared.records.Record.TheVariants as rec
 use Rattle.bindings.specs.declared.entries.PortBounds.{PortBounds}
 use Rattle.resync.specs.Loading.{Progress, loaded}
@@ -46,7 +46,7 @@ use Rattle.bindings.specs.Runs.{own_in}
 use Rattle.std.proofs.Common.{true, false, cond, [], ◌∷◌, ◌++◌, take, drop}
 use Rattle.bind_core.specs.Changes.{table_book, table_after, wants_after, ready_after, adds, IsBetween, IsSteady}
 use Rattle.bind_core.specs.declared.deeds.Bounds.{Bounds}
-use Rattle.binding_step.specs.Ledgers.{Ledger, ledger_after, lives_after, lives_loaded, rests_for, taken_ledger}
+use Rattle.spec_binding.specs.Ledgers.{Ledger, ledger_after, lives_after, lives_loaded, rests_for, taken_ledger}
 use Rattle.bind_core.specs.Cores.{Core, book_of, core_after, ledger_of, is_whole, revived_with}
 use Rattle.bind_core.proofs.Porting.{gained-rest}
 
@@ -66,7 +66,7 @@ gained-owned : (b : Book) (t : Table) (xs : List ℕ) → (with_gained (table_bo
 gained-owned b t xs = ap (λ (z : Book). z.owned) (gained-alike b t xs)
 
 -- the book then is the one that the row makes
-pub book-after : (now : ℕ) (c : Core) (r : Row) → book_of (core_after now c r) ≡ after (book_of c) r
+pub book-after : (now : ℕ) (c : Core) (r : Transition) → book_of (core_after now c r) ≡ after (book_of c) r
 book-after now c r = at r.change
   where
     at : (ch : Change) → book_of (record c { table = table_after now ch c.table; wants = wants_after ch c.wants }) ≡ changed ch (book_of c)
@@ -84,12 +84,12 @@ book-after now c r = at r.change
         ∙ ap (λ (z : Book). let b : Book = record z { wants = false } in b) (sym (gained-rest (book_of c) (numbers_of g)))
 
 -- and the lives those of the change
-ledger-after : (now : ℕ) (c : Core) (r : Row) → ledger_of (core_after now c r) ≡ ledger_after now r.change (ledger_of c)
+ledger-after : (now : ℕ) (c : Core) (r : Transition) → ledger_of (core_after now c r) ≡ ledger_after now r.change (ledger_of c)
 ledger-after now c r = ap (λ (b : Book). let l : Ledger = record { book = b; lives = lives_after now r.change c.table.entries c.table.lives } in l) (book-after now c r)
 
 -- the ledger then, of a row that is worked out elsewhere
-pub ledger-then : (now : ℕ) (c c2 : Core) (r r2 : Row) → c2 ≡ core_after now c r → r ≡ r2 → ledger_of c2 ≡ ledger_after now r2.change (ledger_of c)
-ledger-then now c c2 r r2 made is = ap ledger_of made ∙ ledger-after now c r ∙ ap (λ (x : Row). ledger_after now x.change (ledger_of c)) is
+pub ledger-then : (now : ℕ) (c c2 : Core) (r r2 : Transition) → c2 ≡ core_after now c r → r ≡ r2 → ledger_of c2 ≡ ledger_after now r2.change (ledger_of c)
+ledger-then now c c2 r r2 made is = ap ledger_of made ∙ ledger-after now c r ∙ ap (λ (x : Transition). ledger_after now x.change (ledger_of c)) is
 
 ready-near : (ch : Change) (n : ℕ) → n ≤ ready_after ch n + 1
 ready-near Keep n = omega arith
@@ -103,7 +103,7 @@ ready-near (Give g) n = omega arith
 ready-near (Gain g) n = omega arith
 
 -- the table is ready for at most one pair less
-pub ready-then : (now : ℕ) (c c2 : Core) (r : Row) → c2 ≡ core_after now c r → c.table.ready ≤ c2.table.ready + 1
+pub ready-then : (now : ℕ) (c c2 : Core) (r : Transition) → c2 ≡ core_after now c r → c.table.ready ≤ c2.table.ready + 1
 ready-then now c c2 r made = subst (λ (k : Core). c.table.ready ≤ k.table.ready + 1) (sym made) (ready-near r.change c.table.ready)
 
 ready-same : (ch : Change) (n : ℕ) → adds ch ≡ false → ready_after ch n ≡ n
@@ -118,13 +118,13 @@ ready-same (Give g) n h = refl
 ready-same (Gain g) n h = refl
 
 -- and for as many where no entry comes
-pub ready-kept : (now : ℕ) (c c2 : Core) (r : Row) → adds r.change ≡ false → c2 ≡ core_after now c r → c2.table.ready ≡ c.table.ready
+pub ready-kept : (now : ℕ) (c c2 : Core) (r : Transition) → adds r.change ≡ false → c2 ≡ core_after now c r → c2.table.ready ≡ c.table.ready
 ready-kept now c c2 r h made = ap (λ (k : Core). k.table.ready) made ∙ ready-same r.change c.table.ready h
 
 pub still-between : (t t2 : Table) (bounds : Bounds) → t2.zero ≡ t.zero → t2.one ≡ t.one → IsBetween t bounds → IsBetween t2 bounds
 still-between t t2 bounds zero one is = record { zero = zero ∙ is.zero; one = one ∙ is.one }
 
-pub made-after : (now : ℕ) (c : Core) (r : Row) (t2 : Table) (w : Bool) (cs : List Record) → t2 ≡ table_after now r.change c.table → w ≡ wants_after r.change c.wants → cs ≡ c.coming → record c { table = t2; wants = w; coming = cs } ≡ core_after now c r
+pub made-after : (now : ℕ) (c : Core) (r : Transition) (t2 : Table) (w : Bool) (cs : List Record) → t2 ≡ table_after now r.change c.table → w ≡ wants_after r.change c.wants → cs ≡ c.coming → record c { table = t2; wants = w; coming = cs } ≡ core_after now c r
 made-after now c r t2 w cs table wants comes =
     ap (λ (t : Table). let k : Core = record c { table = t; wants = w; coming = cs } in k) table
     ∙ ap (λ (z : Bool). let k : Core = record c { table = table_after now r.change c.table; wants = z; coming = cs } in k) wants
@@ -146,7 +146,7 @@ pub coming-after : (laws : SteadyLaws) (cursor : Cursor) (now : ℕ) (ch : Chang
 coming-after laws cursor now ch c t2 keys are is same =
     ap (coming cursor) same ∙ still-coming laws cursor now ch c.table keys (λ h. steady-table c ch (is (ap is_any are ∙ h))) ∙ sym are
 
-pub kept-after : (now : ℕ) (c : Core) (r : Row) (c2 : Core) → c2 ≡ core_after now c r → IsBook (after (book_of c) r) → IsBook (book_of c2)
+pub kept-after : (now : ℕ) (c : Core) (r : Transition) (c2 : Core) → c2 ≡ core_after now c r → IsBook (after (book_of c) r) → IsBook (book_of c2)
 kept-after now c r c2 same kept = subst (λ (k : Core). IsBook (book_of k)) (sym same) (subst IsBook (sym (book-after now c r)) kept)
 
 pub same-book : (c : Core) (cursor : Cursor) (t t2 : Table) → t2 ≡ t → IsBook (book_of (record c { table = t; coming = coming cursor t })) → IsBook (book_of (record c { table = t2; coming = coming cursor t2 }))
@@ -172,7 +172,7 @@ loaded-answer b rests r h = ap (λ (t : Bool). let x : Option Record = cond t (r
 pub taken-ledger : (now : ℕ) (c c2 : Core) (r : Record) → is_synced c.stage ≡ true → c2 ≡ core_after now c (row_of (book_of c) (rests_for now (ledger_of c) r) r) → ledger_of c2 ≡ taken_ledger now (ledger_of c) r
 taken-ledger now c c2 r h made = ledger-then now c c2 row row made refl ∙ sym (ap of h)
   where
-    row : Row
+    row : Transition
     row = row_of (book_of c) (rests_for now (ledger_of c) r) r
 
     of : Bool → Ledger
@@ -185,10 +185,10 @@ pub loaded-ledger : (now : ℕ) (c c2 : Core) (r : Record) → is_synced c.stage
     → c2.table.lives ≡ lives_loaded now r c.table.entries c.table.lives (loaded (load_of (book_of c)) r) → ledger_of c2 ≡ taken_ledger now (ledger_of c) r
 loaded-ledger now c c2 r h book lives =
     ap (λ (b : Book). let l : Ledger = record { book = b; lives = c2.table.lives } in l) book
-    ∙ ap (λ (ls : List Life). let l : Ledger = record { book = unsynced_after (book_of c) r; lives = ls } in l) lives
+    ∙ ap (λ (ls : List Activity). let l : Ledger = record { book = unsynced_after (book_of c) r; lives = ls } in l) lives
     ∙ sym (ap of h)
   where
-    row : Row
+    row : Transition
     row = row_of (book_of c) (rests_for now (ledger_of c) r) r
 
     of : Bool → Ledger
@@ -302,7 +302,7 @@ used-quiet b e p state.Held = (refl, refl)
 pub carry-quiet : (b : Book) (e : Link) (k : Key) → (after b (carry_row b k) ≡ b) × (answered e (carry_row b k).answer ≡ e)
 carry-quiet b e k = at (is_synced b.stage) (slot_of b.entries k)
   where
-    at : (t : Bool) (o : Option Entry) → (let r : Row = cond t (use_row o) quiet in (after b r ≡ b) × (answered e r.answer ≡ e))
+    at : (t : Bool) (o : Option Entry) → (let r : Transition = cond t (use_row o) quiet in (after b r ≡ b) × (answered e r.answer ≡ e))
     at false o = (refl, refl)
     at true None = (refl, refl)
     at true (Some x) = used-quiet b e x.pair x.state

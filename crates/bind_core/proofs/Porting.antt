@@ -8,13 +8,13 @@ use Rattle.std.proofs.lemmas.List.{take_more}
 use Rattle.std.proofs.lemmas.List.Folds.{list_any-append}
 use Rattle.addresses.specs.declared.transport.Port.{Port}
 use Rattle.nat_types.specs.Granted.{Granted}
-use Rattle.binding_step.specs.declared.changes.Change.TheVariants.{Gain}
+use Rattle.spec_binding.specs.declared.changes.Change.TheVariants.{Gain}
 use Rattle.port_range.specs.Ports.{is_listed}
 use Rattle.bindings.specs.Runs.{without_port, own_in}
-use Rattle.binding_step.specs.Books.{Book}
+use Rattle.spec_binding.specs.Books.{Book}
 use Rattle.bind_core.specs.Changes.{table_book, table_after, IsBetween}
 use Rattle.bind_core.specs.declared.deeds.Bounds.{Bounds}
-use Rattle.binding_step.specs.Rows.{without_ports, with_gained, is_gained, numbers_of}
+use Rattle.spec_binding.specs.Rows.{without_ports, with_gained, is_gained, numbers_of}
 
 map-append : (xs ys : List Port) → map (λ (p : Port). p.0) (xs ++ ys) ≡ map (λ (p : Port). p.0) xs ++ map (λ (p : Port). p.0) ys
 map-append [] ys = refl

@@ -4,19 +4,19 @@ use Rattle.std.proofs.lemmas.Option.{get_or_from_slice_get, slice_get_within}
 use Rattle.std.proofs.Math.Seq.{drop-cons}
 use Rattle.nat_types.specs.declared.notes.Note.{Note}
 use Rattle.link.specs.Link.{Link}
-use Rattle.binding_step.specs.Rows.{idle_row, after, answered, noted_by}
-use Rattle.binding_step.specs.Ledgers.{Ledger, ledger_after, let_go, may_ask}
+use Rattle.spec_binding.specs.Rows.{idle_row, after, answered, noted_by}
+use Rattle.spec_binding.specs.Ledgers.{Ledger, ledger_after, let_go, may_ask}
 use Rattle.nat_types.specs.declared.records.Record.{Record}
-use Rattle.pair_machine.specs.Box.{Letter}
-use Rattle.binding_step.specs.Books.{Book}
-use Rattle.binding_step.specs.Machine.{Stands, Works}
+use Rattle.spec_pair.specs.Box.{Letter}
+use Rattle.spec_binding.specs.Books.{Book}
+use Rattle.spec_binding.specs.Machine.{Stands, Works}
 use Rattle.nat_types.specs.declared.pairs.Key.{Key}
-use Rattle.lives.specs.Lives.{Life}
+use Rattle.activity.specs.Lives.{Activity}
 use Rattle.bindings.specs.declared.entries.Entry.{Entry}
 use Rattle.bindings.specs.Lives.{idle_keys_in, is_idle_row}
 
 -- no more keys are idle than there are entries
-pub few-idle : (now : ℕ) (es : List Entry) (ls : List Life) → length (idle_keys_in now es ls) ≤ length es
+pub few-idle : (now : ℕ) (es : List Entry) (ls : List Activity) → length (idle_keys_in now es ls) ≤ length es
 few-idle now [] ls = omega arith
 few-idle now (e ∷ es) [] = omega arith
 few-idle now (e ∷ es) (l ∷ ls) = at (is_idle_row now e l) (few-idle now es ls)

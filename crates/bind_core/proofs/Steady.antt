@@ -13,9 +13,9 @@ use Rattle.nat_types.specs.declared.pairs.EntryState.{EntryState}
 use Rattle.nat_types.specs.declared.pairs.Key.{Key}
 use Rattle.bindings.specs.declared.entries.Entry.{Entry}
 use Rattle.bindings.specs.Entries.{slot_of}
-use Rattle.binding_step.specs.declared.changes.Change.{Change}
-use Rattle.binding_step.specs.declared.changes.Change.TheVariants.{Keep, Add, Turn, Renew, Drop, Yield, Want, Give, Gain}
-use Rattle.binding_step.specs.Books.{is_any}
+use Rattle.spec_binding.specs.declared.changes.Change.{Change}
+use Rattle.spec_binding.specs.declared.changes.Change.TheVariants.{Keep, Add, Turn, Renew, Drop, Yield, Want, Give, Gain}
+use Rattle.spec_binding.specs.Books.{is_any}
 use Rattle.bind_core.specs.Changes.{IsSteady, table_book, table_after}
 
 -- what resync's law of a steady batch says

@@ -5,16 +5,16 @@ use Rattle.std.proofs.lemmas.Bool.{cond-true, cond-false, ltb-true, lt-ltb, le-l
 use Rattle.std.proofs.lemmas.List.{map-append}
 use Rattle.nat_types.specs.declared.gateways.GatewayId.{GatewayId}
 use Rattle.nat_types.specs.declared.notes.Note.{Note}
-use Rattle.nat_types.specs.declared.notes.Happening.TheVariants.{Retaken}
+use Rattle.nat_types.specs.declared.notes.NoteKind.TheVariants.{Retaken}
 use Rattle.nat_types.specs.declared.pairs.Key.{Key}
 use Rattle.nat_types.specs.declared.pairs.Pair.{Pair}
 use Rattle.bindings.specs.declared.entries.Entry.{Entry}
 use Rattle.bindings.specs.Entries.{place_of}
 use Rattle.bindings.specs.Lists.{key_place, stands_behind, after_key}
-use Rattle.bindings.proofs.Found.{find-none, find-some}
+use Rattle.bindings.proofs.Offered.{find-none, find-some}
 use Rattle.bindings.specs.Revivals.{comes_back}
-use Rattle.binding_step.specs.Resets.{back_in, retaken}
-use Rattle.resync.proofs.Behind.{IsStrict}
+use Rattle.spec_binding.specs.Resets.{back_in, retaken}
+use Rattle.resync.proofs.Offered.{IsStrict}
 
 -- the entries behind a key
 abbrev pub behind : Option Key → List Entry → List Entry

@@ -3,17 +3,17 @@ use Rattle.std.specs.Prelude.{◌≡◌, ℕ, ◌-◌, Bool, true, false, [], So
 use Rattle.nat_types.specs.Same.{same_key}
 use Rattle.nat_types.specs.declared.gateways.GatewayId.TheVariants.{Zero}
 use Rattle.nat_types.specs.declared.pairs.Key.{Key}
-use Rattle.lives.specs.Lives.{Past, came, renewed}
+use Rattle.activity.specs.Lives.{History, came, renewed}
 use Rattle.bindings.specs.Table.{Table, IsPast}
 use Rattle.bindings.specs.declared.entries.Entry.{Entry}
 use Rattle.bindings.specs.Entries.{slot_of}
 use Rattle.resync.specs.Batch.{is_settled}
-use Rattle.binding_step.specs.declared.setups.Stage.TheVariants.{Paired}
-use Rattle.binding_step.specs.declared.changes.Change.{Change}
-use Rattle.binding_step.specs.declared.changes.Change.TheVariants.{Keep, Add, Turn, Renew, Drop, Yield, Want, Give, Gain}
-use Rattle.binding_step.specs.Books.{Book}
-use Rattle.binding_step.specs.Ledgers.{is_held, lives_after}
-use Rattle.binding_step.specs.Rows.{changed}
+use Rattle.spec_binding.specs.declared.setups.Stage.TheVariants.{Paired}
+use Rattle.spec_binding.specs.declared.changes.Change.{Change}
+use Rattle.spec_binding.specs.declared.changes.Change.TheVariants.{Keep, Add, Turn, Renew, Drop, Yield, Want, Give, Gain}
+use Rattle.spec_binding.specs.Books.{Book}
+use Rattle.spec_binding.specs.Ledgers.{is_held, lives_after}
+use Rattle.spec_binding.specs.Rows.{changed}
 use Rattle.bind_core.specs.declared.deeds.Bounds.{Bounds}
 
 -- the table as the book of a gateway that isn't lone
@@ -93,7 +93,7 @@ table_after now change t =
     record t { entries = b.entries; owned = b.owned; lives = lives_after now change t.entries t.lives; ready = ready_after change t.ready }
 
 -- what becomes of a past that a key's entry agrees with: only a No begins it anew
-abbrev pub past_after : ℕ → Change → Key → Past → Past
+abbrev pub past_after : ℕ → Change → Key → History → History
 past_after now Keep q past = past
 past_after now (Add e) q past = past
 past_after now (Turn k s) q past = past
@@ -118,7 +118,7 @@ Begins now (Gain g) t = Unit {0}
 
 -- what the pairs carried, through a change
 pub record LivesOn (now : ℕ) (change : Change) (t t2 : Table) : Type 0 where
-  pub stays : (q : Key) (past : Past) → leaves change q ≡ false → IsPast t q past → IsPast t2 q (past_after now change q past)
+  pub stays : (q : Key) (past : History) → leaves change q ≡ false → IsPast t q past → IsPast t2 q (past_after now change q past)
   pub begins : Begins now change t2
 
 -- ---- a promised batch

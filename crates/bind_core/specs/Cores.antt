@@ -3,8 +3,8 @@ use Rattle.std.specs.Prelude.{ℕ, Bool, List, Option, Some, None, true, false, 
 use Rattle.nat_types.specs.declared.gateways.GatewayId.{GatewayId}
 use Rattle.nat_types.specs.declared.records.Record.{Record}
 use Rattle.nat_types.specs.declared.records.Record.TheVariants.{Install, Accept, Refuse, Ask, Yes, No, Begin, Put, Done, Want, Grant, Owner}
-use Rattle.nat_types.specs.declared.notes.Happening.{Happening}
-use Rattle.nat_types.specs.declared.notes.Happening.TheVariants.{Retaken, Synced}
+use Rattle.nat_types.specs.declared.notes.NoteKind.{NoteKind}
+use Rattle.nat_types.specs.declared.notes.NoteKind.TheVariants.{Retaken, Synced}
 use Rattle.nat_types.specs.declared.pairs.Key.{Key}
 use Rattle.nat_types.specs.declared.pairs.Pair.{Pair}
 use Rattle.nat_types.specs.Same.{same_pair}
@@ -16,11 +16,11 @@ use Rattle.bindings.specs.Table.{Table}
 use Rattle.bindings.specs.Revivals.{revived_entries}
 use Rattle.resync.specs.Cursor.{to_come}
 use Rattle.resync.specs.declared.cursor.Cursor.{Cursor}
-use Rattle.binding_step.specs.Resets.{revived}
-use Rattle.binding_step.specs.declared.changes.Row.{Row}
-use Rattle.binding_step.specs.declared.setups.Stage.{Stage}
-use Rattle.binding_step.specs.Books.{Book, is_synced}
-use Rattle.binding_step.specs.Ledgers.{Ledger}
+use Rattle.spec_binding.specs.Resets.{revived}
+use Rattle.spec_binding.specs.declared.changes.Transition.{Transition}
+use Rattle.spec_binding.specs.declared.setups.Stage.{Stage}
+use Rattle.spec_binding.specs.Books.{Book, is_synced}
+use Rattle.spec_binding.specs.Ledgers.{Ledger}
 use Rattle.bind_core.specs.Changes.{table_after, wants_after}
 
 -- Who it is, its table, how far it is, whether Begin was taken and not yet Done, the last port that an Owner named,
@@ -55,7 +55,7 @@ abbrev pub ledger_of : Core → Ledger
 ledger_of c = record { book = book_of c; lives = c.table.lives }
 
 -- once a row is carried out
-abbrev pub core_after : ℕ → Core → Row → Core
+abbrev pub core_after : ℕ → Core → Transition → Core
 core_after now c r = record c { table = table_after now r.change c.table; wants = wants_after r.change c.wants }
 
 -- ---- packets
@@ -87,7 +87,7 @@ is_whole (Grant g) = false
 is_whole (Owner first last) = false
 
 -- what is noted of a record in its place
-abbrev pub what_loaded : Record → Option Happening
+abbrev pub what_loaded : Record → Option NoteKind
 what_loaded (Install p) = None
 what_loaded (Accept k) = None
 what_loaded (Refuse k) = None

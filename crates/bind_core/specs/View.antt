@@ -2,7 +2,7 @@
 use Rattle.std.specs.Prelude.{◌≡◌, ◌≤◌, vec_capacity}
 use Rattle.resync.specs.Cursor.{coming}
 use Rattle.bind_core.specs.declared.cores.Core.TheInside.{Inside}
-use Rattle.binding_step.specs.Books.{IsBook}
+use Rattle.spec_binding.specs.Books.{IsBook}
 use Rattle.bind_core.specs.Changes.{IsBetween}
 use Rattle.bind_core.specs.Cores.{Core, book_of}
 

@@ -3,33 +3,33 @@ ghost use Rattle.std.specs.Prelude.{◌≡◌, ◌+◌, ◌<◌, ◌≤◌, ◌+
 ghost use Rattle.std.specs.Prelude.{length, vec_len, vec_capacity, OnOk, OnErr};
 ghost use Rattle.link.specs.Grammar.{IsWellFormedRecord};
 ghost use Rattle.link.specs.Link.{free_places, needs_answer};
-ghost use Rattle.binding_step.specs.Books.{is_lone as is_lone_at, is_synced as is_synced_at};
-ghost use Rattle.binding_step.specs.Fits.{IsWellFormedEndpoint};
-ghost use Rattle.binding_step.specs.Rows.{answered, idle_row, is_full, noted_by, row_of, wish_of};
-ghost use Rattle.binding_step.specs.Rows.{taken_answer, taken_ended, taken_what};
-ghost use Rattle.binding_step.specs.Resets.{back_in, retaken};
-ghost use Rattle.binding_step.specs.Resets.{restart_batch, restart_link, restart_notes};
+ghost use Rattle.spec_binding.specs.Books.{is_lone as is_lone_at, is_synced as is_synced_at};
+ghost use Rattle.spec_binding.specs.WellFormed.{IsWellFormedEndpoint};
+ghost use Rattle.spec_binding.specs.Rows.{answered, idle_row, is_full, noted_by, row_of, wish_of};
+ghost use Rattle.spec_binding.specs.Rows.{taken_answer, taken_ended, taken_what};
+ghost use Rattle.spec_binding.specs.Resets.{back_in, retaken};
+ghost use Rattle.spec_binding.specs.Resets.{restart_batch, restart_link, restart_notes};
 ghost use Rattle.link.specs.Link.{occupied};
 ghost use Rattle.link.specs.Link.{Agrees, Link as End};
-ghost use Rattle.binding_step.specs.Machine.{IsTurn, Stands, Works};
+ghost use Rattle.spec_binding.specs.Machine.{IsTurn, Stands, Works};
 ghost use Rattle.nat_types.specs.declared.records.Record.{Record as Rec};
-ghost use Rattle.pair_machine.specs.Box.{Letter};
+ghost use Rattle.spec_pair.specs.Box.{Letter};
 ghost use Rattle.bind_core.specs.Changes.{LivesOn};
-ghost use Rattle.binding_step.specs.Ledgers.{alone_ledger, ledger_after, let_go, rests_for};
-ghost use Rattle.binding_step.specs.Ledgers.{may_ask as may_ask_at};
-ghost use Rattle.binding_step.specs.Ledgers.{restarted_ledger, taken_ledger};
+ghost use Rattle.spec_binding.specs.Ledgers.{alone_ledger, ledger_after, let_go, rests_for};
+ghost use Rattle.spec_binding.specs.Ledgers.{may_ask as may_ask_at};
+ghost use Rattle.spec_binding.specs.Ledgers.{restarted_ledger, taken_ledger};
 ghost use Rattle.bindings.specs.Table.{idle_keys_of};
 ghost use Rattle.bind_core.specs.Cores.{book_of, core_after, ledger_of};
 
 use crate::Core;
 use crate::deeds::{is_link_full, may_ask};
-use binding_step::{
-    Stage, Want, answers_fit, books_keep, idle_works, record_works, restart_works, rows_fit,
-    wish_works, word_works, works_join, works_nothing,
-};
 use link::Link;
 use nat_types::{Endpoint, Key, Note, Record};
 use resync::Cursor;
+use spec_binding::{
+    Stage, Want, answers_fit, books_keep, idle_works, record_works, restart_works, rows_fit,
+    wish_works, word_works, works_join, works_nothing,
+};
 use std::alloc::AllocError;
 
 impl Core {

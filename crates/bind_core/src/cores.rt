@@ -4,8 +4,8 @@ ghost use Rattle.std.specs.Prelude.{ℕ, Bool, [], true};
 ghost use Rattle.std.specs.Prelude.{IsTrue, IfOk, IfSome, is_some, length, vec_len, vec_capacity};
 ghost use Rattle.std.specs.Prelude.{slice_get, Some, false, OnOk, OnErr, drop, take, List};
 ghost use Rattle.nat_types.specs.declared.pairs.Key.{Key as OutsidePort};
-ghost use Rattle.lives.specs.declared.packets.Packet.{Packet as Carried};
-ghost use Rattle.lives.specs.Lives.{Past, with_packet};
+ghost use Rattle.activity.specs.declared.packets.Packet.{Packet as Carried};
+ghost use Rattle.activity.specs.Lives.{History, with_packet};
 ghost use Rattle.bindings.specs.Lives.{KeepsOthers};
 ghost use Rattle.bindings.specs.Table.{IsPast};
 ghost use Rattle.link.specs.Grammar.{IsWellFormedRecord};
@@ -13,29 +13,29 @@ ghost use Rattle.link.specs.Link.{free_places, occupied, wanted, with_fed, with_
 ghost use Rattle.resync.specs.Batch.{HasNoPending, batch_of};
 ghost use Rattle.link.specs.Link.{Link as End};
 ghost use Rattle.nat_types.specs.declared.records.Record.{Record as Rec};
-ghost use Rattle.binding_step.specs.Machine.{Stands, Works};
-ghost use Rattle.binding_step.specs.Books.{IsBook, is_synced as is_synced_at};
-ghost use Rattle.binding_step.specs.Books.{is_lone as is_lone_at, is_promised};
-ghost use Rattle.binding_step.specs.Fits.{Fits};
-ghost use Rattle.binding_step.specs.Rows.{is_theirs as is_theirs_port, proposed_row, install_row};
-ghost use Rattle.binding_step.specs.Rows.{grant_row, want_row, none_row, synced_row, new_wish};
-ghost use Rattle.binding_step.specs.Rows.{wish_of, carry_row, noted_by, after, answered, is_full};
-ghost use Rattle.binding_step.specs.Rows.{idle_row, row_of, unsynced_after, unsynced_what};
-ghost use Rattle.binding_step.specs.Rows.{quiet as quiet_row, wish as wish_with};
-ghost use Rattle.binding_step.specs.declared.changes.Want.TheVariants.{Port as PortOf};
+ghost use Rattle.spec_binding.specs.Machine.{Stands, Works};
+ghost use Rattle.spec_binding.specs.Books.{IsBook, is_synced as is_synced_at};
+ghost use Rattle.spec_binding.specs.Books.{is_lone as is_lone_at, is_promised};
+ghost use Rattle.spec_binding.specs.WellFormed.{Fits};
+ghost use Rattle.spec_binding.specs.Rows.{is_theirs as is_theirs_port, proposed_row, install_row};
+ghost use Rattle.spec_binding.specs.Rows.{grant_row, want_row, none_row, synced_row, new_wish};
+ghost use Rattle.spec_binding.specs.Rows.{wish_of, carry_row, noted_by, after, answered, is_full};
+ghost use Rattle.spec_binding.specs.Rows.{idle_row, row_of, unsynced_after, unsynced_what};
+ghost use Rattle.spec_binding.specs.Rows.{quiet as quiet_row, wish as wish_with};
+ghost use Rattle.spec_binding.specs.declared.changes.Want.TheVariants.{Port as PortOf};
 ghost use Rattle.bind_core.specs.Changes.{adds, IsSteady, LivesOn};
 ghost use Rattle.bindings.specs.Table.{idle_keys_of};
 ghost use Rattle.bindings.specs.Ports.{AreBounds, key_count};
-ghost use Rattle.binding_step.specs.Books.{empty_book, founded_book};
+ghost use Rattle.spec_binding.specs.Books.{empty_book, founded_book};
 ghost use Rattle.nat_types.specs.declared.gateways.GatewayId.TheVariants.{Zero};
-ghost use Rattle.binding_step.specs.Resets.{back_in, retaken};
+ghost use Rattle.spec_binding.specs.Resets.{back_in, retaken};
 ghost use Rattle.bindings.specs.declared.entries.Entry.{Entry as Known};
 ghost use Rattle.bindings.specs.Entries.{is_pair, slot_of};
 ghost use Rattle.bindings.specs.Revivals.{lives_of_pairs};
 ghost use Rattle.resync.specs.Loading.{loaded};
-ghost use Rattle.binding_step.specs.Books.{load_of};
-ghost use Rattle.binding_step.specs.Ledgers.{carried_ledger, lives_loaded, rests_for};
-ghost use Rattle.binding_step.specs.Resets.{restart_batch};
+ghost use Rattle.spec_binding.specs.Books.{load_of};
+ghost use Rattle.spec_binding.specs.Ledgers.{carried_ledger, lives_loaded, rests_for};
+ghost use Rattle.spec_binding.specs.Resets.{restart_batch};
 ghost use Rattle.bind_core.specs.Cores.{book_of, carries_pair, core_after, ledger_of};
 ghost use Rattle.bind_core.specs.Cores.{owned_of, revived_with};
 
@@ -45,20 +45,20 @@ use crate::deeds::{
 };
 use crate::loads::{loading_of, stage_after};
 use crate::resets::note_back;
+use activity::{Packet, Remote, Way};
 use addresses::{Port, TcpFlags};
 use arrayvec::ArrayVec;
 use binding_rows::{
     accept, answering, ask, carry, choose_granted, ending, gives_way, higher, is_lone, is_synced,
     known, lower, no, quiet, refuse, release, row, wish, yes,
 };
-use binding_step::{
-    Change, Row, Stage, Want, Wish, books_begin, books_keep, carry_works, feed_works,
-};
 use bindings::{Entry, Hashers, PortBounds, Table};
 use link::Link;
-use lives::{Packet, Remote, Way};
-use nat_types::{Endpoint, EntryState, GatewayId, Granted, Happening, Key, Note, Pair, Record};
+use nat_types::{Endpoint, EntryState, GatewayId, Granted, Key, Note, NoteKind, Pair, Record};
 use resync::{Cursor, Loading, batch_len, steady_batch_law};
+use spec_binding::{
+    Change, PortRequest, Stage, Transition, Want, books_begin, books_keep, carry_works, feed_works,
+};
 use std::alloc::{AllocError, Global};
 use std::marker::Model;
 
@@ -146,11 +146,11 @@ impl Core {
         lies_in_either(self.bounds, port) && !self.table.owns(port)
     }
 
-    fn proposed(&self, pair: Pair, other: Option<Entry>) -> Row
+    fn proposed(&self, pair: Pair, other: Option<Entry>) -> Transition
         ensures { result ≡ proposed_row (book_of self.now) pair other }
     {
         let accept = Some(Record::Accept(pair.key));
-        let retaken = Some(Happening::Retaken(pair));
+        let retaken = Some(NoteKind::Retaken(pair));
         match other {
             None => {
                 let state = EntryState::Held;
@@ -167,7 +167,7 @@ impl Core {
         }
     }
 
-    fn install(&self, pair: Pair) -> Row
+    fn install(&self, pair: Pair) -> Transition
         ensures { result ≡ install_row (book_of self.now) pair }
     {
         if self.is_theirs(pair.key.port) && self.table.pair_of_port(pair.key).is_none() {
@@ -177,7 +177,7 @@ impl Core {
         }
     }
 
-    fn grant_taken(&self, granted: Granted) -> Row
+    fn grant_taken(&self, granted: Granted) -> Transition
         ensures { result ≡ grant_row (book_of self.now) granted }
     {
         if self.wants {
@@ -187,7 +187,7 @@ impl Core {
         }
     }
 
-    fn want_taken(&self) -> Row
+    fn want_taken(&self) -> Transition
         ensures { result ≡ want_row (book_of self.now) }
     {
         let highest = higher(self.bounds.zero.highest, self.bounds.one.highest);
@@ -198,7 +198,7 @@ impl Core {
     }
 
     /// What a record makes of a synced gateway.
-    fn synced_row_of(&self, entry: Record, rests: bool) -> Row
+    fn synced_row_of(&self, entry: Record, rests: bool) -> Transition
         ensures { result ≡ synced_row (book_of self.now) rests entry }
     {
         match entry {
@@ -225,7 +225,7 @@ impl Core {
     }
 
     /// What a record makes of a synced gateway; while its batch is promised, nothing.
-    pub(crate) fn row_for(&self, entry: Record, now: u64) -> Row
+    pub(crate) fn row_for(&self, entry: Record, now: u64) -> Transition
         ensures { let rests = rests_for now (ledger_of self.now) entry
             in result ≡ row_of (book_of self.now) rests entry }
     {
@@ -239,7 +239,7 @@ impl Core {
 
     // ---- wishes
 
-    fn no_port(&self, full: bool) -> Row
+    fn no_port(&self, full: bool) -> Transition
         ensures { result ≡ none_row (book_of self.now) full }
     {
         if !is_lone(self.stage) && !self.wants && !full {
@@ -249,13 +249,13 @@ impl Core {
         }
     }
 
-    fn new_pair(&self, full: bool, pair: Pair) -> Wish
+    fn new_pair(&self, full: bool, pair: Pair) -> PortRequest
         ensures { result ≡ new_wish (book_of self.now) full pair.endpoint (Some pair.key.port) }
     {
         if is_lone(self.stage) {
             let state = EntryState::Live;
             let change = Change::Add(Entry { pair, state });
-            let row = row(change, None, Some(Happening::Retaken(pair)));
+            let row = row(change, None, Some(NoteKind::Retaken(pair)));
             return wish(Want::Port(pair.key.port), row);
         }
         if full {
@@ -266,7 +266,7 @@ impl Core {
         wish(Want::Wait, row(change, Some(Record::Install(pair)), None))
     }
 
-    fn new_wish_for(&self, full: bool, endpoint: Endpoint, port: Option<Port>) -> Wish
+    fn new_wish_for(&self, full: bool, endpoint: Endpoint, port: Option<Port>) -> PortRequest
         ensures { result ≡ new_wish (book_of self.now) full endpoint port }
     {
         match port {
@@ -281,7 +281,7 @@ impl Core {
         }
     }
 
-    pub(crate) fn wish_for(&self, full: bool, endpoint: Endpoint) -> Wish
+    pub(crate) fn wish_for(&self, full: bool, endpoint: Endpoint) -> PortRequest
         ensures { result ≡ wish_of (book_of self.now) full endpoint }
     {
         if !is_synced(self.stage) {
@@ -306,7 +306,13 @@ impl Core {
 
     // ---- what a row does
 
-    pub(crate) fn perform(&mut self, link: &mut Link, notes: &mut Vec<Note>, now: u64, row: Row)
+    pub(crate) fn perform(
+        &mut self,
+        link: &mut Link,
+        notes: &mut Vec<Note>,
+        now: u64,
+        row: Transition,
+    )
         requires fits { Fits (book_of self.old) row.change }
         requires kept { IsBook (after (book_of self.old) row) }
         requires formed { IfSome row.answer IsWellFormedRecord }
@@ -328,7 +334,7 @@ impl Core {
         tell(link, notes, self.id, now, row);
     }
 
-    fn carry_row_of(&self, key: Key) -> Row
+    fn carry_row_of(&self, key: Key) -> Transition
         ensures { result ≡ carry_row (book_of self.now) key }
     {
         if is_synced(self.stage) {
@@ -367,7 +373,7 @@ impl Core {
           flags = flags;
           at = now;
         }
-            in is_some (carry_row (book_of self.old) key).what ≡ true → (past : Past)
+            in is_some (carry_row (book_of self.old) key).what ≡ true → (past : History)
             → IsPast self.old.table key past
             → IsPast self.new.table key (with_packet packet past) }
         ensures others { KeepsOthers key self.old.table.entries self.old.table.lives
@@ -395,7 +401,7 @@ impl Core {
 
     // ---- ticks
 
-    pub(crate) fn idle_row_of(&self, ask: bool, key: Key) -> Row
+    pub(crate) fn idle_row_of(&self, ask: bool, key: Key) -> Transition
         ensures { result ≡ idle_row (book_of self.now) ask key }
     {
         if is_synced(self.stage) {

@@ -3,7 +3,7 @@ ghost use Rattle.std.specs.Prelude.{◌≡◌, ℕ, ◌+◌, ◌-◌, ◌<◌, �
 ghost use Rattle.std.specs.Prelude.{None, IsTrue, IfSome, if◌then◌else◌, is_some, vec_len, vec_capacity};
 ghost use Rattle.nat_types.specs.declared.pairs.EntryState.TheVariants.{Doomed, Held, Live};
 ghost use Rattle.nat_types.specs.declared.pairs.Key.{Key as OutsidePort};
-ghost use Rattle.lives.specs.Lives.{Past, came, with_packet, life_begun, life_carried};
+ghost use Rattle.activity.specs.Lives.{History, came, with_packet, life_begun, life_carried};
 ghost use Rattle.bindings.specs.Entries.{is_pair, slot_of, entry_of, entry_in};
 ghost use Rattle.bindings.specs.Lists.{place_in, put_in, with_state};
 ghost use Rattle.std.specs.List.{insert};
@@ -13,24 +13,24 @@ ghost use Rattle.bindings.specs.Runs.{without_port};
 ghost use Rattle.bindings.specs.Table.{AreInRanges, IsPast};
 ghost use Rattle.link.specs.Grammar.{IsWellFormedRecord};
 ghost use Rattle.link.specs.Link.{free_places};
-ghost use Rattle.binding_step.specs.declared.changes.Change.TheVariants.{Renew, Yield};
-ghost use Rattle.binding_step.specs.Books.{ports_of};
-ghost use Rattle.binding_step.specs.Fits.{Fits, GivesWay, HasPair, MayGive};
-ghost use Rattle.binding_step.specs.Rows.{answered, changed, noted_by, is_gained as is_gained_in};
-ghost use Rattle.binding_step.specs.Rows.{is_full, with_gained, without_ports, numbers_of};
-ghost use Rattle.binding_step.specs.Ledgers.{is_held, lives_after};
-ghost use Rattle.binding_step.specs.Ledgers.{may_ask as may_ask_at};
+ghost use Rattle.spec_binding.specs.declared.changes.Change.TheVariants.{Renew, Yield};
+ghost use Rattle.spec_binding.specs.Books.{ports_of};
+ghost use Rattle.spec_binding.specs.WellFormed.{Fits, GivesWay, HasPair, MayGive};
+ghost use Rattle.spec_binding.specs.Rows.{answered, changed, noted_by, is_gained as is_gained_in};
+ghost use Rattle.spec_binding.specs.Rows.{is_full, with_gained, without_ports, numbers_of};
+ghost use Rattle.spec_binding.specs.Ledgers.{is_held, lives_after};
+ghost use Rattle.spec_binding.specs.Ledgers.{may_ask as may_ask_at};
 ghost use Rattle.bind_core.specs.Changes.{table_book, wants_after, adds};
 ghost use Rattle.bind_core.specs.Cores.{is_carried as is_carried_by};
 ghost use Rattle.nat_types.specs.Same.{same_pair};
 ghost use Rattle.bind_core.specs.Changes.{IsBetween, LivesOn, table_after};
 
+use activity::Packet;
 use addresses::Port;
-use binding_step::{Change, Row};
 use bindings::{Entry, PortBounds, Table};
 use link::{Link, RECORDS_IN_A_DATAGRAM};
-use lives::Packet;
-use nat_types::{EntryState, GatewayId, Granted, Happening, Key, Note, Pair, Record};
+use nat_types::{EntryState, GatewayId, Granted, Key, Note, NoteKind, Pair, Record};
+use spec_binding::{Change, Transition};
 
 fn came_by_install(state: EntryState) -> bool
     ensures { result ≡ is_held state }
@@ -257,7 +257,7 @@ fn push_answer(link: &mut Link, answer: Option<Record>)
     }
 }
 
-pub(crate) fn note(notes: &mut Vec<Note>, by: GatewayId, at: u64, what: Option<Happening>)
+pub(crate) fn note(notes: &mut Vec<Note>, by: GatewayId, at: u64, what: Option<NoteKind>)
     requires { vec_len notes.old < vec_capacity notes.old }
     ensures items { notes.new.items ≡ notes.old.items ++ noted_by by at what }
     ensures len { vec_len notes.new ≤ vec_len notes.old + 1 }
@@ -269,7 +269,7 @@ pub(crate) fn note(notes: &mut Vec<Note>, by: GatewayId, at: u64, what: Option<H
 }
 
 /// Pushes what is answered, and notes what happens.
-pub(crate) fn tell(link: &mut Link, notes: &mut Vec<Note>, by: GatewayId, now: u64, row: Row)
+pub(crate) fn tell(link: &mut Link, notes: &mut Vec<Note>, by: GatewayId, now: u64, row: Transition)
     requires places { IsTrue (is_some row.answer) → 0 < free_places link.old }
     requires formed { IfSome row.answer IsWellFormedRecord }
     requires reserved { vec_len notes.old < vec_capacity notes.old }
@@ -288,7 +288,7 @@ pub(crate) fn carry_by(table: &mut Table, is_used: bool, key: Key, packet: Packe
     ensures lives { table.new.lives ≡ (if is_used then lives_with
         (life_carried key.protocol packet) key table.old.entries table.old.lives
         else table.old.lives) }
-    ensures longer { is_used ≡ true → (past : Past) → IsPast table.old key past
+    ensures longer { is_used ≡ true → (past : History) → IsPast table.old key past
         → IsPast table.new key (with_packet packet past) }
     ensures others { KeepsOthers key table.old.entries table.old.lives table.new.entries
         table.new.lives }

@@ -8,6 +8,6 @@ mod deeds;
 mod loads;
 mod resets;
 
-pub use binding_step::Want;
 pub use bindings::Hashers;
 pub use cores::Core;
+pub use spec_binding::Want;

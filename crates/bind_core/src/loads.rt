@@ -1,16 +1,16 @@
 //! What a record in its place says of a loading.
 ghost use Rattle.std.specs.Prelude.{◌≡◌, Some, if◌then◌else◌};
-ghost use Rattle.binding_step.specs.declared.setups.Stage.TheVariants.{Paired};
+ghost use Rattle.spec_binding.specs.declared.setups.Stage.TheVariants.{Paired};
 ghost use Rattle.bind_core.specs.Cores.{is_whole, what_loaded};
 
-use binding_step::Stage;
-use nat_types::{Happening, Record};
+use nat_types::{NoteKind, Record};
+use spec_binding::Stage;
 
 /// Whether the table is whole, and what is noted.
 #[derive(Clone, Copy, Debug, PartialEq, Eq)]
 pub(crate) struct Loads {
     pub is_whole: bool,
-    pub what: Option<Happening>,
+    pub what: Option<NoteKind>,
 }
 
 /// What a record does where it is in its place.
@@ -21,11 +21,11 @@ pub(crate) fn loading_of(entry: &Record) -> Loads
     match entry {
         Record::Done => Loads {
             is_whole: true,
-            what: Some(Happening::Synced),
+            what: Some(NoteKind::Synced),
         },
         Record::Put(pair) => Loads {
             is_whole: false,
-            what: Some(Happening::Retaken(*pair)),
+            what: Some(NoteKind::Retaken(*pair)),
         },
         _ => Loads {
             is_whole: false,

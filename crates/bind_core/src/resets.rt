@@ -2,11 +2,11 @@
 ghost use Rattle.std.specs.Prelude.{◌≡◌, ◌+◌, ◌<◌, ◌≤◌, ◌++◌, ◌∷◌, [], length, vec_len};
 ghost use Rattle.std.specs.Prelude.{vec_capacity};
 ghost use Rattle.bindings.specs.Revivals.{comes_back};
-ghost use Rattle.binding_step.specs.Resets.{back_in, retaken};
+ghost use Rattle.spec_binding.specs.Resets.{back_in, retaken};
 ghost use Rattle.resync.specs.Batch.{CanBeSent};
 
 use bindings::{Entry, Table};
-use nat_types::{EntryState, GatewayId, Happening, Key, Note};
+use nat_types::{EntryState, GatewayId, Key, Note, NoteKind};
 
 fn does_come_back(state: EntryState) -> bool
     ensures { result ≡ comes_back state }
@@ -24,7 +24,7 @@ fn note_if_back(notes: &mut Vec<Note>, entry: Entry, by: GatewayId, at: u64)
     ensures capacity { vec_capacity notes.new ≡ vec_capacity notes.old }
 {
     if does_come_back(entry.state) {
-        let what = Happening::Retaken(entry.pair);
+        let what = NoteKind::Retaken(entry.pair);
         notes.push_reserved(Note { by, at, what });
     }
 }

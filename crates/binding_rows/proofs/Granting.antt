@@ -4,7 +4,7 @@ use Rattle.std.specs.List.{filter}
 use Rattle.std.proofs.lemmas.List.{take-map, map-append, length-append, length-map}
 use Rattle.std.proofs.lemmas.List.Elements.{filter-append}
 use Rattle.addresses.specs.declared.transport.Port.{Port}
-use Rattle.binding_step.specs.Rows.{falling, as_ports}
+use Rattle.spec_binding.specs.Rows.{falling, as_ports}
 
 pub falling-more : (high i : ℕ) → falling high (i + 1) ≡ falling high i ++ (high - i) ∷ []
 falling-more high zero = ap (λ (x : ℕ). x ∷ []) (let e : high ≡ high - 0 = omega arith in e)

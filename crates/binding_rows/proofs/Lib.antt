@@ -1,1 +1,1 @@
-pub mod Granting
+mod Granting

@@ -3,7 +3,7 @@ ghost use Rattle.std.specs.Prelude.{◌≡◌, ◌+◌, ◌-◌, ◌<◌, ◌≤
 ghost use Rattle.std.specs.Prelude.{if◌then◌else◌, nat_lt};
 ghost use Rattle.std.specs.List.{filter};
 ghost use Rattle.bindings.specs.Ports.{is_spare};
-ghost use Rattle.binding_step.specs.Rows.{falling, as_ports, share as share_of};
+ghost use Rattle.spec_binding.specs.Rows.{falling, as_ports, share as share_of};
 
 use addresses::Port;
 use bindings::Table;

@@ -1,18 +1,18 @@
 //! What a record, a wish, a tick or a packet makes of one entry.
 ghost use Rattle.std.specs.Prelude.{◌≡◌, true};
 ghost use Rattle.nat_types.specs.declared.pairs.EntryState.TheVariants.{Held, Live};
-ghost use Rattle.binding_step.specs.Books.{is_synced as is_synced_at, is_lone as is_lone_at};
-ghost use Rattle.binding_step.specs.Rows.{row as row_with, quiet as quiet_row};
-ghost use Rattle.binding_step.specs.Rows.{answering as answering_row, ending as ending_row};
-ghost use Rattle.binding_step.specs.Rows.{gives_way as gives_way_at, accepted_row, accept_row};
-ghost use Rattle.binding_step.specs.Rows.{refused_row, refuse_row, asked_row, ask_row, left_row};
-ghost use Rattle.binding_step.specs.Rows.{yes_row, stayed_row, no_row, known_wish, used_row};
-ghost use Rattle.binding_step.specs.Rows.{use_row, released_row, release_row};
-ghost use Rattle.binding_step.specs.Rows.{wish as wish_with};
+ghost use Rattle.spec_binding.specs.Books.{is_synced as is_synced_at, is_lone as is_lone_at};
+ghost use Rattle.spec_binding.specs.Rows.{row as row_with, quiet as quiet_row};
+ghost use Rattle.spec_binding.specs.Rows.{answering as answering_row, ending as ending_row};
+ghost use Rattle.spec_binding.specs.Rows.{gives_way as gives_way_at, accepted_row, accept_row};
+ghost use Rattle.spec_binding.specs.Rows.{refused_row, refuse_row, asked_row, ask_row, left_row};
+ghost use Rattle.spec_binding.specs.Rows.{yes_row, stayed_row, no_row, known_wish, used_row};
+ghost use Rattle.spec_binding.specs.Rows.{use_row, released_row, release_row};
+ghost use Rattle.spec_binding.specs.Rows.{wish as wish_with};
 
-use binding_step::{Change, Row, Stage, Want, Wish};
 use bindings::Entry;
-use nat_types::{Endpoint, EntryState, GatewayId, Happening, Key, Pair, Record};
+use nat_types::{Endpoint, EntryState, GatewayId, Key, NoteKind, Pair, Record};
+use spec_binding::{Change, PortRequest, Stage, Transition, Want};
 
 /// Whether the table is loaded.
 pub fn is_synced(stage: Stage) -> bool
@@ -35,10 +35,10 @@ pub fn is_lone(stage: Stage) -> bool
 }
 
 /// A change that is answered and noted, and by which no wait ends.
-pub fn row(change: Change, answer: Option<Record>, what: Option<Happening>) -> Row
+pub fn row(change: Change, answer: Option<Record>, what: Option<NoteKind>) -> Transition
     ensures { result ≡ row_with change answer what }
 {
-    Row {
+    Transition {
         change,
         answer,
         what,
@@ -47,24 +47,24 @@ pub fn row(change: Change, answer: Option<Record>, what: Option<Happening>) -> R
 }
 
 /// Nothing changes.
-pub fn quiet() -> Row
+pub fn quiet() -> Transition
     ensures { result ≡ quiet_row }
 {
     row(Change::Keep, None, None)
 }
 
 /// Nothing changes, and this is answered.
-pub fn answering(answer: Record) -> Row
+pub fn answering(answer: Record) -> Transition
     ensures { result ≡ answering_row answer }
 {
     row(Change::Keep, Some(answer), None)
 }
 
 /// The row, by which the packets of an endpoint needn't wait any more.
-pub fn ending(endpoint: Endpoint, row: Row) -> Row
+pub fn ending(endpoint: Endpoint, row: Transition) -> Transition
     ensures { result ≡ ending_row endpoint row }
 {
-    Row {
+    Transition {
         change: row.change,
         answer: row.answer,
         what: row.what,
@@ -73,10 +73,10 @@ pub fn ending(endpoint: Endpoint, row: Row) -> Row
 }
 
 /// What a packet has to do, and what comes of its wish.
-pub fn wish(answer: Want, row: Row) -> Wish
+pub fn wish(answer: Want, row: Transition) -> PortRequest
     ensures { result ≡ wish_with answer row }
 {
-    Wish { answer, row }
+    PortRequest { answer, row }
 }
 
 /// Whether the own proposal gives way to the peer's for the same endpoint.
@@ -89,13 +89,13 @@ pub fn gives_way(id: GatewayId, state: EntryState) -> bool
     }
 }
 
-fn accepted(pair: Pair, state: EntryState) -> Row
+fn accepted(pair: Pair, state: EntryState) -> Transition
     ensures { result ≡ accepted_row pair state }
 {
     match state {
         EntryState::Pending => {
             let change = Change::Turn(pair.key, EntryState::Live);
-            let row = row(change, None, Some(Happening::Retaken(pair)));
+            let row = row(change, None, Some(NoteKind::Retaken(pair)));
             ending(pair.endpoint, row)
         }
         EntryState::Doomed | EntryState::Live | EntryState::Closing | EntryState::Held => quiet(),
@@ -103,7 +103,7 @@ fn accepted(pair: Pair, state: EntryState) -> Row
 }
 
 /// The peer agrees to the pair of a key; `entry` is the key's.
-pub fn accept(entry: Option<Entry>) -> Row
+pub fn accept(entry: Option<Entry>) -> Transition
     ensures { result ≡ accept_row entry }
 {
     match entry {
@@ -112,7 +112,7 @@ pub fn accept(entry: Option<Entry>) -> Row
     }
 }
 
-fn refused(pair: Pair, state: EntryState) -> Row
+fn refused(pair: Pair, state: EntryState) -> Transition
     ensures { result ≡ refused_row pair state }
 {
     match state {
@@ -123,7 +123,7 @@ fn refused(pair: Pair, state: EntryState) -> Row
 }
 
 /// The peer refuses the pair of a key; `entry` is the key's.
-pub fn refuse(entry: Option<Entry>) -> Row
+pub fn refuse(entry: Option<Entry>) -> Transition
     ensures { result ≡ refuse_row entry }
 {
     match entry {
@@ -132,21 +132,21 @@ pub fn refuse(entry: Option<Entry>) -> Row
     }
 }
 
-fn let_go(pair: Pair, rests: bool) -> Row
+fn let_go(pair: Pair, rests: bool) -> Transition
     ensures { result ≡ asked_row pair rests Held }
 {
     if rests {
         row(
             Change::Drop(pair.key),
             Some(Record::Yes(pair.key)),
-            Some(Happening::Released(pair)),
+            Some(NoteKind::Released(pair)),
         )
     } else {
         answering(Record::No(pair.key))
     }
 }
 
-fn asked(pair: Pair, rests: bool, state: EntryState) -> Row
+fn asked(pair: Pair, rests: bool, state: EntryState) -> Transition
     ensures { result ≡ asked_row pair rests state }
 {
     match state {
@@ -159,7 +159,7 @@ fn asked(pair: Pair, rests: bool, state: EntryState) -> Row
 
 /// The peer asks whether the pair of a key may go: `rests` says that it is idle, or came by Install and was never used
 /// here since; `entry` is the key's.
-pub fn ask(key: Key, rests: bool, entry: Option<Entry>) -> Row
+pub fn ask(key: Key, rests: bool, entry: Option<Entry>) -> Transition
     ensures { result ≡ ask_row key rests entry }
 {
     match entry {
@@ -168,7 +168,7 @@ pub fn ask(key: Key, rests: bool, entry: Option<Entry>) -> Row
     }
 }
 
-fn left(pair: Pair, state: EntryState) -> Row
+fn left(pair: Pair, state: EntryState) -> Transition
     ensures { result ≡ left_row pair state }
 {
     match state {
@@ -178,7 +178,7 @@ fn left(pair: Pair, state: EntryState) -> Row
 }
 
 /// The peer has let the pair of a key go; `entry` is the key's.
-pub fn yes(entry: Option<Entry>) -> Row
+pub fn yes(entry: Option<Entry>) -> Transition
     ensures { result ≡ yes_row entry }
 {
     match entry {
@@ -187,21 +187,17 @@ pub fn yes(entry: Option<Entry>) -> Row
     }
 }
 
-fn stayed(pair: Pair, state: EntryState) -> Row
+fn stayed(pair: Pair, state: EntryState) -> Transition
     ensures { result ≡ stayed_row pair state }
 {
     match state {
-        EntryState::Closing => row(
-            Change::Renew(pair.key),
-            None,
-            Some(Happening::Retaken(pair)),
-        ),
+        EntryState::Closing => row(Change::Renew(pair.key), None, Some(NoteKind::Retaken(pair))),
         EntryState::Pending | EntryState::Doomed | EntryState::Live | EntryState::Held => quiet(),
     }
 }
 
 /// The peer keeps the pair of a key; `entry` is the key's.
-pub fn no(entry: Option<Entry>) -> Row
+pub fn no(entry: Option<Entry>) -> Transition
     ensures { result ≡ no_row entry }
 {
     match entry {
@@ -211,7 +207,7 @@ pub fn no(entry: Option<Entry>) -> Row
 }
 
 /// What a packet of an endpoint has to do whose pair has an entry.
-pub fn known(pair: Pair, state: EntryState) -> Wish
+pub fn known(pair: Pair, state: EntryState) -> PortRequest
     ensures { result ≡ known_wish pair state }
 {
     let answer = match state {
@@ -222,14 +218,14 @@ pub fn known(pair: Pair, state: EntryState) -> Wish
     wish(answer, quiet())
 }
 
-fn drop_row(pair: Pair) -> Row
+fn drop_row(pair: Pair) -> Transition
     ensures { result ≡ released_row true true pair Held }
 {
-    let what = Happening::Released(pair);
+    let what = NoteKind::Released(pair);
     row(Change::Drop(pair.key), None, Some(what))
 }
 
-fn released_live(is_lone: bool, may_ask: bool, pair: Pair) -> Row
+fn released_live(is_lone: bool, may_ask: bool, pair: Pair) -> Transition
     ensures { result ≡ released_row is_lone may_ask pair Live }
 {
     if is_lone {
@@ -241,11 +237,11 @@ fn released_live(is_lone: bool, may_ask: bool, pair: Pair) -> Row
     row(
         Change::Turn(pair.key, EntryState::Closing),
         Some(Record::Ask(pair.key)),
-        Some(Happening::Released(pair)),
+        Some(NoteKind::Released(pair)),
     )
 }
 
-fn released(is_lone: bool, may_ask: bool, pair: Pair, state: EntryState) -> Row
+fn released(is_lone: bool, may_ask: bool, pair: Pair, state: EntryState) -> Transition
     ensures { result ≡ released_row is_lone may_ask pair state }
 {
     match state {
@@ -256,7 +252,7 @@ fn released(is_lone: bool, may_ask: bool, pair: Pair, state: EntryState) -> Row
 }
 
 /// What a tick makes of an idle key.
-pub fn release(is_lone: bool, may_ask: bool, entry: Option<Entry>) -> Row
+pub fn release(is_lone: bool, may_ask: bool, entry: Option<Entry>) -> Transition
     ensures { result ≡ release_row is_lone may_ask entry }
 {
     match entry {
@@ -265,19 +261,19 @@ pub fn release(is_lone: bool, may_ask: bool, entry: Option<Entry>) -> Row
     }
 }
 
-fn used(pair: Pair, state: EntryState) -> Row
+fn used(pair: Pair, state: EntryState) -> Transition
     ensures { result ≡ used_row pair state }
 {
     match state {
         EntryState::Live | EntryState::Held => {
-            row(Change::Keep, None, Some(Happening::Used(pair)))
+            row(Change::Keep, None, Some(NoteKind::Used(pair)))
         }
         EntryState::Pending | EntryState::Doomed | EntryState::Closing => quiet(),
     }
 }
 
 /// What a translated packet makes of its pair.
-pub fn carry(entry: Option<Entry>) -> Row
+pub fn carry(entry: Option<Entry>) -> Transition
     ensures { result ≡ use_row entry }
 {
     match entry {

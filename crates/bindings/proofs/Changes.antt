@@ -7,8 +7,8 @@ use Rattle.nat_types.specs.declared.pairs.Endpoint.{Endpoint}
 use Rattle.nat_types.specs.declared.pairs.Key.{Key}
 use Rattle.nat_types.specs.declared.pairs.EntryState.{EntryState}
 use Rattle.nat_types.specs.Same.{same_key, same_endpoint}
-use Rattle.nat_types.proofs.Equal.{key-eq, endpoint-eq}
-use Rattle.lives.specs.Lives.{Life}
+use Rattle.nat_types.proofs.Offered.{key-eq, endpoint-eq}
+use Rattle.activity.specs.Lives.{Activity}
 use Rattle.slots.specs.Rows.{Row}
 use Rattle.slots.specs.Rows as slots
 use Rattle.bindings.specs.declared.entries.Entry.{Entry}
@@ -167,7 +167,7 @@ lives-same low key t i (x ∷ rows) r h e = by (same_key x.key key) refl (lives-
     by true f ih = ap lives_of (with-here key t x rows f (none-later low key x rows r f)) ∙ ap (λ z. z ∷ lives_of rows) (e ∙ ap (λ (z : Item). z.life) (sym (item-here key x rows i f h)))
     by false f ih = ap lives_of (with-later key t x rows f) ∙ ap (λ ls. x.item.life ∷ ls) (ih (item-later key x rows i f h) e)
 
-pub lives-changed : (low : ℕ) (key : Key) (g : Life → Life) (t i : Item) (rows : List (Row Item)) → AreKeyed rows → slots.Rises low rows → slots.item_of rows key ≡ Some i → t.life ≡ g i.life
+pub lives-changed : (low : ℕ) (key : Key) (g : Activity → Activity) (t i : Item) (rows : List (Row Item)) → AreKeyed rows → slots.Rises low rows → slots.item_of rows key ≡ Some i → t.life ≡ g i.life
     → lives_of (slots.with_item key t rows) ≡ lives_with g key (entries_of rows) (lives_of rows)
 lives-changed low key g t i [] k r h e = refl
 lives-changed low key g t i (x ∷ rows) k r h e = by (same_key x.key key) refl (lives-changed (suc (key_place x.key)) key g t i rows k.1 r.1)
@@ -184,7 +184,7 @@ lives-changed low key g t i (x ∷ rows) k r h e = by (same_key x.key key) refl 
         ∙ sym (ap (λ b. cond b (g x.item.life ∷ lives_of rows) (x.item.life ∷ lives_with g key (entries_of rows) (lives_of rows))) (test ∙ f))
 
 -- a key without a row has no life to change
-pub lives-nowhere : (key : Key) (g : Life → Life) (rows : List (Row Item)) → AreKeyed rows → slots.item_of rows key ≡ None → lives_of rows ≡ lives_with g key (entries_of rows) (lives_of rows)
+pub lives-nowhere : (key : Key) (g : Activity → Activity) (rows : List (Row Item)) → AreKeyed rows → slots.item_of rows key ≡ None → lives_of rows ≡ lives_with g key (entries_of rows) (lives_of rows)
 lives-nowhere key g [] k h = refl
 lives-nowhere key g (x ∷ rows) k h = by (same_key x.item.entry.pair.key key) (ap (λ (q : Key). same_key q key) k.0) (lives-nowhere key g rows k.1)
   where

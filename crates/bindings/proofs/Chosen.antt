@@ -5,7 +5,7 @@ use Rattle.addresses.specs.declared.transport.Protocol.{Protocol}
 use Rattle.addresses.specs.declared.transport.Parity.{Parity}
 use Rattle.addresses.specs.declared.transport.Port.{Port}
 use Rattle.port_range.specs.Ports.{is_listed, IsChosen}
-use Rattle.port_range.proofs.Choice.{Between, chosen-is, chosen-none}
+use Rattle.port_range.proofs.Offered.{Between, chosen-is, chosen-none}
 use Rattle.bindings.specs.declared.entries.Entry.{Entry}
 use Rattle.bindings.specs.declared.entries.PortBounds.{PortBounds}
 use Rattle.bindings.specs.Ports.{is_free_in, is_open_in, in_either, lowest_of, highest_of, chosen_port}

@@ -3,7 +3,7 @@ use Rattle.std.proofs.Common.{◌≡◌, ◌<◌, Bool, true, false, not, cond, 
 use Rattle.std.specs.List.{find}
 use Rattle.std.proofs.lemmas.Bool.{cond-true}
 use Rattle.nat_types.specs.declared.pairs.Key.{Key}
-use Rattle.lives.specs.Lives.{Life}
+use Rattle.activity.specs.Lives.{Activity}
 use Rattle.bindings.specs.declared.entries.Entry.{Entry}
 use Rattle.bindings.specs.Entries.{is_pair}
 use Rattle.bindings.specs.Lists.{after_key, without, RisesUp}
@@ -16,13 +16,13 @@ use Rattle.bindings.proofs.Walks.{behind, behind-first, behind-less, next-held, 
 abbrev pub first_doomed : List Entry → Option Entry
 first_doomed es = find (λ e. not (is_pair e.state)) es
 
-pub record IsStep (last : Option Key) (e : Entry) (es es2 : List Entry) (ls ls2 : List Life) : Type 0 where
+pub record IsStep (last : Option Key) (e : Entry) (es es2 : List Entry) (ls ls2 : List Activity) : Type 0 where
   pub pairs : pairs_of es2 ≡ pairs_of es
   pub kept : lives_of_pairs es2 ls2 ≡ lives_of_pairs es ls
   pub first : first_doomed es2 ≡ first_doomed (behind (Some e.pair.key) es2)
   pub less : length (behind (Some e.pair.key) es2) < length (behind last es)
 
-pub step : (last : Option Key) (e : Entry) (es : List Entry) (ls : List Life) → RisesUp 0 es → length ls ≡ length es → after_key last es ≡ Some e → first_doomed es ≡ first_doomed (behind last es)
+pub step : (last : Option Key) (e : Entry) (es : List Entry) (ls : List Activity) → RisesUp 0 es → length ls ≡ length es → after_key last es ≡ Some e → first_doomed es ≡ first_doomed (behind last es)
     → IsStep last e es (cond (is_pair e.state) es (without e.pair.key es)) ls (cond (is_pair e.state) ls (lives_without e.pair.key es ls))
 step last e es ls r same found first = by (is_pair e.state) refl
   where

@@ -9,7 +9,7 @@ use Rattle.addresses.specs.declared.transport.Protocol.TheVariants.{Tcp, Udp}
 use Rattle.nat_types.specs.declared.pairs.EntryState.{EntryState}
 use Rattle.nat_types.specs.declared.pairs.Key.{Key}
 use Rattle.nat_types.specs.Same.{same_key}
-use Rattle.lives.specs.Lives.{Life}
+use Rattle.activity.specs.Lives.{Activity}
 use Rattle.port_range.specs.Ports.{is_free, is_within, is_listed, AreRising}
 use Rattle.bindings.specs.declared.entries.Entry.{Entry}
 use Rattle.bindings.specs.declared.entries.PortBounds.{PortBounds}
@@ -36,7 +36,7 @@ length-insert (x ∷ xs) zero y = refl
 length-insert (x ∷ xs) (suc n) y = ap suc (length-insert xs n y)
 
 -- one more entry
-pub stored-put : (es : List Entry) (ls : List Life) (ports ports2 : Ports) (low high : PortBounds) (cap places : ℕ) (e : Entry) (l : Life) → IsStored es ls ports low high cap places → IsWelcome cap es e → ((q : Key) → is_free_at ports2 q ≡ cond (same_key e.pair.key q) false (is_free_at ports q)) → SameBounds ports ports2 → SameOwned ports ports2 → IsStored (put_in e es) (insert ls (place_in e.pair es) l) ports2 low high cap places
+pub stored-put : (es : List Entry) (ls : List Activity) (ports ports2 : Ports) (low high : PortBounds) (cap places : ℕ) (e : Entry) (l : Activity) → IsStored es ls ports low high cap places → IsWelcome cap es e → ((q : Key) → is_free_at ports2 q ≡ cond (same_key e.pair.key q) false (is_free_at ports q)) → SameBounds ports ports2 → SameOwned ports ports2 → IsStored (put_in e es) (insert ls (place_in e.pair es) l) ports2 low high cap places
 stored-put es ls ports ports2 low high cap places e l s w taken bounds owns = record {
   order = order-put e es s.order;
   keys = keys-put e es s.keys w.key;
@@ -56,7 +56,7 @@ none-mapped true f (Some x) = refl
 none-mapped false f o = refl
 
 -- an entry in another state
-pub stored-turn : (es : List Entry) (ls : List Life) (ports : Ports) (low high : PortBounds) (cap places : ℕ) (key : Key) (state : EntryState) → IsStored es ls ports low high cap places → IsPairAt key es → IsStored (with_state key state es) ls ports low high cap places
+pub stored-turn : (es : List Entry) (ls : List Activity) (ports : Ports) (low high : PortBounds) (cap places : ℕ) (key : Key) (state : EntryState) → IsStored es ls ports low high cap places → IsPairAt key es → IsStored (with_state key state es) ls ports low high cap places
 stored-turn es ls ports low high cap places key state s pair = record {
   order = order-turn key state es s.order;
   keys = keys-turn key state es s.keys;
@@ -71,7 +71,7 @@ stored-turn es ls ports low high cap places key state s pair = record {
 }
 
 -- an entry less
-pub stored-drop : (es : List Entry) (ls : List Life) (ports ports2 : Ports) (low high : PortBounds) (cap places : ℕ) (key : Key) → IsStored es ls ports low high cap places → ((q : Key) → is_free_at ports2 q ≡ cond (same_key key q) (is_within ports.tcp.lowest ports.tcp.highest key.port.0) (is_free_at ports q)) → SameBounds ports ports2 → SameOwned ports ports2 → IsStored (without key es) (lives_without key es ls) ports2 low high cap places
+pub stored-drop : (es : List Entry) (ls : List Activity) (ports ports2 : Ports) (low high : PortBounds) (cap places : ℕ) (key : Key) → IsStored es ls ports low high cap places → ((q : Key) → is_free_at ports2 q ≡ cond (same_key key q) (is_within ports.tcp.lowest ports.tcp.highest key.port.0) (is_free_at ports q)) → SameBounds ports ports2 → SameOwned ports ports2 → IsStored (without key es) (lives_without key es ls) ports2 low high cap places
 stored-drop es ls ports ports2 low high cap places key s freed bounds owns = record {
   order = order-drop key es s.order;
   keys = keys-filter (λ e. not (has_key key e)) es s.keys;
@@ -89,7 +89,7 @@ stored-drop es ls ports ports2 low high cap places key s freed bounds owns = rec
     here q = freed q ∙ ap (λ n. cond (same_key key q) (is_within n ports.tcp.highest key.port.0) (is_free_at ports q)) s.same.tcp_low ∙ ap (λ n. cond (same_key key q) (is_within (lowest_of low high) n key.port.0) (is_free_at ports q)) s.same.tcp_high
 
 -- other lives, as many
-pub stored-lives : (es : List Entry) (ls ls2 : List Life) (ports : Ports) (low high : PortBounds) (cap places : ℕ) → IsStored es ls ports low high cap places → length ls2 ≡ length ls → IsStored es ls2 ports low high cap places
+pub stored-lives : (es : List Entry) (ls ls2 : List Activity) (ports : Ports) (low high : PortBounds) (cap places : ℕ) → IsStored es ls ports low high cap places → length ls2 ≡ length ls → IsStored es ls2 ports low high cap places
 stored-lives es ls ls2 ports low high cap places s same = record {
   order = s.order;
   keys = s.keys;
@@ -111,7 +111,7 @@ free-kept old new f q = at q.protocol
     at Udp = ap (is_listed q.port.0) f.udp
 
 -- any owned ports of the ranges
-pub stored-all : (es : List Entry) (ls : List Life) (ports ports2 : Ports) (low high : PortBounds) (cap places : ℕ) → IsStored es ls ports low high cap places → AreAlike (lowest_of low high) (highest_of low high) ports2 → SameFree ports ports2 → ((port : ℕ) → is_listed port ports2.tcp.owned ≡ true → in_either low high port ≡ true) → IsStored es ls ports2 low high cap places
+pub stored-all : (es : List Entry) (ls : List Activity) (ports ports2 : Ports) (low high : PortBounds) (cap places : ℕ) → IsStored es ls ports low high cap places → AreAlike (lowest_of low high) (highest_of low high) ports2 → SameFree ports ports2 → ((port : ℕ) → is_listed port ports2.tcp.owned ≡ true → in_either low high port ≡ true) → IsStored es ls ports2 low high cap places
 stored-all es ls ports ports2 low high cap places s alike free inside = record {
   order = s.order;
   keys = s.keys;
@@ -126,7 +126,7 @@ stored-all es ls ports ports2 low high cap places s alike free inside = record {
 }
 
 -- the pairs and their lives once the peer begins anew
-pub stored-revived : (es : List Entry) (ls : List Life) (ports ports2 : Ports) (low high : PortBounds) (cap places : ℕ) → IsStored es ls ports low high cap places → AreFree (lowest_of low high) (highest_of low high) (pairs_of es) ports2 → SameBounds ports ports2 → SameOwned ports ports2 → IsStored (revived_entries es) (lives_of_pairs es ls) ports2 low high cap places
+pub stored-revived : (es : List Entry) (ls : List Activity) (ports ports2 : Ports) (low high : PortBounds) (cap places : ℕ) → IsStored es ls ports low high cap places → AreFree (lowest_of low high) (highest_of low high) (pairs_of es) ports2 → SameBounds ports ports2 → SameOwned ports ports2 → IsStored (revived_entries es) (lives_of_pairs es ls) ports2 low high cap places
 stored-revived es ls ports ports2 low high cap places s freed bounds owns = record {
   order = rises-map 0 woken_entry (pairs_of es) (λ x. refl) (rises-filter 0 (λ x. is_pair x.state) es s.order);
   keys = keys-map woken_entry (pairs_of es) (λ x. refl) (keys-filter (λ x. is_pair x.state) es s.keys);
@@ -175,7 +175,7 @@ in-both low high port h =
     (λ a. between high.lowest.0 high.highest.0 port (lowest_of low high) (highest_of low high) l.1 g.1 a) h
 
 -- what callers see keeps it
-pub table-is : (es : List Entry) (ls : List Life) (ports : Ports) (low high : PortBounds) (cap places ready : ℕ) → IsStored es ls ports low high cap places → AreRising ports.tcp.owned → IsTable (record { entries = es; lives = ls; owned = ports.tcp.owned; zero = low; one = high; capacity = cap; ready = ready })
+pub table-is : (es : List Entry) (ls : List Activity) (ports : Ports) (low high : PortBounds) (cap places ready : ℕ) → IsStored es ls ports low high cap places → AreRising ports.tcp.owned → IsTable (record { entries = es; lives = ls; owned = ports.tcp.owned; zero = low; one = high; capacity = cap; ready = ready })
 table-is es ls ports low high cap places ready s rises = record {
   order = s.order;
   keys = s.keys;

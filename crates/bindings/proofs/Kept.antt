@@ -6,7 +6,7 @@ use Rattle.std.proofs.lemmas.Bool.{cond-true, cond-false, and_parts, both_ways}
 use Rattle.nat_types.specs.declared.pairs.Endpoint.{Endpoint}
 use Rattle.nat_types.specs.declared.pairs.Key.{Key}
 use Rattle.nat_types.specs.Same.{same_key, same_endpoint}
-use Rattle.nat_types.proofs.Equal.{key-eq, key-true, key-false, endpoint-eq}
+use Rattle.nat_types.proofs.Offered.{key-eq, key-true, key-false, endpoint-eq}
 use Rattle.slots.specs.Rows.{Row}
 use Rattle.slots.specs.Rows as slots
 use Rattle.bindings.specs.declared.store.Item.{Item}

@@ -1,25 +1,26 @@
-pub mod Found
-pub mod Slots
-pub mod Edits
-pub mod Members
-pub mod Orders
-pub mod Places
-pub mod Turned
-pub mod Pasts
-pub mod Owning
-pub mod Revived
-pub mod Holding
-pub mod Chosen
-pub mod Rising
-pub mod Unbroken
-pub mod Resting
-pub mod Rooms
-pub mod Uses
-pub mod Kept
-pub mod Changes
-pub mod Stored
-pub mod Walks
-pub mod Dropping
-pub mod Lived
-pub mod Timed
-pub mod Merged
+mod Found
+mod Slots
+mod Edits
+mod Members
+mod Orders
+mod Places
+mod Turned
+mod Pasts
+mod Owning
+mod Revived
+mod Holding
+mod Chosen
+mod Rising
+mod Unbroken
+mod Resting
+mod Rooms
+mod Uses
+mod Kept
+mod Changes
+mod Stored
+mod Walks
+mod Dropping
+mod Lived
+mod Timed
+mod Merged
+pub mod Offered

@@ -4,14 +4,14 @@ use Rattle.std.specs.Option.{option_map}
 use Rattle.std.proofs.lemmas.Bool.{both_ways}
 use Rattle.nat_types.specs.declared.pairs.Key.{Key}
 use Rattle.nat_types.specs.Same.{same_key}
-use Rattle.nat_types.proofs.Equal.{key-eq, key-true, key-self}
-use Rattle.lives.specs.Lives.{Life, Past, Agrees}
+use Rattle.nat_types.proofs.Offered.{key-eq, key-true, key-self}
+use Rattle.activity.specs.Lives.{Activity, History, Agrees}
 use Rattle.bindings.specs.declared.entries.Entry.{Entry}
 use Rattle.bindings.specs.Entries.{has_key}
 use Rattle.bindings.specs.Lives.{life_in, lives_with, HasPast, KeepsOthers}
 use Rattle.bindings.proofs.Pasts.{others-keep}
 
-pub life-changed : (g : Life → Life) (key : Key) (es : List Entry) (ls : List Life) (q : Key) → life_in es (lives_with g key es ls) q ≡ cond (same_key key q) (option_map g (life_in es ls q)) (life_in es ls q)
+pub life-changed : (g : Activity → Activity) (key : Key) (es : List Entry) (ls : List Activity) (q : Key) → life_in es (lives_with g key es ls) q ≡ cond (same_key key q) (option_map g (life_in es ls q)) (life_in es ls q)
 life-changed g key [] ls q = by (same_key key q)
   where
     by : (b : Bool) → None ≡ cond b (option_map g None) None
@@ -36,7 +36,7 @@ life-changed g key (e ∷ es) (l ∷ ls) q = by (has_key key e) (has_key q e) (s
         ap (λ c. cond c (Some l) (life_in es (lives_with g key es ls) q)) h
         ∙ ih ∙ ap (λ c. cond c (option_map g (life_in es ls q)) (life_in es ls q)) k
 
-pub length-changed : (g : Life → Life) (key : Key) (es : List Entry) (ls : List Life) → length (lives_with g key es ls) ≡ length ls
+pub length-changed : (g : Activity → Activity) (key : Key) (es : List Entry) (ls : List Activity) → length (lives_with g key es ls) ≡ length ls
 length-changed g key [] ls = refl
 length-changed g key (e ∷ es) [] = refl
 length-changed g key (e ∷ es) (l ∷ ls) = by (has_key key e) (length-changed g key es ls)
@@ -46,7 +46,7 @@ length-changed g key (e ∷ es) (l ∷ ls) = by (has_key key e) (length-changed 
     by false ih = ap suc ih
 
 -- the key's past goes on with its life
-pub goes-on : (g : Life → Life) (key : Key) (es : List Entry) (ls : List Life) (past past2 : Past) → ((life : Life) → life_in es ls key ≡ Some life → Agrees key.protocol past life → Agrees key.protocol past2 (g life))
+pub goes-on : (g : Activity → Activity) (key : Key) (es : List Entry) (ls : List Activity) (past past2 : History) → ((life : Activity) → life_in es ls key ≡ Some life → Agrees key.protocol past life → Agrees key.protocol past2 (g life))
     → HasPast es ls key past → HasPast es (lives_with g key es ls) key past2
 goes-on g key es ls past past2 agrees has = (
   g has.0,
@@ -55,5 +55,5 @@ goes-on g key es ls past past2 agrees has = (
 )
 
 -- the others keep theirs
-pub others-stay : (g : Life → Life) (key : Key) (es : List Entry) (ls : List Life) → KeepsOthers key es ls es (lives_with g key es ls)
+pub others-stay : (g : Activity → Activity) (key : Key) (es : List Entry) (ls : List Activity) → KeepsOthers key es ls es (lives_with g key es ls)
 others-stay g key es ls = others-keep key es ls es (lives_with g key es ls) (λ q differs. life-changed g key es ls q ∙ ap (λ b. cond b (option_map g (life_in es ls q)) (life_in es ls q)) differs)

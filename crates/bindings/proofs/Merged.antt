@@ -5,16 +5,16 @@ use Rattle.std.specs.Option.{option_map}
 use Rattle.std.proofs.lemmas.Bool.{cond-true, cond-false, and_parts, le-leb, leb-true}
 use Rattle.nat_types.specs.declared.pairs.Key.{Key}
 use Rattle.nat_types.specs.Same.{same_key}
-use Rattle.nat_types.proofs.Equal.{key-true}
-use Rattle.lives.specs.Lives.{Life, looks_idle}
-use Rattle.lives.specs.Dues.{due_moment}
-use Rattle.lives.proofs.Due.{idle-from}
+use Rattle.nat_types.proofs.Offered.{key-true}
+use Rattle.activity.specs.Lives.{Activity, looks_idle}
+use Rattle.activity.specs.Dues.{due_moment}
+use Rattle.activity.proofs.Offered.{idle-from}
 use Rattle.timers.specs.Due.{is_due, due_from}
 use Rattle.slots.specs.Cells.{cell_of, key_at}
 use Rattle.slots.specs.Dues.{due_keys}
 use Rattle.slots.specs.Rows.{Row}
 use Rattle.slots.specs.Rows as slots
-use Rattle.slots.proofs.Places.{places_rise, other_key}
+use Rattle.slots.proofs.Offered.{places_rise, other_key}
 use Rattle.bindings.specs.declared.entries.Entry.{Entry}
 use Rattle.bindings.specs.declared.store.Item.{Item}
 use Rattle.bindings.specs.Entries.{translates}
@@ -36,7 +36,7 @@ row_test now rows key = rests_here now key (slots.item_of rows key)
 test-is : (now : ℕ) (rows : List (Row Item)) (key : Key) → AreKeyed rows → is_idle_key now (entries_of rows) (lives_of rows) key ≡ row_test now rows key
 test-is now rows key k =
     ap (λ (o : Option Entry). translates_by o && rests_by key now (life_in (entries_of rows) (lives_of rows) key)) (slot-is rows key k)
-    ∙ ap (λ (o : Option Life). translates_by (option_map (λ (i : Item). i.entry) (slots.item_of rows key)) && rests_by key now o) (life-is rows key k)
+    ∙ ap (λ (o : Option Activity). translates_by (option_map (λ (i : Item). i.entry) (slots.item_of rows key)) && rests_by key now o) (life-is rows key k)
     ∙ at (slots.item_of rows key)
   where
     at : (o : Option Item) → (translates_by (option_map (λ (i : Item). i.entry) o) && rests_by key now (option_map (λ (i : Item). i.life) o)) ≡ rests_here now key o

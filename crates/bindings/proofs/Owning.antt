@@ -6,13 +6,13 @@ use Rattle.addresses.specs.declared.transport.Protocol.TheVariants.{Tcp, Udp}
 use Rattle.addresses.specs.declared.transport.Parity.{Parity}
 use Rattle.nat_types.specs.declared.pairs.Key.{Key}
 use Rattle.nat_types.specs.Same.{same_key}
-use Rattle.nat_types.proofs.Equal.{key-eq, key-true}
+use Rattle.nat_types.proofs.Offered.{key-eq, key-true}
 use Rattle.port_range.specs.Ports.{is_free, is_owned, is_within, is_available, is_listed, chosen_port as chosen_of, IsRange}
 use Rattle.bindings.specs.declared.ports.Ports.{Ports}
 use Rattle.port_range.specs.Ports.{chosen_open}
-use Rattle.port_range.proofs.Choice.{chosen-same}
+use Rattle.port_range.proofs.Offered.{chosen-same}
 use Rattle.addresses.specs.Transport.{same_protocol}
-use Rattle.addresses.proofs.Equal.{protocol-eq, protocol-self}
+use Rattle.addresses.proofs.Offered.{protocol-eq, protocol-self}
 use Rattle.bindings.specs.declared.entries.Entry.{Entry}
 use Rattle.bindings.specs.declared.entries.PortBounds.{PortBounds}
 use Rattle.bindings.specs.Entries.{slot_of, set_at}

@@ -7,7 +7,7 @@ use Rattle.nat_types.specs.declared.pairs.EntryState.{EntryState}
 use Rattle.nat_types.specs.declared.pairs.EntryState.TheVariants.{Doomed}
 use Rattle.nat_types.specs.declared.pairs.Key.{Key}
 use Rattle.nat_types.specs.declared.pairs.Pair.{Pair}
-use Rattle.nat_types.proofs.Equal.{key-eq}
+use Rattle.nat_types.proofs.Offered.{key-eq}
 use Rattle.bindings.specs.declared.entries.Entry.{Entry}
 use Rattle.bindings.specs.Entries.{has_key, slot_of, entry_in, place_of}
 use Rattle.bindings.specs.Lists.{put_in, without, with_state}

@@ -1,8 +1,8 @@
 -- Which entries are idle.
 use Rattle.std.proofs.Common.{◌≡◌, ℕ, suc, ◌≤◌, Bool, true, false, cond, ◌&&◌, ◌||◌, Some, None, List, [], ◌∷◌, length, refl, sym, ap, ◌∙◌, arith}
 use Rattle.nat_types.specs.declared.pairs.Key.{Key}
-use Rattle.lives.specs.Lives.{Life, Past, is_idle, looks_idle}
-use Rattle.lives.proofs.Pasts.{looks-is}
+use Rattle.activity.specs.Lives.{Activity, History, is_idle, looks_idle}
+use Rattle.activity.proofs.Offered.{looks-is}
 use Rattle.bindings.specs.declared.entries.Entry.{Entry}
 use Rattle.bindings.specs.Entries.{has_key, slot_of, translates, HasDistinctKeys}
 use Rattle.bindings.specs.Lives.{life_in, HasPast, is_idle_row, idle_keys_in, is_among}
@@ -10,7 +10,7 @@ use Rattle.bindings.proofs.Found.{find-none}
 use Rattle.bindings.proofs.Places.{rest-none}
 
 -- no more keys are idle than there are entries
-pub few-idle : (now : ℕ) (es : List Entry) (ls : List Life) → length (idle_keys_in now es ls) ≤ length es
+pub few-idle : (now : ℕ) (es : List Entry) (ls : List Activity) → length (idle_keys_in now es ls) ≤ length es
 few-idle now [] ls = omega arith
 few-idle now (e ∷ es) [] = omega arith
 few-idle now (e ∷ es) (l ∷ ls) = at (is_idle_row now e l) (few-idle now es ls)
@@ -24,7 +24,7 @@ few-idle now (e ∷ es) (l ∷ ls) = at (is_idle_row now e l) (few-idle now es l
 -- ---- as a relation
 
 -- a key without an entry isn't listed
-not-listed : (now : ℕ) (es : List Entry) (ls : List Life) (key : Key) → slot_of es key ≡ None → is_among key (idle_keys_in now es ls) ≡ false
+not-listed : (now : ℕ) (es : List Entry) (ls : List Activity) (key : Key) → slot_of es key ≡ None → is_among key (idle_keys_in now es ls) ≡ false
 not-listed now [] ls key h = refl
 not-listed now (x ∷ xs) [] key h = refl
 not-listed now (x ∷ xs) (m ∷ ms) key h = at (is_idle_row now x m) (not-listed now xs ms key parts.1)
@@ -36,7 +36,7 @@ not-listed now (x ∷ xs) (m ∷ ms) key h = at (is_idle_row now x m) (not-liste
     at true ih = ap (λ b. b || is_among key (idle_keys_in now xs ms)) parts.0 ∙ ih
     at false ih = ih
 
-listed-row : (now : ℕ) (es : List Entry) (ls : List Life) (key : Key) (e : Entry) (l : Life) → HasDistinctKeys es → slot_of es key ≡ Some e → life_in es ls key ≡ Some l → is_among key (idle_keys_in now es ls) ≡ is_idle_row now e l
+listed-row : (now : ℕ) (es : List Entry) (ls : List Activity) (key : Key) (e : Entry) (l : Activity) → HasDistinctKeys es → slot_of es key ≡ Some e → life_in es ls key ≡ Some l → is_among key (idle_keys_in now es ls) ≡ is_idle_row now e l
 listed-row now [] ls key e l keys he hl = cc
 listed-row now (x ∷ xs) [] key e l keys he hl = cc
 listed-row now (x ∷ xs) (m ∷ ms) key e l keys he hl = at (has_key key x) (is_idle_row now x m) refl refl he hl (λ se sl. listed-row now xs ms key e l keys.1 se sl)
@@ -54,7 +54,7 @@ listed-row now (x ∷ xs) (m ∷ ms) key e l keys he hl = at (has_key key x) (is
     at false false here is he hl ih = ih he hl
 
 -- a key with an entry is listed just where that translates and is idle
-pub listed-is : (now : ℕ) (es : List Entry) (ls : List Life) (key : Key) (e : Entry) (past : Past) → HasDistinctKeys es → slot_of es key ≡ Some e → e.pair.key ≡ key → HasPast es ls key past → is_among key (idle_keys_in now es ls) ≡ (translates e.state && is_idle key.protocol past now)
+pub listed-is : (now : ℕ) (es : List Entry) (ls : List Activity) (key : Key) (e : Entry) (past : History) → HasDistinctKeys es → slot_of es key ≡ Some e → e.pair.key ≡ key → HasPast es ls key past → is_among key (idle_keys_in now es ls) ≡ (translates e.state && is_idle key.protocol past now)
 listed-is now es ls key e past keys held at has =
     listed-row now es ls key e has.0 keys held has.1
     ∙ ap (λ (k : Key). translates e.state && looks_idle k.protocol has.0 now) at

@@ -7,7 +7,7 @@ use Rattle.nat_types.specs.declared.pairs.EntryState.TheVariants.{Pending, Doome
 use Rattle.nat_types.specs.declared.pairs.Endpoint.{Endpoint}
 use Rattle.nat_types.specs.declared.pairs.Key.{Key}
 use Rattle.nat_types.specs.Same.{same_endpoint}
-use Rattle.lives.specs.Lives.{Life}
+use Rattle.activity.specs.Lives.{Activity}
 use Rattle.bindings.specs.declared.entries.Entry.{Entry}
 use Rattle.bindings.specs.Entries.{is_pair, has_key, serves, slot_of, entry_of, HasDistinctKeys, HasDistinctEndpoints}
 use Rattle.bindings.specs.Lists.{without}
@@ -34,7 +34,7 @@ pairs-without key (e ∷ es) x keys held doomed = at (has_key key e) refl held (
     at false other held ih = ap (λ zs. cond (is_pair e.state) (e ∷ zs) zs) (ih held)
 
 -- and so do their lives
-pub kept-without : (key : Key) (es : List Entry) (ls : List Life) (x : Entry) → HasDistinctKeys es → length ls ≡ length es → slot_of es key ≡ Some x → is_pair x.state ≡ false → lives_of_pairs (without key es) (lives_without key es ls) ≡ lives_of_pairs es ls
+pub kept-without : (key : Key) (es : List Entry) (ls : List Activity) (x : Entry) → HasDistinctKeys es → length ls ≡ length es → slot_of es key ≡ Some x → is_pair x.state ≡ false → lives_of_pairs (without key es) (lives_without key es ls) ≡ lives_of_pairs es ls
 kept-without key [] ls x keys same held doomed = refl
 kept-without key (e ∷ es) [] x keys same held doomed = absurd (omega (arith, same))
 kept-without key (e ∷ es) (l ∷ ls) x keys same held doomed = at (has_key key e) refl held (λ rest. kept-without key es ls x keys.1 (omega (arith, same)) rest doomed)
@@ -57,7 +57,7 @@ all-pairs (e ∷ es) h =
     let parts = find-none (λ x. not (is_pair x.state)) e es h in
     cond-true (is_pair e.state) (e ∷ pairs_of es) (pairs_of es) (not-doomed (is_pair e.state) parts.0) ∙ ap (λ zs. e ∷ zs) (all-pairs es parts.1)
 
-pub all-kept : (es : List Entry) (ls : List Life) → length ls ≡ length es → find (λ e. not (is_pair e.state)) es ≡ None → lives_of_pairs es ls ≡ ls
+pub all-kept : (es : List Entry) (ls : List Activity) → length ls ≡ length es → find (λ e. not (is_pair e.state)) es ≡ None → lives_of_pairs es ls ≡ ls
 all-kept [] [] same h = refl
 all-kept [] (l ∷ ls) same h = absurd (omega (arith, same))
 all-kept (e ∷ es) [] same h = absurd (omega (arith, same))
@@ -75,7 +75,7 @@ woken-pair Live = refl
 woken-pair Closing = refl
 woken-pair Held = refl
 
-pub length-revived : (es : List Entry) (ls : List Life) → length ls ≡ length es → length (lives_of_pairs es ls) ≡ length (revived_entries es)
+pub length-revived : (es : List Entry) (ls : List Activity) → length ls ≡ length es → length (lives_of_pairs es ls) ≡ length (revived_entries es)
 length-revived [] ls same = refl
 length-revived (e ∷ es) [] same = absurd (omega (arith, same))
 length-revived (e ∷ es) (l ∷ ls) same = at (is_pair e.state) (length-revived es ls (omega (arith, same)))
@@ -118,7 +118,7 @@ slot-revived (e ∷ es) q keys = at (is_pair e.state) (has_key q e) refl refl (s
     at false false doomed other ih = ih
 
 -- the life of a pair stays
-pub life-revived : (es : List Entry) (ls : List Life) (q : Key) (x : Entry) → HasDistinctKeys es → length ls ≡ length es → slot_of es q ≡ Some x → is_pair x.state ≡ true → life_in (revived_entries es) (lives_of_pairs es ls) q ≡ life_in es ls q
+pub life-revived : (es : List Entry) (ls : List Activity) (q : Key) (x : Entry) → HasDistinctKeys es → length ls ≡ length es → slot_of es q ≡ Some x → is_pair x.state ≡ true → life_in (revived_entries es) (lives_of_pairs es ls) q ≡ life_in es ls q
 life-revived [] ls q x keys same held pair = refl
 life-revived (e ∷ es) [] q x keys same held pair = absurd (omega (arith, same))
 life-revived (e ∷ es) (l ∷ ls) q x keys same held pair = at (is_pair e.state) (has_key q e) refl refl held (λ rest. life-revived es ls q x keys.1 (omega (arith, same)) rest pair)

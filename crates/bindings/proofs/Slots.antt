@@ -6,7 +6,7 @@ use Rattle.std.proofs.lemmas.Bool.{cond-true, cond-false, both_ways, and_parts, 
 use Rattle.nat_types.specs.declared.pairs.Endpoint.{Endpoint}
 use Rattle.nat_types.specs.declared.pairs.Key.{Key}
 use Rattle.nat_types.specs.Same.{same_key, same_endpoint}
-use Rattle.nat_types.proofs.Equal.{key-eq, key-true, key-false, endpoint-eq, endpoint-true, endpoint-self}
+use Rattle.nat_types.proofs.Offered.{key-eq, key-true, key-false, endpoint-eq, endpoint-true, endpoint-self}
 use Rattle.bindings.specs.declared.entries.Entry.{Entry}
 use Rattle.bindings.specs.declared.entries.TableFault.TheVariants.{Full, PortTaken, EndpointTaken}
 use Rattle.bindings.specs.Entries.{is_pair, has_key, serves, slot_of, entry_of, set_at, HasDistinctKeys, HasDistinctEndpoints, refusal_of, place_of}

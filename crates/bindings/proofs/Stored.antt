@@ -5,7 +5,7 @@ use Rattle.std.specs.Option.{option_map}
 use Rattle.nat_types.specs.declared.pairs.Endpoint.{Endpoint}
 use Rattle.nat_types.specs.declared.pairs.Key.{Key}
 use Rattle.nat_types.specs.declared.pairs.EntryState.{EntryState}
-use Rattle.lives.specs.Lives.{Life}
+use Rattle.activity.specs.Lives.{Activity}
 use Rattle.slots.specs.declared.numbers.SlotNumber.{SlotNumber}
 use Rattle.slots.specs.Rows.{Row, PortSlots}
 use Rattle.slots.specs.Rows as slots
@@ -25,7 +25,7 @@ abbrev pub seen : PortSlots Item → EndpointIndex → Store
 seen slots index = record { entries = entries_of slots.rows; lives = lives_of slots.rows; room = slots.room; spare = index.spare }
 
 -- a key's life was changed, or there was none
-pub changed-life : (old new : PortSlots Item) (index : EndpointIndex) (key : Key) (g : Life → Life) → IsIndexed old.rows index → slots.Rises 0 old.rows
+pub changed-life : (old new : PortSlots Item) (index : EndpointIndex) (key : Key) (g : Activity → Activity) → IsIndexed old.rows index → slots.Rises 0 old.rows
     → ((i : Item) → slots.item_of old.rows key ≡ Some i → new ≡ record old { rows = slots.with_item key (record i { life = g i.life }) old.rows }) → (slots.item_of old.rows key ≡ None → new ≡ old)
     → IsIndexed new.rows index × (seen new index ≡ record (seen old index) { lives = lives_with g key (entries_of old.rows) (lives_of old.rows) })
 changed-life old new index key g k r some none = by (slots.item_of old.rows key) refl
@@ -180,7 +180,7 @@ pub held-by : (rows : List (Row Item)) (key : Key) (i : Item) → AreKeyed rows 
 held-by rows key i k h = slot-is rows key k ∙ ap (option_map (λ (z : Item). z.entry)) h
 
 -- the item of a key's life
-pub item-of_life : (rows : List (Row Item)) (key : Key) (l : Life) → AreKeyed rows → life_in (entries_of rows) (lives_of rows) key ≡ Some l → (i : Item) × (slots.item_of rows key ≡ Some i) × (i.life ≡ l)
+pub item-of_life : (rows : List (Row Item)) (key : Key) (l : Activity) → AreKeyed rows → life_in (entries_of rows) (lives_of rows) key ≡ Some l → (i : Item) × (slots.item_of rows key ≡ Some i) × (i.life ≡ l)
 item-of_life rows key l k h = by (slots.item_of rows key) refl
   where
     by : (o : Option Item) → slots.item_of rows key ≡ o → (i : Item) × (slots.item_of rows key ≡ Some i) × (i.life ≡ l)

@@ -8,14 +8,14 @@ use Rattle.std.proofs.lemmas.List.{get_or-set_other}
 use Rattle.std.proofs.lemmas.List.Elements.{Contains-append_cases, Contains-push_cases}
 use Rattle.nat_types.specs.declared.pairs.Key.{Key}
 use Rattle.nat_types.specs.Same.{same_key}
-use Rattle.nat_types.proofs.Equal.{key-eq, key-true, key-self}
+use Rattle.nat_types.proofs.Offered.{key-eq, key-true, key-self}
 use Rattle.timers.specs.Due.{is_due, cleared, due_slots}
-use Rattle.timers.proofs.Found.{listed-due}
+use Rattle.timers.proofs.Offered.{listed-due}
 use Rattle.slots.specs.Cells.{cell_of, key_at}
 use Rattle.slots.specs.Dues.{due_keys}
 use Rattle.slots.specs.Rows.{Row}
 use Rattle.slots.specs.Rows as slots
-use Rattle.slots.proofs.Edits.{with-absent}
+use Rattle.slots.proofs.Offered.{with-absent}
 use Rattle.bindings.specs.declared.store.Item.{Item}
 use Rattle.bindings.specs.Entries.{translates}
 use Rattle.bindings.specs.Lists.{key_place}

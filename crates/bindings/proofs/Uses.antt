@@ -2,11 +2,10 @@
 use Rattle.std.proofs.Common.{◌≡◌, ℕ, ◌≤◌, Bool, true, ◌&&◌, Some, List, ◌∷◌, sym, ap, ◌∙◌}
 use Rattle.std.proofs.lemmas.Bool.{and_parts}
 use Rattle.nat_types.specs.declared.pairs.Key.{Key}
-use Rattle.lives.specs.declared.packets.Packet.{Packet}
-use Rattle.lives.specs.Lives.{Past, came, with_packet, renewed, is_idle}
-use Rattle.lives.specs.Rests.{HaveRested, least_rest}
-use Rattle.lives.proofs.Pasts.{looks-is}
-use Rattle.lives.proofs.Resting.{accounts-came, accounts-renewed, accounts-later, accounts-more, accounts-idle, accounts-unused}
+use Rattle.activity.specs.declared.packets.Packet.{Packet}
+use Rattle.activity.specs.Lives.{History, came, with_packet, renewed, is_idle}
+use Rattle.activity.specs.Rests.{HaveRested, least_rest}
+use Rattle.activity.proofs.Offered.{looks-is, accounts-came, accounts-renewed, accounts-later, accounts-more, accounts-idle, accounts-unused}
 use Rattle.bindings.specs.declared.entries.Entry.{Entry}
 use Rattle.bindings.specs.Entries.{translates, slot_of}
 use Rattle.bindings.specs.Lives.{rests_by, rests_at, is_unused_by, is_unused_at, is_among}
@@ -17,13 +16,13 @@ use Rattle.bindings.proofs.Resting.{listed-is}
 pub uses-begin : (t : Table) (key : Key) (by_install : Bool) (now : ℕ) (uses : List ℕ) → IsPast t key (came by_install now) → HaveRested (least_rest key.protocol) now uses → Accounts t key now uses
 uses-begin t key by_install now uses is rested = (came by_install now, is, accounts-came key.protocol by_install now uses rested)
 
-pub uses-carried : (t u : Table) (key : Key) (since : ℕ) (uses : List ℕ) (p : Packet) → ((past : Past) → IsPast t key past → IsPast u key (with_packet p past)) → since ≤ p.at → Accounts t key since uses → Accounts u key p.at (p.at ∷ uses)
+pub uses-carried : (t u : Table) (key : Key) (since : ℕ) (uses : List ℕ) (p : Packet) → ((past : History) → IsPast t key past → IsPast u key (with_packet p past)) → since ≤ p.at → Accounts t key since uses → Accounts u key p.at (p.at ∷ uses)
 uses-carried t u key since uses p goes h a = (with_packet p a.0, goes a.0 a.1, accounts-more key.protocol since a.0 uses p h a.2)
 
-pub uses-renewed : (t u : Table) (key : Key) (since now : ℕ) (uses : List ℕ) → ((past : Past) → IsPast t key past → IsPast u key (renewed now past)) → HaveRested (least_rest key.protocol) now uses → Accounts t key since uses → Accounts u key now uses
+pub uses-renewed : (t u : Table) (key : Key) (since now : ℕ) (uses : List ℕ) → ((past : History) → IsPast t key past → IsPast u key (renewed now past)) → HaveRested (least_rest key.protocol) now uses → Accounts t key since uses → Accounts u key now uses
 uses-renewed t u key since now uses goes rested a = (renewed now a.0, goes a.0 a.1, accounts-renewed key.protocol a.0 now uses rested)
 
-pub uses-kept : (t u : Table) (key : Key) (since now : ℕ) (uses : List ℕ) → ((past : Past) → IsPast t key past → IsPast u key past) → since ≤ now → Accounts t key since uses → Accounts u key now uses
+pub uses-kept : (t u : Table) (key : Key) (since now : ℕ) (uses : List ℕ) → ((past : History) → IsPast t key past → IsPast u key past) → since ≤ now → Accounts t key since uses → Accounts u key now uses
 uses-kept t u key since now uses goes h a = (a.0, goes a.0 a.1, accounts-later key.protocol a.0 since now uses h a.2)
 
 pub uses-idle : (t : Table) (key : Key) (now : ℕ) (uses : List ℕ) → Accounts t key now uses → rests_at t.entries t.lives key now ≡ true → HaveRested (least_rest key.protocol) now uses

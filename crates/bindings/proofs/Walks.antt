@@ -5,7 +5,7 @@ use Rattle.std.proofs.lemmas.Bool.{cond-true, cond-false, lt-ltb, le-ltb, ltb-tr
 use Rattle.nat_types.specs.declared.pairs.EntryState.{EntryState}
 use Rattle.nat_types.specs.declared.pairs.Key.{Key}
 use Rattle.nat_types.specs.Same.{same_key}
-use Rattle.nat_types.proofs.Equal.{key-true, key-false}
+use Rattle.nat_types.proofs.Offered.{key-true, key-false}
 use Rattle.bindings.specs.declared.entries.Entry.{Entry}
 use Rattle.bindings.specs.Entries.{is_pair, has_key, slot_of, entry_in, place_of, pairs_in, HasDistinctKeys}
 use Rattle.bindings.specs.Lists.{stands_behind, after_key, key_place, without, with_state, RisesUp}

@@ -2,8 +2,8 @@
 use Rattle.std.specs.Prelude.{◌≡◌, ℕ, ◌<◌, ◌≤◌, ◌⊎◌, Bool, true, false, ◌&&◌, Option, Some, None, List, [], ◌∷◌}
 use Rattle.std.specs.List.{AllByRecursion, Contains, filter}
 use Rattle.nat_types.specs.declared.pairs.Key.{Key}
-use Rattle.lives.specs.Lives.{Life}
-use Rattle.lives.specs.Dues.{due_moment}
+use Rattle.activity.specs.Lives.{Activity}
+use Rattle.activity.specs.Dues.{due_moment}
 use Rattle.slots.specs.Cells.{cell_of, key_at}
 use Rattle.slots.specs.Dues.{moment_of}
 use Rattle.slots.specs.Rows.{Row}
@@ -13,7 +13,7 @@ use Rattle.bindings.specs.Entries.{slot_of, translates}
 use Rattle.bindings.specs.Lives.{rests_at}
 
 -- a key is due at a moment that isn't later than the one from which its entry is idle
-abbrev pub IsTimed : List (Option ℕ) → Key → Life → Type 0
+abbrev pub IsTimed : List (Option ℕ) → Key → Activity → Type 0
 IsTimed dues key life = (moment : ℕ) × (moment_of dues key ≡ Some moment) × (moment ≤ due_moment key.protocol life)
 
 -- a row's key is that of a cell, and is due in time where the entry translates
@@ -41,9 +41,9 @@ translates_by None = false
 translates_by (Some e) = translates e.state
 
 -- a key's entry translates and is idle
-abbrev pub is_idle_key : ℕ → List Entry → List Life → Key → Bool
+abbrev pub is_idle_key : ℕ → List Entry → List Activity → Key → Bool
 is_idle_key now es ls key = translates_by (slot_of es key) && rests_at es ls key now
 
 -- the keys among these whose entries translate and are idle
-abbrev pub idle_among : ℕ → List Entry → List Life → List Key → List Key
+abbrev pub idle_among : ℕ → List Entry → List Activity → List Key → List Key
 idle_among now es ls keys = filter (is_idle_key now es ls) keys

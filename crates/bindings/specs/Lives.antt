@@ -3,53 +3,53 @@ use Rattle.std.specs.Prelude.{◌≡◌, ℕ, Bool, false, ◌&&◌, List, [], �
 use Rattle.nat_types.specs.declared.pairs.Key.{Key}
 use Rattle.nat_types.specs.Same.{same_key}
 use Rattle.addresses.specs.declared.transport.Protocol.{Protocol}
-use Rattle.lives.specs.Lives.{Past, Life, Agrees, looks_idle}
+use Rattle.activity.specs.Lives.{History, Activity, Agrees, looks_idle}
 use Rattle.std.specs.List.{list_any}
 use Rattle.bindings.specs.declared.entries.Entry.{Entry}
 use Rattle.bindings.specs.Entries.{has_key, translates}
 
 -- the life of a key's entry
-abbrev pub life_in : List Entry → List Life → Key → Option Life
+abbrev pub life_in : List Entry → List Activity → Key → Option Activity
 life_in [] ls key = None
 life_in (e ∷ es) [] key = None
 life_in (e ∷ es) (l ∷ ls) key = (if has_key key e then Some l else life_in es ls key)
 
 -- the lives, that of the key changed
-abbrev pub lives_with : (Life → Life) → Key → List Entry → List Life → List Life
+abbrev pub lives_with : (Activity → Activity) → Key → List Entry → List Activity → List Activity
 lives_with change key [] ls = ls
 lives_with change key (e ∷ es) [] = []
 lives_with change key (e ∷ es) (l ∷ ls) =
     (if has_key key e then change l ∷ ls else l ∷ lives_with change key es ls)
 
 -- the lives but that of the key
-abbrev pub lives_without : Key → List Entry → List Life → List Life
+abbrev pub lives_without : Key → List Entry → List Activity → List Activity
 lives_without key [] ls = ls
 lives_without key (e ∷ es) [] = []
 lives_without key (e ∷ es) (l ∷ ls) = (if has_key key e then ls else l ∷ lives_without key es ls)
 
 -- the entry of a key agrees with a past
-abbrev pub HasPast : List Entry → List Life → Key → Past → Type 0
-HasPast es ls key past = (life : Life) × (life_in es ls key ≡ Some life) × Agrees key.protocol past life
+abbrev pub HasPast : List Entry → List Activity → Key → History → Type 0
+HasPast es ls key past = (life : Activity) × (life_in es ls key ≡ Some life) × Agrees key.protocol past life
 
 -- Entry by entry, what stood at a key's entry stands there still, but for this key.
-abbrev pub KeepsOthers : Key → List Entry → List Life → List Entry → List Life → Type 0
+abbrev pub KeepsOthers : Key → List Entry → List Activity → List Entry → List Activity → Type 0
 KeepsOthers key es ls es2 ls2 =
-    (q : Key) (past : Past) → same_key key q ≡ false → HasPast es ls q past → HasPast es2 ls2 q past
+    (q : Key) (past : History) → same_key key q ≡ false → HasPast es ls q past → HasPast es2 ls2 q past
 
 -- the life at a place was written, and its past went on
-pub record IsLifeSet (protocol : Protocol) (goes : Past → Past) (old new : List Life) (i : ℕ) : Type 0 where
-  pub life : Life
+pub record IsLifeSet (protocol : Protocol) (goes : History → History) (old new : List Activity) (i : ℕ) : Type 0 where
+  pub life : Activity
   pub written : new ≡ slice_set old i life
-  pub agrees : (past : Past) → Agrees protocol past (slice_index_or old i life) → Agrees protocol (goes past) life
+  pub agrees : (past : History) → Agrees protocol past (slice_index_or old i life) → Agrees protocol (goes past) life
 
 -- ---- idle pairs
 
 -- an entry with this life translates and is idle
-abbrev pub is_idle_row : ℕ → Entry → Life → Bool
+abbrev pub is_idle_row : ℕ → Entry → Activity → Bool
 is_idle_row now e l = translates e.state && looks_idle e.pair.key.protocol l now
 
 -- the keys of the idle Live and Held entries, in the order of the list
-abbrev pub idle_keys_in : ℕ → List Entry → List Life → List Key
+abbrev pub idle_keys_in : ℕ → List Entry → List Activity → List Key
 idle_keys_in now [] ls = []
 idle_keys_in now (e ∷ es) [] = []
 idle_keys_in now (e ∷ es) (l ∷ ls) =
@@ -61,18 +61,18 @@ is_among key keys = list_any (λ k. same_key k key) keys
 
 -- ---- what is asked of one key's entry
 
-abbrev pub rests_by : Key → ℕ → Option Life → Bool
+abbrev pub rests_by : Key → ℕ → Option Activity → Bool
 rests_by key now None = false
 rests_by key now (Some life) = looks_idle key.protocol life now
 
 -- a key's entry is idle by its life; a key without an entry isn't
-abbrev pub rests_at : List Entry → List Life → Key → ℕ → Bool
+abbrev pub rests_at : List Entry → List Activity → Key → ℕ → Bool
 rests_at es ls key now = rests_by key now (life_in es ls key)
 
-abbrev pub is_unused_by : Option Life → Bool
+abbrev pub is_unused_by : Option Activity → Bool
 is_unused_by None = false
 is_unused_by (Some life) = life.is_unused
 
 -- a key's entry came by Install and carried nothing since, by its life; a key without an entry didn't
-abbrev pub is_unused_at : List Entry → List Life → Key → Bool
+abbrev pub is_unused_at : List Entry → List Activity → Key → Bool
 is_unused_at es ls key = is_unused_by (life_in es ls key)

@@ -3,7 +3,7 @@ use Rattle.std.specs.Prelude.{Bool, true, false, Option, Some, None, List, [], �
 use Rattle.std.specs.List.{filter}
 use Rattle.nat_types.specs.declared.pairs.EntryState.{EntryState}
 use Rattle.nat_types.specs.declared.pairs.EntryState.TheVariants.{Pending, Doomed, Live, Closing, Held}
-use Rattle.lives.specs.Lives.{Life}
+use Rattle.activity.specs.Lives.{Activity}
 use Rattle.bindings.specs.declared.entries.Entry.{Entry}
 use Rattle.bindings.specs.Entries.{is_pair, entry_in}
 
@@ -36,7 +36,7 @@ revived_slot None = None
 revived_slot (Some e) = (if is_pair e.state then Some (woken_entry e) else None)
 
 -- the lives of the entries that are pairs
-abbrev pub lives_of_pairs : List Entry → List Life → List Life
+abbrev pub lives_of_pairs : List Entry → List Activity → List Activity
 lives_of_pairs [] ls = []
 lives_of_pairs (e ∷ es) [] = []
 lives_of_pairs (e ∷ es) (l ∷ ls) = (if is_pair e.state then l ∷ lives_of_pairs es ls else lives_of_pairs es ls)

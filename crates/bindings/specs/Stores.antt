@@ -3,7 +3,7 @@ use Rattle.std.specs.Prelude.{◌≡◌, ℕ, Option, List, [], ◌∷◌, map}
 use Rattle.std.specs.List.{find}
 use Rattle.std.specs.Option.{option_map}
 use Rattle.nat_types.specs.declared.pairs.Endpoint.{Endpoint}
-use Rattle.lives.specs.Lives.{Life}
+use Rattle.activity.specs.Lives.{Activity}
 use Rattle.slots.specs.declared.numbers.SlotNumber.{SlotNumber}
 use Rattle.slots.specs.Rows.{Row}
 use Rattle.slots.specs.Endpoints.{EndpointIndex}
@@ -15,14 +15,14 @@ use Rattle.bindings.specs.Entries.{serves}
 -- entries and their lives, how many there is room for, and for how many more pairs the index has room
 pub record Store : Type 0 where
   pub entries : List Entry
-  pub lives : List Life
+  pub lives : List Activity
   pub room : ℕ
   pub spare : ℕ
 
 abbrev pub entries_of : List (Row Item) → List Entry
 entries_of rows = map (λ r. r.item.entry) rows
 
-abbrev pub lives_of : List (Row Item) → List Life
+abbrev pub lives_of : List (Row Item) → List Activity
 lives_of rows = map (λ r. r.item.life) rows
 
 -- each row stands under its entry's key

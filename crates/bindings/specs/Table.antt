@@ -3,8 +3,8 @@ use Rattle.std.specs.Prelude.{◌≡◌, ℕ, ◌≤◌, Bool, true, Some, List,
 use Rattle.std.specs.List.{insert}
 use Rattle.nat_types.specs.declared.pairs.EntryState.{EntryState}
 use Rattle.nat_types.specs.declared.pairs.Key.{Key}
-use Rattle.lives.specs.Lives.{Past, Life}
-use Rattle.lives.specs.Rests.{AccountsFor}
+use Rattle.activity.specs.Lives.{History, Activity}
+use Rattle.activity.specs.Rests.{AccountsFor}
 use Rattle.port_range.specs.Ports.{is_listed, AreRising}
 use Rattle.bindings.specs.declared.entries.Entry.{Entry}
 use Rattle.bindings.specs.declared.entries.PortBounds.{PortBounds}
@@ -18,7 +18,7 @@ use Rattle.bindings.specs.Lives.{HasPast, lives_without, idle_keys_in}
 -- both gateways, how many entries it has room for, and for how many more adds it is ready.
 pub record Table : Type 0 where
   pub entries : List Entry
-  pub lives : List Life
+  pub lives : List Activity
   pub owned : List ℕ
   pub zero : PortBounds
   pub one : PortBounds
@@ -30,12 +30,12 @@ abbrev pub owns : Table → ℕ → Bool
 owns t port = is_listed port t.owned
 
 -- the entry of a key agrees with a past
-abbrev pub IsPast : Table → Key → Past → Type 0
+abbrev pub IsPast : Table → Key → History → Type 0
 IsPast t key past = HasPast t.entries t.lives key past
 
 -- the entry of a key agrees with a past that accounts for these uses
 abbrev pub Accounts : Table → Key → ℕ → List ℕ → Type 0
-Accounts t key now uses = (past : Past) × IsPast t key past × AccountsFor key.protocol now past uses
+Accounts t key now uses = (past : History) × IsPast t key past × AccountsFor key.protocol now past uses
 
 -- the keys of its idle Live and Held entries, by protocol and port
 abbrev pub idle_keys_of : Table → ℕ → List Key
@@ -62,7 +62,7 @@ abbrev pub empty_table : PortBounds → PortBounds → Table
 empty_table zero one = record { entries = []; lives = []; owned = []; zero = zero; one = one; capacity = key_count zero one; ready = 0 }
 
 -- the table with one more entry and its life
-abbrev pub with_entry : Table → Entry → Life → Table
+abbrev pub with_entry : Table → Entry → Activity → Table
 with_entry t e life = record t {
   entries = put_in e t.entries;
   lives = insert t.lives (place_in e.pair t.entries) life;
@@ -77,7 +77,7 @@ abbrev pub without_entry : Table → Key → Table
 without_entry t key = record t { entries = without key t.entries; lives = lives_without key t.entries t.lives }
 
 -- The fields keep the same, with room for all that may come.
-pub record IsStored (entries : List Entry) (lives : List Life) (ports : Ports) (zero one : PortBounds) (capacity places : ℕ) : Type 0 where
+pub record IsStored (entries : List Entry) (lives : List Activity) (ports : Ports) (zero one : PortBounds) (capacity places : ℕ) : Type 0 where
   pub order : AreInOrder entries
   pub keys : HasDistinctKeys entries
   pub endpoints : HasDistinctEndpoints entries

@@ -6,9 +6,9 @@ ghost use Rattle.bindings.specs.Ports.{in_either};
 ghost use Rattle.bindings.specs.Table.{Table as Seen, IsTable, AreInRanges, IsPast, Accounts, idle_keys_of};
 ghost use Rattle.bindings.specs.Lives.{rests_at, is_unused_at, is_among};
 ghost use Rattle.bindings.specs.declared.entries.Entry.{Entry as Row};
-ghost use Rattle.lives.specs.Lives.{Past, came, with_packet, renewed};
-ghost use Rattle.lives.specs.Rests.{HaveRested, least_rest};
-ghost use Rattle.lives.specs.declared.packets.Packet.{Packet as Carried};
+ghost use Rattle.activity.specs.Lives.{History, came, with_packet, renewed};
+ghost use Rattle.activity.specs.Rests.{HaveRested, least_rest};
+ghost use Rattle.activity.specs.declared.packets.Packet.{Packet as Carried};
 
 /// Where all entries lie in the ranges, a key of the ranges without an entry never meets Full.
 pub fn room_law()
@@ -28,16 +28,16 @@ pub fn uses_law()
         → HaveRested (least_rest key.protocol) now uses → Accounts t key now uses }
     ensures carried { (t u : Seen) → (key : OutsidePort) → (since : ℕ) → (uses : List ℕ)
         → (packet : Carried)
-        → ((past : Past) → IsPast t key past → IsPast u key (with_packet packet past))
+        → ((past : History) → IsPast t key past → IsPast u key (with_packet packet past))
         → since ≤ packet.at → Accounts t key since uses
         → Accounts u key packet.at (packet.at ∷ uses) }
     ensures renewed { (t u : Seen) → (key : OutsidePort) → (since now : ℕ)
         → (uses : List ℕ)
-        → ((past : Past) → IsPast t key past → IsPast u key (renewed now past))
+        → ((past : History) → IsPast t key past → IsPast u key (renewed now past))
         → HaveRested (least_rest key.protocol) now uses → Accounts t key since uses
         → Accounts u key now uses }
     ensures kept { (t u : Seen) → (key : OutsidePort) → (since now : ℕ) → (uses : List ℕ)
-        → ((past : Past) → IsPast t key past → IsPast u key past) → since ≤ now
+        → ((past : History) → IsPast t key past → IsPast u key past) → since ≤ now
         → Accounts t key since uses → Accounts u key now uses }
     ensures idle { (t : Seen) → (key : OutsidePort) → (now : ℕ) → (uses : List ℕ)
         → Accounts t key now uses → rests_at t.entries t.lives key now ≡ true

@@ -7,7 +7,7 @@ ghost use Rattle.bindings.specs.declared.entries.Entry.{Entry as Row};
 ghost use Rattle.bindings.specs.Entries.{is_pair, translates, serves, slot_of, entry_of, entry_in, HasDistinctEndpoints};
 ghost use Rattle.bindings.specs.Lists.{put_in, place_in, without, with_state, after_key, RisesUp};
 ghost use Rattle.bindings.specs.Lives.{life_in, lives_with, lives_without, rests_at, is_unused_at};
-ghost use Rattle.lives.specs.Lives.{Life as Lived, Past, Agrees, with_packet, renewed, life_carried, life_renewed};
+ghost use Rattle.activity.specs.Lives.{Activity as Lived, History, Agrees, with_packet, renewed, life_carried, life_renewed};
 ghost use Rattle.slots.specs.Rows.{item_of, number_of, with_item};
 ghost use Rattle.nat_types.specs.declared.pairs.Key.{Key as OutsidePort};
 ghost use Rattle.bindings.specs.declared.store.Item.{Item as Kept};
@@ -20,7 +20,7 @@ ghost use Rattle.bindings.specs.Dues.{AreTimed, AreTimedBut, IsTimed, KeepsDues,
 
 use crate::Entry;
 use crate::entries::{endpoint_of, is_pair_state, is_translating, key_of};
-use lives::{Life, Packet};
+use activity::{Activity, Packet};
 use nat_types::{Endpoint, EntryState, Key, Pair};
 use slots::{Dues, EndpointIndex, Hashers, PortSlots, SlotNumber, recall_cell};
 use std::alloc::{AllocError, Global};
@@ -30,7 +30,7 @@ use std::marker::Model;
 #[derive(Drop)]
 pub(crate) struct Item {
     entry: Entry,
-    life: Life,
+    life: Activity,
 }
 
 /// Entries by protocol (tcp first) and port, each with its life.
@@ -67,7 +67,7 @@ fn entry_of_item(item: &Item) -> Entry
     item.entry
 }
 
-fn item_with(pair: Pair, state: EntryState, life: Life) -> Item
+fn item_with(pair: Pair, state: EntryState, life: Activity) -> Item
     ensures { result ≡ record { entry = entry_in state pair; life = life } }
 {
     let entry = Entry { pair, state };
@@ -142,7 +142,7 @@ fn put_packet(slots: &mut PortSlots<Item>, key: Key, packet: Packet)
           }) slots.old.rows;
         } }
     ensures none { item_of slots.old.rows key ≡ None → slots.new ≡ slots.old }
-    ensures agrees { (item : Kept) → (past : Past)
+    ensures agrees { (item : Kept) → (past : History)
         → item_of slots.old.rows key ≡ Some item → Agrees
         key.protocol past item.life → Agrees key.protocol (with_packet packet past)
         (life_carried key.protocol packet item.life) }
@@ -159,7 +159,7 @@ fn put_renewal(slots: &mut PortSlots<Item>, key: Key, now: u64)
           rows = with_item key (record item { life = life_renewed now item.life }) slots.old.rows;
         } }
     ensures none { item_of slots.old.rows key ≡ None → slots.new ≡ slots.old }
-    ensures agrees { (item : Kept) → (past : Past)
+    ensures agrees { (item : Kept) → (past : History)
         → item_of slots.old.rows key ≡ Some item → Agrees
         key.protocol past item.life → Agrees key.protocol (renewed now past)
         (life_renewed now item.life) }
@@ -276,7 +276,7 @@ impl Store {
     }
 
     /// One more entry, with its life.
-    pub(crate) fn add(&mut self, pair: Pair, state: EntryState, life: Life)
+    pub(crate) fn add(&mut self, pair: Pair, state: EntryState, life: Activity)
         requires vacant { slot_of self.old.entries pair.key ≡ None }
         requires free { is_pair state ≡ true
             → entry_of self.old.entries pair.endpoint ≡ None }
@@ -350,7 +350,7 @@ impl Store {
         ensures lives { self.new ≡ record self.old {
           lives = lives_with (life_carried key.protocol packet) key self.old.entries self.old.lives;
         } }
-        ensures agrees { (life : Lived) → (past : Past)
+        ensures agrees { (life : Lived) → (past : History)
             → life_in self.old.entries self.old.lives
             key ≡ Some life → Agrees key.protocol past life → Agrees key.protocol (with_packet
             packet past) (life_carried key.protocol packet life) }
@@ -365,7 +365,7 @@ impl Store {
         ensures lives { self.new ≡ record self.old {
           lives = lives_with (life_renewed now) key self.old.entries self.old.lives;
         } }
-        ensures agrees { (life : Lived) → (past : Past)
+        ensures agrees { (life : Lived) → (past : History)
             → life_in self.old.entries self.old.lives
             key ≡ Some life → Agrees key.protocol past life → Agrees key.protocol (renewed
             now past) (life_renewed now life) }

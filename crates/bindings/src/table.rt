@@ -1,9 +1,9 @@
 //! The table of a gateway.
 ghost use Rattle.std.specs.Prelude.{◌≡◌, ◌+◌, ◌-◌, ◌<◌, ◌≤◌, ℕ, [], None, Some, true, false, ◌==◌, ◌++◌, ◌&&◌, length, map, vec_len, vec_capacity, IsOk, if◌then◌else◌, IfOk, IfErr, IfSome, IfNone, OnOk, OnErr};
 ghost use Rattle.nat_types.specs.declared.pairs.Key.{Key as OutsidePort};
-ghost use Rattle.lives.specs.Lives.{Past, came, with_packet, renewed, is_idle, is_unused};
+ghost use Rattle.activity.specs.Lives.{History, came, with_packet, renewed, is_idle, is_unused};
 ghost use Rattle.bindings.specs.declared.entries.Entry.{Entry as Row};
-ghost use Rattle.lives.specs.declared.packets.Packet.{Packet as Carried};
+ghost use Rattle.activity.specs.declared.packets.Packet.{Packet as Carried};
 ghost use Rattle.bindings.specs.Entries.{is_pair, translates, slot_of, entry_of, set_at, refusal_of, entry_in, pairs_in};
 ghost use Rattle.bindings.specs.Lists.{put_in, after_key};
 ghost use Rattle.bindings.specs.Revivals.{revived_entries, revived_slot, lives_of_pairs};
@@ -17,7 +17,7 @@ ghost use Rattle.bindings.specs.Lives.{lives_with};
 ghost use Rattle.bindings.specs.Lists.{place_in};
 ghost use Rattle.std.specs.List.{insert};
 ghost use Rattle.port_range.specs.Ports.{IsChosen};
-ghost use Rattle.lives.specs.Lives.{life_begun, life_carried, life_renewed};
+ghost use Rattle.activity.specs.Lives.{life_begun, life_carried, life_renewed};
 
 use crate::entries::key_of;
 use crate::ports::{Ports, highest_port, lowest_port};
@@ -25,8 +25,8 @@ use crate::revivals::{drop_doomed, wake};
 use crate::rows::{count_idle, is_vacant_port, list_idle, pairs_of, refusal, translating_pairs_of};
 use crate::store::Store;
 use crate::{Entry, PortBounds, TableFault};
+use activity::{Activity, Packet, Remote, Way};
 use addresses::{Parity, Port, Protocol, TcpFlags};
-use lives::{Life, Packet, Remote, Way};
 use nat_types::{Endpoint, EntryState, Key, Pair};
 use slots::{CELLS, Hashers};
 use std::alloc::{AllocError, Global};
@@ -190,7 +190,8 @@ impl Table {
         if let Some(fault) = refusal(&self.store, self.capacity, pair, state) {
             return Err(fault);
         }
-        self.store.add(pair, state, Life::begin(by_install, now));
+        self.store
+            .add(pair, state, Activity::begin(by_install, now));
         self.ports.take(key_of(pair));
         self.ready -= 1;
         Ok(())
@@ -205,7 +206,7 @@ impl Table {
         ensures slots { (entry : Row) → slot_of self.old.entries key ≡ Some entry
             → (q : OutsidePort) → slot_of self.new.entries q
             ≡ set_at (slot_of self.old.entries) key (Some (entry_in state entry.pair)) q }
-        ensures pasts { (q : OutsidePort) → (past : Past) → IsPast self.old q past
+        ensures pasts { (q : OutsidePort) → (past : History) → IsPast self.old q past
             → IsPast self.new q past }
     {
         self.store.turn(key, state);
@@ -229,7 +230,7 @@ impl Table {
         ensures entries { self.new.entries ≡ revived_entries self.old.entries }
         ensures slots { (q : OutsidePort) → slot_of self.new.entries q
             ≡ revived_slot (slot_of self.old.entries q) }
-        ensures pasts { (q : OutsidePort) → (entry : Row) → (past : Past)
+        ensures pasts { (q : OutsidePort) → (entry : Row) → (past : History)
             → slot_of self.old.entries q ≡ Some entry → is_pair entry.state ≡ true
             → IsPast self.old q past → IsPast self.new q past }
         ensures lives { self.new.lives ≡ lives_of_pairs self.old.entries self.old.lives }
@@ -357,7 +358,7 @@ impl Table {
           flags = flags;
           at = now;
         }
-            in (past : Past) → IsPast self.old key past
+            in (past : History) → IsPast self.old key past
             → IsPast self.new key (with_packet packet past) }
         ensures lives { let packet : Carried = record {
           remote = remote;
@@ -383,7 +384,7 @@ impl Table {
 
     /// The list of packets of a key's pair begins empty. A key without an entry changes nothing.
     pub fn renew(&mut self, key: Key, now: u64)
-        ensures renewed { (past : Past) → IsPast self.old key past
+        ensures renewed { (past : History) → IsPast self.old key past
             → IsPast self.new key (renewed now past) }
         ensures lives { self.new.lives ≡ lives_with (life_renewed now) key
             self.old.entries self.old.lives }
@@ -396,7 +397,7 @@ impl Table {
 
     /// Whether a key's pair is idle at a moment. A key without an entry isn't.
     pub fn idle(&self, key: Key, now: u64) -> bool
-        ensures idle { (past : Past) → IsPast self.now key past → result
+        ensures idle { (past : History) → IsPast self.now key past → result
             ≡ is_idle key.protocol past now }
         ensures exact { result ≡ rests_at self.now.entries self.now.lives key now }
     {
@@ -405,7 +406,7 @@ impl Table {
 
     /// Whether a key's pair came by Install and carried nothing since. A key without an entry didn't.
     pub fn unused(&self, key: Key) -> bool
-        ensures unused { (past : Past) → IsPast self.now key past → result ≡ is_unused past }
+        ensures unused { (past : History) → IsPast self.now key past → result ≡ is_unused past }
         ensures exact { result ≡ is_unused_at self.now.entries self.now.lives key }
     {
         self.store.is_unused(key)
@@ -415,7 +416,7 @@ impl Table {
     /// Room for as many keys as there are entries is enough.
     pub fn idle_keys(&mut self, now: u64, out: &mut Vec<Key>) -> Result<(), AllocError>
         ensures keys { OnOk result (out.new.items ≡ out.old.items ++ idle_keys_of self.old now) }
-        ensures listed { (key : OutsidePort) → (entry : Row) → (past : Past)
+        ensures listed { (key : OutsidePort) → (entry : Row) → (past : History)
             → slot_of self.old.entries key ≡ Some entry → IsPast self.old key past
             → is_among key (idle_keys_of self.old now)
             ≡ (translates entry.state && is_idle key.protocol past now) }

@@ -1,9 +1,9 @@
 //! A trace and two tables, line by line.
 use anyhow::{Result, bail};
 use cases_words::Given;
-use nat_types::{GatewayId, Happening, Note, Pair};
+use nat_types::{GatewayId, Note, NoteKind, Pair};
+use spec_trace::audit;
 use std::alloc::Global;
-use trace_words::audit;
 
 /// The notes so far, and what each gateway holds after them.
 #[derive(Drop)]
@@ -15,14 +15,14 @@ pub struct Case {
 }
 
 /// `Used` and a pair, and so on, as a note is printed.
-fn happening(given: &mut Given<'_>) -> Result<Happening> {
+fn happening(given: &mut Given<'_>) -> Result<NoteKind> {
     let happening = match given.word()? {
-        "Used" => Happening::Used(given.pair()?),
-        "Released" => Happening::Released(given.pair()?),
-        "Retaken" => Happening::Retaken(given.pair()?),
-        "Synced" => Happening::Synced,
-        "Crashed" => Happening::Crashed,
-        "Booted" => Happening::Booted(given.number()?),
+        "Used" => NoteKind::Used(given.pair()?),
+        "Released" => NoteKind::Released(given.pair()?),
+        "Retaken" => NoteKind::Retaken(given.pair()?),
+        "Synced" => NoteKind::Synced,
+        "Crashed" => NoteKind::Crashed,
+        "Booted" => NoteKind::Booted(given.number()?),
         _ => bail!("no happening"),
     };
     Ok(happening)

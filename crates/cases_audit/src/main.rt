@@ -4,8 +4,8 @@
 mod cases;
 
 use anyhow::Result;
-use cases_words::Given;
 use cases::Case;
+use cases_words::Given;
 use std::alloc::Global;
 use std::{env, fs};
 

@@ -2,10 +2,10 @@
 
 use crate::memory::Memory;
 use anyhow::{Context, Result, bail};
-use loops::run_loop;
-use passages::{Loopback, Passage};
-use run_faults::text_of;
-use runs::simulate;
+use faults::text_of;
+use loopback::{Channel, Loopback};
+use loopback_run::run_loop;
+use simulation::simulate;
 use std::io::Write;
 
 /// Prints what the run of a line prints, with the settings of loops.toml where it names no others.
@@ -33,7 +33,7 @@ pub(crate) fn print<O: Write>(rt: &HostRuntime, line: &str, output: &mut O) -> R
 }
 
 /// Output, faults and status of a script's run through a passage, and whether the output is that of one without.
-fn passed<P: Passage, O: Write>(
+fn passed<P: Channel, O: Write>(
     rt: &HostRuntime,
     settings: &str,
     name: &str,

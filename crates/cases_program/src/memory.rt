@@ -1,9 +1,9 @@
 //! A passage in memory.
 
+use loopback::{Channel, Passed};
 use nat_types::GatewayId;
-use passages::{Passage, Passed};
 use settings::Settings;
-use wires::{Place, SocketFault};
+use sockets::{Place, SocketFault};
 
 /// A passage that loses each of so many, and receives all others.
 #[derive(Drop)]
@@ -19,7 +19,7 @@ impl Memory {
     }
 }
 
-impl Passage for Memory {
+impl Channel for Memory {
     ghost opens = { λ _ _ _. Unit {0} };
 
     /// It has no ports that could be refused.

@@ -1,8 +1,8 @@
 //! Lines of words, done as `natpair` would: what each prints, its faults and its status.
 
 use crate::{files, listening};
-use acts::act;
 use anyhow::{Context, Result};
+use commands::act;
 use std::alloc::Global;
 use std::io::Write;
 

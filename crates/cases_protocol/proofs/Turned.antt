@@ -7,8 +7,7 @@ use Rattle.nat_types.specs.Same.{same_key}
 use Rattle.bindings.specs.declared.entries.Entry.{Entry}
 use Rattle.bindings.specs.Entries.{has_key, slot_of, entry_in}
 use Rattle.bindings.specs.Table.{Table, with_entry_state}
-use Rattle.bindings.proofs.Found.{find-some}
-use Rattle.bindings.proofs.Orders.{turned-pair}
+use Rattle.bindings.proofs.Offered.{find-some, turned-pair}
 use Rattle.link.specs.Grammar.{IsWellFormedPair}
 use Rattle.resync.specs.Batch.{CanBeSent}
 

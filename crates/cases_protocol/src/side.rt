@@ -3,7 +3,7 @@ ghost use Rattle.std.specs.Prelude.{◌≡◌, ◌<◌, ◌+◌, ◌≤◌, leng
 ghost use Rattle.bindings.specs.Ports.{AreBounds};
 ghost use Rattle.link.specs.Grammar.{IsWellFormedRecord};
 ghost use Rattle.link.specs.Link.{free_places, occupied};
-ghost use Rattle.binding_step.specs.Resets.{restart_batch};
+ghost use Rattle.spec_binding.specs.Resets.{restart_batch};
 ghost use Rattle.bind_core.specs.Cores.{book_of};
 
 use crate::spelled::{
@@ -13,11 +13,11 @@ use addresses::{Ip, Port, Protocol};
 use anyhow::{Result, bail};
 use arrayvec::ArrayVec;
 use bind_core::{Core, Hashers};
-use binding_step::rows_leave;
 use bindings::{PortBounds, Table};
 use cases_words::Given;
 use link::{Datagram, Link, write};
 use nat_types::{Endpoint, EntryState, GatewayId, Key, Note, Record};
+use spec_binding::rows_leave;
 use std::alloc::Global;
 
 /// A core that has boot 1, its end of the link, and its clock.

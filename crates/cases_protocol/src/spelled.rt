@@ -1,14 +1,14 @@
 //! Which records and endpoints have a spelling on the link, and how they are printed.
 ghost use Rattle.std.specs.Prelude.{◌≡◌, true};
 ghost use Rattle.link.specs.Grammar.{IsWellFormedGrant, IsWellFormedKey, IsWellFormedPair, IsWellFormedRecord};
-ghost use Rattle.binding_step.specs.Fits.{IsWellFormedEndpoint};
+ghost use Rattle.spec_binding.specs.WellFormed.{IsWellFormedEndpoint};
 
 use addresses::Port;
 use anyhow::Result;
-use binding_step::Want;
 use bindings::Entry;
 use link::limits_law;
 use nat_types::{Endpoint, Granted, Key, Pair, Record};
+use spec_binding::Want;
 
 /// Whether the ports of a pair aren't 0.
 fn is_spelled_pair(pair: Pair) -> bool

@@ -5,9 +5,9 @@ use crate::stations::Station;
 use anyhow::{Context, Result, bail};
 use nat_types::{GatewayId, Side};
 use settings::Settings;
+use sockets::Place;
 use std::alloc::Global;
 use std::io::Write;
-use wires::Place;
 
 /// The boxes that are there. They are let go by `end` alone.
 pub(crate) struct Boxes {

@@ -4,9 +4,9 @@ use crate::stations::Station;
 use anyhow::Result;
 use nat_types::{GatewayId, Side};
 use settings::Settings;
+use sockets::Place;
 use std::alloc::Global;
 use std::io::{self, ErrorKind, Write};
-use wires::Place;
 
 /// A packet of a new pair, from 192.168.1.10:5000 to 198.51.100.7:53.
 const OUT: &str =

@@ -4,11 +4,11 @@ ghost use Rattle.std.specs.Prelude.{◌≡◌, ◌≤◌, IfSome};
 
 use anyhow::Result as Checked;
 use nat_types::Side;
-use serving::Clockwork;
+use rounds::Clockwork;
+use sockets::{Answers, LONGEST, Place, Wire, WireFault};
 use std::alloc::Global;
 use std::io::{self, Write};
 use std::time::Duration;
-use wires::{Answers, LONGEST, Place, Wire, WireFault};
 
 /// A datagram, and where it came from or went to.
 #[derive(Drop)]

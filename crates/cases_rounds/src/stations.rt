@@ -4,11 +4,11 @@ use crate::memory::{Letter, Memory, Steps};
 use anyhow::{Result, bail};
 use gateway::{Gateway, Hashers};
 use nat_types::GatewayId;
-use serving::serve;
+use rounds::serve;
 use settings::Settings;
+use sockets::{Failing, Place, Wire};
 use std::alloc::Global;
 use std::io::{self, Write};
-use wires::{Failing, Place, Wire};
 
 /// A gateway with its wire and its clock. It is let go by `end` alone.
 pub(crate) struct Station {

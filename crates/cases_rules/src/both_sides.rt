@@ -4,10 +4,10 @@ ghost use Rattle.vrrp_states.specs.Table.{IsMoment};
 
 use anyhow::{Result, bail, ensure};
 use cases_words::Given;
+use interfaces::Interface;
 use nat_types::{GatewayId, Side};
 use packet_rules::Networks;
 use settings::Settings;
-use sides::Station;
 use std::alloc::Global;
 use vrrp_states::Action;
 
@@ -26,8 +26,8 @@ pub fn moment(given: &mut Given<'_>) -> Result<u64>
 #[derive(Drop)]
 pub struct Interfaces {
     pub networks: Networks,
-    inside: Station,
-    outside: Station,
+    inside: Interface,
+    outside: Interface,
 }
 
 impl Interfaces {
@@ -36,19 +36,19 @@ impl Interfaces {
         let id = GatewayId::Zero;
         Ok(Interfaces {
             networks: Networks::of_gateway(settings, id),
-            inside: Station::new(alloc, settings, id, Side::Inside)?,
-            outside: Station::new(alloc, settings, id, Side::Outside)?,
+            inside: Interface::new(alloc, settings, id, Side::Inside)?,
+            outside: Interface::new(alloc, settings, id, Side::Outside)?,
         })
     }
 
-    pub fn at(&self, side: Side) -> &Station {
+    pub fn at(&self, side: Side) -> &Interface {
         match side {
             Side::Inside => &self.inside,
             Side::Outside => &self.outside,
         }
     }
 
-    pub fn at_mut(&mut self, side: Side) -> &mut Station {
+    pub fn at_mut(&mut self, side: Side) -> &mut Interface {
         match side {
             Side::Inside => &mut self.inside,
             Side::Outside => &mut self.outside,
@@ -79,7 +79,7 @@ impl Interfaces {
 }
 
 /// The frames that an action sends, end to end.
-pub fn acted(alloc: Global, station: &Station, action: Action) -> Result<String> {
+pub fn acted(alloc: Global, station: &Interface, action: Action) -> Result<String> {
     let mut bytes = Vec::with_capacity(alloc, vrrp_packet::ADVERT_FRAME + arp::ARP_FRAME)?;
     match action {
         Action::Nothing => {}

@@ -4,13 +4,13 @@ use addresses::Protocol;
 use anyhow::{Context, Result};
 use arp::ArpPacket;
 use cases_words::Given;
+use interfaces::Interface;
 use ipv4::Flow;
 use nat_types::{Key, Pair};
 use packet_rules::{
     Direction, Reading, Reason, Translation, append_answer, append_request, append_sent,
     direction_taken,
 };
-use sides::Station;
 use std::alloc::Global;
 use vrrp_packet::Advert;
 
@@ -86,7 +86,7 @@ pub fn hear_advert(interfaces: &mut Interfaces, given: &mut Given) -> Result<Str
 }
 
 /// The answer to a packet, if there is one.
-fn answered(alloc: Global, station: &Station, packet: &ArpPacket) -> Result<String> {
+fn answered(alloc: Global, station: &Interface, packet: &ArpPacket) -> Result<String> {
     let mut bytes = Vec::with_capacity(alloc, arp::ARP_FRAME)?;
     if let Some(mac) = station.answer_to(packet) {
         append_answer(&mut bytes, &station.network(), packet, mac);

@@ -1,7 +1,7 @@
 //! The built-in settings, as the text that spells them.
 
 use addresses::Ip;
-use settings::{GatewaySettings, Interface, Neighbour, PortRange, Settings};
+use settings::{GatewaySettings, InterfaceSettings, Neighbour, PortRange, Settings};
 use std::io::{self, Write};
 
 pub fn print<O: Write>(output: &mut O, settings: &Settings) -> io::Result<()> {
@@ -26,7 +26,7 @@ fn range<O: Write>(output: &mut O, name: &str, range: PortRange) -> io::Result<(
 fn interface<O: Write>(
     output: &mut O,
     name: &str,
-    it: &Interface,
+    it: &InterfaceSettings,
     router: Option<Ip>,
 ) -> io::Result<()> {
     let (address, prefix) = (it.virtual_ip, it.prefix_length);

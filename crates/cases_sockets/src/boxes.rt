@@ -2,7 +2,7 @@
 
 use anyhow::{Result, bail};
 use nat_types::Side;
-use wires::{Place, Ports, Sockets};
+use sockets::{Place, Ports, Sockets};
 
 #[derive(Drop)]
 pub(crate) struct Boxes {

@@ -2,9 +2,9 @@
 
 use crate::boxes::Boxes;
 use anyhow::Result;
+use sockets::{Failing, LONGEST, Place, Wire};
 use std::io::Write;
 use std::time::Duration;
-use wires::{Failing, LONGEST, Place, Wire};
 
 /// In each of 20 rounds both boxes send a datagram on the link, and gateway 0 looks for one. Its wire fails at a call:
 /// at an odd number a datagram is lost, at an even one the datagram stays where it is.

@@ -7,10 +7,10 @@ mod failures;
 
 use anyhow::{Context, Result, bail};
 use boxes::Boxes;
+use sockets::{LONGEST, Place, Sockets, Wire, WireFault};
 use std::fs;
 use std::io::{self, BufWriter, Write};
 use std::time::Duration;
-use wires::{LONGEST, Place, Sockets, Wire, WireFault};
 
 /// How many seconds a datagram is waited for.
 const PATIENCE: u64 = 5;

@@ -2,9 +2,9 @@
 ghost use Rattle.std.specs.Prelude.{◌≤◌, IfOk};
 
 use crate::Given;
+use activity::{Remote, Way};
 use addresses::{Ip, Port, Protocol, TcpFlags};
 use anyhow::{Context, Result, bail};
-use lives::{Remote, Way};
 use nat_types::{Endpoint, EntryState, Key, Pair};
 
 impl Given<'_> {

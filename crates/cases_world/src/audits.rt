@@ -1,9 +1,9 @@
 //! The audit of a script's world: whether its trace and tables are those of a pair that keeps its promises.
 
 use anyhow::Result;
+use faults::job_of;
 use frame_sim::{AuditFault, World, audit};
 use nat_types::{GatewayId, Note, Pair, WorldEvent};
-use run_faults::job_of;
 use settings::Settings;
 use std::alloc::Global;
 use std::io::Write;

@@ -3,8 +3,8 @@
 use crate::audits::{after_all, after_each};
 use crate::narrow::Narrow;
 use anyhow::{Context, Result, bail};
-use run_faults::text_of;
-use runs::simulate;
+use faults::text_of;
+use simulation::simulate;
 use std::alloc::Global;
 use std::io::Write;
 use std::rt::Files;

@@ -4,11 +4,11 @@ use Rattle.addresses.specs.declared.ethernet.Mac.{Mac}
 use Rattle.addresses.specs.declared.internet.Ip.{Ip}
 use Rattle.nat_types.specs.declared.gateways.Side.{Side}
 use Rattle.nat_types.specs.declared.pairs.Pair.{Pair}
-use Rattle.binding_step.specs.declared.changes.Want.{Want as Wanted}
-use Rattle.binding_step.specs.declared.changes.Want.TheVariants as want
+use Rattle.spec_binding.specs.declared.changes.Want.{Want as Wanted}
+use Rattle.spec_binding.specs.declared.changes.Want.TheVariants as want
 use Rattle.ipv4.specs.declared.flows.Flow.{Flow}
-use Rattle.kept.specs.declared.waits.Wait.TheVariants as wait
-use Rattle.kept.specs.Packets.{has_place}
+use Rattle.waiting.specs.declared.waits.WaitsFor.TheVariants as wait
+use Rattle.waiting.specs.Packets.{has_place}
 use Rattle.packet_rules.specs.declared.networks.Direction.{Direction}
 use Rattle.packet_rules.specs.declared.networks.Direction.TheVariants as way
 use Rattle.packet_rules.specs.declared.reasons.Reason.{Reason}
@@ -18,10 +18,10 @@ use Rattle.packet_rules.specs.declared.translations.Translation.TheVariants.{Out
 use Rattle.packet_rules.specs.Flows.{source_of}
 use Rattle.packet_rules.specs.Networks.{direction_of}
 use Rattle.packet_rules.specs.Steps.{and_then}
-use Rattle.step_parts.specs.declared.plans.Plan.{Plan}
-use Rattle.step_parts.specs.declared.plans.Plan.TheVariants.{Send, Ask, Wait as WaitFor}
-use Rattle.step_parts.specs.Shown.{Shown}
-use Rattle.step_parts.specs.Verdict.{exit_by, hop_by, look_for, next_by, plan_by, plan_from, plan_of, plan_on, plan_to, target_pair}
+use Rattle.spec_step.specs.declared.plans.Plan.{Plan}
+use Rattle.spec_step.specs.declared.plans.Plan.TheVariants.{Send, Ask, Wait as WaitFor}
+use Rattle.spec_step.specs.Shown.{Shown}
+use Rattle.spec_step.specs.Verdict.{exit_by, hop_by, look_for, next_by, plan_by, plan_from, plan_of, plan_on, plan_to, target_pair}
 
 -- a packet whose next hop isn't known waits for it, where there is a place
 pub plan-waits : (g : Shown) (flow : Flow) (by : Translation) (hop : Ip) (place : Bool) → hop ≡ hop_by g by flow → next_by g by flow ≡ None → has_place g.kept (wait.Hop (exit_by by) hop) ≡ place

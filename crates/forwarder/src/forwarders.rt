@@ -1,16 +1,16 @@
 //! A gateway as far as packets need it.
 ghost use Rattle.std.specs.Prelude.{◌≡◌, IfOk};
 ghost use Rattle.packet_rules.specs.Steps.{Carries};
-ghost use Rattle.step_parts.specs.Shown.{is_up, station_on};
-ghost use Rattle.step_parts.specs.Verdict.{reading_on};
+ghost use Rattle.spec_step.specs.Shown.{is_up, station_on};
+ghost use Rattle.spec_step.specs.Verdict.{reading_on};
 ghost use Rattle.forwarder.specs.Forwarder.{shown_of};
 
 use bind_core::Core;
-use kept::Kept;
+use interfaces::Interface;
 use link::Link;
 use nat_types::Side;
 use packet_rules::{Networks, Reading, Reason};
-use sides::Station;
+use waiting::WaitingPackets;
 
 /// A gateway: its two networks, clock and interfaces, its side of the binding protocol, its end of
 /// the link, and the packets that wait. Moments are in centiseconds.
@@ -23,14 +23,14 @@ pub struct Forwarder {
     pub stopped: bool,
     pub core: Core,
     pub link: Link,
-    pub inside: Station,
-    pub outside: Station,
-    pub kept: Kept,
+    pub inside: Interface,
+    pub outside: Interface,
+    pub kept: WaitingPackets,
 }
 
 impl Forwarder {
     /// The interface on a side.
-    pub fn station(&self, side: Side) -> &Station
+    pub fn station(&self, side: Side) -> &Interface
         ensures { result.now ≡ station_on (shown_of self.now) side }
     {
         match side {

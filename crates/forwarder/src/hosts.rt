@@ -2,18 +2,18 @@
 ghost use Rattle.std.specs.Prelude.{◌≡◌, ◌≤◌, ◌+◌, min};
 ghost use Rattle.link.specs.Link.{free_places};
 ghost use Rattle.packet_rules.specs.Arping.{is_learnable};
-ghost use Rattle.sides.specs.Stations.{after_arp};
-ghost use Rattle.step_parts.specs.Parts.{answered_by, arp_taken};
-ghost use Rattle.step_parts.specs.Shown.{station_on, with_station};
+ghost use Rattle.interfaces.specs.Stations.{after_arp};
+ghost use Rattle.spec_step.specs.Parts.{answered_by, arp_taken};
+ghost use Rattle.spec_step.specs.Shown.{station_on, with_station};
 ghost use Rattle.forwarder.specs.Forwarder.{scene_on, shown_of};
 
 use crate::Forwarder;
-use crate::outgoing::Answer;
+use crate::outgoing::ArpReply;
 use addresses::Mac;
 use arp::ArpPacket;
-use kept::Wait;
 use nat_types::Side;
-use told::Page;
+use output::OutputBuffer;
+use waiting::WaitsFor;
 
 impl Forwarder {
     /// An interface learns the sender of a packet, if it is one that is learnt, and says whether it
@@ -34,7 +34,7 @@ impl Forwarder {
     }
 
     /// A packet is answered, where there is a hardware address to answer with.
-    fn answer(&self, page: &mut Page, side: Side, packet: &ArpPacket, mac: Option<Mac>)
+    fn answer(&self, page: &mut OutputBuffer, side: Side, packet: &ArpPacket, mac: Option<Mac>)
         requires frames { 1 ≤ page.old.room.frames }
         ensures scene { scene_on self.now page.new
             ≡ answered_by (scene_on self.now page.old) side packet.now mac }
@@ -45,7 +45,7 @@ impl Forwarder {
         match mac {
             Some(mac) => {
                 let network = self.station(side).network();
-                let answer = Answer {
+                let answer = ArpReply {
                     network,
                     packet,
                     mac,
@@ -58,7 +58,7 @@ impl Forwarder {
 
     /// Takes an ARP packet: its sender may be learnt, a request is answered, and the packet that
     /// waited for that host is taken again.
-    pub fn take_arp(&mut self, page: &mut Page, side: Side, packet: &ArpPacket)
+    pub fn take_arp(&mut self, page: &mut OutputBuffer, side: Side, packet: &ArpPacket)
         requires frames { 2 ≤ page.old.room.frames }
         requires notes { 3 ≤ page.old.room.notes }
         requires ready { 1 ≤ self.old.core.table.ready }
@@ -74,7 +74,7 @@ impl Forwarder {
         let learns = self.hear(side, packet);
         self.answer(page, side, packet, mac);
         if learns {
-            self.release_one(page, Wait::Hop(side, packet.sender_ip));
+            self.release_one(page, WaitsFor::Hop(side, packet.sender_ip));
         }
     }
 }

@@ -2,11 +2,11 @@
 #![tactic(auto)]
 
 mod forwarders;
+mod holding;
 mod hosts;
 mod outgoing;
 mod plans;
 mod sending;
 mod takings;
-mod waiting;
 
 pub use forwarders::Forwarder;

@@ -8,8 +8,8 @@ ghost use Rattle.packet_rules.specs.Steps.{IsForwardable};
 use addresses::{Ip, Mac};
 use arp::ArpPacket;
 use ipv4::Packet;
+use output::WriteBytes;
 use packet_rules::{Network, Networks, Translation, append_answer, append_request, append_sent};
-use told::WriteBytes;
 
 /// The frame by which a packet is sent on.
 #[derive(Drop)]
@@ -63,14 +63,14 @@ impl WriteBytes for Request {
 
 /// The frame that answers a request.
 #[derive(Drop)]
-pub(crate) struct Answer<'a> {
+pub(crate) struct ArpReply<'a> {
     pub network: Network,
     pub packet: &'a ArpPacket,
     /// The hardware address that is asked for.
     pub mac: Mac,
 }
 
-impl WriteBytes for Answer<'_> {
+impl WriteBytes for ArpReply<'_> {
     ghost can_write = { λ _. ⊤ };
 
     ghost bytes = { λ f. answer_frame f.network f.packet.now f.mac };

@@ -1,20 +1,20 @@
 //! What a packet is to do, before anything changes.
 ghost use Rattle.std.specs.Prelude.{◌≡◌};
-ghost use Rattle.binding_step.specs.Rows.{new_pair};
+ghost use Rattle.spec_binding.specs.Rows.{new_pair};
 ghost use Rattle.packet_rules.specs.Flows.{source_of};
-ghost use Rattle.step_parts.specs.Verdict.{look_for, plan_by, plan_from, plan_of};
-ghost use Rattle.step_parts.specs.Verdict.{plan_on, target_pair};
+ghost use Rattle.spec_step.specs.Verdict.{look_for, plan_by, plan_from, plan_of};
+ghost use Rattle.spec_step.specs.Verdict.{plan_on, target_pair};
 ghost use Rattle.forwarder.specs.Forwarder.{shown_of};
 ghost use Rattle.forwarder.specs.Plans.{leaving_by};
 
 use crate::Forwarder;
 use addresses::Port;
-use binding_step::Want;
 use ipv4::Flow;
-use kept::Wait;
 use nat_types::{EntryState, Key, Pair, Side};
 use packet_rules::{Direction, Reason, Translation, direction_taken, source_endpoint, target_key};
-use step_parts::Plan;
+use spec_binding::Want;
+use spec_step::Plan;
+use waiting::WaitsFor;
 
 /// The pair that a packet's endpoint has, or is to have, with this outside port.
 fn own_pair(flow: Flow, port: Port) -> Pair
@@ -93,7 +93,7 @@ impl Forwarder {
             Want::Port(port) => self.plan_by(flow, leaving(own_pair(flow, port), other)),
             Want::Wait => {
                 let endpoint = source_endpoint(flow);
-                if self.kept.has_place(Wait::Pair(endpoint)) {
+                if self.kept.has_place(WaitsFor::Pair(endpoint)) {
                     Ok(Plan::Wait(endpoint))
                 } else {
                     Err(Reason::CannotWait)
@@ -113,7 +113,7 @@ impl Forwarder {
         match self.station(exit).mac_of(hop, self.moment) {
             Some(next) => Ok(Plan::Send { by, next }),
             None => {
-                if self.kept.has_place(Wait::Hop(exit, hop)) {
+                if self.kept.has_place(WaitsFor::Hop(exit, hop)) {
                     Ok(Plan::Ask { by, hop })
                 } else {
                     Err(Reason::CannotWait)

@@ -1,26 +1,26 @@
 //! What a packet does that goes on at once.
 ghost use Rattle.std.specs.Prelude.{◌≡◌, ◌≤◌, ◌+◌, min};
 ghost use Rattle.link.specs.Link.{free_places};
-ghost use Rattle.lives.specs.declared.packets.Packet.{Packet as Carried};
-ghost use Rattle.binding_step.specs.Fits.{IsWellFormedEndpoint};
+ghost use Rattle.activity.specs.declared.packets.Packet.{Packet as Carried};
+ghost use Rattle.spec_binding.specs.WellFormed.{IsWellFormedEndpoint};
 ghost use Rattle.nat_types.specs.declared.gateways.Side.{Side};
 ghost use Rattle.packet_rules.specs.Flows.{packet_in, source_of};
 ghost use Rattle.packet_rules.specs.Frames.{sent_frame};
 ghost use Rattle.packet_rules.specs.Steps.{IsForwardable};
-ghost use Rattle.step_parts.specs.declared.plans.Plan.TheVariants.{Send};
-ghost use Rattle.step_parts.specs.Parts.{by_plan, carried_all, carried_by, framed};
-ghost use Rattle.step_parts.specs.Parts.{remote, wanted_by, wanted_for};
-ghost use Rattle.step_parts.specs.Verdict.{exit_by};
+ghost use Rattle.spec_step.specs.declared.plans.Plan.TheVariants.{Send};
+ghost use Rattle.spec_step.specs.Parts.{by_plan, carried_all, carried_by, framed};
+ghost use Rattle.spec_step.specs.Parts.{remote, wanted_by, wanted_for};
+ghost use Rattle.spec_step.specs.Verdict.{exit_by};
 ghost use Rattle.forwarder.specs.Forwarder.{scene_on};
 
 use crate::Forwarder;
 use crate::outgoing::SentFrame;
+use activity::{Remote, Way};
 use addresses::{Ip, Mac, Port, TcpFlags};
 use ipv4::{Flow, Packet};
-use lives::{Remote, Way};
 use nat_types::{Endpoint, Key};
+use output::OutputBuffer;
 use packet_rules::{Translation, limits_law, source_endpoint};
-use told::Page;
 
 fn remote_at(address: Ip, port: Port) -> Remote
     ensures { result ≡ remote address port }
@@ -30,7 +30,7 @@ fn remote_at(address: Ip, port: Port) -> Remote
 
 impl Forwarder {
     /// An endpoint wants a port: its pair is made or proposed, or ports are asked for.
-    pub(crate) fn wish(&mut self, page: &mut Page, endpoint: Endpoint)
+    pub(crate) fn wish(&mut self, page: &mut OutputBuffer, endpoint: Endpoint)
         requires formed { IsWellFormedEndpoint endpoint }
         requires ready { 1 ≤ self.old.core.table.ready }
         requires notes { 1 ≤ page.old.room.notes }
@@ -51,7 +51,7 @@ impl Forwarder {
     }
 
     /// A packet of the inside has its endpoint's pair made, or proposed, or a port wanted for it.
-    pub(crate) fn wish_for(&mut self, page: &mut Page, flow: Flow, by: &Translation)
+    pub(crate) fn wish_for(&mut self, page: &mut OutputBuffer, flow: Flow, by: &Translation)
         requires formed { IsWellFormedEndpoint (source_of flow) }
         requires ready { 1 ≤ self.old.core.table.ready }
         requires notes { 1 ≤ page.old.room.notes }
@@ -73,7 +73,14 @@ impl Forwarder {
     }
 
     /// The pair of a key carries a packet.
-    fn carry(&mut self, page: &mut Page, key: Key, remote: Remote, way: Way, flags: TcpFlags)
+    fn carry(
+        &mut self,
+        page: &mut OutputBuffer,
+        key: Key,
+        remote: Remote,
+        way: Way,
+        flags: TcpFlags,
+    )
         requires notes { 1 ≤ page.old.room.notes }
         ensures scene { let packet : Carried = record {
           remote = remote;
@@ -94,7 +101,7 @@ impl Forwarder {
     }
 
     /// The packet as the sessions of its pairs see it: of a hairpin the sender's pair first.
-    fn carry_all(&mut self, page: &mut Page, flow: Flow, flags: TcpFlags, by: &Translation)
+    fn carry_all(&mut self, page: &mut OutputBuffer, flow: Flow, flags: TcpFlags, by: &Translation)
         requires notes { 2 ≤ page.old.room.notes }
         ensures scene { scene_on self.new page.new
             ≡ carried_all (scene_on self.old page.old) flow flags by.now }
@@ -125,7 +132,7 @@ impl Forwarder {
     /// The frame by which a packet is sent on.
     fn send_frame(
         &self,
-        page: &mut Page,
+        page: &mut OutputBuffer,
         by: &Translation,
         next: Mac,
         bytes: &[u8],
@@ -154,7 +161,7 @@ impl Forwarder {
     /// A packet goes on at once.
     pub(crate) fn send(
         &mut self,
-        page: &mut Page,
+        page: &mut OutputBuffer,
         bytes: &[u8],
         packet: Packet,
         by: Translation,

@@ -1,21 +1,21 @@
 //! Packets that are taken, and those whose wait is over.
 ghost use Rattle.std.specs.Prelude.{◌≡◌, ◌≤◌, ◌+◌, [], length, min, vec_capacity};
-ghost use Rattle.kept.specs.declared.waits.Ended.TheVariants.{One, AllPairs};
+ghost use Rattle.waiting.specs.declared.waits.Ended.TheVariants.{One, AllPairs};
 ghost use Rattle.link.specs.Link.{free_places};
-ghost use Rattle.binding_step.specs.Fits.{IsWellFormedEndpoint};
+ghost use Rattle.spec_binding.specs.WellFormed.{IsWellFormedEndpoint};
 ghost use Rattle.packet_rules.specs.Flows.{packet_in, source_of};
 ghost use Rattle.packet_rules.specs.Steps.{IsForwardable};
-ghost use Rattle.step_parts.specs.Parts.{flow_taken, released, taken_again};
-ghost use Rattle.step_parts.specs.Verdict.{plan_of};
+ghost use Rattle.spec_step.specs.Parts.{flow_taken, released, taken_again};
+ghost use Rattle.spec_step.specs.Verdict.{plan_of};
 ghost use Rattle.forwarder.specs.Forwarder.{copy_for, scene_on, shown_of, wait_in};
 
 use crate::Forwarder;
 use ipv4::Packet;
-use kept::{Ended, Wait, Waiting};
 use nat_types::Side;
+use output::OutputBuffer;
 use packet_rules::{Reading, Reason};
-use step_parts::Plan;
-use told::Page;
+use spec_step::Plan;
+use waiting::{Ended, HeldPacket, WaitsFor};
 
 /// Reminds the prover that a packet that is translated comes from a port above 0; it does nothing
 /// when it runs.
@@ -34,12 +34,12 @@ impl Forwarder {
     /// pair.
     pub fn take_packet(
         &mut self,
-        page: &mut Page,
+        page: &mut OutputBuffer,
         side: Side,
         bytes: &[u8],
         packet: Packet,
         plan: Result<Plan, Reason>,
-        copy: Option<Waiting>,
+        copy: Option<HeldPacket>,
     )
         requires planned { plan ≡ plan_of (shown_of self.old) side packet.flow }
         requires copied { copy ≡ copy_for side bytes.now self.old.moment (wait_in plan) }
@@ -73,7 +73,7 @@ impl Forwarder {
     }
 
     /// Takes a kept packet, which was read again.
-    fn take_flow_again(&mut self, page: &mut Page, reading: Packet, packet: Waiting)
+    fn take_flow_again(&mut self, page: &mut OutputBuffer, reading: Packet, packet: HeldPacket)
         requires forwardable { IsForwardable packet.bytes }
         requires read { reading ≡ packet_in packet.bytes }
         requires frames { 1 ≤ page.old.room.frames }
@@ -92,12 +92,12 @@ impl Forwarder {
         match self.plan(packet.side, flow) {
             Ok(Plan::Send { by, next }) => self.send(page, &packet.bytes, reading, by, next),
             Ok(Plan::Ask { by, hop }) => {
-                let wait = Wait::Hop(by.direction().exit(), hop);
+                let wait = WaitsFor::Hop(by.direction().exit(), hop);
                 let copy = packet.again(self.moment, wait);
                 self.ask(page, flow, by, hop, copy);
             }
             Ok(Plan::Wait(endpoint)) => {
-                let copy = packet.again(self.moment, Wait::Pair(endpoint));
+                let copy = packet.again(self.moment, WaitsFor::Pair(endpoint));
                 self.wait(page, flow, copy);
             }
             Err(reason) => self.refuse(page, flow, reason),
@@ -105,7 +105,7 @@ impl Forwarder {
     }
 
     /// Takes a kept packet, which is read again from the first step on.
-    fn take_again(&mut self, page: &mut Page, packet: Waiting)
+    fn take_again(&mut self, page: &mut OutputBuffer, packet: HeldPacket)
         requires frames { 1 ≤ page.old.room.frames }
         requires notes { 3 ≤ page.old.room.notes }
         requires ready { 1 ≤ self.old.core.table.ready }
@@ -126,7 +126,7 @@ impl Forwarder {
     }
 
     /// The packet that waited for this, if one did, waits no more, and is taken again.
-    pub fn release_one(&mut self, page: &mut Page, wait: Wait)
+    pub fn release_one(&mut self, page: &mut OutputBuffer, wait: WaitsFor)
         requires frames { 1 ≤ page.old.room.frames }
         requires notes { 3 ≤ page.old.room.notes }
         requires ready { 1 ≤ self.old.core.table.ready }
@@ -146,7 +146,7 @@ impl Forwarder {
 
     /// The packets that waited for pairs wait no more, and are taken again in the order of keeping.
     /// `list` is an empty list with room for all packets that wait.
-    pub fn release_all(&mut self, page: &mut Page, list: Vec<Waiting>)
+    pub fn release_all(&mut self, page: &mut OutputBuffer, list: Vec<HeldPacket>)
         requires empty { list.items ≡ [] }
         requires room { length self.old.kept ≤ vec_capacity list }
         requires frames { 64 ≤ page.old.room.frames }

@@ -4,16 +4,16 @@ use Rattle.std.proofs.lemmas.List.{reverse-append}
 use Rattle.nat_types.specs.Same.{other, same}
 use Rattle.nat_types.specs.declared.gateways.GatewayId.{GatewayId}
 use Rattle.nat_types.specs.declared.gateways.GatewayId.TheVariants.{Zero, One}
-use Rattle.nat_types.specs.declared.notes.Happening.TheVariants.{Crashed, Booted}
+use Rattle.nat_types.specs.declared.notes.NoteKind.TheVariants.{Crashed, Booted}
 use Rattle.nat_types.specs.declared.notes.Note.{Note}
 use Rattle.nat_types.specs.declared.records.Record.{Record}
 use Rattle.settings.specs.declared.ranges.PortRanges.{PortRanges}
 use Rattle.settings.specs.declared.whole.Settings.{Settings}
-use Rattle.trace_words.specs.Past as past
-use Rattle.told.specs.Told.{Told}
-use Rattle.step_parts.specs.Founding.{begun}
-use Rattle.step_parts.specs.Rests.{AccountsOn, Rests}
-use Rattle.step_parts.specs.Shown.{Shown, id_of, scene}
+use Rattle.spec_trace.specs.Past as past
+use Rattle.output.specs.Output.{Output}
+use Rattle.spec_step.specs.Founding.{begun}
+use Rattle.spec_step.specs.Rests.{AccountsOn, Rests}
+use Rattle.spec_step.specs.Shown.{Shown, id_of, scene}
 use Rattle.frame_sim.specs.World.{Half, World, founding, gateway_at, half, with_half}
 use Rattle.frame_sim.specs.Events.{noting, since, stepped}
 use Rattle.frame_sim.specs.Scene.{AccountsAt, IsAccounted, IsHalf}
@@ -41,7 +41,7 @@ beside : (i : GatewayId) (ports : PortRanges) (boot : ℕ) (pushed : List Record
 beside i ports boot pushed trace trace2 None is keeps accounts = tt
 beside i ports boot pushed trace trace2 (Some g) is keeps accounts = keeps g (apart i (id_of g) i is.id refl) accounts
 
-pub step-accounted : OthersStep → (w : World) (pushed : GatewayId → List Record) (i : GatewayId) (g new : Shown) (told told2 : Told) → Rests (scene g told) (scene new told2)
+pub step-accounted : OthersStep → (w : World) (pushed : GatewayId → List Record) (i : GatewayId) (g new : Shown) (told told2 : Output) → Rests (scene g told) (scene new told2)
     → ((j : GatewayId) → IsHalf w.settings.ports j (half w j).boot (half w j).gateway (pushed j)) → id_of g ≡ i → gateway_at w i ≡ Some g → IsAccounted w → IsAccounted (stepped w i new told told2)
 step-accounted others w pushed i g new told told2 x halves id up was =
     let trace2 = w.trace ++ since told.notes told2.notes in

@@ -6,8 +6,8 @@ use Rattle.nat_types.specs.Same.{other}
 use Rattle.nat_types.specs.declared.gateways.GatewayId.{GatewayId}
 use Rattle.nat_types.specs.declared.gateways.Side.{Side}
 use Rattle.nat_types.specs.declared.records.Record.{Record}
-use Rattle.step_parts.specs.declared.events.Event.TheVariants as given
-use Rattle.step_parts.specs.Shown.{Shown}
+use Rattle.spec_step.specs.declared.events.Event.TheVariants as given
+use Rattle.spec_step.specs.Shown.{Shown}
 use Rattle.frame_sim.specs.World.{World, gateway_at, half, is_up}
 use Rattle.frame_sim.specs.Events.{datagram_for, may_be_told}
 use Rattle.frame_sim.specs.Scene.{IsHanded, box_at}

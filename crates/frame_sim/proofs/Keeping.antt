@@ -12,18 +12,17 @@ use Rattle.nat_types.specs.declared.pairs.Pair.{Pair}
 use Rattle.nat_types.specs.declared.records.Record.{Record}
 use Rattle.bindings.specs.declared.entries.Entry.{Entry}
 use Rattle.bindings.specs.Entries.{slot_of, entry_in, pairs_in, is_pair, translates, HasDistinctKeys}
-use Rattle.bindings.proofs.Slots.{slot-key}
-use Rattle.bindings.proofs.Members.{listed-slot, slot-listed}
-use Rattle.trace_words.specs.Past.{is_synced}
-use Rattle.trace_words.specs.Trace.{Kept, GoesOn}
-use Rattle.pair_machine.specs.Box.{Box}
-use Rattle.pair_machine.specs.Ownership.{Ranges}
-use Rattle.pair_machine.specs.Talk as machine
-use Rattle.pair_machine.specs.World as machine_world
-use Rattle.pair_machine.specs.World.{box_in}
-use Rattle.pair_machine.specs.Mapped.{slot_in}
-use Rattle.binding_step.specs.Machine.{machine_slot, slots_of}
-use Rattle.step_parts.specs.Shown.{Shown}
+use Rattle.bindings.proofs.Offered.{slot-key, listed-slot, slot-listed}
+use Rattle.spec_trace.specs.Past.{is_synced}
+use Rattle.spec_trace.specs.Trace.{Kept, GoesOn}
+use Rattle.spec_pair.specs.Box.{Box}
+use Rattle.spec_pair.specs.Ownership.{Ranges}
+use Rattle.spec_pair.specs.Talk as machine
+use Rattle.spec_pair.specs.World as machine_world
+use Rattle.spec_pair.specs.World.{box_in}
+use Rattle.spec_pair.specs.Mapped.{slot_in}
+use Rattle.spec_binding.specs.Machine.{machine_slot, slots_of}
+use Rattle.spec_step.specs.Shown.{Shown}
 use Rattle.frame_sim.specs.World.{HasKeys, World, gateway_at, half, entries_of, synced_at, ShowsSynced, Holds, Translates}
 use Rattle.frame_sim.specs.Scene.{IsSound, box_at, ranges_of, scene_of}
 use Rattle.frame_sim.proofs.Stepping.{box-is}

@@ -3,7 +3,7 @@ use Rattle.std.proofs.Common.{◌≡◌, ℕ, ◌&&◌, false, List, [], ◌∷�
 use Rattle.nat_types.specs.Same.{other, same}
 use Rattle.nat_types.specs.declared.gateways.GatewayId.{GatewayId}
 use Rattle.nat_types.specs.declared.gateways.GatewayId.TheVariants.{Zero}
-use Rattle.nat_types.specs.declared.notes.Happening.TheVariants.{Booted, Crashed}
+use Rattle.nat_types.specs.declared.notes.NoteKind.TheVariants.{Booted, Crashed}
 use Rattle.nat_types.specs.declared.notes.Note.{Note}
 use Rattle.nat_types.specs.declared.records.Record.{Record}
 use Rattle.bindings.specs.declared.entries.PortBounds.{PortBounds}
@@ -13,24 +13,24 @@ use Rattle.link.specs.Grammar.{IsWellFormed, spelling}
 use Rattle.link.specs.Link.{fresh}
 use Rattle.link.specs.Reading.{reading}
 use Rattle.settings.specs.declared.whole.Settings.{Settings}
-use Rattle.trace_words.specs.Past.{Idle}
-use Rattle.pair_machine.specs.Box.{Box, Letter, booted, founder}
-use Rattle.pair_machine.specs.Ownership.{Ranges}
-use Rattle.pair_machine.specs.Step.{IsOff, IsStep, WasSent}
-use Rattle.pair_machine.specs.Talk.{note}
-use Rattle.pair_machine.specs.World.{Can, IsWorld, MachineEvent, Scene as Seen, after_event, box_in, founding, mail_in, seen_by, with_step}
-use Rattle.binding_step.specs.Books.{IsBook, empty_book, founded_book}
-use Rattle.binding_step.specs.Machine.{box_at, ranges_of}
-use Rattle.step_parts.specs.declared.events.Event.{Event}
-use Rattle.step_parts.specs.Machine.{Goes, HasBytes, HasPushed, IsAlone, KeepsBytes, letters_in, words_in}
-use Rattle.step_parts.specs.Founding.{begun, founded}
-use Rattle.step_parts.specs.Rests.{AccountsOn, Rests}
-use Rattle.step_parts.specs.Shown.{Scene, Shown, id_of}
-use Rattle.step_parts.specs.Steps.{IsStepOn}
+use Rattle.spec_trace.specs.Past.{Idle}
+use Rattle.spec_pair.specs.Box.{Box, Letter, booted, founder}
+use Rattle.spec_pair.specs.Ownership.{Ranges}
+use Rattle.spec_pair.specs.Step.{IsOff, IsStep, WasSent}
+use Rattle.spec_pair.specs.Talk.{note}
+use Rattle.spec_pair.specs.World.{Can, IsWorld, MachineEvent, Scene as Seen, after_event, box_in, founding, mail_in, seen_by, with_step}
+use Rattle.spec_binding.specs.Books.{IsBook, empty_book, founded_book}
+use Rattle.spec_binding.specs.Machine.{box_at, ranges_of}
+use Rattle.spec_step.specs.declared.events.Event.{Event}
+use Rattle.spec_step.specs.Machine.{Goes, HasBytes, HasPushed, IsAlone, KeepsBytes, letters_in, words_in}
+use Rattle.spec_step.specs.Founding.{begun, founded}
+use Rattle.spec_step.specs.Rests.{AccountsOn, Rests}
+use Rattle.spec_step.specs.Shown.{GatewayAndOutput, Shown, id_of}
+use Rattle.spec_step.specs.Steps.{IsStepOn}
 
 -- a step of a gateway is one of the machine
 abbrev pub StepsGo : Type 0
-StepsGo = (s : Scene) (event : Event) (s2 : Scene) (h : List Record) → IsStepOn s event s2 → HasBytes event
+StepsGo = (s : GatewayAndOutput) (event : Event) (s2 : GatewayAndOutput) (h : List Record) → IsStepOn s event s2 → HasBytes event
     → IsBook s.shown.ledger.book → IsAlone s.shown → KeepsBytes s.shown → HasPushed s.shown h → Goes (letters_in event) (words_in event) s s2 h
 
 -- a datagram is read as it is spelled
@@ -65,10 +65,10 @@ Begins = (r : Ranges) → IsWorld r (founding r)
 
 -- a step rests on the ledger's account, and the other gateway's account isn't touched by it
 abbrev pub StepsAccount : Type 0
-StepsAccount = (s : Scene) (event : Event) (s2 : Scene) → IsStepOn s event s2 → HasBytes event → IsBook s.shown.ledger.book → KeepsBytes s.shown → Rests s s2
+StepsAccount = (s : GatewayAndOutput) (event : Event) (s2 : GatewayAndOutput) → IsStepOn s event s2 → HasBytes event → IsBook s.shown.ledger.book → KeepsBytes s.shown → Rests s s2
 
 abbrev pub OthersStep : Type 0
-OthersStep = (s s2 : Scene) (g : Shown) (before : List Note) (x : Rests s s2) → same (id_of g) (id_of s.shown) ≡ false → AccountsOn s.shown before → AccountsOn g before → AccountsOn g (reverse x.notes ++ before)
+OthersStep = (s s2 : GatewayAndOutput) (g : Shown) (before : List Note) (x : Rests s s2) → same (id_of g) (id_of s.shown) ≡ false → AccountsOn s.shown before → AccountsOn g before → AccountsOn g (reverse x.notes ++ before)
 
 -- nor by the other's crash or boot
 abbrev pub OthersCrash : Type 0

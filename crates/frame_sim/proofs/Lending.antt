@@ -3,14 +3,14 @@ use Rattle.std.proofs.Common.{◌≡◌, ℕ, List, Option, Some, None, subst}
 use Rattle.std.specs.Borrow.{Bor}
 use Rattle.nat_types.specs.declared.gateways.GatewayId.{GatewayId}
 use Rattle.nat_types.specs.declared.gateways.Side.{Side}
-use Rattle.told.specs.Told.{Told}
-use Rattle.step_parts.specs.declared.events.Event.TheVariants as given
-use Rattle.step_parts.specs.declared.events.Outcome.{Outcome}
-use Rattle.step_parts.specs.Shown.{Shown}
+use Rattle.output.specs.Output.{Output}
+use Rattle.spec_step.specs.declared.events.Event.TheVariants as given
+use Rattle.spec_step.specs.declared.events.Outcome.{Outcome}
+use Rattle.spec_step.specs.Shown.{Shown}
 use Rattle.frame_sim.specs.World.{World}
 use Rattle.frame_sim.specs.Events.{TakesAt, lent}
 
-anywhere : (w : World) (i : GatewayId) (g : Option Shown) (side : Side) (b : Bor (List ℕ)) (told : Told) (o : Outcome) (told2 : Told) (w2 : World) → TakesAt w i g (given.Frame side b) told o told2 w2
+anywhere : (w : World) (i : GatewayId) (g : Option Shown) (side : Side) (b : Bor (List ℕ)) (told : Output) (o : Outcome) (told2 : Output) (w2 : World) → TakesAt w i g (given.Frame side b) told o told2 w2
     → TakesAt w i g (given.Frame side (lent b.now)) told o told2 w2
 anywhere w i None side b told o told2 w2 t = t
 anywhere w i (Some g) side b told o told2 w2 t = record {
@@ -21,11 +21,11 @@ anywhere w i (Some g) side b told o told2 w2 t = record {
   world = t.world;
 }
 
-pub takes-lent : (w : World) (i : GatewayId) (g : Option Shown) (side : Side) (b : Bor (List ℕ)) (bytes : List ℕ) (told : Told) (o : Outcome) (told2 : Told) (w2 : World) → b.now ≡ bytes → TakesAt w i g (given.Frame side b) told o told2 w2
+pub takes-lent : (w : World) (i : GatewayId) (g : Option Shown) (side : Side) (b : Bor (List ℕ)) (bytes : List ℕ) (told : Output) (o : Outcome) (told2 : Output) (w2 : World) → b.now ≡ bytes → TakesAt w i g (given.Frame side b) told o told2 w2
     → TakesAt w i g (given.Frame side (lent bytes)) told o told2 w2
 takes-lent w i g side b bytes told o told2 w2 same t = subst (λ (x : List ℕ). TakesAt w i g (given.Frame side (lent x)) told o told2 w2) same (anywhere w i g side b told o told2 w2 t)
 
-pub datagram-lent : (w : World) (i : GatewayId) (g : Option Shown) (b : Bor (List ℕ)) (told : Told) (o : Outcome) (told2 : Told) (w2 : World) → TakesAt w i g (given.Datagram b) told o told2 w2
+pub datagram-lent : (w : World) (i : GatewayId) (g : Option Shown) (b : Bor (List ℕ)) (told : Output) (o : Outcome) (told2 : Output) (w2 : World) → TakesAt w i g (given.Datagram b) told o told2 w2
     → TakesAt w i g (given.Datagram (lent b.now)) told o told2 w2
 datagram-lent w i None b told o told2 w2 t = t
 datagram-lent w i (Some g) b told o told2 w2 t = record {

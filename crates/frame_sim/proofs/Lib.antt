@@ -1,14 +1,14 @@
-pub mod Laws
-pub mod Mails
-pub mod Stepping
-pub mod Turning
-pub mod Handing
-pub mod Keeping
-pub mod Short
-pub mod Sendings
-pub mod Handed
-pub mod Lending
-pub mod Taking
-pub mod Runs
-pub mod Accounting
-pub mod Owning
+mod Laws
+mod Mails
+mod Stepping
+mod Turning
+mod Handing
+mod Keeping
+mod Short
+mod Sendings
+mod Handed
+mod Lending
+mod Taking
+mod Runs
+mod Accounting
+mod Owning

@@ -8,10 +8,10 @@ use Rattle.link.specs.declared.datagrams.Datagram.{Datagram}
 use Rattle.link.specs.Grammar.{IsWellFormed, spelling}
 use Rattle.link.specs.Link.{IsLink, Link, datagram_of}
 use Rattle.link.specs.Reading.{reading}
-use Rattle.link.proofs.Ends.{formed}
-use Rattle.pair_machine.specs.Box.{In, Letter}
-use Rattle.binding_step.specs.Machine.{letter_of}
-use Rattle.step_parts.specs.Machine.{letter_in}
+use Rattle.link.proofs.Offered.{formed}
+use Rattle.spec_pair.specs.Box.{In, Letter}
+use Rattle.spec_binding.specs.Machine.{letter_of}
+use Rattle.spec_step.specs.Machine.{letter_in}
 use Rattle.frame_sim.specs.Events.{kth, since}
 use Rattle.frame_sim.specs.Scene.{mail_of}
 use Rattle.frame_sim.proofs.Laws.{AreRead}

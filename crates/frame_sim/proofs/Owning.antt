@@ -14,15 +14,15 @@ use Rattle.settings.specs.declared.ranges.PortRanges.{PortRanges}
 use Rattle.bindings.specs.Ports.{in_either}
 use Rattle.bindings.specs.Runs.{port_at}
 use Rattle.link.specs.Link.{pushed_count}
-use Rattle.link.proofs.Ends.{pushed_is}
-use Rattle.pair_machine.specs.Mapped.{machine_record}
-use Rattle.pair_machine.specs.Ownership.{Ranges}
-use Rattle.pair_machine.specs.World as machine
-use Rattle.binding_step.specs.Books.{is_synced, owns}
-use Rattle.binding_step.specs.Machine.{machine_records}
-use Rattle.step_parts.specs.Founding.{bounds_of}
-use Rattle.step_parts.specs.Machine.{HasPushed}
-use Rattle.step_parts.specs.Shown.{Shown}
+use Rattle.link.proofs.Offered.{pushed_is}
+use Rattle.spec_pair.specs.Mapped.{machine_record}
+use Rattle.spec_pair.specs.Ownership.{Ranges}
+use Rattle.spec_pair.specs.World as machine
+use Rattle.spec_binding.specs.Books.{is_synced, owns}
+use Rattle.spec_binding.specs.Machine.{machine_records}
+use Rattle.spec_step.specs.Founding.{bounds_of}
+use Rattle.spec_step.specs.Machine.{HasPushed}
+use Rattle.spec_step.specs.Shown.{Shown}
 use Rattle.frame_sim.specs.World.{HaveTakenAll, IsOwned, World, gateway_at, is_to_own, owned_by, synced_at}
 use Rattle.frame_sim.specs.Scene.{IsHalf, IsSound, box_at, ranges_of, scene_of}
 

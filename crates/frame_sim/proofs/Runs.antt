@@ -1,6 +1,6 @@
 -- Steps in order, and one more.
 use Rattle.std.proofs.Common.{List, [], ◌∷◌, ◌++◌, refl, subst}
-use Rattle.told.specs.Told.{none_told}
+use Rattle.output.specs.Output.{none_told}
 use Rattle.frame_sim.specs.declared.events.Step.{Step}
 use Rattle.nat_types.specs.declared.events.WorldEvent.{WorldEvent}
 use Rattle.frame_sim.specs.World.{World}

@@ -6,11 +6,11 @@ use Rattle.std.proofs.lemmas.List.{length-append}
 use Rattle.link.specs.declared.datagrams.Datagram.{Datagram}
 use Rattle.link.specs.Grammar.{IsWellFormed, spelling}
 use Rattle.link.specs.Link.{IsLink}
-use Rattle.told.specs.Told.{Told}
-use Rattle.step_parts.specs.declared.events.Event.{Event}
-use Rattle.step_parts.specs.Machine.{HasBytes}
-use Rattle.step_parts.specs.Shown.{Shown, scene}
-use Rattle.step_parts.specs.Steps.{IsStepOn}
+use Rattle.output.specs.Output.{Output}
+use Rattle.spec_step.specs.declared.events.Event.{Event}
+use Rattle.spec_step.specs.Machine.{HasBytes}
+use Rattle.spec_step.specs.Shown.{Shown, scene}
+use Rattle.spec_step.specs.Steps.{IsStepOn}
 use Rattle.gateway.specs.Gateway.{IsGateway}
 use Rattle.frame_sim.specs.Events.{since}
 use Rattle.frame_sim.specs.Halves.{IsShort}
@@ -24,11 +24,11 @@ all-short most (d ∷ []) few are = short most d are.0
 all-short most (d ∷ e ∷ ds) few are = absurd (omega (arith, few))
 
 -- what a step sends more
-pub record Sends (told told2 : Told) : Type 0 where
+pub record Sends (told told2 : Output) : Type 0 where
   pub few : IsShort (since told.datagrams told2.datagrams)
   pub longer : length told.datagrams ≤ length told2.datagrams
 
-pub sends : StepsGo → Few → (g new : Shown) (event : Event) (told told2 : Told) → IsStepOn (scene g told) event (scene new told2) → HasBytes event → IsGateway g → IsLink new.link → Sends told told2
+pub sends : StepsGo → Few → (g new : Shown) (event : Event) (told told2 : Output) → IsStepOn (scene g told) event (scene new told2) → HasBytes event → IsGateway g → IsLink new.link → Sends told told2
 sends go most g new event told told2 step bytes is link =
     let goes = go (scene g told) event (scene new told2) is.history step bytes is.book is.alone is.bytes is.pushed in
     let more = since-is told.datagrams (map spelling goes.sent) told2.datagrams goes.datagrams_are in

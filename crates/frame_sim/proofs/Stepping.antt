@@ -11,20 +11,20 @@ use Rattle.settings.specs.declared.ranges.PortRanges.{PortRanges}
 use Rattle.bindings.specs.declared.entries.PortBounds.{PortBounds}
 use Rattle.bindings.specs.Ports.{in_bounds, in_either}
 use Rattle.link.specs.Link.{IsLink}
-use Rattle.pair_machine.specs.Acts.{Act, Boot, Crash, box_after}
-use Rattle.pair_machine.specs.Box.{Box, Letter}
-use Rattle.pair_machine.specs.Ownership.{Ranges, moving}
-use Rattle.pair_machine.specs.Step.{Follows, IsGiven, IsOff, IsStep, WasSent, boxes_after}
-use Rattle.pair_machine.specs.World.{IsWorld, box_in, mail_in, with_step}
-use Rattle.binding_step.specs.Books.{Book, IsBook}
-use Rattle.binding_step.specs.Machine as machine
-use Rattle.binding_step.specs.Machine.{letter_of}
-use Rattle.told.specs.Told.{Told}
-use Rattle.step_parts.specs.declared.events.Event.{Event}
-use Rattle.step_parts.specs.Founding.{bounds_of}
-use Rattle.step_parts.specs.Machine.{HasBytes, IsAlone, KeepsBytes, box_of, letters_in, words_in}
-use Rattle.step_parts.specs.Shown.{Shown, id_of, scene}
-use Rattle.step_parts.specs.Steps.{IsStepOn}
+use Rattle.spec_pair.specs.Acts.{Act, Boot, Crash, box_after}
+use Rattle.spec_pair.specs.Box.{Box, Letter}
+use Rattle.spec_pair.specs.Ownership.{Ranges, moving}
+use Rattle.spec_pair.specs.Step.{Follows, IsGiven, IsOff, IsStep, WasSent, boxes_after}
+use Rattle.spec_pair.specs.World.{IsWorld, box_in, mail_in, with_step}
+use Rattle.spec_binding.specs.Books.{Book, IsBook}
+use Rattle.spec_binding.specs.Machine as machine
+use Rattle.spec_binding.specs.Machine.{letter_of}
+use Rattle.output.specs.Output.{Output}
+use Rattle.spec_step.specs.declared.events.Event.{Event}
+use Rattle.spec_step.specs.Founding.{bounds_of}
+use Rattle.spec_step.specs.Machine.{HasBytes, IsAlone, KeepsBytes, box_of, letters_in, words_in}
+use Rattle.spec_step.specs.Shown.{Shown, id_of, scene}
+use Rattle.spec_step.specs.Steps.{IsStepOn}
 use Rattle.frame_sim.specs.World.{Half, World, gateway_at, half, with_half}
 use Rattle.frame_sim.specs.Events.{since, stepped}
 use Rattle.frame_sim.specs.Scene.{IsHalf, IsHanded, IsSound, IsThat, box_at, mail_of, ranges_of, scene_of}
@@ -68,7 +68,7 @@ boot-kept r i moment a b ls ws t t2 m m2 x = ap (λ (c : Box). c.boot) x.box_is 
 abbrev pub with_pushed : (GatewayId → List Record) → GatewayId → List Record → GatewayId → List Record
 with_pushed pushed i h = of_gateway (of_gateway h (pushed Zero) i) (of_gateway (pushed One) h i)
 
-scene-is : (w : World) (pushed : GatewayId → List Record) (i : GatewayId) (new : Shown) (h : List Record) (told told2 : Told) (ns : List Note) (ms : List Letter)
+scene-is : (w : World) (pushed : GatewayId → List Record) (i : GatewayId) (new : Shown) (h : List Record) (told told2 : Output) (ns : List Note) (ms : List Letter)
     → reverse (w.trace ++ since told.notes told2.notes) ≡ ns ++ reverse w.trace → mail_of ((half w i).sent ++ since told.datagrams told2.datagrams) ≡ ms ++ mail_of (half w i).sent
     → with_step (scene_of w pushed) i (box_of new h) (ns ++ reverse w.trace) (ms ++ mail_of (half w i).sent) ≡ scene_of (stepped w i new told told2) (with_pushed pushed i h)
 scene-is w pushed Zero new h told told2 ns ms t m =
@@ -88,7 +88,7 @@ halves-are w pushed One h records trace all that One = that
 
 -- ---- the step
 
-pub step-sound : StepsGo → AreRead → StepsKeep → StepsAnywhere → StepsAccount → OthersStep → (w : World) (i : GatewayId) (g new : Shown) (event : Event) (told told2 : Told)
+pub step-sound : StepsGo → AreRead → StepsKeep → StepsAnywhere → StepsAccount → OthersStep → (w : World) (i : GatewayId) (g new : Shown) (event : Event) (told told2 : Output)
     → IsSound w → gateway_at w i ≡ Some g → IsStepOn (scene g told) event (scene new told2) → HasBytes event
     → IsBook g.ledger.book → IsAlone g → KeepsBytes g → IsLink new.link
     → IsHanded w i event → IsSound (stepped w i new told told2)

@@ -5,11 +5,11 @@ use Rattle.nat_types.specs.Same.{other}
 use Rattle.nat_types.specs.declared.gateways.GatewayId.{GatewayId}
 use Rattle.nat_types.specs.declared.gateways.GatewayId.TheVariants.{Zero, One}
 use Rattle.nat_types.specs.declared.notes.Note.{Note}
-use Rattle.told.specs.Told.{Told}
-use Rattle.step_parts.specs.declared.events.Event.{Event}
-use Rattle.step_parts.specs.declared.events.Event.TheVariants as given
-use Rattle.step_parts.specs.declared.events.Outcome.{Outcome}
-use Rattle.step_parts.specs.Shown.{Shown}
+use Rattle.output.specs.Output.{Output}
+use Rattle.spec_step.specs.declared.events.Event.{Event}
+use Rattle.spec_step.specs.declared.events.Event.TheVariants as given
+use Rattle.spec_step.specs.declared.events.Outcome.{Outcome}
+use Rattle.spec_step.specs.Shown.{Shown}
 use Rattle.frame_sim.specs.World.{Half, World, gateway_at, half, with_half}
 use Rattle.frame_sim.specs.Events.{Comes, TakesAt, kth, since, unless}
 use Rattle.nat_types.specs.declared.events.WorldEvent.TheVariants.{Deliver}
@@ -33,19 +33,19 @@ same-world w Zero sound = sound
 same-world w One sound = sound
 
 module _ (go : StepsGo) (read : AreRead) (keep : StepsKeep) (anywhere : StepsAnywhere) (account : StepsAccount) (others : OthersStep) where
-  steps-sound : (w : World) (i : GatewayId) (g : Option Shown) (event : Event) (told : Told) (o : Outcome) (told2 : Told) (h2 : Half) (trace2 : List Note) → IsSound w → IsHanded w i event → gateway_at w i ≡ g
+  steps-sound : (w : World) (i : GatewayId) (g : Option Shown) (event : Event) (told : Output) (o : Outcome) (told2 : Output) (h2 : Half) (trace2 : List Note) → IsSound w → IsHanded w i event → gateway_at w i ≡ g
       → StepsAt (half w i) g w.trace event told o told2 h2 trace2 → IsSound (with_half w i h2 trace2)
   steps-sound w i None event told o told2 h2 trace2 sound handed up s = sound-so w i (half w i) h2 w.trace trace2 s.2 s.3 (same-world w i sound)
   steps-sound w i (Some g) event told o told2 h2 trace2 sound handed up s =
       sound-so w i _ h2 (w.trace ++ since told.notes told2.notes) trace2 s.half_is s.trace_is
       (step-sound go read keep anywhere account others w i g s.new event told told2 sound up s.step s.bytes s.was.book s.was.alone s.was.bytes s.link handed)
 
-  pub hand-sound : {E : Type 0} (w : World) (i : GatewayId) (result : Result Outcome E) (event : Event) (told told2 : Told) (h2 : Half) (trace2 : List Note) → IsSound w → IsHanded w i event
+  pub hand-sound : {E : Type 0} (w : World) (i : GatewayId) (result : Result Outcome E) (event : Event) (told told2 : Output) (h2 : Half) (trace2 : List Note) → IsSound w → IsHanded w i event
       → IfOk result (λ o. StepsAt (half w i) (gateway_at w i) w.trace event told o told2 h2 trace2) → OnErr result (h2 ≡ half w i) → OnErr result (trace2 ≡ w.trace) → IsSound (with_half w i h2 trace2)
   hand-sound w i (Ok o) event told told2 h2 trace2 sound handed ok same noted = steps-sound w i (gateway_at w i) event told o told2 h2 trace2 sound handed refl ok
   hand-sound w i (Err e) event told told2 h2 trace2 sound handed ok same noted = sound-so w i (half w i) h2 w.trace trace2 same noted (same-world w i sound)
 
-  pub receive-sound : {E : Type 0} (w : World) (i : GatewayId) (result : Result Outcome E) (number : ℕ) (told told2 : Told) (h2 : Half) (trace2 : List Note) → IsSound w
+  pub receive-sound : {E : Type 0} (w : World) (i : GatewayId) (result : Result Outcome E) (number : ℕ) (told told2 : Output) (h2 : Half) (trace2 : List Note) → IsSound w
       → IfOk result (λ o. Receives (half w i) (half w (other i)) number w.trace told o told2 h2 trace2) → OnErr result (h2 ≡ half w i) → OnErr result (trace2 ≡ w.trace) → IsSound (with_half w i h2 trace2)
   receive-sound w i (Ok o) number told told2 h2 trace2 sound ok same noted =
       steps-sound w i (gateway_at w i) (given.Datagram ok.bytes) told o told2 h2 trace2 sound (hands-datagram w i number ok.bytes ok.was_sent) refl ok.steps
@@ -58,7 +58,7 @@ unmoved w i h2 trace2 same noted = ap (λ (h : Half). with_half w i h trace2) sa
     same-so w Zero = refl
     same-so w One = refl
 
-takes-so : (w : World) (i : GatewayId) (g : Option Shown) (event : Event) (told : Told) (o : Outcome) (told2 : Told) (h2 : Half) (trace2 : List Note) → StepsAt (half w i) g w.trace event told o told2 h2 trace2
+takes-so : (w : World) (i : GatewayId) (g : Option Shown) (event : Event) (told : Output) (o : Outcome) (told2 : Output) (h2 : Half) (trace2 : List Note) → StepsAt (half w i) g w.trace event told o told2 h2 trace2
     → TakesAt w i g event told o told2 (with_half w i h2 trace2)
 takes-so w i None event told o told2 h2 trace2 s = (s.0, s.1, unmoved w i h2 trace2 s.2 s.3)
 takes-so w i (Some g) event told o told2 h2 trace2 s = record {
@@ -69,13 +69,13 @@ takes-so w i (Some g) event told o told2 h2 trace2 s = record {
   world = ap (λ (h : Half). with_half w i h trace2) s.half_is ∙ ap (λ (t : List Note). with_half w i (record (half w i) { gateway = Some s.new; sent = (half w i).sent ++ since told.datagrams told2.datagrams }) t) s.trace_is;
 }
 
-pub hand-takes : {E : Type 0} (w : World) (i : GatewayId) (result : Result Outcome E) (event : Event) (told told2 : Told) (h2 : Half) (trace2 : List Note)
+pub hand-takes : {E : Type 0} (w : World) (i : GatewayId) (result : Result Outcome E) (event : Event) (told told2 : Output) (h2 : Half) (trace2 : List Note)
     → IfOk result (λ o. StepsAt (half w i) (gateway_at w i) w.trace event told o told2 h2 trace2) → IfOk result (λ o. TakesAt w i (gateway_at w i) event told o told2 (with_half w i h2 trace2))
 hand-takes w i (Ok o) event told told2 h2 trace2 s = takes-so w i (gateway_at w i) event told o told2 h2 trace2 s
 hand-takes w i (Err e) event told told2 h2 trace2 s = tt
 
 -- a datagram that the other sent, or none of that number
-pub receive-answers : (w : World) (i : GatewayId) (result : Result Outcome WorldFault) (number : ℕ) (told told2 : Told) (h2 : Half) (trace2 : List Note)
+pub receive-answers : (w : World) (i : GatewayId) (result : Result Outcome WorldFault) (number : ℕ) (told told2 : Output) (h2 : Half) (trace2 : List Note)
     → IfOk result (λ o. Receives (half w i) (half w (other i)) number w.trace told o told2 h2 trace2)
     → IfErr result (λ fault. fault ≡ fault_of (unless (is_some (kth number (half w (other i)).sent)) NoSuchDatagram))
     → OnErr result (h2 ≡ half w i) → OnErr result (trace2 ≡ w.trace) → OnErr result (told2 ≡ told) → Answers w (Deliver i number) told result told2 (with_half w i h2 trace2)

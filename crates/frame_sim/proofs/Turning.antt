@@ -5,19 +5,19 @@ use Rattle.std.proofs.lemmas.List.{reverse-append}
 use Rattle.nat_types.specs.Same.{other}
 use Rattle.nat_types.specs.declared.gateways.GatewayId.{GatewayId}
 use Rattle.nat_types.specs.declared.gateways.GatewayId.TheVariants.{Zero, One}
-use Rattle.nat_types.specs.declared.notes.Happening.TheVariants.{Crashed, Booted}
+use Rattle.nat_types.specs.declared.notes.NoteKind.TheVariants.{Crashed, Booted}
 use Rattle.nat_types.specs.declared.notes.Note.{Note}
 use Rattle.nat_types.specs.declared.records.Record.{Record}
 use Rattle.settings.specs.declared.ranges.PortRanges.{PortRanges}
 use Rattle.settings.specs.declared.whole.Settings.{Settings}
 use Rattle.bindings.specs.Ports.{AreBounds}
-use Rattle.pair_machine.specs.Acts as act
-use Rattle.pair_machine.specs.Box.{Box, bare, booted}
-use Rattle.pair_machine.specs.World as machine
-use Rattle.pair_machine.specs.World.{Can, IsWorld, Scene, after_event, seen_by}
-use Rattle.step_parts.specs.Founding.{begun, bounds_of, founded, link_places}
-use Rattle.step_parts.specs.Machine.{box_of}
-use Rattle.step_parts.specs.Shown.{Shown}
+use Rattle.spec_pair.specs.Acts as act
+use Rattle.spec_pair.specs.Box.{Box, bare, booted}
+use Rattle.spec_pair.specs.World as machine
+use Rattle.spec_pair.specs.World.{Can, IsWorld, Scene, after_event, seen_by}
+use Rattle.spec_step.specs.Founding.{begun, bounds_of, founded, link_places}
+use Rattle.spec_step.specs.Machine.{box_of}
+use Rattle.spec_step.specs.Shown.{Shown}
 use Rattle.frame_sim.specs.World.{World, founding, gateway_at, half, is_up, synced_at, with_half}
 use Rattle.frame_sim.specs.Events.{may_boot, may_crash, noting}
 use Rattle.frame_sim.specs.Scene.{IsHalf, IsSound, IsThat, box_at, ranges_of, scene_of}

@@ -3,18 +3,18 @@ use Rattle.std.specs.Prelude.{◌≡◌, ℕ, ◌-◌, ◌==◌, ◌&&◌, ◌||
 use Rattle.std.specs.Borrow.{Bor}
 use Rattle.nat_types.specs.Same.{other}
 use Rattle.nat_types.specs.declared.gateways.GatewayId.{GatewayId}
-use Rattle.nat_types.specs.declared.notes.Happening.{Happening}
-use Rattle.nat_types.specs.declared.notes.Happening.TheVariants.{Crashed, Booted}
+use Rattle.nat_types.specs.declared.notes.NoteKind.{NoteKind}
+use Rattle.nat_types.specs.declared.notes.NoteKind.TheVariants.{Crashed, Booted}
 use Rattle.nat_types.specs.declared.notes.Note.{Note}
-use Rattle.told.specs.Told.{Told, with_note}
-use Rattle.step_parts.specs.declared.events.Event.{Event}
-use Rattle.step_parts.specs.declared.events.Event.TheVariants as given
-use Rattle.step_parts.specs.declared.events.Outcome.{Outcome}
-use Rattle.step_parts.specs.declared.events.Outcome.TheVariants.{Done}
-use Rattle.step_parts.specs.Founding.{begun}
-use Rattle.step_parts.specs.Shown.{Shown, scene}
-use Rattle.step_parts.specs.Steps.{IsStepOn, outcome_on}
-use Rattle.step_parts.specs.Truly.{Tells, hand_of}
+use Rattle.output.specs.Output.{Output, with_note}
+use Rattle.spec_step.specs.declared.events.Event.{Event}
+use Rattle.spec_step.specs.declared.events.Event.TheVariants as given
+use Rattle.spec_step.specs.declared.events.Outcome.{Outcome}
+use Rattle.spec_step.specs.declared.events.Outcome.TheVariants.{Done}
+use Rattle.spec_step.specs.Founding.{begun}
+use Rattle.spec_step.specs.Shown.{Shown, scene}
+use Rattle.spec_step.specs.Steps.{IsStepOn, outcome_on}
+use Rattle.spec_step.specs.Truly.{Tells, hand_of}
 use Rattle.nat_types.specs.declared.events.WorldEvent.{WorldEvent}
 use Rattle.nat_types.specs.declared.events.WorldEvent.TheVariants.{Frame, Tick, Stop, Deliver, Crash, Boot, PeerOff}
 use Rattle.frame_sim.specs.declared.events.WorldFault.{WorldFault}
@@ -67,7 +67,7 @@ abbrev pub since : {A : Type 0} → List A → List A → List A
 since old new = drop (length old) new
 
 -- the world after a gateway's step: its notes come behind the trace, its datagrams behind those that it sent
-abbrev pub stepped : World → GatewayId → Shown → Told → Told → World
+abbrev pub stepped : World → GatewayId → Shown → Output → Output → World
 stepped w i new told told2 =
     let h = half w i in
     with_half w i (record h {
@@ -76,7 +76,7 @@ stepped w i new told told2 =
     }) (w.trace ++ since told.notes told2.notes)
 
 -- a gateway that is up takes a step, and what it tells is told truly
-pub record Takes (w : World) (i : GatewayId) (g : Shown) (event : Event) (told : Told) (outcome : Outcome) (told2 : Told) (w2 : World) : Type 0 where
+pub record Takes (w : World) (i : GatewayId) (g : Shown) (event : Event) (told : Output) (outcome : Outcome) (told2 : Output) (w2 : World) : Type 0 where
   pub new : Shown
   pub step : IsStepOn (scene g told) event (scene new told2)
   pub truly : Tells (hand_of event) (scene g told) (scene new told2)
@@ -84,7 +84,7 @@ pub record Takes (w : World) (i : GatewayId) (g : Shown) (event : Event) (told :
   pub world : w2 ≡ stepped w i new told told2
 
 -- one that is down takes nothing
-abbrev pub TakesAt : World → GatewayId → Option Shown → Event → Told → Outcome → Told → World → Type 0
+abbrev pub TakesAt : World → GatewayId → Option Shown → Event → Output → Outcome → Output → World → Type 0
 TakesAt w i None event told outcome told2 w2 = (outcome ≡ Done) × (told2 ≡ told) × (w2 ≡ w)
 TakesAt w i (Some g) event told outcome told2 w2 = Takes w i g event told outcome told2 w2
 
@@ -93,21 +93,21 @@ abbrev pub lent : List ℕ → Bor (List ℕ)
 lent bytes = record { ref_ptr = (0, 0); now = bytes }
 
 -- a datagram comes
-abbrev pub Comes : World → GatewayId → Option (List ℕ) → Told → Outcome → Told → World → Type 0
+abbrev pub Comes : World → GatewayId → Option (List ℕ) → Output → Outcome → Output → World → Type 0
 Comes w i None told outcome told2 w2 = ⊥
 Comes w i (Some bytes) told outcome told2 w2 =
     TakesAt w i (gateway_at w i) (given.Datagram (lent bytes)) told outcome told2 w2
 
 -- a crash or a boot: one of the two is so then, which is noted
-abbrev pub Turns : World → GatewayId → Half → Note → Told → Outcome → Told → World → Type 0
+abbrev pub Turns : World → GatewayId → Half → Note → Output → Outcome → Output → World → Type 0
 Turns w i h note told outcome told2 w2 =
     (outcome ≡ Done) × (told2 ≡ with_note told note) × (w2 ≡ with_half w i h (w.trace ++ note ∷ []))
 
-abbrev pub noting : GatewayId → ℕ → Happening → Note
+abbrev pub noting : GatewayId → ℕ → NoteKind → Note
 noting i moment what = record { by = i; at = moment; what = what }
 
 -- what an event that isn't refused does, and what is told more
-abbrev pub Does : World → WorldEvent → Told → Outcome → Told → World → Type 0
+abbrev pub Does : World → WorldEvent → Output → Outcome → Output → World → Type 0
 Does w (Frame i side bytes) = TakesAt w i (gateway_at w i) (given.Frame side (lent bytes.items))
 Does w (Tick i moment) = TakesAt w i (gateway_at w i) (given.Tick moment)
 Does w (Stop i) = TakesAt w i (gateway_at w i) given.Stop

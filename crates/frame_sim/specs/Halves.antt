@@ -3,15 +3,15 @@ use Rattle.std.specs.Prelude.{◌≡◌, ◌≤◌, ℕ, Option, Some, None, Lis
 use Rattle.std.specs.Borrow.{Bor}
 use Rattle.nat_types.specs.declared.notes.Note.{Note}
 use Rattle.link.specs.Link.{IsLink}
-use Rattle.told.specs.Told.{Told}
-use Rattle.step_parts.specs.declared.events.Event.{Event}
-use Rattle.step_parts.specs.declared.events.Event.TheVariants.{Datagram}
-use Rattle.step_parts.specs.declared.events.Outcome.{Outcome}
-use Rattle.step_parts.specs.declared.events.Outcome.TheVariants.{Done}
-use Rattle.step_parts.specs.Machine.{HasBytes}
-use Rattle.step_parts.specs.Shown.{Shown, scene}
-use Rattle.step_parts.specs.Steps.{IsStepOn, outcome_on}
-use Rattle.step_parts.specs.Truly.{Tells, hand_of}
+use Rattle.output.specs.Output.{Output}
+use Rattle.spec_step.specs.declared.events.Event.{Event}
+use Rattle.spec_step.specs.declared.events.Event.TheVariants.{Datagram}
+use Rattle.spec_step.specs.declared.events.Outcome.{Outcome}
+use Rattle.spec_step.specs.declared.events.Outcome.TheVariants.{Done}
+use Rattle.spec_step.specs.Machine.{HasBytes}
+use Rattle.spec_step.specs.Shown.{Shown, scene}
+use Rattle.spec_step.specs.Steps.{IsStepOn, outcome_on}
+use Rattle.spec_step.specs.Truly.{Tells, hand_of}
 use Rattle.gateway.specs.Gateway.{IsGateway}
 use Rattle.frame_sim.specs.World.{Half}
 use Rattle.frame_sim.specs.Events.{kth, since}
@@ -27,7 +27,7 @@ IsShort (bytes ∷ []) = length bytes ≤ 2214
 IsShort (bytes ∷ more ∷ rest) = ⊥
 
 -- a gateway that is up steps, beside the trace
-pub record Steps (h : Half) (g : Shown) (trace : List Note) (event : Event) (told : Told) (outcome : Outcome) (told2 : Told) (h2 : Half) (trace2 : List Note) : Type 0 where
+pub record Steps (h : Half) (g : Shown) (trace : List Note) (event : Event) (told : Output) (outcome : Outcome) (told2 : Output) (h2 : Half) (trace2 : List Note) : Type 0 where
   pub new : Shown
   pub step : IsStepOn (scene g told) event (scene new told2)
   pub truly : Tells (hand_of event) (scene g told) (scene new told2)
@@ -42,14 +42,14 @@ pub record Steps (h : Half) (g : Shown) (trace : List Note) (event : Event) (tol
   pub trace_is : trace2 ≡ trace ++ since told.notes told2.notes
 
 -- one that is down takes nothing
-abbrev pub StepsAt : Half → Option Shown → List Note → Event → Told → Outcome → Told → Half → List Note → Type 0
+abbrev pub StepsAt : Half → Option Shown → List Note → Event → Output → Outcome → Output → Half → List Note → Type 0
 StepsAt h None trace event told outcome told2 h2 trace2 =
     (outcome ≡ Done) × (told2 ≡ told) × (h2 ≡ h) × (trace2 ≡ trace)
 StepsAt h (Some g) trace event told outcome told2 h2 trace2 =
     Steps h g trace event told outcome told2 h2 trace2
 
 -- it takes a datagram that the other sent
-pub record Receives (h other : Half) (number : ℕ) (trace : List Note) (told : Told) (outcome : Outcome) (told2 : Told) (h2 : Half) (trace2 : List Note) : Type 0 where
+pub record Receives (h other : Half) (number : ℕ) (trace : List Note) (told : Output) (outcome : Outcome) (told2 : Output) (h2 : Half) (trace2 : List Note) : Type 0 where
   pub bytes : Bor (List ℕ)
   pub was_sent : kth number other.sent ≡ Some bytes.now
   pub steps : StepsAt h h.gateway trace (Datagram bytes) told outcome told2 h2 trace2

@@ -1,7 +1,7 @@
 -- What a run answers: a step for each event.
 use Rattle.std.specs.Prelude.{◌≡◌, Option, Some, None, Result, Ok, Err, List, [], ◌∷◌}
-use Rattle.told.specs.Told.{Told, none_told}
-use Rattle.step_parts.specs.declared.events.Outcome.{Outcome}
+use Rattle.output.specs.Output.{Output, none_told}
+use Rattle.spec_step.specs.declared.events.Outcome.{Outcome}
 use Rattle.frame_sim.specs.declared.events.Step.{Step}
 use Rattle.nat_types.specs.declared.events.WorldEvent.{WorldEvent}
 use Rattle.frame_sim.specs.declared.events.WorldFault.{WorldFault}
@@ -15,7 +15,7 @@ fault_of None = NoMemory
 fault_of (Some fault) = fault
 
 -- An event was applied; or it wasn't, and nothing changed and nothing was told.
-abbrev pub Answers : World → WorldEvent → Told → Result Outcome WorldFault → Told → World → Type 0
+abbrev pub Answers : World → WorldEvent → Output → Result Outcome WorldFault → Output → World → Type 0
 Answers w e told (Ok outcome) told2 w2 = (refusal w e ≡ None) × Does w e told outcome told2 w2
 Answers w e told (Err fault) told2 w2 =
     (fault ≡ fault_of (refusal w e)) × (told2 ≡ told) × (w2 ≡ w)

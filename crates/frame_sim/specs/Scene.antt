@@ -9,16 +9,16 @@ use Rattle.nat_types.specs.declared.records.Record.{Record}
 use Rattle.settings.specs.declared.ranges.PortRanges.{PortRanges}
 use Rattle.bindings.specs.Ports.{in_bounds, in_either}
 use Rattle.link.specs.Reading.{reading}
-use Rattle.trace_words.specs.Trace.{Idle}
-use Rattle.pair_machine.specs.Box.{Box, Letter, bare}
-use Rattle.pair_machine.specs.Ownership.{Ranges, moving}
-use Rattle.pair_machine.specs.Step.{IsOff, WasSent}
-use Rattle.pair_machine.specs.World.{IsWorld, Scene}
-use Rattle.step_parts.specs.Founding.{bounds_of}
-use Rattle.step_parts.specs.declared.events.Event.{Event}
-use Rattle.step_parts.specs.Machine.{HasPushed, box_of, letter_in, letters_in, words_in}
-use Rattle.step_parts.specs.Rests.{AccountsOn}
-use Rattle.step_parts.specs.Shown.{Shown, id_of}
+use Rattle.spec_trace.specs.Trace.{Idle}
+use Rattle.spec_pair.specs.Box.{Box, Letter, bare}
+use Rattle.spec_pair.specs.Ownership.{Ranges, moving}
+use Rattle.spec_pair.specs.Step.{IsOff, WasSent}
+use Rattle.spec_pair.specs.World.{IsWorld, Scene}
+use Rattle.spec_step.specs.Founding.{bounds_of}
+use Rattle.spec_step.specs.declared.events.Event.{Event}
+use Rattle.spec_step.specs.Machine.{HasPushed, box_of, letter_in, letters_in, words_in}
+use Rattle.spec_step.specs.Rests.{AccountsOn}
+use Rattle.spec_step.specs.Shown.{Shown, id_of}
 use Rattle.frame_sim.specs.World.{World, gateway_at, half}
 
 -- the two ranges: gateway 0 is founded with range zero, and ports move

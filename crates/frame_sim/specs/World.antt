@@ -15,10 +15,10 @@ use Rattle.bindings.specs.Entries.{HasDistinctKeys, is_pair, pairs_in, translate
 use Rattle.bindings.specs.Ports.{in_either}
 use Rattle.bindings.specs.Runs.{port_at}
 use Rattle.link.specs.Link.{pushed_count}
-use Rattle.trace_words.specs.Trace.{IsSynced}
-use Rattle.binding_step.specs.Books.{is_synced}
-use Rattle.step_parts.specs.Founding.{bounds_of, founded}
-use Rattle.step_parts.specs.Shown.{Shown}
+use Rattle.spec_trace.specs.Trace.{IsSynced}
+use Rattle.spec_binding.specs.Books.{is_synced}
+use Rattle.spec_step.specs.Founding.{bounds_of, founded}
+use Rattle.spec_step.specs.Shown.{Shown}
 
 -- One of the two: the gateway where it is up, the number of its last boot (0: it never booted), and all datagrams that it
 -- ever sent, the oldest first.

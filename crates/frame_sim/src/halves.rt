@@ -2,10 +2,10 @@
 ghost use Rattle.std.specs.Prelude.{◌≡◌, ◌<◌, ◌≤◌, ◌+◌, ◌++◌, ℕ, List, [], Some, None, drop, length, option_map, slice_get, vec_len, vec_capacity, IfOk, IfErr, OnOk, OnErr, is_some};
 ghost use Rattle.bindings.specs.Entries.{is_pair, translates};
 ghost use Rattle.link.specs.Link.{IsLink};
-ghost use Rattle.step_parts.specs.Machine.{HasBytes};
-ghost use Rattle.step_parts.specs.Shown.{scene};
-ghost use Rattle.step_parts.specs.Steps.{IsStepOn, outcome_on};
-ghost use Rattle.step_parts.specs.Truly.{Tells, hand_of};
+ghost use Rattle.spec_step.specs.Machine.{HasBytes};
+ghost use Rattle.spec_step.specs.Shown.{scene};
+ghost use Rattle.spec_step.specs.Steps.{IsStepOn, outcome_on};
+ghost use Rattle.spec_step.specs.Truly.{Tells, hand_of};
 ghost use Rattle.gateway.specs.Gateway.{IsGateway};
 ghost use Rattle.frame_sim.specs.World.{is_up, moment_of, owned_by, pairs_of, synced_at};
 ghost use Rattle.frame_sim.specs.declared.events.WorldFault.TheVariants as faults;
@@ -19,9 +19,9 @@ use addresses::Port;
 use gateway::{Event, Gateway, Out, Outcome};
 use link::limits_law;
 use nat_types::{NoMemory, Note, Pair};
+use spec_step::{steps_go, steps_note, steps_tell};
 use std::alloc::Global;
 use std::marker::Model;
-use step_parts::{steps_go, steps_note, steps_tell};
 
 /// The longest datagram, in bytes.
 const LONGEST_DATAGRAM: usize = 2214;

@@ -9,5 +9,5 @@ mod worlds;
 
 pub use events::{Step, WorldFault};
 pub use nat_types::WorldEvent;
-pub use trace_words::{AuditFault, audit};
+pub use spec_trace::{AuditFault, audit};
 pub use worlds::World;

@@ -1,9 +1,9 @@
 //! Prints the tables of a world.
 
 use crate::World;
+use faults::PrintFault;
 use nat_types::GatewayId;
 use printing::{Standing, table};
-use run_faults::PrintFault;
 use std::io::Write;
 
 impl World<'_> {

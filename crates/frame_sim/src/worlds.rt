@@ -1,9 +1,9 @@
 //! The world of a script: two gateways, what happens to them, and the trace of their notes.
 ghost use Rattle.std.specs.Prelude.{◌≡◌, ◌<◌, ◌++◌, ◌∷◌, [], true, option_map, vec_len, vec_capacity, IfOk, OnOk, OnErr};
 ghost use Rattle.bindings.specs.Entries.{is_pair, translates};
-ghost use Rattle.trace_words.specs.OneBox.{IsOneBox};
-ghost use Rattle.trace_words.specs.Trace.{Fits, GoesOn, Idle, Kept, Silent};
-ghost use Rattle.told.specs.Told.{none_told, with_note};
+ghost use Rattle.spec_trace.specs.OneBox.{IsOneBox};
+ghost use Rattle.spec_trace.specs.Trace.{Fits, GoesOn, Idle, Kept, Silent};
+ghost use Rattle.output.specs.Output.{none_told, with_note};
 ghost use Rattle.nat_types.specs.declared.events.WorldEvent.TheVariants as events;
 ghost use Rattle.frame_sim.specs.declared.events.WorldFault.TheVariants as faults;
 ghost use Rattle.frame_sim.specs.Events.{TakesAt, datagram_for, may_be_told, may_boot, may_crash};
@@ -14,20 +14,18 @@ ghost use Rattle.frame_sim.specs.World.{Holds, IsOwned, ShowsSynced, Translates,
 use crate::halves::Half;
 use crate::{Step, WorldEvent, WorldFault};
 use addresses::Port;
-use binding_step::books_begin;
 use gateway::{Event, Gateway, Hashers, Out, Outcome};
 use link::one_spelling;
-use nat_types::{GatewayId, Happening, NoMemory, Note, Pair};
-use pair_machine::laws::{
-    a_step_keeps, begins, goes_to, promises, promises_in_order, steps_anywhere,
-};
+use nat_types::{GatewayId, NoMemory, Note, NoteKind, Pair};
+use output::Room;
 use settings::Settings;
+use spec_binding::books_begin;
+use spec_pair::laws::{a_step_keeps, begins, goes_to, promises, promises_in_order, steps_anywhere};
+use spec_step::{beginnings_account, others_account, steps_account, steps_go};
+use spec_trace::laws::is_one_box;
 use std::alloc::Global;
 use std::marker::Model;
 use std::slice;
-use step_parts::{beginnings_account, others_account, steps_account, steps_go};
-use told::Room;
-use trace_words::laws::is_one_box;
 
 /// Two gateways on one inside and one outside network, all that they sent to each other, and all that
 /// they noted.
@@ -323,7 +321,7 @@ impl<'a> World<'a> {
         let note = Note {
             by: id,
             at: self.half(id).moment(),
-            what: Happening::Crashed,
+            what: NoteKind::Crashed,
         };
         note_both(&mut self.trace, out, &note)?;
         match id {
@@ -348,7 +346,7 @@ impl<'a> World<'a> {
         let note = Note {
             by: id,
             at: 0,
-            what: Happening::Booted(number),
+            what: NoteKind::Booted(number),
         };
         match note_both(&mut self.trace, out, &note) {
             Ok(()) => {}

@@ -1,2 +1,2 @@
-pub mod Puts
-pub mod Frames
+mod Puts
+mod Frames

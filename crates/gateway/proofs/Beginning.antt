@@ -3,10 +3,10 @@ use Rattle.std.proofs.Common.{◌≡◌, ℕ, Bool, true, false, [], refl, sym, 
 use Rattle.std.specs.Prelude.{if◌then◌else◌}
 use Rattle.nat_types.specs.declared.gateways.GatewayId.{GatewayId}
 use Rattle.settings.specs.declared.whole.Settings.{Settings}
-use Rattle.step_parts.specs.Founding.{begun, founded}
-use Rattle.step_parts.specs.Machine.{IsStanding}
-use Rattle.step_parts.specs.Settled.{IsSettled}
-use Rattle.step_parts.specs.Shown.{Shown}
+use Rattle.spec_step.specs.Founding.{begun, founded}
+use Rattle.spec_step.specs.Machine.{IsStanding}
+use Rattle.spec_step.specs.Settled.{IsSettled}
+use Rattle.spec_step.specs.Shown.{Shown}
 use Rattle.gateway.specs.Gateway.{IsGateway}
 
 begun-is : (settings : Settings) (id : GatewayId) (boot : ℕ) → IsStanding (begun settings id boot) [] → IsSettled (begun settings id boot) → IsGateway (begun settings id boot)

@@ -3,14 +3,14 @@ use Rattle.std.proofs.Common.{◌≡◌, Option, Some, None, Result, Ok, Err, re
 use Rattle.link.specs.declared.datagrams.Datagram.{Datagram}
 use Rattle.link.specs.declared.faults.LinkFault.{LinkFault}
 use Rattle.link.specs.Link.{answered, refusal, taken_of, taking}
-use Rattle.step_parts.specs.Parts.{datagram_read, heard_unless}
-use Rattle.step_parts.specs.Shown.{Scene}
+use Rattle.spec_step.specs.Parts.{datagram_read, heard_unless}
+use Rattle.spec_step.specs.Shown.{GatewayAndOutput}
 
-unless-is : (s : Scene) (d : Datagram) (o : Option LinkFault) (f : LinkFault) → answered o (taken_of s.shown.link d) ≡ Err f → heard_unless s d o ≡ s
+unless-is : (s : GatewayAndOutput) (d : Datagram) (o : Option LinkFault) (f : LinkFault) → answered o (taken_of s.shown.link d) ≡ Err f → heard_unless s d o ≡ s
 unless-is s d None f is = absurd (cc)
 unless-is s d (Some g) f is = refl
 
 -- what is refused changes nothing
-pub unheard-is : (s : Scene) (r : Result Datagram LinkFault) (f : LinkFault) → taking s.shown.link r ≡ Err f → datagram_read s r ≡ s
+pub unheard-is : (s : GatewayAndOutput) (r : Result Datagram LinkFault) (f : LinkFault) → taking s.shown.link r ≡ Err f → datagram_read s r ≡ s
 unheard-is s (Ok d) f is = unless-is s d (refusal s.shown.link d) f is
 unheard-is s (Err g) f is = refl

@@ -13,64 +13,64 @@ use Rattle.link.specs.declared.faults.LinkFault.{LinkFault}
 use Rattle.link.specs.Link.{Link, after_take, closed_at, is_due_on_tick, is_restart, met, records_taken, refusal}
 use Rattle.link.specs.Reading.{reading}
 use Rattle.resync.specs.Loading.{Load, loaded}
-use Rattle.binding_step.specs.Books.{Book, is_synced, load_of}
-use Rattle.binding_step.specs.Ledgers.{alone_ledger, may_ask, restarted_ledger, rests_for, taken_ledger}
-use Rattle.binding_step.specs.Resets.{back_in, restart_link, restart_notes, restarted, retaken}
-use Rattle.binding_step.specs.Rows.{answered, idle_row, load_taken, row_of, taken_answer, taken_book, taken_ended}
-use Rattle.binding_step.proofs.Leaving.{change-leaves}
-use Rattle.kept.specs.declared.waits.Ended.TheVariants.{One, AllPairs}
-use Rattle.kept.specs.declared.waits.Wait.TheVariants as wait
+use Rattle.spec_binding.specs.Books.{Book, is_synced, load_of}
+use Rattle.spec_binding.specs.Ledgers.{alone_ledger, may_ask, restarted_ledger, rests_for, taken_ledger}
+use Rattle.spec_binding.specs.Resets.{back_in, restart_link, restart_notes, restarted, retaken}
+use Rattle.spec_binding.specs.Rows.{answered, idle_row, load_taken, row_of, taken_answer, taken_book, taken_ended}
+use Rattle.spec_binding.proofs.Offered.{change-leaves}
+use Rattle.waiting.specs.declared.waits.Ended.TheVariants.{One, AllPairs}
+use Rattle.waiting.specs.declared.waits.WaitsFor.TheVariants as wait
 use Rattle.packet_rules.specs.declared.readings.Reading.{Reading}
 use Rattle.packet_rules.specs.declared.readings.Reading.TheVariants.{Arp, Advert, Packet}
 use Rattle.packet_rules.specs.declared.reasons.Reason.{Reason}
 use Rattle.packet_rules.specs.Arping.{answer_to, is_learnable}
-use Rattle.sides.specs.Stations.{Station, after_arp, is_active}
+use Rattle.interfaces.specs.Stations.{Interface, after_arp, is_active}
 use Rattle.vrrp_states.specs.Table as table
 use Rattle.vrrp_states.specs.Table.{Event as RouterEvent, IsMoment}
 use Rattle.vrrp_states.specs.declared.Action.{Action}
-use Rattle.step_parts.specs.declared.events.Event.{Event}
-use Rattle.step_parts.specs.declared.events.Event.TheVariants.{Frame, Datagram as Comes, Tick, Stop, PeerOff}
-use Rattle.step_parts.specs.Parts.{acted, all_framed, all_idle_done, answered_by, arp_taken, datagram_read, datagram_taken, framed, frames_of, handed_in, has_synced, heard_by, heard_unless, idle_done, idle_taken, link_answered, link_ticked, old_dropped, record_done, record_shown, records_done, released, reset, wait_ended, with_link, with_routers}
-use Rattle.step_parts.specs.Shown.{Scene, Shown, id_of, scene, station_on, with_notes, with_station}
-use Rattle.step_parts.specs.Steps.{BothAct, Does, FrameDoes, RouterActs, ended_on, stopped, ticked, word_by, word_refusal}
-use Rattle.step_parts.specs.Verdict.{reading_on}
+use Rattle.spec_step.specs.declared.events.Event.{Event}
+use Rattle.spec_step.specs.declared.events.Event.TheVariants.{Frame, Datagram as Comes, Tick, Stop, PeerOff}
+use Rattle.spec_step.specs.Parts.{acted, all_framed, all_idle_done, answered_by, arp_taken, datagram_read, datagram_taken, framed, frames_of, handed_in, has_synced, heard_by, heard_unless, idle_done, idle_taken, link_answered, link_ticked, old_dropped, record_done, record_shown, records_done, released, reset, wait_ended, with_link, with_routers}
+use Rattle.spec_step.specs.Shown.{GatewayAndOutput, Shown, id_of, scene, station_on, with_notes, with_station}
+use Rattle.spec_step.specs.Steps.{BothAct, Does, FrameDoes, RouterActs, ended_on, stopped, ticked, word_by, word_refusal}
+use Rattle.spec_step.specs.Verdict.{reading_on}
 use Rattle.gateway.proofs.Staying.{Stays, answered-capacity, flow-stays, released-stays, row-stays, stays-here, stays-then}
 
 -- an equal scene
-stays-as : (g : Shown) (s s2 : Scene) → s2 ≡ s → Stays g s.shown → Stays g s2.shown
-stays-as g s s2 e x = subst (λ (y : Scene). Stays g y.shown) (sym e) x
+stays-as : (g : Shown) (s s2 : GatewayAndOutput) → s2 ≡ s → Stays g s.shown → Stays g s2.shown
+stays-as g s s2 e x = subst (λ (y : GatewayAndOutput). Stays g y.shown) (sym e) x
 
 -- ---- ARP and the routers
 
-station-stays : (g : Shown) (side : Side) (station : Station) → Stays g (with_station g side station)
+station-stays : (g : Shown) (side : Side) (station : Interface) → Stays g (with_station g side station)
 station-stays g Inside station = record { moment = refl; capacity = refl; zero = refl; one = refl }
 station-stays g Outside station = record { moment = refl; capacity = refl; zero = refl; one = refl }
 
-framed-same : (s : Scene) (side : Side) (frames : List (List ℕ)) → (all_framed s side frames).shown ≡ s.shown
+framed-same : (s : GatewayAndOutput) (side : Side) (frames : List (List ℕ)) → (all_framed s side frames).shown ≡ s.shown
 framed-same s side [] = refl
 framed-same s side (frame ∷ frames) = framed-same (framed s side frame) side frames
 
-acted-stays : (s : Scene) (side : Side) (station : Station) (action : Action) → Stays s.shown (acted s side station action).shown
+acted-stays : (s : GatewayAndOutput) (side : Side) (station : Interface) (action : Action) → Stays s.shown (acted s side station action).shown
 acted-stays s side station action =
     let moved = scene (with_station s.shown side station) s.told in
     subst (λ (g : Shown). Stays s.shown g) (sym (framed-same moved side (frames_of station action))) (station-stays s.shown side station)
 
-router-stays : (s : Scene) (side : Side) (e : RouterEvent) (s2 : Scene) → RouterActs s side e s2 → Stays s.shown s2.shown
+router-stays : (s : GatewayAndOutput) (side : Side) (e : RouterEvent) (s2 : GatewayAndOutput) → RouterActs s side e s2 → Stays s.shown s2.shown
 router-stays s side e s2 a = stays-as s.shown (acted s side a.station a.action) s2 a.is (acted-stays s side a.station a.action)
 
-both-stay : (s : Scene) (e : RouterEvent) (s2 : Scene) → BothAct s e s2 → Stays s.shown s2.shown
+both-stay : (s : GatewayAndOutput) (e : RouterEvent) (s2 : GatewayAndOutput) → BothAct s e s2 → Stays s.shown s2.shown
 both-stay s e s2 b =
     stays-then s.shown b.between.shown s2.shown (router-stays s Inside e b.between b.inside) (router-stays b.between Outside e s2 b.outside)
 
-answered-stays : (s : Scene) (side : Side) (p : ArpPacket) (o : Option Mac) → Stays s.shown (answered_by s side p o).shown
+answered-stays : (s : GatewayAndOutput) (side : Side) (p : ArpPacket) (o : Option Mac) → Stays s.shown (answered_by s side p o).shown
 answered-stays s side p None = stays-here s.shown
 answered-stays s side p (Some mac) = stays-here s.shown
 
-arp-by : (s told : Scene) (side : Side) (p : ArpPacket) (learns : Bool) → Stays s.shown told.shown → Stays s.shown (let r : Scene = cond learns (released told (One (wait.Hop side p.sender_ip))) told in r.shown)
+arp-by : (s told : GatewayAndOutput) (side : Side) (p : ArpPacket) (learns : Bool) → Stays s.shown told.shown → Stays s.shown (let r : GatewayAndOutput = cond learns (released told (One (wait.Hop side p.sender_ip))) told in r.shown)
 arp-by s told side p true x = stays-then s.shown told.shown (released told (One (wait.Hop side p.sender_ip))).shown x (released-stays told (One (wait.Hop side p.sender_ip)))
 arp-by s told side p false x = x
 
-arp-stays : (s : Scene) (side : Side) (p : ArpPacket) → Stays s.shown (arp_taken s side p).shown
+arp-stays : (s : GatewayAndOutput) (side : Side) (p : ArpPacket) → Stays s.shown (arp_taken s side p).shown
 arp-stays s side p =
     let station = station_on s.shown side in
     let heard = scene (with_station s.shown side (after_arp station p s.shown.moment)) s.told in
@@ -79,7 +79,7 @@ arp-stays s side p =
     arp-by s told side p (is_learnable station.network p)
     (stays-then s.shown heard.shown told.shown (station-stays s.shown side (after_arp station p s.shown.moment)) (answered-stays heard side p answer))
 
-frame-stays : (s : Scene) (side : Side) (bytes : List ℕ) (r : Result Reading Reason) (s2 : Scene) → FrameDoes s side bytes r s2 → Stays s.shown s2.shown
+frame-stays : (s : GatewayAndOutput) (side : Side) (bytes : List ℕ) (r : Result Reading Reason) (s2 : GatewayAndOutput) → FrameDoes s side bytes r s2 → Stays s.shown s2.shown
 frame-stays s side bytes (Ok (Arp p)) s2 does = stays-as s.shown (arp_taken s side p) s2 does (arp-stays s side p)
 frame-stays s side bytes (Ok (Advert a from)) s2 does = router-stays s side _ s2 does
 frame-stays s side bytes (Ok (Packet packet)) s2 does = stays-as s.shown _ s2 does (flow-stays s side bytes packet.flow)
@@ -110,7 +110,7 @@ restart-capacity : (b : Book) (e : Link) (synced : Bool) → is_synced b.stage �
 restart-capacity b e true is = rw is refl
 restart-capacity b e false is = rw is refl
 
-reset-stays : (s : Scene) → Stays s.shown (reset s).shown
+reset-stays : (s : GatewayAndOutput) → Stays s.shown (reset s).shown
 reset-stays s =
     let b = s.shown.ledger.book in
     let ranges = restarted-by b (is_synced b.stage) refl in
@@ -134,17 +134,17 @@ shown-stays g r =
     (record { moment = refl; capacity = answered-capacity g.link (taken_answer b rests r); zero = ranges.zero; one = ranges.one })
     (with-routers-stays g g2 (has_synced g g2 && not g2.stopped) refl)
 
-ended-stays : (s : Scene) (o : Option Endpoint) → Stays s.shown (wait_ended o s).shown
+ended-stays : (s : GatewayAndOutput) (o : Option Endpoint) → Stays s.shown (wait_ended o s).shown
 ended-stays s None = stays-here s.shown
 ended-stays s (Some e) = released-stays s (One (wait.Pair e))
 
-record-stays : (s : Scene) (r : Record) → Stays s.shown (record_done s r).shown
+record-stays : (s : GatewayAndOutput) (r : Record) → Stays s.shown (record_done s r).shown
 record-stays s r =
     let g = s.shown in
     stays-then g (record_shown g r) (record_done s r).shown (shown-stays g r)
     (ended-stays _ (taken_ended g.ledger.book (rests_for g.moment g.ledger r) r))
 
-records-stay : (s : Scene) (rs : List Record) → Stays s.shown (records_done s rs).shown
+records-stay : (s : GatewayAndOutput) (rs : List Record) → Stays s.shown (records_done s rs).shown
 records-stay s [] = stays-here s.shown
 records-stay s (r ∷ rs) =
     let next = record_done s r in
@@ -154,31 +154,31 @@ met-capacity : (e : Link) (d : Datagram) (restarts : Bool) → is_restart e d �
 met-capacity e d true is = rw is refl
 met-capacity e d false is = rw is refl
 
-reset-where : (s : Scene) (restarts : Bool) → Stays s.shown (let r : Scene = cond restarts (reset s) s in r.shown)
+reset-where : (s : GatewayAndOutput) (restarts : Bool) → Stays s.shown (let r : GatewayAndOutput = cond restarts (reset s) s in r.shown)
 reset-where s true = reset-stays s
 reset-where s false = stays-here s.shown
 
-heard-stays : (s : Scene) (d : Datagram) → Stays s.shown (heard_by s d).shown
+heard-stays : (s : GatewayAndOutput) (d : Datagram) → Stays s.shown (heard_by s d).shown
 heard-stays s d =
     let e = s.shown.link in
     let after = with_link s (after_take e d s.shown.moment) in
     let restarts = is_restart e d in
-    let start : Scene = cond restarts (reset after) after in
+    let start : GatewayAndOutput = cond restarts (reset after) after in
     stays-then s.shown after.shown (heard_by s d).shown
     (record { moment = refl; capacity = met-capacity e d restarts refl; zero = refl; one = refl })
     (stays-then after.shown start.shown (heard_by s d).shown (reset-where after restarts) (records-stay start (records_taken e d)))
 
-unless-stays : (s : Scene) (d : Datagram) (o : Option LinkFault) → Stays s.shown (heard_unless s d o).shown
+unless-stays : (s : GatewayAndOutput) (d : Datagram) (o : Option LinkFault) → Stays s.shown (heard_unless s d o).shown
 unless-stays s d None = heard-stays s d
 unless-stays s d (Some fault) = stays-here s.shown
 
-read-stays : (s : Scene) (r : Result Datagram LinkFault) → Stays s.shown (datagram_read s r).shown
+read-stays : (s : GatewayAndOutput) (r : Result Datagram LinkFault) → Stays s.shown (datagram_read s r).shown
 read-stays s (Ok d) = unless-stays s d (refusal s.shown.link d)
 read-stays s (Err fault) = stays-here s.shown
 
 -- ---- the operator's word, and a tick's own parts
 
-word-stays : (s : Scene) (n : ℕ) (o : Option Reason) → Stays s.shown (word_by s n o).shown
+word-stays : (s : GatewayAndOutput) (n : ℕ) (o : Option Reason) → Stays s.shown (word_by s n o).shown
 word-stays s n None =
     let g = s.shown in
     let alone = scene (record g { ledger = alone_ledger g.ledger; link = closed_at g.link n }) (with_notes s.told (retaken (id_of g) g.moment (back_in g.ledger.book.entries))) in
@@ -186,7 +186,7 @@ word-stays s n None =
     record { moment = x.moment; capacity = x.capacity; zero = x.zero; one = x.one }
 word-stays s n (Some reason) = stays-here s.shown
 
-idle-stays : (s : Scene) (keys : List Key) → Stays s.shown (all_idle_done s keys).shown
+idle-stays : (s : GatewayAndOutput) (keys : List Key) → Stays s.shown (all_idle_done s keys).shown
 idle-stays s [] = stays-here s.shown
 idle-stays s (k ∷ ks) =
     let next = idle_done s k in
@@ -195,14 +195,14 @@ idle-stays s (k ∷ ks) =
 -- ---- a whole step
 
 -- where the event's own parts begin: a tick moves the clock first
-abbrev pub begun_by : Scene → Event → Scene
+abbrev pub begun_by : GatewayAndOutput → Event → GatewayAndOutput
 begun_by s (Frame side bytes) = s
 begun_by s (Comes bytes) = s
 begun_by s (Tick now) = ticked s now
 begun_by s Stop = s
 begun_by s (PeerOff n) = s
 
-does-stays : (s : Scene) (event : Event) (done : Scene) → Does s event done → Stays (begun_by s event).shown done.shown
+does-stays : (s : GatewayAndOutput) (event : Event) (done : GatewayAndOutput) → Does s event done → Stays (begun_by s event).shown done.shown
 does-stays s (Frame side bytes) done does = frame-stays s side bytes.now (reading_on s.shown side bytes.now) done does
 does-stays s (Comes bytes) done does = stays-as s.shown (datagram_taken s bytes.now) done does (read-stays s (reading bytes.now))
 does-stays s (Tick now) done does =
@@ -220,14 +220,14 @@ does-stays s Stop done does =
     stays-as s.shown (stopped middle) done does.2 (record { moment = x.moment; capacity = x.capacity; zero = x.zero; one = x.one })
 does-stays s (PeerOff n) done does = stays-as s.shown (word_by s n (word_refusal s.shown n)) done does (word-stays s n (word_refusal s.shown n))
 
-ticked-by : (s : Scene) (due : Bool) → is_due_on_tick (handed_in s.shown).link s.shown.moment ≡ due → Stays s.shown (link_ticked s).shown
+ticked-by : (s : GatewayAndOutput) (due : Bool) → is_due_on_tick (handed_in s.shown).link s.shown.moment ≡ due → Stays s.shown (link_ticked s).shown
 ticked-by s true is = rw is (record { moment = refl; capacity = refl; zero = refl; one = refl })
 ticked-by s false is = rw is (record { moment = refl; capacity = refl; zero = refl; one = refl })
 
-answer-stays : (s : Scene) → Stays s.shown (link_answered s).shown
+answer-stays : (s : GatewayAndOutput) → Stays s.shown (link_answered s).shown
 answer-stays s = record { moment = refl; capacity = refl; zero = refl; one = refl }
 
-ended-event : (event : Event) (done : Scene) → Stays done.shown (ended_on event done).shown
+ended-event : (event : Event) (done : GatewayAndOutput) → Stays done.shown (ended_on event done).shown
 ended-event (Frame side bytes) done = answer-stays done
 ended-event (Comes bytes) done = answer-stays done
 ended-event (Tick now) done = ticked-by done (is_due_on_tick (handed_in done.shown).link done.shown.moment) refl
@@ -241,14 +241,14 @@ pub record Lasts (g g2 : Shown) : Type 0 where
   pub zero : g2.ledger.book.zero ≡ g.ledger.book.zero
   pub one : g2.ledger.book.one ≡ g.ledger.book.one
 
-begun-lasts : (s : Scene) (event : Event) → IsMoment s.shown.moment → Lasts s.shown (begun_by s event).shown
+begun-lasts : (s : GatewayAndOutput) (event : Event) → IsMoment s.shown.moment → Lasts s.shown (begun_by s event).shown
 begun-lasts s (Frame side bytes) is = record { moment = is; capacity = refl; zero = refl; one = refl }
 begun-lasts s (Comes bytes) is = record { moment = is; capacity = refl; zero = refl; one = refl }
 begun-lasts s (Tick now) is = record { moment = omega (arith, is); capacity = refl; zero = refl; one = refl }
 begun-lasts s Stop is = record { moment = is; capacity = refl; zero = refl; one = refl }
 begun-lasts s (PeerOff n) is = record { moment = is; capacity = refl; zero = refl; one = refl }
 
-pub step-lasts : (s : Scene) (event : Event) (done s2 : Scene) → IsMoment s.shown.moment → Does s event done → s2 ≡ ended_on event done → Lasts s.shown s2.shown
+pub step-lasts : (s : GatewayAndOutput) (event : Event) (done s2 : GatewayAndOutput) → IsMoment s.shown.moment → Does s event done → s2 ≡ ended_on event done → Lasts s.shown s2.shown
 step-lasts s event done s2 is does sends =
     let first = begun-lasts s event is in
     let own = does-stays s event done does in

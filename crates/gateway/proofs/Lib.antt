@@ -1,6 +1,6 @@
-pub mod Beginning
-pub mod Hearing
-pub mod Lasting
-pub mod Places
-pub mod Staying
-pub mod Taking
+mod Beginning
+mod Hearing
+mod Lasting
+mod Places
+mod Staying
+mod Taking

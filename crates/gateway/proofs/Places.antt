@@ -2,7 +2,7 @@
 use Rattle.std.proofs.Common.{◌≡◌, ◌≤◌, ◌+◌, ◌∷◌, [], Bool, true, false, Option, Some, None, refl, arith, length-append}
 use Rattle.nat_types.specs.declared.records.Record.{Record}
 use Rattle.link.specs.Link.{Link, free_places, needs_answer, with_pushed}
-use Rattle.binding_step.specs.Rows.{answered}
+use Rattle.spec_binding.specs.Rows.{answered}
 use Rattle.gateway.specs.Rooms.{answers_to}
 
 -- a record takes one

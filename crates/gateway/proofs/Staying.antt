@@ -6,13 +6,13 @@ use Rattle.nat_types.specs.declared.pairs.Key.{Key}
 use Rattle.nat_types.specs.declared.records.Record.{Record}
 use Rattle.addresses.specs.declared.transport.TcpFlags.{TcpFlags}
 use Rattle.ipv4.specs.declared.flows.Flow.{Flow}
-use Rattle.lives.specs.declared.packets.Packet.{Packet as Carried}
+use Rattle.activity.specs.declared.packets.Packet.{Packet as Carried}
 use Rattle.link.specs.Link.{Link}
-use Rattle.binding_step.specs.declared.changes.Row.{Row}
-use Rattle.binding_step.specs.Rows.{answered, is_full, wish_of}
-use Rattle.binding_step.proofs.Leaving.{change-leaves}
-use Rattle.kept.specs.declared.waits.Ended.{Ended}
-use Rattle.kept.specs.Packets.{Waiting, ended_by, left_by}
+use Rattle.spec_binding.specs.declared.changes.Transition.{Transition}
+use Rattle.spec_binding.specs.Rows.{answered, is_full, wish_of}
+use Rattle.spec_binding.proofs.Offered.{change-leaves}
+use Rattle.waiting.specs.declared.waits.Ended.{Ended}
+use Rattle.waiting.specs.Packets.{HeldPacket, ended_by, left_by}
 use Rattle.packet_rules.specs.declared.readings.Reading.{Reading}
 use Rattle.packet_rules.specs.declared.readings.Reading.TheVariants.{Arp, Advert, Packet}
 use Rattle.packet_rules.specs.declared.reasons.Reason.{Reason}
@@ -21,11 +21,11 @@ use Rattle.packet_rules.specs.declared.translations.Translation.{Translation}
 use Rattle.packet_rules.specs.declared.translations.Translation.TheVariants.{Outward, Inward, Hairpin}
 use Rattle.packet_rules.specs.Flows.{source_of}
 use Rattle.packet_rules.specs.Frames.{sent_frame}
-use Rattle.step_parts.specs.declared.plans.Plan.{Plan}
-use Rattle.step_parts.specs.declared.plans.Plan.TheVariants.{Send, Ask, Wait as WaitFor}
-use Rattle.step_parts.specs.Parts.{all_taken, by_plan, by_refusal, by_row, by_verdict, carried_all, carried_by, flow_taken, released, retaken_by, taken_again, flags_in, framed, wanted_by, wanted_for}
-use Rattle.step_parts.specs.Shown.{Scene, Shown, scene}
-use Rattle.step_parts.specs.Verdict.{exit_by, plan_of, reading_on}
+use Rattle.spec_step.specs.declared.plans.Plan.{Plan}
+use Rattle.spec_step.specs.declared.plans.Plan.TheVariants.{Send, Ask, Wait as WaitFor}
+use Rattle.spec_step.specs.Parts.{all_taken, by_plan, by_refusal, by_row, by_verdict, carried_all, carried_by, flow_taken, released, retaken_by, taken_again, flags_in, framed, wanted_by, wanted_for}
+use Rattle.spec_step.specs.Shown.{GatewayAndOutput, Shown, scene}
+use Rattle.spec_step.specs.Verdict.{exit_by, plan_of, reading_on}
 
 pub record Stays (g g2 : Shown) : Type 0 where
   pub moment : g2.moment ≡ g.moment
@@ -49,28 +49,28 @@ pub answered-capacity : (e : Link) (a : Option Record) → (answered e a).capaci
 answered-capacity e None = refl
 answered-capacity e (Some r) = refl
 
-pub row-stays : (s : Scene) (row : Row) → Stays s.shown (by_row s row).shown
+pub row-stays : (s : GatewayAndOutput) (row : Transition) → Stays s.shown (by_row s row).shown
 row-stays s row =
     let beside = change-leaves s.shown.ledger.book row.change in
     record { moment = refl; capacity = answered-capacity s.shown.link row.answer; zero = beside.zero; one = beside.one }
 
-wanted-stays : (s : Scene) (e : Endpoint) → Stays s.shown (wanted_by s e).shown
+wanted-stays : (s : GatewayAndOutput) (e : Endpoint) → Stays s.shown (wanted_by s e).shown
 wanted-stays s e = row-stays s (wish_of s.shown.ledger.book (is_full s.shown.link) e).row
 
-carried-stays : (s : Scene) (k : Key) (p : Carried) → Stays s.shown (carried_by s k p).shown
+carried-stays : (s : GatewayAndOutput) (k : Key) (p : Carried) → Stays s.shown (carried_by s k p).shown
 carried-stays s k p = record { moment = refl; capacity = refl; zero = refl; one = refl }
 
-carried-all-stays : (s : Scene) (flow : Flow) (flags : TcpFlags) (by : Translation) → Stays s.shown (carried_all s flow flags by).shown
+carried-all-stays : (s : GatewayAndOutput) (flow : Flow) (flags : TcpFlags) (by : Translation) → Stays s.shown (carried_all s flow flags by).shown
 carried-all-stays s flow flags (Outward p) = record { moment = refl; capacity = refl; zero = refl; one = refl }
 carried-all-stays s flow flags (Inward p) = record { moment = refl; capacity = refl; zero = refl; one = refl }
 carried-all-stays s flow flags (Hairpin own other) = record { moment = refl; capacity = refl; zero = refl; one = refl }
 
-wanted-for-stays : (s : Scene) (flow : Flow) (by : Translation) → Stays s.shown (wanted_for s flow by).shown
+wanted-for-stays : (s : GatewayAndOutput) (flow : Flow) (by : Translation) → Stays s.shown (wanted_for s flow by).shown
 wanted-for-stays s flow (Outward p) = wanted-stays s (source_of flow)
 wanted-for-stays s flow (Inward p) = stays-here s.shown
 wanted-for-stays s flow (Hairpin own other) = wanted-stays s (source_of flow)
 
-plan-stays : (s : Scene) (side : Side) (bytes : List ℕ) (flow : Flow) (plan : Plan) → Stays s.shown (by_plan s side bytes flow plan).shown
+plan-stays : (s : GatewayAndOutput) (side : Side) (bytes : List ℕ) (flow : Flow) (plan : Plan) → Stays s.shown (by_plan s side bytes flow plan).shown
 plan-stays s side bytes flow (Send by next) =
     let wanted = wanted_for s flow by in
     let sent = framed wanted (exit_by by) (sent_frame s.shown.networks by next bytes) in
@@ -82,7 +82,7 @@ plan-stays s side bytes flow (WaitFor endpoint) =
     let wanted = wanted-stays s endpoint in
     record { moment = wanted.moment; capacity = wanted.capacity; zero = wanted.zero; one = wanted.one }
 
-refusal-stays : (s : Scene) (flow : Flow) (reason : Reason) → Stays s.shown (by_refusal s flow reason).shown
+refusal-stays : (s : GatewayAndOutput) (flow : Flow) (reason : Reason) → Stays s.shown (by_refusal s flow reason).shown
 refusal-stays s flow NoPort = wanted-stays s (source_of flow)
 refusal-stays s flow ShortFrame = stays-here s.shown
 refusal-stays s flow NotMine = stays-here s.shown
@@ -101,29 +101,29 @@ refusal-stays s flow CannotWait = stays-here s.shown
 refusal-stays s flow BadDatagram = stays-here s.shown
 refusal-stays s flow OldWord = stays-here s.shown
 
-verdict-stays : (s : Scene) (side : Side) (bytes : List ℕ) (flow : Flow) (r : Result Plan Reason) → Stays s.shown (by_verdict s side bytes flow r).shown
+verdict-stays : (s : GatewayAndOutput) (side : Side) (bytes : List ℕ) (flow : Flow) (r : Result Plan Reason) → Stays s.shown (by_verdict s side bytes flow r).shown
 verdict-stays s side bytes flow (Ok plan) = plan-stays s side bytes flow plan
 verdict-stays s side bytes flow (Err reason) = refusal-stays s flow reason
 
-pub flow-stays : (s : Scene) (side : Side) (bytes : List ℕ) (flow : Flow) → Stays s.shown (flow_taken s side bytes flow).shown
+pub flow-stays : (s : GatewayAndOutput) (side : Side) (bytes : List ℕ) (flow : Flow) → Stays s.shown (flow_taken s side bytes flow).shown
 flow-stays s side bytes flow = verdict-stays s side bytes flow (plan_of s.shown side flow)
 
-retaken-stays : (s : Scene) (side : Side) (bytes : List ℕ) (r : Result Reading Reason) → Stays s.shown (retaken_by s side bytes r).shown
+retaken-stays : (s : GatewayAndOutput) (side : Side) (bytes : List ℕ) (r : Result Reading Reason) → Stays s.shown (retaken_by s side bytes r).shown
 retaken-stays s side bytes (Ok (Packet packet)) = flow-stays s side bytes packet.flow
 retaken-stays s side bytes (Ok (Arp p)) = stays-here s.shown
 retaken-stays s side bytes (Ok (Advert a from)) = stays-here s.shown
 retaken-stays s side bytes (Err reason) = stays-here s.shown
 
-again-stays : (s : Scene) (w : Waiting) → Stays s.shown (taken_again s w).shown
+again-stays : (s : GatewayAndOutput) (w : HeldPacket) → Stays s.shown (taken_again s w).shown
 again-stays s w = retaken-stays s w.side w.bytes (reading_on s.shown w.side w.bytes)
 
-all-stay : (s : Scene) (ws : List Waiting) → Stays s.shown (all_taken s ws).shown
+all-stay : (s : GatewayAndOutput) (ws : List HeldPacket) → Stays s.shown (all_taken s ws).shown
 all-stay s [] = stays-here s.shown
 all-stay s (w ∷ ws) =
     let next = taken_again s w in
     stays-then s.shown next.shown (all_taken next ws).shown (again-stays s w) (all-stay next ws)
 
-pub released-stays : (s : Scene) (ended : Ended) → Stays s.shown (released s ended).shown
+pub released-stays : (s : GatewayAndOutput) (ended : Ended) → Stays s.shown (released s ended).shown
 released-stays s ended =
     let off = scene (record s.shown { kept = left_by ended s.shown.kept }) s.told in
     let all = all-stay off (ended_by ended s.shown.kept) in

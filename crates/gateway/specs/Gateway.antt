@@ -1,12 +1,12 @@
 -- What each gateway keeps.
 use Rattle.std.specs.Prelude.{◌≡◌, List}
 use Rattle.nat_types.specs.declared.records.Record.{Record}
-use Rattle.binding_step.specs.Books.{IsBook}
+use Rattle.spec_binding.specs.Books.{IsBook}
 use Rattle.vrrp_states.specs.Table.{IsMoment}
-use Rattle.step_parts.specs.Founding.{link_places}
-use Rattle.step_parts.specs.Machine.{HasPushed, IsAlone, KeepsBytes}
-use Rattle.step_parts.specs.Settled.{IsSettled}
-use Rattle.step_parts.specs.Shown.{Shown}
+use Rattle.spec_step.specs.Founding.{link_places}
+use Rattle.spec_step.specs.Machine.{HasPushed, IsAlone, KeepsBytes}
+use Rattle.spec_step.specs.Settled.{IsSettled}
+use Rattle.spec_step.specs.Shown.{Shown}
 
 pub record IsGateway (g : Shown) : Type 0 where
   pub book : IsBook g.ledger.book

@@ -3,30 +3,30 @@ ghost use Rattle.std.specs.Prelude.{◌≡◌, ◌≤◌, IfOk, Ok, OnErr, OnOk}
 ghost use Rattle.vrrp_states.specs.Table.{IsMoment};
 ghost use Rattle.packet_rules.specs.Flows.{packet_in};
 ghost use Rattle.packet_rules.specs.Steps.{Carries, IsForwardable};
-ghost use Rattle.step_parts.specs.Parts.{flow_taken};
-ghost use Rattle.step_parts.specs.Steps.{FrameDoes};
-ghost use Rattle.step_parts.specs.Verdict.{outcome_by, outcome_read, plan_of};
+ghost use Rattle.spec_step.specs.Parts.{flow_taken};
+ghost use Rattle.spec_step.specs.Steps.{FrameDoes};
+ghost use Rattle.spec_step.specs.Verdict.{outcome_by, outcome_read, plan_of};
 ghost use Rattle.forwarder.specs.Forwarder.{copy_for, scene_on, shown_of, wait_in};
 
 use crate::NoMemory;
 use crate::routers::{Cue, cue_router};
 use forwarder::Forwarder;
 use ipv4::Packet;
-use kept::{Wait, Waiting};
 use nat_types::Side;
+use output::OutputBuffer;
 use packet_rules::{Reading, Reason};
+use spec_step::{Outcome, Plan};
 use std::alloc::Global;
-use step_parts::{Outcome, Plan};
-use told::Page;
+use waiting::{HeldPacket, WaitsFor};
 
 /// What a plan makes a packet wait for.
-fn wait_in(plan: &Result<Plan, Reason>) -> Option<Wait>
+fn wait_in(plan: &Result<Plan, Reason>) -> Option<WaitsFor>
     ensures { result ≡ wait_in plan.now }
 {
     match plan {
         Ok(Plan::Send { by: _, next: _ }) => None,
-        Ok(Plan::Ask { by, hop }) => Some(Wait::Hop(by.direction().exit(), *hop)),
-        Ok(Plan::Wait(endpoint)) => Some(Wait::Pair(*endpoint)),
+        Ok(Plan::Ask { by, hop }) => Some(WaitsFor::Hop(by.direction().exit(), *hop)),
+        Ok(Plan::Wait(endpoint)) => Some(WaitsFor::Pair(*endpoint)),
         Err(_reason) => None,
     }
 }
@@ -37,13 +37,13 @@ fn copy_for(
     side: Side,
     bytes: &[u8],
     now: u64,
-    wait: Option<Wait>,
-) -> Result<Option<Waiting>, NoMemory>
+    wait: Option<WaitsFor>,
+) -> Result<Option<HeldPacket>, NoMemory>
     ensures { IfOk result (λ w. w ≡ copy_for side bytes.now now wait) }
 {
     match wait {
         Some(wait) => {
-            let copy = Waiting::copy_of(alloc, side, bytes, now, wait)?;
+            let copy = HeldPacket::copy_of(alloc, side, bytes, now, wait)?;
             Ok(Some(copy))
         }
         None => Ok(None),
@@ -65,7 +65,7 @@ fn outcome_by(plan: &Result<Plan, Reason>) -> Outcome
 fn take_flow(
     alloc: Global,
     forwarder: &mut Forwarder,
-    page: &mut Page,
+    page: &mut OutputBuffer,
     side: Side,
     bytes: &[u8],
     packet: Packet,
@@ -100,7 +100,7 @@ fn take_flow(
 pub(crate) fn take_reading(
     alloc: Global,
     forwarder: &mut Forwarder,
-    page: &mut Page,
+    page: &mut OutputBuffer,
     side: Side,
     bytes: &[u8],
     reading: Reading,

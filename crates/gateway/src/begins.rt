@@ -2,14 +2,14 @@
 ghost use Rattle.std.specs.Prelude.{◌≡◌, ◌<◌, ◌≤◌, ◌^◌, IfOk, IsTrue, false, [], if◌then◌else◌};
 ghost use Rattle.nat_types.specs.declared.gateways.GatewayId.TheVariants.{Zero};
 ghost use Rattle.nat_types.specs.declared.gateways.Side.TheVariants.{Inside, Outside};
-ghost use Rattle.binding_step.specs.Books.{empty_book, founded_book};
+ghost use Rattle.spec_binding.specs.Books.{empty_book, founded_book};
 ghost use Rattle.bindings.specs.Ports.{ports_in};
 ghost use Rattle.link.specs.Link.{fresh};
 ghost use Rattle.bind_core.specs.Cores.{ledger_of};
 ghost use Rattle.packet_rules.specs.Networks.{networks_of};
-ghost use Rattle.sides.specs.Stations.{new_station};
-ghost use Rattle.step_parts.specs.Founding.{HasRanges, begun, bounds_of as bounds_in, founded};
-ghost use Rattle.step_parts.specs.Founding.{link_places as places_of};
+ghost use Rattle.interfaces.specs.Stations.{new_station};
+ghost use Rattle.spec_step.specs.Founding.{HasRanges, begun, bounds_of as bounds_in, founded};
+ghost use Rattle.spec_step.specs.Founding.{link_places as places_of};
 ghost use Rattle.forwarder.specs.Forwarder.{shown_of};
 
 use crate::NoMemory;
@@ -18,13 +18,13 @@ use addresses::Port;
 use bind_core::Core;
 use bindings::{Hashers, PortBounds};
 use forwarder::Forwarder;
-use kept::Kept;
+use interfaces::Interface;
 use link::Link;
 use nat_types::{GatewayId, Side};
 use packet_rules::Networks;
 use settings::{PortRange, Settings};
-use sides::Station;
 use std::alloc::Global;
+use waiting::WaitingPackets;
 
 fn recall_port(port: Port)
     ensures { port.0 < 2 ^ 16 }
@@ -85,9 +85,9 @@ fn link_of(alloc: Global, settings: &Settings, id: GatewayId, boot: u64) -> Resu
 #[derive(Drop)]
 struct Parts {
     link: Link,
-    inside: Station,
-    outside: Station,
-    kept: Kept,
+    inside: Interface,
+    outside: Interface,
+    kept: WaitingPackets,
 }
 
 /// The interfaces of a gateway on both sides, whose routers stand in Initialize.
@@ -95,12 +95,12 @@ fn stations_of(
     alloc: Global,
     settings: &Settings,
     id: GatewayId,
-) -> Result<(Station, Station), NoMemory>
+) -> Result<(Interface, Interface), NoMemory>
     ensures inside { IfOk result (λ s. s.0 ≡ new_station settings.now id Inside) }
     ensures outside { IfOk result (λ s. s.1 ≡ new_station settings.now id Outside) }
 {
-    let inside = Station::new(alloc, settings, id, Side::Inside)?;
-    let outside = Station::new(alloc, settings, id, Side::Outside)?;
+    let inside = Interface::new(alloc, settings, id, Side::Inside)?;
+    let outside = Interface::new(alloc, settings, id, Side::Outside)?;
     Ok((inside, outside))
 }
 
@@ -115,7 +115,7 @@ fn parts_of(alloc: Global, settings: &Settings, id: GatewayId, boot: u64) -> Res
 {
     let link = link_of(alloc, settings, id, boot)?;
     let (inside, outside) = stations_of(alloc, settings, id)?;
-    let kept = Kept::new(alloc)?;
+    let kept = WaitingPackets::new(alloc)?;
     Ok(Parts {
         link,
         inside,
@@ -148,7 +148,7 @@ fn joined(settings: &Settings, id: GatewayId, parts: Parts, core: Core) -> Forwa
 }
 
 /// A gateway without a table.
-#[tactic(auto, unfolding(step_parts::specs::Founding::begun))]
+#[tactic(auto, unfolding(spec_step::specs::Founding::begun))]
 fn begin_unsynced(
     alloc: Global,
     settings: &Settings,
@@ -168,7 +168,7 @@ fn begin_unsynced(
 }
 
 /// Gateway 0, founded alone: its routers are started.
-#[tactic(auto, unfolding(step_parts::specs::Founding::begun, step_parts::specs::Founding::founded))]
+#[tactic(auto, unfolding(spec_step::specs::Founding::begun, spec_step::specs::Founding::founded))]
 fn begin_founded(
     alloc: Global,
     settings: &Settings,

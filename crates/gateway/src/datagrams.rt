@@ -2,25 +2,25 @@
 ghost use Rattle.std.specs.Prelude.{◌≡◌, ◌≤◌, ◌+◌, ℕ, [], true, length, vec_capacity, if◌then◌else◌};
 ghost use Rattle.link.specs.Link.{free_places, occupied, taking};
 ghost use Rattle.link.specs.Reading.{reading};
-ghost use Rattle.binding_step.specs.Resets.{restart_batch};
+ghost use Rattle.spec_binding.specs.Resets.{restart_batch};
 ghost use Rattle.bindings.specs.Ports.{key_count};
 ghost use Rattle.vrrp_states.specs.Table.{IsMoment};
-ghost use Rattle.step_parts.specs.Founding.{link_places};
-ghost use Rattle.step_parts.specs.Parts.{datagram_taken, reset as reset_of};
-ghost use Rattle.step_parts.specs.Steps.{outcome_heard};
+ghost use Rattle.spec_step.specs.Founding.{link_places};
+ghost use Rattle.spec_step.specs.Parts.{datagram_taken, reset as reset_of};
+ghost use Rattle.spec_step.specs.Steps.{outcome_heard};
 ghost use Rattle.forwarder.specs.Forwarder.{scene_on, shown_of};
 
 use crate::records::take_records;
 use forwarder::Forwarder;
-use kept::Waiting;
 use link::limits_law;
+use output::OutputBuffer;
 use packet_rules::Reason;
-use step_parts::Outcome;
-use told::Page;
+use spec_step::Outcome;
+use waiting::HeldPacket;
 
 /// A greater boot of the peer was heard: the core begins anew, and the packets that waited for pairs
 /// are taken again. `list` is an empty list with room for all packets that wait.
-fn reset(forwarder: &mut Forwarder, page: &mut Page, list: Vec<Waiting>)
+fn reset(forwarder: &mut Forwarder, page: &mut OutputBuffer, list: Vec<HeldPacket>)
     requires empty { list.items ≡ [] }
     requires room { length forwarder.old.kept ≤ vec_capacity list }
     requires begins { occupied forwarder.old.link ≡ 0 }
@@ -51,7 +51,12 @@ fn reset(forwarder: &mut Forwarder, page: &mut Page, list: Vec<Waiting>)
 }
 
 /// The same, where a greater boot was heard.
-fn reset_where(forwarder: &mut Forwarder, page: &mut Page, restarted: bool, list: Vec<Waiting>)
+fn reset_where(
+    forwarder: &mut Forwarder,
+    page: &mut OutputBuffer,
+    restarted: bool,
+    list: Vec<HeldPacket>,
+)
     requires empty { list.items ≡ [] }
     requires room { length forwarder.old.kept ≤ vec_capacity list }
     requires begins { restarted ≡ true → occupied forwarder.old.link ≡ 0 }
@@ -80,9 +85,9 @@ fn reset_where(forwarder: &mut Forwarder, page: &mut Page, restarted: bool, list
 /// Takes a datagram, or drops it. `list` is an empty list with room for all packets that wait.
 pub(crate) fn take_datagram(
     forwarder: &mut Forwarder,
-    page: &mut Page,
+    page: &mut OutputBuffer,
     bytes: &[u8],
-    list: Vec<Waiting>,
+    list: Vec<HeldPacket>,
 ) -> Outcome
     requires empty { list.items ≡ [] }
     requires room { length forwarder.old.kept ≤ vec_capacity list }

@@ -2,19 +2,19 @@
 ghost use Rattle.std.specs.Prelude.{◌≡◌, ◌≤◌, length, ⊤};
 ghost use Rattle.link.specs.Grammar.{spelling};
 ghost use Rattle.link.specs.Link.{wanted};
-ghost use Rattle.step_parts.specs.Parts.{answer_sent, link_answered, link_ticked};
+ghost use Rattle.spec_step.specs.Parts.{answer_sent, link_answered, link_ticked};
 ghost use Rattle.forwarder.specs.Forwarder.{scene_on, shown_of};
 ghost use Rattle.gateway.specs.Ends.{with_letter};
 
 use forwarder::Forwarder;
 use link::Datagram;
-use told::{Page, WriteBytes};
+use output::{OutputBuffer, WriteBytes};
 
 /// A datagram as its bytes.
 #[derive(Drop)]
-struct Letter<'a>(&'a Datagram);
+struct DatagramBytes<'a>(&'a Datagram);
 
-impl WriteBytes for Letter<'_> {
+impl WriteBytes for DatagramBytes<'_> {
     ghost can_write = { λ _. ⊤ };
 
     ghost bytes = { λ l. spelling l.0.now };
@@ -30,17 +30,17 @@ impl WriteBytes for Letter<'_> {
 }
 
 /// Sends a datagram, where one is due.
-fn send(page: &mut Page, datagram: Option<Datagram>)
+fn send(page: &mut OutputBuffer, datagram: Option<Datagram>)
     requires { 1 ≤ page.old.room.datagrams }
     ensures { page.new.told ≡ with_letter page.old.told datagram }
 {
     if let Some(datagram) = datagram {
-        page.make_datagram(&Letter(&datagram));
+        page.make_datagram(&DatagramBytes(&datagram));
     }
 }
 
 /// Sends the datagram that is due at the end of a tick.
-pub(crate) fn end_tick(forwarder: &mut Forwarder, page: &mut Page)
+pub(crate) fn end_tick(forwarder: &mut Forwarder, page: &mut OutputBuffer)
     requires promised { length forwarder.old.core.coming ≡ forwarder.old.link.promised }
     requires datagrams { 1 ≤ page.old.room.datagrams }
     ensures { scene_on forwarder.new page.new ≡ link_ticked (scene_on forwarder.old page.old) }
@@ -54,7 +54,7 @@ pub(crate) fn end_tick(forwarder: &mut Forwarder, page: &mut Page)
 /// Sends the datagram that is due now. It stands apart, so that a step that sends none makes no room
 /// for a datagram's 64 records.
 #[inline(never)]
-fn answer(forwarder: &mut Forwarder, page: &mut Page)
+fn answer(forwarder: &mut Forwarder, page: &mut OutputBuffer)
     requires fed { wanted forwarder.old.link ≡ 0 }
     requires datagrams { 1 ≤ page.old.room.datagrams }
     ensures { scene_on forwarder.new page.new
@@ -65,7 +65,7 @@ fn answer(forwarder: &mut Forwarder, page: &mut Page)
 }
 
 /// Sends the datagram that is due at the end of any other step.
-pub(crate) fn end_other(forwarder: &mut Forwarder, page: &mut Page)
+pub(crate) fn end_other(forwarder: &mut Forwarder, page: &mut OutputBuffer)
     requires promised { length forwarder.old.core.coming ≡ forwarder.old.link.promised }
     requires datagrams { 1 ≤ page.old.room.datagrams }
     ensures { scene_on forwarder.new page.new ≡ link_answered (scene_on forwarder.old page.old) }

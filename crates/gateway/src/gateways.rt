@@ -3,16 +3,16 @@ ghost use Rattle.std.specs.Prelude.{◌≡◌, ◌<◌, IsTrue, IfOk, OnOk, OnEr
 ghost use Rattle.nat_types.specs.declared.gateways.GatewayId.TheVariants.{Zero};
 ghost use Rattle.bindings.specs.Entries.{is_pair, pairs_in, translates};
 ghost use Rattle.bindings.specs.Runs.{port_at};
-ghost use Rattle.binding_step.specs.Books.{is_synced};
-ghost use Rattle.binding_step.specs.Ledgers.{is_heard};
-ghost use Rattle.sides.specs.Stations.{is_active};
-ghost use Rattle.step_parts.specs.Founding.{begun, founded};
-ghost use Rattle.step_parts.specs.Machine.{HasBytes};
-ghost use Rattle.step_parts.specs.Shown.{scene, station_on};
-ghost use Rattle.step_parts.specs.Steps.{IsStepOn, outcome_on};
-ghost use Rattle.step_parts.specs.Truly.{AreWired};
+ghost use Rattle.spec_binding.specs.Books.{is_synced};
+ghost use Rattle.spec_binding.specs.Ledgers.{is_heard};
+ghost use Rattle.interfaces.specs.Stations.{is_active};
+ghost use Rattle.spec_step.specs.Founding.{begun, founded};
+ghost use Rattle.spec_step.specs.Machine.{HasBytes};
+ghost use Rattle.spec_step.specs.Shown.{scene, station_on};
+ghost use Rattle.spec_step.specs.Steps.{IsStepOn, outcome_on};
+ghost use Rattle.spec_step.specs.Truly.{AreWired};
 ghost use Rattle.link.specs.Link.{IsLink};
-ghost use Rattle.step_parts.specs.Rests.{most_notes};
+ghost use Rattle.spec_step.specs.Rests.{most_notes};
 ghost use Rattle.gateway.specs.Gateway.{IsGateway};
 
 use crate::begins::begin;
@@ -23,9 +23,9 @@ use bindings::Hashers;
 use forwarder::Forwarder;
 use nat_types::{GatewayId, Pair, Side};
 use settings::Settings;
+use spec_step::{Event, Outcome, beginnings, beginnings_settle};
 use std::alloc::Global;
 use std::marker::Model;
-use step_parts::{Event, Outcome, beginnings, beginnings_settle};
 
 /// One gateway of the pair. Moments are in centiseconds.
 #[derive(Drop)]
@@ -35,7 +35,7 @@ pub struct Gateway {
 }
 
 impl Model for Gateway {
-    ghost use Rattle.step_parts.specs.Shown.{Shown};
+    ghost use Rattle.spec_step.specs.Shown.{Shown};
     ghost use Rattle.forwarder.specs.Forwarder.{shown_of};
     ghost use Rattle.gateway.specs.Gateway.{IsGateway};
 

@@ -17,6 +17,6 @@ mod words;
 pub use bindings::Hashers;
 pub use gateways::Gateway;
 pub use nat_types::NoMemory;
+pub use output::Out;
 pub use packet_rules::Reason;
-pub use step_parts::{Event, Outcome};
-pub use told::Out;
+pub use spec_step::{Event, Outcome};

@@ -3,23 +3,23 @@ ghost use Rattle.std.specs.Prelude.{◌≡◌, ◌≤◌, ◌<◌, ◌+◌, ◌*
 ghost use Rattle.std.specs.List.{AllByRecursion};
 ghost use Rattle.link.specs.Grammar.{IsWellFormedRecord};
 ghost use Rattle.link.specs.Link.{answers_count, free_places, needs_answer};
-ghost use Rattle.binding_step.specs.Ledgers.{rests_for, taken_ledger};
-ghost use Rattle.binding_step.specs.Rows.{answered, taken_answer, taken_ended};
+ghost use Rattle.spec_binding.specs.Ledgers.{rests_for, taken_ledger};
+ghost use Rattle.spec_binding.specs.Rows.{answered, taken_answer, taken_ended};
 ghost use Rattle.vrrp_states.specs.Table.{IsMoment};
-ghost use Rattle.step_parts.specs.Parts.{record_done, record_shown, record_told, records_done};
-ghost use Rattle.step_parts.specs.Shown.{scene};
+ghost use Rattle.spec_step.specs.Parts.{record_done, record_shown, record_told, records_done};
+ghost use Rattle.spec_step.specs.Shown.{scene};
 ghost use Rattle.forwarder.specs.Forwarder.{scene_on, shown_of};
 ghost use Rattle.gateway.specs.Rooms.{answers_to};
 
 use crate::routers::start_routers;
-use binding_step::rows_leave;
 use forwarder::Forwarder;
-use kept::Wait;
 use nat_types::{Endpoint, Record};
-use told::Page;
+use output::OutputBuffer;
+use spec_binding::rows_leave;
+use waiting::WaitsFor;
 
 /// Takes a record with the core. The answer is the endpoint whose packets needn't wait any more.
-fn take_alone(forwarder: &mut Forwarder, page: &mut Page, entry: Record) -> Option<Endpoint>
+fn take_alone(forwarder: &mut Forwarder, page: &mut OutputBuffer, entry: Record) -> Option<Endpoint>
     requires formed { IsWellFormedRecord entry }
     requires ready { 1 ≤ forwarder.old.core.table.ready }
     requires places { needs_answer entry ≡ true → 0 < free_places forwarder.old.link }
@@ -49,7 +49,11 @@ fn take_alone(forwarder: &mut Forwarder, page: &mut Page, entry: Record) -> Opti
 }
 
 /// Takes a record, and starts the routers of a gateway that became synced by it.
-fn take_and_start(forwarder: &mut Forwarder, page: &mut Page, entry: Record) -> Option<Endpoint>
+fn take_and_start(
+    forwarder: &mut Forwarder,
+    page: &mut OutputBuffer,
+    entry: Record,
+) -> Option<Endpoint>
     requires formed { IsWellFormedRecord entry }
     requires moment { IsMoment forwarder.old.moment }
     requires ready { 1 ≤ forwarder.old.core.table.ready }
@@ -78,7 +82,7 @@ fn take_and_start(forwarder: &mut Forwarder, page: &mut Page, entry: Record) -> 
 
 /// Takes a record, and the packets again that needn't wait any more. It needs room for a frame and
 /// four notes, and a core that is ready for two pairs.
-pub(crate) fn take_record(forwarder: &mut Forwarder, page: &mut Page, entry: Record)
+pub(crate) fn take_record(forwarder: &mut Forwarder, page: &mut OutputBuffer, entry: Record)
     requires formed { IsWellFormedRecord entry }
     requires moment { IsMoment forwarder.old.moment }
     requires ready { 2 ≤ forwarder.old.core.table.ready }
@@ -99,12 +103,12 @@ pub(crate) fn take_record(forwarder: &mut Forwarder, page: &mut Page, entry: Rec
 {
     let ended = take_and_start(forwarder, page, entry);
     if let Some(endpoint) = ended {
-        forwarder.release_one(page, Wait::Pair(endpoint));
+        forwarder.release_one(page, WaitsFor::Pair(endpoint));
     }
 }
 
 /// Takes the records of a datagram, one after another.
-pub(crate) fn take_records(forwarder: &mut Forwarder, page: &mut Page, records: &[Record])
+pub(crate) fn take_records(forwarder: &mut Forwarder, page: &mut OutputBuffer, records: &[Record])
     requires formed { AllByRecursion IsWellFormedRecord records.now }
     requires few { length records.now ≤ 64 }
     requires moment { IsMoment forwarder.old.moment }

@@ -5,10 +5,10 @@ ghost use Rattle.forwarder.specs.Forwarder.{scene_on};
 use crate::NoMemory;
 use addresses::{Ip, Port, Protocol};
 use forwarder::Forwarder;
-use kept::Waiting;
 use nat_types::Endpoint;
+use output::{OutputBuffer, Room};
 use std::alloc::Global;
-use told::{Page, Room};
+use waiting::HeldPacket;
 
 /// Any endpoint: of new pairs the count is told alone.
 const ANY_ENDPOINT: Endpoint = Endpoint {
@@ -26,7 +26,7 @@ const ENDPOINTS: [Endpoint; MOST_PAIRS] = [ANY_ENDPOINT; MOST_PAIRS];
 /// growth; nothing shows then.
 pub(crate) fn make_ready(
     forwarder: &mut Forwarder,
-    page: &mut Page,
+    page: &mut OutputBuffer,
     room: Room,
     pairs: usize,
 ) -> Result<(), NoMemory>
@@ -60,7 +60,7 @@ pub(crate) fn entry_count(forwarder: &Forwarder) -> usize
 }
 
 /// An empty list with room for all packets that wait.
-pub(crate) fn list_for(alloc: Global, forwarder: &Forwarder) -> Result<Vec<Waiting>, NoMemory>
+pub(crate) fn list_for(alloc: Global, forwarder: &Forwarder) -> Result<Vec<HeldPacket>, NoMemory>
     ensures empty { IfOk result (λ v. v.items ≡ []) }
     ensures room { IfOk result (λ v. length forwarder.now.kept ≤ vec_capacity v) }
 {

@@ -3,18 +3,18 @@ ghost use Rattle.std.specs.Prelude.{◌≡◌, ◌≤◌, ◌+◌, ⊤};
 ghost use Rattle.vrrp_states.specs.Table.{IsMoment};
 ghost use Rattle.packet_rules.specs.Adverts.{advert_frame};
 ghost use Rattle.packet_rules.specs.Arping.{gratuitous_frame};
-ghost use Rattle.sides.specs.Stations.{IsRouterStep};
-ghost use Rattle.step_parts.specs.Parts.{all_framed, frames_of, started};
-ghost use Rattle.step_parts.specs.Shown.{Shown, scene, with_station};
-ghost use Rattle.step_parts.specs.Steps.{BothAct, RouterActs};
+ghost use Rattle.interfaces.specs.Stations.{IsRouterStep};
+ghost use Rattle.spec_step.specs.Parts.{all_framed, frames_of, started};
+ghost use Rattle.spec_step.specs.Shown.{Shown, scene, with_station};
+ghost use Rattle.spec_step.specs.Steps.{BothAct, RouterActs};
 ghost use Rattle.forwarder.specs.Forwarder.{scene_on, shown_of};
 ghost use Rattle.gateway.specs.Cues.{event_of};
 
 use addresses::Ip;
 use forwarder::Forwarder;
+use interfaces::Interface;
 use nat_types::Side;
-use sides::Station;
-use told::{Page, WriteBytes};
+use output::{OutputBuffer, WriteBytes};
 use vrrp_packet::Advert;
 use vrrp_states::Action;
 
@@ -30,7 +30,7 @@ pub(crate) enum Cue {
 /// The frame of an advertisement.
 #[derive(Drop)]
 struct AdvertFrame<'a> {
-    station: &'a Station,
+    station: &'a Interface,
     priority: u8,
 }
 
@@ -49,7 +49,7 @@ impl WriteBytes for AdvertFrame<'_> {
 /// The frame that tells everyone where the virtual address is.
 #[derive(Drop)]
 struct GratuitousFrame<'a> {
-    station: &'a Station,
+    station: &'a Interface,
 }
 
 impl WriteBytes for GratuitousFrame<'_> {
@@ -65,7 +65,7 @@ impl WriteBytes for GratuitousFrame<'_> {
 }
 
 /// Sends the frames of an action.
-fn send_action(page: &mut Page, side: Side, station: &Station, action: Action)
+fn send_action(page: &mut OutputBuffer, side: Side, station: &Interface, action: Action)
     requires { 2 ≤ page.old.room.frames }
     ensures told { (g : Shown) → scene g page.new.told
         ≡ all_framed (scene g page.old.told) side (frames_of station.now action) }
@@ -84,7 +84,7 @@ fn send_action(page: &mut Page, side: Side, station: &Station, action: Action)
 }
 
 /// Tells a router something, and gives what it does then.
-fn tell(station: &mut Station, cue: Cue, now: u64) -> Action
+fn tell(station: &mut Interface, cue: Cue, now: u64) -> Action
     requires { IsMoment now }
     ensures { IsRouterStep station.old (event_of cue) now result station.new }
 {
@@ -96,7 +96,7 @@ fn tell(station: &mut Station, cue: Cue, now: u64) -> Action
 }
 
 /// Tells the router on a side something, and sends its frames.
-pub(crate) fn cue_router(forwarder: &mut Forwarder, page: &mut Page, side: Side, cue: Cue)
+pub(crate) fn cue_router(forwarder: &mut Forwarder, page: &mut OutputBuffer, side: Side, cue: Cue)
     requires moment { IsMoment forwarder.old.moment }
     requires frames { 2 ≤ page.old.room.frames }
     ensures acts { RouterActs (scene_on forwarder.old page.old) side (event_of cue)
@@ -123,7 +123,7 @@ pub(crate) fn cue_router(forwarder: &mut Forwarder, page: &mut Page, side: Side,
 }
 
 /// Tells both routers something, that of the inside first.
-pub(crate) fn cue_both(forwarder: &mut Forwarder, page: &mut Page, cue: Cue)
+pub(crate) fn cue_both(forwarder: &mut Forwarder, page: &mut OutputBuffer, cue: Cue)
     requires moment { IsMoment forwarder.old.moment }
     requires frames { 4 ≤ page.old.room.frames }
     ensures act { BothAct (scene_on forwarder.old page.old) (event_of cue)
@@ -139,7 +139,7 @@ pub(crate) fn cue_both(forwarder: &mut Forwarder, page: &mut Page, cue: Cue)
     cue_router(forwarder, page, Side::Outside, cue);
 }
 
-fn start_station(station: &mut Station, now: u64)
+fn start_station(station: &mut Interface, now: u64)
     requires { IsMoment now }
     ensures { station.new ≡ started station.old now }
 {

@@ -3,15 +3,15 @@ ghost use Rattle.std.specs.Prelude.{◌≡◌, ◌≤◌, IfOk, OnErr, OnOk, len
 ghost use Rattle.link.specs.Link.{taking};
 ghost use Rattle.link.specs.Reading.{reading};
 ghost use Rattle.vrrp_states.specs.Table.{IsMoment};
-ghost use Rattle.step_parts.specs.declared.events.Event.TheVariants.{Stop as StopEvent};
-ghost use Rattle.step_parts.specs.declared.events.Event.TheVariants.{Tick as TickEvent};
-ghost use Rattle.step_parts.specs.declared.events.Outcome.TheVariants.{Done};
-ghost use Rattle.step_parts.specs.Founding.{link_places};
-ghost use Rattle.step_parts.specs.Machine.{AreBytes, HasBytes};
-ghost use Rattle.step_parts.specs.Parts.{datagram_taken};
-ghost use Rattle.step_parts.specs.Steps.{Does, FrameDoes, IsStepOn, ended_on, outcome_heard};
-ghost use Rattle.step_parts.specs.Steps.{outcome_on, outcome_word, word_by, word_refusal};
-ghost use Rattle.step_parts.specs.Verdict.{reading_on, verdict};
+ghost use Rattle.spec_step.specs.declared.events.Event.TheVariants.{Stop as StopEvent};
+ghost use Rattle.spec_step.specs.declared.events.Event.TheVariants.{Tick as TickEvent};
+ghost use Rattle.spec_step.specs.declared.events.Outcome.TheVariants.{Done};
+ghost use Rattle.spec_step.specs.Founding.{link_places};
+ghost use Rattle.spec_step.specs.Machine.{AreBytes, HasBytes};
+ghost use Rattle.spec_step.specs.Parts.{datagram_taken};
+ghost use Rattle.spec_step.specs.Steps.{Does, FrameDoes, IsStepOn, ended_on, outcome_heard};
+ghost use Rattle.spec_step.specs.Steps.{outcome_on, outcome_word, word_by, word_refusal};
+ghost use Rattle.spec_step.specs.Verdict.{reading_on, verdict};
 ghost use Rattle.forwarder.specs.Forwarder.{scene_on, shown_of};
 ghost use Rattle.gateway.specs.Gateway.{IsGateway};
 
@@ -24,9 +24,9 @@ use crate::ticks::{take_stop, take_tick};
 use crate::words::take_word;
 use forwarder::Forwarder;
 use nat_types::Side;
+use output::{OutputBuffer, Room};
+use spec_step::{Event, Outcome, parts_stand, steps_go, steps_keep, steps_settle};
 use std::alloc::Global;
-use step_parts::{Event, Outcome, parts_stand, steps_go, steps_keep, steps_settle};
-use told::{Page, Room};
 
 /// What a frame asks room for that is taken: an answer and a packet that goes on, three notes, and
 /// the datagram at the end.
@@ -46,7 +46,7 @@ const END_ROOM: Room = Room {
 fn frame_came(
     alloc: Global,
     forwarder: &mut Forwarder,
-    page: &mut Page,
+    page: &mut OutputBuffer,
     side: Side,
     bytes: &[u8],
 ) -> Result<Outcome, NoMemory>
@@ -73,7 +73,7 @@ fn frame_came(
 fn datagram_came(
     alloc: Global,
     forwarder: &mut Forwarder,
-    page: &mut Page,
+    page: &mut OutputBuffer,
     bytes: &[u8],
 ) -> Result<Outcome, NoMemory>
     requires moment { IsMoment forwarder.old.moment }
@@ -101,7 +101,11 @@ fn datagram_came(
     }
 }
 
-fn clock_ticked(forwarder: &mut Forwarder, page: &mut Page, now: u64) -> Result<Outcome, NoMemory>
+fn clock_ticked(
+    forwarder: &mut Forwarder,
+    page: &mut OutputBuffer,
+    now: u64,
+) -> Result<Outcome, NoMemory>
     requires moment { IsMoment forwarder.old.moment }
     ensures outcome { IfOk result (λ o. o ≡ Done) }
     ensures does { OnOk result (Does (scene_on forwarder.old page.old) (TickEvent now)
@@ -120,7 +124,7 @@ fn clock_ticked(forwarder: &mut Forwarder, page: &mut Page, now: u64) -> Result<
     Ok(Outcome::Done)
 }
 
-fn stop_came(forwarder: &mut Forwarder, page: &mut Page) -> Result<Outcome, NoMemory>
+fn stop_came(forwarder: &mut Forwarder, page: &mut OutputBuffer) -> Result<Outcome, NoMemory>
     requires moment { IsMoment forwarder.old.moment }
     ensures outcome { IfOk result (λ o. o ≡ Done) }
     ensures does { OnOk result (Does (scene_on forwarder.old page.old) StopEvent
@@ -142,7 +146,7 @@ fn stop_came(forwarder: &mut Forwarder, page: &mut Page) -> Result<Outcome, NoMe
 fn word_came(
     alloc: Global,
     forwarder: &mut Forwarder,
-    page: &mut Page,
+    page: &mut OutputBuffer,
     boot: u64,
 ) -> Result<Outcome, NoMemory>
     ensures outcome { IfOk result (λ o. o
@@ -172,7 +176,7 @@ fn word_came(
 fn take_event(
     alloc: Global,
     forwarder: &mut Forwarder,
-    page: &mut Page,
+    page: &mut OutputBuffer,
     event: Event<'_>,
 ) -> Result<Outcome, NoMemory>
     requires gateway { IsGateway (shown_of forwarder.old) }
@@ -193,7 +197,7 @@ fn take_event(
 }
 
 /// Sends the datagram that is due at an event's end.
-fn end_event(forwarder: &mut Forwarder, page: &mut Page, event: Event<'_>)
+fn end_event(forwarder: &mut Forwarder, page: &mut OutputBuffer, event: Event<'_>)
     requires promised { length forwarder.old.core.coming ≡ forwarder.old.link.promised }
     requires datagrams { 1 ≤ page.old.room.datagrams }
     ensures { scene_on forwarder.new page.new
@@ -227,7 +231,7 @@ fn recall_event(event: Event<'_>)
 pub(crate) fn step(
     alloc: Global,
     forwarder: &mut Forwarder,
-    page: &mut Page,
+    page: &mut OutputBuffer,
     event: Event<'_>,
 ) -> Result<Outcome, NoMemory>
     requires gateway { IsGateway (shown_of forwarder.old) }

@@ -1,16 +1,16 @@
 //! A tick of the clock, and the stop of both routers.
 ghost use Rattle.std.specs.Prelude.{◌≡◌, ◌≤◌, ◌+◌, length};
 ghost use Rattle.vrrp_states.specs.Table.{IsMoment};
-ghost use Rattle.step_parts.specs.declared.events.Event.TheVariants.{Stop as StopEvent};
-ghost use Rattle.step_parts.specs.declared.events.Event.TheVariants.{Tick as TickEvent};
-ghost use Rattle.step_parts.specs.Parts.{idle_taken};
-ghost use Rattle.step_parts.specs.Steps.{Does, clock_after};
+ghost use Rattle.spec_step.specs.declared.events.Event.TheVariants.{Stop as StopEvent};
+ghost use Rattle.spec_step.specs.declared.events.Event.TheVariants.{Tick as TickEvent};
+ghost use Rattle.spec_step.specs.Parts.{idle_taken};
+ghost use Rattle.spec_step.specs.Steps.{Does, clock_after};
 ghost use Rattle.forwarder.specs.Forwarder.{scene_on};
 
 use crate::routers::{Cue, cue_both};
 use forwarder::Forwarder;
-use step_parts::idle_at_once;
-use told::Page;
+use output::OutputBuffer;
+use spec_step::idle_at_once;
 
 /// The greatest moment of a clock, in centiseconds.
 const LAST_MOMENT: u64 = 4_000_000_000_000;
@@ -23,7 +23,7 @@ fn clock_after(moment: u64, now: u64) -> u64
 }
 
 /// Lets the idle pairs go.
-fn release_idle(forwarder: &mut Forwarder, page: &mut Page)
+fn release_idle(forwarder: &mut Forwarder, page: &mut OutputBuffer)
     requires notes { length forwarder.old.core.table.entries + 1 ≤ page.old.room.notes }
     ensures scene { scene_on forwarder.new page.new
         ≡ idle_taken (scene_on forwarder.old page.old) }
@@ -37,7 +37,7 @@ fn release_idle(forwarder: &mut Forwarder, page: &mut Page)
 }
 
 /// Moves the clock, and does what is due then, but for the datagram at the end.
-pub(crate) fn take_tick(forwarder: &mut Forwarder, page: &mut Page, now: u64)
+pub(crate) fn take_tick(forwarder: &mut Forwarder, page: &mut OutputBuffer, now: u64)
     requires moment { IsMoment forwarder.old.moment }
     requires frames { 4 ≤ page.old.room.frames }
     requires notes { length forwarder.old.core.table.entries + 1 ≤ page.old.room.notes }
@@ -52,7 +52,7 @@ pub(crate) fn take_tick(forwarder: &mut Forwarder, page: &mut Page, now: u64)
 }
 
 /// Stops both routers for good.
-pub(crate) fn take_stop(forwarder: &mut Forwarder, page: &mut Page)
+pub(crate) fn take_stop(forwarder: &mut Forwarder, page: &mut OutputBuffer)
     requires moment { IsMoment forwarder.old.moment }
     requires frames { 4 ≤ page.old.room.frames }
     ensures does { Does (scene_on forwarder.old page.old) StopEvent

@@ -1,14 +1,14 @@
 //! The operator's word that the other gateway is off.
 ghost use Rattle.std.specs.Prelude.{◌≡◌, ◌≤◌, ◌+◌, [], None, length, vec_capacity};
-ghost use Rattle.step_parts.specs.Parts.{word_taken};
-ghost use Rattle.step_parts.specs.Steps.{outcome_word, word_by, word_refusal};
+ghost use Rattle.spec_step.specs.Parts.{word_taken};
+ghost use Rattle.spec_step.specs.Steps.{outcome_word, word_by, word_refusal};
 ghost use Rattle.forwarder.specs.Forwarder.{scene_on, shown_of};
 
 use forwarder::Forwarder;
-use kept::Waiting;
+use output::OutputBuffer;
 use packet_rules::Reason;
-use step_parts::Outcome;
-use told::Page;
+use spec_step::Outcome;
+use waiting::HeldPacket;
 
 /// Why the word isn't taken.
 fn word_refusal(forwarder: &Forwarder, boot: u64) -> Option<Reason>
@@ -25,7 +25,7 @@ fn word_refusal(forwarder: &Forwarder, boot: u64) -> Option<Reason>
 
 /// The session ends, pairs are revived, and the gateway is alone; the packets that waited for pairs
 /// are taken again.
-fn go_alone(forwarder: &mut Forwarder, page: &mut Page, boot: u64, list: Vec<Waiting>)
+fn go_alone(forwarder: &mut Forwarder, page: &mut OutputBuffer, boot: u64, list: Vec<HeldPacket>)
     requires heard { word_refusal (shown_of forwarder.old) boot ≡ None }
     requires empty { list.items ≡ [] }
     requires room { length forwarder.old.kept ≤ vec_capacity list }
@@ -48,9 +48,9 @@ fn go_alone(forwarder: &mut Forwarder, page: &mut Page, boot: u64, list: Vec<Wai
 /// with room for all packets that wait.
 pub(crate) fn take_word(
     forwarder: &mut Forwarder,
-    page: &mut Page,
+    page: &mut OutputBuffer,
     boot: u64,
-    list: Vec<Waiting>,
+    list: Vec<HeldPacket>,
 ) -> Outcome
     requires empty { list.items ≡ [] }
     requires room { length forwarder.old.kept ≤ vec_capacity list }

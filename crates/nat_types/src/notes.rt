@@ -3,7 +3,7 @@ use std::fmt;
 
 /// What a gateway notes of itself and of its pairs.
 #[derive(Clone, Copy, Debug, PartialEq, Eq, PartialOrd, Ord)]
-pub enum Happening {
+pub enum NoteKind {
     /// A packet was translated with the pair.
     Used(Pair),
     /// The pair stops translating.
@@ -18,15 +18,15 @@ pub enum Happening {
     Booted(u64),
 }
 
-impl fmt::Display for Happening {
+impl fmt::Display for NoteKind {
     fn fmt<W: fmt::Write>(&self, f: &mut fmt::Formatter<W>) -> fmt::Result {
         match self {
-            Happening::Used(pair) => write!(f, "Used {pair}"),
-            Happening::Released(pair) => write!(f, "Released {pair}"),
-            Happening::Retaken(pair) => write!(f, "Retaken {pair}"),
-            Happening::Synced => f.write_str("Synced"),
-            Happening::Crashed => f.write_str("Crashed"),
-            Happening::Booted(number) => write!(f, "Booted {number}"),
+            NoteKind::Used(pair) => write!(f, "Used {pair}"),
+            NoteKind::Released(pair) => write!(f, "Released {pair}"),
+            NoteKind::Retaken(pair) => write!(f, "Retaken {pair}"),
+            NoteKind::Synced => f.write_str("Synced"),
+            NoteKind::Crashed => f.write_str("Crashed"),
+            NoteKind::Booted(number) => write!(f, "Booted {number}"),
         }
     }
 }
@@ -36,7 +36,7 @@ impl fmt::Display for Happening {
 pub struct Note {
     pub by: GatewayId,
     pub at: u64,
-    pub what: Happening,
+    pub what: NoteKind,
 }
 
 /// The gateway and what happened, as `0 Used udp 20000 192.168.1.10 5000`. The moment isn't printed.

@@ -1,8 +1,8 @@
 //! A pair of NAT gateways: `natpair --help` tells its commands.
 #![tactic(auto)]
 
-use acts::act;
-use run_faults::Fault;
+use commands::act;
+use faults::Fault;
 use std::env;
 use std::io::{self, BufWriter, IsTerminal, Write};
 use std::process::ExitCode;

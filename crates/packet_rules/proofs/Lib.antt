@@ -1,6 +1,6 @@
-pub mod Appended
-pub mod Cut
-pub mod Exchange
-pub mod Learning
-pub mod Passing
-pub mod Sorts
+mod Appended
+mod Cut
+mod Exchange
+mod Learning
+mod Passing
+mod Sorts

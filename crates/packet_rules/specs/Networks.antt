@@ -5,7 +5,7 @@ use Rattle.addresses.specs.Address.{virtual_mac}
 use Rattle.nat_types.specs.declared.gateways.GatewayId.{GatewayId}
 use Rattle.nat_types.specs.declared.gateways.Side.{Side}
 use Rattle.nat_types.specs.declared.gateways.Side.TheVariants.{Inside, Outside}
-use Rattle.settings.specs.declared.interfaces.Interface.{Interface}
+use Rattle.settings.specs.declared.interfaces.InterfaceSettings.{InterfaceSettings}
 use Rattle.settings.specs.declared.whole.Settings.{Settings}
 use Rattle.settings.specs.Parts.{gateway_of}
 use Rattle.packet_rules.specs.declared.reasons.Reason.{Reason}
@@ -68,7 +68,7 @@ is_addressed network active mac =
     || (active && is_virtual network mac)
 
 -- an address lies in the network
-unfoldable pub lies_in : ℕ → Interface → Bool
+unfoldable pub lies_in : ℕ → InterfaceSettings → Bool
 lies_in address interface =
     let hosts = 2 ^ (32 - interface.prefix_length) in
     address / hosts == interface.virtual_ip.0 / hosts

@@ -5,12 +5,12 @@ ghost use Rattle.packet_rules.specs.Networks.{network_of, networks_of, IsWired, 
 use crate::Reason;
 use addresses::{Ip, Mac};
 use nat_types::{GatewayId, Side};
-use settings::{Interface, Settings};
+use settings::{InterfaceSettings, Settings};
 
 /// One of a gateway's two networks.
 #[derive(Clone, Copy, Debug, PartialEq, Eq)]
 pub struct Network {
-    pub interface: Interface,
+    pub interface: InterfaceSettings,
     /// The gateway's own Ethernet address there.
     pub own_mac: Mac,
     /// The gateway's own (primary) address there.
@@ -128,7 +128,7 @@ pub(crate) fn is_for_gateway(network: &Network, active: bool, mac: Mac) -> bool
 }
 
 #[tactic(auto, unfolding(crate::specs::Networks::lies_in))]
-fn contains(interface: &Interface, address: Ip) -> bool
+fn contains(interface: &InterfaceSettings, address: Ip) -> bool
     ensures { result ≡ lies_in address.0 interface.now }
 {
     interface.network().contains(address)

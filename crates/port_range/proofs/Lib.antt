@@ -1,4 +1,5 @@
-pub mod Bits
-pub mod Choice
-pub mod Listed
-pub mod Summing
+mod Bits
+mod Choice
+mod Listed
+mod Summing
+pub mod Offered

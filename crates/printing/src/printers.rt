@@ -2,10 +2,10 @@
 
 use crate::hexes::bytes;
 use nat_types::{GatewayId, WorldEvent};
+use output::Out;
+use spec_step::Outcome;
 use std::fmt::Display;
 use std::io::{self, Write};
-use step_parts::Outcome;
-use told::Out;
 
 /// How many datagrams each gateway has sent so far.
 #[derive(Clone, Copy)]

@@ -6,8 +6,7 @@ use Rattle.bindings.specs.declared.entries.PortBounds.{PortBounds}
 use Rattle.bindings.specs.Ports.{in_bounds}
 use Rattle.bindings.specs.Runs.{run_of, runs_on, runs_of, ports_from_on, first_of, first_run}
 use Rattle.bindings.specs.Table.{Table, IsTable}
-use Rattle.bindings.proofs.Rising.{not-below, listed-filter, rise-filter}
-use Rattle.bindings.proofs.Unbroken.{from-all, from-none}
+use Rattle.bindings.proofs.Offered.{not-below, listed-filter, rise-filter, from-all, from-none}
 use Rattle.link.specs.Grammar.{IsWellFormedRun}
 use Rattle.port_range.specs.Ports.{is_listed, RiseAbove, AreRising}
 use Rattle.resync.specs.Batch.{CanBeSent}

@@ -12,8 +12,7 @@ use Rattle.bindings.specs.declared.entries.Entry.{Entry}
 use Rattle.bindings.specs.Entries.{has_key, slot_of, place_of, pairs_in, HasDistinctKeys}
 use Rattle.bindings.specs.Lists.{Rises, key_place, stands_behind, after_key}
 use Rattle.bindings.specs.Table.{Table, IsTable}
-use Rattle.bindings.proofs.Found.{find-none, find-some, find-passes}
-use Rattle.bindings.proofs.Slots.{found-slot}
+use Rattle.bindings.proofs.Offered.{find-none, find-some, find-passes, found-slot}
 use Rattle.link.specs.Grammar.{IsWellFormedPair}
 use Rattle.resync.specs.Batch.{is_settled, CanBeSent}
 use Rattle.resync.specs.Cursor.{is_behind, pairs_behind, place_after}

@@ -7,16 +7,13 @@ use Rattle.addresses.specs.declared.transport.Protocol.TheVariants.{Tcp}
 use Rattle.nat_types.specs.declared.pairs.Key.{Key}
 use Rattle.nat_types.specs.declared.pairs.Pair.{Pair}
 use Rattle.nat_types.specs.declared.records.Record.TheVariants.{Put, Done, Owner}
-use Rattle.nat_types.proofs.Equal.{key-eq}
+use Rattle.nat_types.proofs.Offered.{key-eq}
 use Rattle.bindings.specs.declared.entries.Entry.{Entry}
 use Rattle.bindings.specs.Entries.{has_key, slot_of, entry_in, pairs_in, HasDistinctKeys}
 use Rattle.bindings.specs.Ports.{key_count}
 use Rattle.bindings.specs.Runs.{run_of, runs_on, runs_of}
 use Rattle.bindings.specs.Table.{Table, IsTable}
-use Rattle.bindings.proofs.Found.{find-some}
-use Rattle.bindings.proofs.Places.{any_entry, length-keep}
-use Rattle.bindings.proofs.Rising.{not-below}
-use Rattle.bindings.proofs.Rooms.{few}
+use Rattle.bindings.proofs.Offered.{find-some, any_entry, length-keep, not-below, few}
 use Rattle.port_range.specs.Ports.{is_listed, RiseAbove}
 use Rattle.resync.specs.Batch.{is_settled, owners_of, puts_of, batch_of}
 

@@ -6,13 +6,12 @@ use Rattle.nat_types.specs.declared.pairs.EntryState.{EntryState}
 use Rattle.nat_types.specs.declared.pairs.Key.{Key}
 use Rattle.nat_types.specs.declared.pairs.Pair.{Pair}
 use Rattle.nat_types.specs.Same.{same_key}
-use Rattle.nat_types.proofs.Equal.{key-eq}
+use Rattle.nat_types.proofs.Offered.{key-eq}
 use Rattle.bindings.specs.declared.entries.Entry.{Entry}
 use Rattle.bindings.specs.declared.entries.TableFault.{TableFault}
 use Rattle.bindings.specs.Entries.{slot_of, entry_of, set_at, entry_in, refusal_of}
 use Rattle.bindings.specs.Table.{Table, IsTable, AreInRanges}
-use Rattle.bindings.proofs.Slots.{refusal-none}
-use Rattle.bindings.proofs.Rooms.{has-room}
+use Rattle.bindings.proofs.Offered.{refusal-none, has-room}
 use Rattle.bindings.specs.declared.entries.PortBounds.{PortBounds}
 use Rattle.bindings.specs.Ports.{in_either}
 use Rattle.bindings.specs.Runs.{without_port}

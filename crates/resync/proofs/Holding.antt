@@ -16,14 +16,13 @@ use Rattle.bindings.specs.Entries.{slot_of, entry_in, pairs_in}
 use Rattle.bindings.specs.Ports.{in_either}
 use Rattle.bindings.specs.Runs.{runs_of, all_ports}
 use Rattle.bindings.specs.Table.{Table, IsTable, AreInRanges}
-use Rattle.bindings.proofs.Rising.{listed-filter, listed-all}
+use Rattle.bindings.proofs.Offered.{listed-filter, listed-all, slot-key}
 use Rattle.port_range.specs.Ports.{is_listed, is_within, RiseAbove}
 use Rattle.resync.specs.Batch.{is_settled, owners_of, puts_of, batch_of, HasNoDoomed}
 use Rattle.resync.specs.Loading.{Load, begun, none_yet}
 use Rattle.resync.specs.Whole.{Ended, drawn, undrawn, until_done, last_of, ports_left, entry_loaded, entries_loaded, load_of_table}
 use Rattle.resync.proofs.Naming.{runs-load, within-one}
 use Rattle.resync.proofs.Putting.{IsListed, entry_at, puts-load, are-apart, all-inside, none-before}
-use Rattle.bindings.proofs.Slots.{slot-key}
 use Rattle.resync.proofs.Slotted.{all-slots}
 
 -- ---- draws

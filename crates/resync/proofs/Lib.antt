@@ -2,9 +2,10 @@ mod Naming
 mod Putting
 mod Slotted
 mod Ahead
-pub mod Behind
+mod Behind
 mod Drawing
 mod Giving
 mod Holding
 mod Steady
-pub mod Few
+mod Few
+pub mod Offered

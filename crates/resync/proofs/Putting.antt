@@ -9,14 +9,13 @@ use Rattle.nat_types.specs.declared.pairs.Pair.{Pair}
 use Rattle.nat_types.specs.declared.records.Record.{Record}
 use Rattle.nat_types.specs.declared.records.Record.TheVariants.{Put, Done}
 use Rattle.nat_types.specs.Same.{same_key, same_endpoint}
-use Rattle.nat_types.proofs.Equal.{endpoint-eq, endpoint-true}
+use Rattle.nat_types.proofs.Offered.{endpoint-eq, endpoint-true}
 use Rattle.bindings.specs.declared.entries.Entry.{Entry}
 use Rattle.bindings.specs.declared.entries.PortBounds.{PortBounds}
 use Rattle.bindings.specs.Entries.{is_pair, has_key, serves, slot_of, entry_of, entry_in, place_of, pairs_in, HasDistinctKeys, HasDistinctEndpoints}
 use Rattle.bindings.specs.Lists.{put_in, Rises}
 use Rattle.bindings.specs.Ports.{in_either}
-use Rattle.bindings.proofs.Found.{find-none}
-use Rattle.bindings.proofs.Slots.{other_way}
+use Rattle.bindings.proofs.Offered.{find-none, other_way}
 use Rattle.resync.specs.Batch.{is_settled}
 use Rattle.resync.specs.Loading.{Load, loaded_state, is_new, with_pair, where_}
 use Rattle.resync.specs.Whole.{Ended, or_as_before, after_record, until_done}

@@ -10,7 +10,7 @@ use Rattle.bindings.specs.declared.entries.Entry.{Entry}
 use Rattle.bindings.specs.Entries.{has_key, slot_of, entry_in, pairs_in, place_of, HasDistinctKeys}
 use Rattle.bindings.specs.Lists.{put_in, with_state}
 use Rattle.bindings.specs.Runs.{runs_of}
-use Rattle.bindings.proofs.Places.{turn-none, rest-none}
+use Rattle.bindings.proofs.Offered.{turn-none, rest-none}
 use Rattle.resync.specs.Batch.{is_settled, owners_of}
 use Rattle.resync.specs.Cursor.{runs_from, is_behind, to_come}
 use Rattle.resync.specs.declared.cursor.Cursor.{Cursor}

@@ -14,7 +14,7 @@ use Rattle.bindings.specs.Lives.{KeepsOthers}
 use Rattle.bindings.specs.Ports.{in_either}
 use Rattle.bindings.specs.Runs.{all_ports}
 use Rattle.bindings.specs.Table.{Table, IsPast}
-use Rattle.lives.specs.Lives.{Life, came, life_begun}
+use Rattle.activity.specs.Lives.{Activity, came, life_begun}
 use Rattle.resync.specs.declared.loading.Loaded.{Loaded}
 use Rattle.resync.specs.declared.loading.Loaded.TheVariants.{Prepared, Paired, Whole}
 use Rattle.port_range.specs.Ports.{is_listed, is_within}
@@ -136,7 +136,7 @@ abbrev pub ready_after : Record → ℕ → ℕ
 ready_after r ready = (if is_put r then ready - 1 else ready)
 
 -- a pair's life begins now, not by Install; Begin leaves none
-abbrev pub lives_taken : ℕ → Record → List Entry → List Life → List Life
+abbrev pub lives_taken : ℕ → Record → List Entry → List Activity → List Activity
 lives_taken now (Install p) es ls = ls
 lives_taken now (Accept k) es ls = ls
 lives_taken now (Refuse k) es ls = ls

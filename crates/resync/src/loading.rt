@@ -4,7 +4,7 @@ ghost use Rattle.std.specs.Prelude.{OnOk, OnErr, IfOk, Some, None, if◌then◌e
 ghost use Rattle.addresses.specs.declared.transport.Port.{Port as PortNumber};
 ghost use Rattle.nat_types.specs.declared.pairs.EntryState.TheVariants.{Live, Held};
 ghost use Rattle.nat_types.specs.declared.records.Record.TheVariants as record_of;
-ghost use Rattle.lives.specs.Lives.{came};
+ghost use Rattle.activity.specs.Lives.{came};
 ghost use Rattle.bindings.specs.Entries.{slot_of, entry_of, entry_in};
 ghost use Rattle.bindings.specs.Lists.{put_in};
 ghost use Rattle.bindings.specs.Lives.{KeepsOthers};

@@ -1,2 +1,2 @@
-pub mod Moved
-pub mod Parts
+mod Moved
+mod Parts

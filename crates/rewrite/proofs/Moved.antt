@@ -4,7 +4,7 @@ use Rattle.std.proofs.Common.{◌≡◌, ℕ, ◌+◌, ◌-◌, ◌*◌, ◌/◌
 use Rattle.byteorder.specs.Endian.{big_number, big_bytes}
 use Rattle.frames.specs.Bytes.{Puts}
 use Rattle.sums.specs.Sum.{word_sum, ones_sum, checksum_of, IsRight, IsUpdate}
-use Rattle.sums.proofs.Words.{word_sum-replace}
+use Rattle.sums.proofs.Offered.{word_sum-replace}
 use Rattle.ipv4.specs.declared.flows.Flow.{Flow}
 use Rattle.rewrite.specs.Sums.{address_sum, flow_sum}
 use Rattle.rewrite.specs.Translated.{header_unsummed, header_with, tcp_sum, segment_with_ports, moved_sum, with_word, tcp_checksum, tcp_with}

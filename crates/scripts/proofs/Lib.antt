@@ -1,2 +1,2 @@
-pub mod Numbers
-pub mod Rows
+mod Numbers
+mod Rows

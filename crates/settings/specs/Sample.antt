@@ -3,7 +3,7 @@ use Rattle.std.specs.Prelude.{◌≡◌, ℕ, ◌+◌, ◌*◌, List, [], ◌∷
 use Rattle.nat_types.specs.declared.gateways.Side.{Side}
 use Rattle.nat_types.specs.declared.gateways.Side.TheVariants.{Inside, Outside}
 use Rattle.settings.specs.declared.ranges.PortRange.{PortRange}
-use Rattle.settings.specs.declared.interfaces.Interface.{Interface}
+use Rattle.settings.specs.declared.interfaces.InterfaceSettings.{InterfaceSettings}
 use Rattle.settings.specs.declared.interfaces.Neighbour.{Neighbour}
 use Rattle.settings.specs.declared.gateway_settings.GatewaySettings.{GatewaySettings}
 use Rattle.settings.specs.declared.whole.Settings.{Settings}
@@ -22,7 +22,7 @@ pub record Spans (range : PortRange) (lowest highest : ℕ) : Type 0 where
   pub highest_is : range.highest.0 ≡ highest
 
 -- a network has these values
-pub record IsNetwork (interface : Interface) (virtual prefix router wire : ℕ) : Type 0 where
+pub record IsNetwork (interface : InterfaceSettings) (virtual prefix router wire : ℕ) : Type 0 where
   pub virtual_is : interface.virtual_ip.0 ≡ virtual
   pub prefix_is : interface.prefix_length ≡ prefix
   pub router_is : interface.virtual_router ≡ router

@@ -6,7 +6,7 @@ use nat_types::Side;
 
 /// One of the two networks, and the virtual router on it (RFC 9568).
 #[derive(Clone, Copy, Debug, PartialEq, Eq)]
-pub struct Interface {
+pub struct InterfaceSettings {
     /// The address that the virtual router answers for. The outside one is the NAT's outside
     /// address.
     pub virtual_ip: Ip,
@@ -22,7 +22,7 @@ pub struct Interface {
     ghost wired: { 0 < wire },
 }
 
-impl Interface {
+impl InterfaceSettings {
     /// The network's addresses.
     pub fn network(&self) -> Prefix
         ensures address { result.address ≡ self.now.virtual_ip }

@@ -9,6 +9,6 @@ mod sample;
 mod whole;
 
 pub use gateway_settings::GatewaySettings;
-pub use interfaces::{Interface, Neighbour};
+pub use interfaces::{InterfaceSettings, Neighbour};
 pub use ranges::{PortRange, PortRanges};
 pub use whole::Settings;

@@ -3,7 +3,7 @@ ghost use Rattle.std.specs.Prelude.{◌≡◌, ◌<◌, IfOk, codes};
 ghost use Rattle.nat_types.specs.declared.gateways.Side.TheVariants.{Inside};
 ghost use Rattle.settings.specs.Sample.{address, Spans, IsNetwork, IsGateway, IsSample, neighbour_of, sample_neighbours};
 
-use crate::{GatewaySettings, Interface, Neighbour, PortRange, PortRanges, Settings};
+use crate::{GatewaySettings, InterfaceSettings, Neighbour, PortRange, PortRanges, Settings};
 use addresses::{Ip, Mac, Port};
 use nat_types::Side;
 use std::alloc::{AllocError, Global};
@@ -24,10 +24,10 @@ fn ranges() -> PortRanges
     }
 }
 
-fn inside() -> Interface
+fn inside() -> InterfaceSettings
     ensures { IsNetwork result (address 192 168 1 1) 24 11 7101 }
 {
-    Interface {
+    InterfaceSettings {
         virtual_ip: Ip::new([192, 168, 1, 1]),
         prefix_length: 24,
         virtual_router: 11,
@@ -35,10 +35,10 @@ fn inside() -> Interface
     }
 }
 
-fn outside() -> Interface
+fn outside() -> InterfaceSettings
     ensures { IsNetwork result (address 192 0 2 1) 24 10 7102 }
 {
-    Interface {
+    InterfaceSettings {
         virtual_ip: Ip::new([192, 0, 2, 1]),
         prefix_length: 24,
         virtual_router: 10,

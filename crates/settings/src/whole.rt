@@ -1,7 +1,7 @@
 //! All that a pair is set up with.
 ghost use Rattle.std.specs.Prelude.{◌≤◌, vec_len};
 
-use crate::{GatewaySettings, Interface, Neighbour, PortRanges};
+use crate::{GatewaySettings, InterfaceSettings, Neighbour, PortRanges};
 use addresses::Ip;
 use nat_types::{GatewayId, Side};
 
@@ -9,8 +9,8 @@ use nat_types::{GatewayId, Side};
 #[derive(Debug, Drop)]
 pub struct Settings {
     pub ports: PortRanges,
-    pub inside: Interface,
-    pub outside: Interface,
+    pub inside: InterfaceSettings,
+    pub outside: InterfaceSettings,
     /// The router on the outside network, the next hop to all other networks.
     pub router: Ip,
     /// Gateway 0.
@@ -37,7 +37,7 @@ impl Settings {
     }
 
     /// One of the two networks.
-    pub fn interface(&self, side: Side) -> &Interface
+    pub fn interface(&self, side: Side) -> &InterfaceSettings
         ensures { result.now ≡ interface_of self.now side }
     {
         match side {

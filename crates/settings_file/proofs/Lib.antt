@@ -1,3 +1,3 @@
-pub mod Agree
-pub mod Least
-pub mod Lists
+mod Agree
+mod Least
+mod Lists

@@ -2,7 +2,7 @@
 use Rattle.std.specs.Prelude.{◌≡◌, true, Some, string_bytes}
 use Rattle.toml.specs.Data.{Members}
 use Rattle.settings.specs.declared.ranges.PortRange.{PortRange}
-use Rattle.settings.specs.declared.interfaces.Interface.{Interface}
+use Rattle.settings.specs.declared.interfaces.InterfaceSettings.{InterfaceSettings}
 use Rattle.settings.specs.declared.gateway_settings.GatewaySettings.{GatewaySettings}
 use Rattle.settings_file.specs.declared.keys.Section.{Section}
 use Rattle.settings_file.specs.declared.keys.Name.{Name}
@@ -16,7 +16,7 @@ abbrev pub IsRange : Members → Name → PortRange → Type 0
 IsRange t name range = range_at t Ports name ≡ Some (range.lowest.0, range.highest.0)
 
 -- a network
-pub record IsInterface (t : Members) (s : Section) (interface : Interface) : Type 0 where
+pub record IsInterface (t : Members) (s : Section) (interface : InterfaceSettings) : Type 0 where
   pub virtual_is : address_at t s Virtual ≡ Some interface.virtual_ip.0
   pub prefix_is : number_at 8 30 t s Prefix ≡ Some interface.prefix_length
   pub vrid_is : number_at 1 255 t s Vrid ≡ Some interface.virtual_router

@@ -11,7 +11,7 @@ ghost use Rattle.settings_file.specs.Values.{IsRange, IsInterface};
 use crate::faults::ValueFault;
 use crate::{Key, Name, Section, fields};
 use addresses::{Ip, Prefix};
-use settings::{Interface, PortRange};
+use settings::{InterfaceSettings, PortRange};
 use std::alloc::Global;
 use toml::Table;
 
@@ -30,7 +30,7 @@ pub(crate) fn ports(document: &Table) -> Result<(PortRange, PortRange), ValueFau
 
 /// The inside network.
 #[tactic(auto, unfolding(crate::specs::Rows::bad_inside))]
-pub(crate) fn inside(alloc: Global, document: &Table) -> Result<Interface, ValueFault>
+pub(crate) fn inside(alloc: Global, document: &Table) -> Result<InterfaceSettings, ValueFault>
     ensures ok { IfOk result (IsInterface (table_view document.now) Inside) }
     ensures good { OnOk result (bad_inside (table_view document.now) ≡ None) }
     ensures err { IfErr result (TellsFirst (bad_inside (table_view document.now))) }
@@ -39,7 +39,7 @@ pub(crate) fn inside(alloc: Global, document: &Table) -> Result<Interface, Value
     let prefix_length = fields::number(document, Section::Inside, Name::Prefix, 8, 30)? as u8;
     let virtual_router = fields::number(document, Section::Inside, Name::Vrid, 1, 255)? as u8;
     let wire = fields::number(document, Section::Inside, Name::Wire, 1, 65535)?;
-    Ok(Interface {
+    Ok(InterfaceSettings {
         virtual_ip,
         prefix_length,
         virtual_router,
@@ -63,7 +63,7 @@ pub(crate) fn outside(
     alloc: Global,
     document: &Table,
     inside: Prefix,
-) -> Result<Interface, ValueFault>
+) -> Result<InterfaceSettings, ValueFault>
     ensures ok { IfOk result (IsInterface (table_view document.now) Outside) }
     ensures good { OnOk result
         (bad_outside (inside.address.0, inside.length) (table_view document.now) ≡ None) }
@@ -77,7 +77,7 @@ pub(crate) fn outside(
     }
     let virtual_router = fields::number(document, Section::Outside, Name::Vrid, 1, 255)? as u8;
     let wire = fields::number(document, Section::Outside, Name::Wire, 1, 65535)?;
-    Ok(Interface {
+    Ok(InterfaceSettings {
         virtual_ip,
         prefix_length,
         virtual_router,

@@ -14,7 +14,7 @@ use crate::gateways::gateway;
 use crate::neighbours::neighbours;
 use crate::{Section, sections};
 use addresses::Ip;
-use settings::{GatewaySettings, Interface, Neighbour, PortRange};
+use settings::{GatewaySettings, InterfaceSettings, Neighbour, PortRange};
 use std::alloc::Global;
 use toml::Table;
 
@@ -23,8 +23,8 @@ use toml::Table;
 pub(crate) struct Values {
     pub(crate) zero_ports: PortRange,
     pub(crate) one_ports: PortRange,
-    pub(crate) inside: Interface,
-    pub(crate) outside: Interface,
+    pub(crate) inside: InterfaceSettings,
+    pub(crate) outside: InterfaceSettings,
     pub(crate) router: Ip,
     pub(crate) zero: GatewaySettings,
     pub(crate) one: GatewaySettings,

@@ -9,7 +9,7 @@ use Rattle.std.proofs.lemmas.List.Sums.{sum_by-cons}
 use Rattle.std.proofs.lemmas.List.Sorted.{sum_by-IsPermutation, IsNonDecreasingBy-from_sort}
 use Rattle.timers.specs.Chains.{times}
 use Rattle.timers.specs.Due.{is_due, due_from, due_slots}
-use Rattle.timers.proofs.Leading.{here}
+use Rattle.timers.proofs.Offered.{here}
 
 -- no number lies below this one, or below the one in front of it
 abbrev pub Climbs : ℕ → List ℕ → Type 0

@@ -5,7 +5,7 @@ use Rattle.std.specs.Option.{option_map}
 use Rattle.std.proofs.lemmas.Bool.{cond-true, cond-false, lt-ltb, le-ltb}
 use Rattle.nat_types.specs.declared.pairs.Key.{Key}
 use Rattle.nat_types.specs.Same.{same_key}
-use Rattle.nat_types.proofs.Equal.{key-self}
+use Rattle.nat_types.proofs.Offered.{key-self}
 use Rattle.slots.specs.declared.numbers.SlotNumber.{SlotNumber}
 use Rattle.slots.specs.Rows.{Row, key_place, has_key, row_of, put_in, without, with_item, Rises}
 use Rattle.slots.specs.Cells.{key_at, row_in, rows_from}

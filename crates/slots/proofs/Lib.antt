@@ -1,6 +1,7 @@
-pub mod Places
-pub mod Rows
-pub mod Edits
-pub mod Stored
-pub mod LookUps
-pub mod Due
+mod Places
+mod Rows
+mod Edits
+mod Stored
+mod LookUps
+mod Due
+pub mod Offered

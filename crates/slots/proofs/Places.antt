@@ -3,7 +3,7 @@ use Rattle.std.proofs.Common.{◌≡◌, ℕ, ◌+◌, ◌-◌, ◌<◌, ◌≤�
 use Rattle.std.proofs.lemmas.Bool.{ltb-true, ltb-false, lt-ltb, le-ltb, cases_lt, cases_eq}
 use Rattle.addresses.specs.declared.transport.Protocol.TheVariants.{Tcp, Udp}
 use Rattle.nat_types.specs.Same.{same_key}
-use Rattle.nat_types.proofs.Equal.{key-false}
+use Rattle.nat_types.proofs.Offered.{key-false}
 use Rattle.slots.specs.Rows.{key_place}
 use Rattle.slots.specs.Cells.{key_at}
 

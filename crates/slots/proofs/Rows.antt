@@ -4,7 +4,7 @@ use Rattle.std.specs.List.{find, cons_option}
 use Rattle.std.specs.Option.{option_map, is_some}
 use Rattle.std.proofs.lemmas.Bool.{cond-true, cond-false, cases_lt}
 use Rattle.nat_types.specs.Same.{same_key}
-use Rattle.nat_types.proofs.Equal.{key-self}
+use Rattle.nat_types.proofs.Offered.{key-self}
 use Rattle.slots.specs.declared.numbers.SlotNumber.{SlotNumber}
 use Rattle.slots.specs.Rows.{Row, key_place, has_key, row_of, Rises}
 use Rattle.slots.specs.Cells.{key_at, row_in, rows_from}

@@ -1,13 +1,14 @@
-pub mod Found
-pub mod Leading
-pub mod Writing
-pub mod Standing
-pub mod Unlinking
-pub mod Linking
-pub mod Counting
-pub mod Changing
-pub mod Taking
-pub mod Walking
-pub mod Turning
-pub mod Fresh
-pub mod CallerLemmas
+mod Found
+mod Leading
+mod Writing
+mod Standing
+mod Unlinking
+mod Linking
+mod Counting
+mod Changing
+mod Taking
+mod Walking
+mod Turning
+mod Fresh
+mod CallerLemmas
+pub mod Offered

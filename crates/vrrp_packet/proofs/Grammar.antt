@@ -2,7 +2,7 @@
 use Rattle.std.proofs.Common.{◌≡◌, ◌≤◌, ◌<◌, ℕ, ◌+◌, ◌*◌, ◌%◌, Bool, true, false, not, ◌&&◌, ◌||◌, ◌==◌, nat_lt, ◌⊎◌, List, [], ◌∷◌, ◌++◌, length, ap, ◌∙◌, sym, arith, Option, None, IsTrue, ◌↔◌}
 use Rattle.std.proofs.lemmas.Bool.Decides.{nat_tests}
 use Rattle.sums.specs.Sum.{word_sum, ones_sum, IsRight}
-use Rattle.sums.proofs.Words.{word_sum-append}
+use Rattle.sums.proofs.Offered.{word_sum-append}
 use Rattle.ipv4.specs.Order.{first_fault}
 use Rattle.ipv4.specs.Header.{has_wrong_sum}
 use Rattle.vrrp_packet.specs.declared.AdvertFault.{AdvertFault}

@@ -1,2 +1,2 @@
-pub mod Grammar
-pub mod Written
+mod Grammar
+mod Written

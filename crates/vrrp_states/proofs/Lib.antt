@@ -1,4 +1,4 @@
-pub mod Lines
-pub mod Unique
-pub mod Truths
-pub mod Rows
+mod Lines
+mod Unique
+mod Truths
+mod Rows

@@ -7,7 +7,7 @@ use Rattle.vrrp_states.specs.declared.State.TheVariants.{Initialize, Backup, Act
 use Rattle.vrrp_states.specs.declared.Action.{Action}
 use Rattle.vrrp_states.specs.declared.Action.TheVariants.{Nothing, Advertise}
 use Rattle.vrrp_states.specs.Table.{Router, Event, Start, Stop, Heard, Outranks, Line, InitializeStart, InitializeOther, BackupStop, BackupTimer, BackupPriorityZero, BackupFollows, BackupOther, ActiveStop, ActiveTimer, ActivePriorityZero, ActiveYields, ActiveOther, NothingDue, Says, IsStep}
-use Rattle.vrrp_states.specs.Run.{Told, Runs, hears}
+use Rattle.vrrp_states.specs.Run.{RouterInput, Runs, hears}
 use Rattle.vrrp_states.proofs.Unique.{one_step}
 
 -- an advertisement that doesn't outrank an Active router
@@ -55,17 +55,17 @@ stopped r s now a step = stop_at r.state r s now a refl step
 idles : (r s : Router) (e : Event) (now : ℕ) (a : Action) → r.state ≡ Initialize → (e ≡ Start → ⊥) → IsStep r e now a s → (a ≡ Nothing) × (s ≡ r)
 idles r s e now a is other step = one_step r e now a Nothing s r step (InitializeOther, (is, other, refl, refl))
 
-pub stays : (r s : Router) (told : List Told) → r.state ≡ Initialize → All (λ (x : Told). x.event ≡ Start → ⊥) told → Runs r told s → s ≡ r
+pub stays : (r s : Router) (told : List RouterInput) → r.state ≡ Initialize → All (λ (x : RouterInput). x.event ≡ Start → ⊥) told → Runs r told s → s ≡ r
 stays r s [] is none run = run
 stays r s (x ∷ more) is none run =
-    let idle = idles r run.0 x.event x.now x.action is (All-head (λ (y : Told). y.event ≡ Start → ⊥) x more none) run.1 in
-    stays r s more is (All-tail (λ (y : Told). y.event ≡ Start → ⊥) x more none) (subst (λ (y : Router). Runs y more s) idle.1 run.2)
+    let idle = idles r run.0 x.event x.now x.action is (All-head (λ (y : RouterInput). y.event ≡ Start → ⊥) x more none) run.1 in
+    stays r s more is (All-tail (λ (y : RouterInput). y.event ≡ Start → ⊥) x more none) (subst (λ (y : Router). Runs y more s) idle.1 run.2)
 
-pub silent : (r s : Router) (told : List Told) → r.state ≡ Initialize → All (λ (x : Told). x.event ≡ Start → ⊥) told → Runs r told s → All (λ (x : Told). x.action ≡ Nothing) told
-silent r s [] is none run = All-nil (λ (x : Told). x.action ≡ Nothing)
+pub silent : (r s : Router) (told : List RouterInput) → r.state ≡ Initialize → All (λ (x : RouterInput). x.event ≡ Start → ⊥) told → Runs r told s → All (λ (x : RouterInput). x.action ≡ Nothing) told
+silent r s [] is none run = All-nil (λ (x : RouterInput). x.action ≡ Nothing)
 silent r s (x ∷ more) is none run =
-    let idle = idles r run.0 x.event x.now x.action is (All-head (λ (y : Told). y.event ≡ Start → ⊥) x more none) run.1 in
-    All-cons (λ (y : Told). y.action ≡ Nothing) x more idle.0 (silent r s more is (All-tail (λ (y : Told). y.event ≡ Start → ⊥) x more none) (subst (λ (y : Router). Runs y more s) idle.1 run.2))
+    let idle = idles r run.0 x.event x.now x.action is (All-head (λ (y : RouterInput). y.event ≡ Start → ⊥) x more none) run.1 in
+    All-cons (λ (y : RouterInput). y.action ≡ Nothing) x more idle.0 (silent r s more is (All-tail (λ (y : RouterInput). y.event ≡ Start → ⊥) x more none) (subst (λ (y : Router). Runs y more s) idle.1 run.2))
 
 -- a router's own values
 pub record Own (s r : Router) : Type 0 where

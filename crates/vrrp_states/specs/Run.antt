@@ -4,13 +4,13 @@ use Rattle.vrrp_states.specs.declared.Action.{Action}
 use Rattle.vrrp_states.specs.Table.{Router, Event, Heard, IsStep}
 
 -- one event, its moment, and what was sent
-pub record Told : Type 0 where
+pub record RouterInput : Type 0 where
   pub event : Event
   pub now : ℕ
   pub action : Action
 
 -- steps one after another, from a router to what it is afterwards
-abbrev pub Runs : Router → List Told → Router → Type 0
+abbrev pub Runs : Router → List RouterInput → Router → Type 0
 Runs router [] last = last ≡ router
 Runs router (told ∷ more) last = (next : Router)
     × IsStep router told.event told.now told.action next × Runs next more last

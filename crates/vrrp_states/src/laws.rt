@@ -5,7 +5,7 @@ ghost use Rattle.vrrp_states.specs.declared.State.TheVariants as states;
 ghost use Rattle.vrrp_states.specs.declared.Action.{Action};
 ghost use Rattle.vrrp_states.specs.declared.Action.TheVariants as actions;
 ghost use Rattle.vrrp_states.specs.Table.{Router, Event, Start, Stop, Line, Says, IsStep};
-ghost use Rattle.vrrp_states.specs.Run.{Told, Runs, hears};
+ghost use Rattle.vrrp_states.specs.Run.{RouterInput, Runs, hears};
 
 /// Of each router, event and moment exactly one line of the table can be said, and it tells what is sent and what becomes of the router.
 pub fn exactly_one_line()
@@ -41,9 +41,9 @@ pub fn greater_address_stays()
 pub fn stopped_stays()
     ensures stopped { (r s : Router) (now : ℕ) (a : Action) → IsStep r Stop now a s
         → s.state ≡ states.Initialize }
-    ensures stays { (r s : Router) (told : List Told) → r.state ≡ states.Initialize
+    ensures stays { (r s : Router) (told : List RouterInput) → r.state ≡ states.Initialize
         → All (λ x. x.event ≡ Start → ⊥) told → Runs r told s → s ≡ r }
-    ensures silent { (r s : Router) (told : List Told) → r.state ≡ states.Initialize
+    ensures silent { (r s : Router) (told : List RouterInput) → r.state ≡ states.Initialize
         → All (λ x. x.event ≡ Start → ⊥) told → Runs r told s
         → All (λ x. x.action ≡ actions.Nothing) told }
 {}

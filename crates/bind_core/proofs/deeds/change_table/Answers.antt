@@ -1,8 +1,8 @@
 use Rattle.std.proofs.Common.{Bool, subst, ◌∙◌}
-use Rattle.binding_step.specs.declared.changes.Change.{Change}
-use Rattle.binding_step.specs.declared.changes.Change.TheVariants.{Add}
-use Rattle.binding_step.specs.Fits.{Fits}
-use Rattle.lives.specs.Lives.{came}
+use Rattle.spec_binding.specs.declared.changes.Change.{Change}
+use Rattle.spec_binding.specs.declared.changes.Change.TheVariants.{Add}
+use Rattle.spec_binding.specs.WellFormed.{Fits}
+use Rattle.activity.specs.Lives.{came}
 use Rattle.bindings.specs.Table.{IsPast}
 use Rattle.bind_core.specs.Changes.{table_book}
 use Rattle.bind_core.proofs.Changing.{stays-added}

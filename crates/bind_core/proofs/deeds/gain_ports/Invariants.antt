@@ -1,6 +1,6 @@
 use Rattle.std.proofs.Common.{◌≡◌, take, map}
 use Rattle.addresses.specs.declared.transport.Port.{Port}
-use Rattle.binding_step.specs.Rows.{with_gained}
+use Rattle.spec_binding.specs.Rows.{with_gained}
 use Rattle.bind_core.specs.Changes.{table_book}
 use Rattle.bind_core.proofs.deeds.gain_ports.Given as goal
 

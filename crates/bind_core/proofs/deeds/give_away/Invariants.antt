@@ -1,6 +1,6 @@
 use Rattle.std.proofs.Common.{◌≡◌, take, map}
 use Rattle.addresses.specs.declared.transport.Port.{Port}
-use Rattle.binding_step.specs.Rows.{without_ports}
+use Rattle.spec_binding.specs.Rows.{without_ports}
 use Rattle.bind_core.proofs.deeds.give_away.Given as goal
 
 pub record GivenAway (l : goal.Live-loop-port) : Type 0 where

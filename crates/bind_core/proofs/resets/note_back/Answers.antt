@@ -3,8 +3,8 @@ use Rattle.std.proofs.lemmas.List.{append-nil}
 use Rattle.nat_types.specs.declared.pairs.Key.{Key}
 use Rattle.bindings.specs.declared.entries.Entry.{Entry}
 use Rattle.resync.specs.Cursor.{place_after}
-use Rattle.resync.proofs.Behind.{table-strict, found-sent, place-on, place-small}
-use Rattle.binding_step.specs.Resets.{back_in, retaken}
+use Rattle.resync.proofs.Offered.{table-strict, found-sent, place-on, place-small}
+use Rattle.spec_binding.specs.Resets.{back_in, retaken}
 use Rattle.bind_core.proofs.Walking.{behind, behind-next, behind-none, noted-next, none-all}
 use Rattle.bind_core.proofs.resets.note_back.Goals as goal
 

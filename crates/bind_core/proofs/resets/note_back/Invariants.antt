@@ -1,6 +1,6 @@
 use Rattle.std.proofs.Common.{◌≡◌, ◌+◌, ◌-◌, ◌≤◌, ◌++◌, length, vec_len, vec_capacity}
 use Rattle.resync.specs.Cursor.{place_after}
-use Rattle.binding_step.specs.Resets.{back_in, retaken}
+use Rattle.spec_binding.specs.Resets.{back_in, retaken}
 use Rattle.bind_core.proofs.Walking.{behind}
 use Rattle.bind_core.proofs.resets.note_back.Given as goal
 

@@ -1,7 +1,7 @@
 use Rattle.std.proofs.Common.{◌≡◌, ◌≤◌, length}
 use Rattle.std.specs.List.{filter}
 use Rattle.bindings.specs.Ports.{is_spare}
-use Rattle.binding_step.specs.Rows.{falling}
+use Rattle.spec_binding.specs.Rows.{falling}
 use Rattle.binding_rows.proofs.grants.count_spare.Given as goal
 
 pub record Counted (l : goal.Live-loop-i) : Type 0 where

@@ -1,7 +1,7 @@
 use Rattle.std.proofs.Common.{◌≡◌, take}
 use Rattle.std.specs.List.{filter}
 use Rattle.bindings.specs.Ports.{is_spare}
-use Rattle.binding_step.specs.Rows.{falling, as_ports}
+use Rattle.spec_binding.specs.Rows.{falling, as_ports}
 use Rattle.binding_rows.proofs.grants.greatest.Given as goal
 
 abbrev pub invariant-loop-i : goal.invariant-loop-i

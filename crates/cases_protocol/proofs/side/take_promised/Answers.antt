@@ -1,8 +1,8 @@
 use Rattle.std.proofs.Common.{◌≡◌, List, length, Option, Some, None, refl, sym, ap, ◌∙◌}
 use Rattle.nat_types.specs.declared.records.Record.{Record}
 use Rattle.link.specs.Link.{Link}
-use Rattle.binding_step.specs.Ledgers.{Ledger, rests_for}
-use Rattle.binding_step.specs.Rows.{answered}
+use Rattle.spec_binding.specs.Ledgers.{Ledger, rests_for}
+use Rattle.spec_binding.specs.Rows.{answered}
 use Rattle.bind_core.specs.Cores.{book_of, ledger_of}
 use Rattle.cases_protocol.proofs.side.take_promised.Goals as goal
 

@@ -1,5 +1,5 @@
-use Rattle.binding_step.specs.Ledgers.{rests_for}
-use Rattle.binding_step.specs.Rows.{taken_answer}
+use Rattle.spec_binding.specs.Ledgers.{rests_for}
+use Rattle.spec_binding.specs.Rows.{taken_answer}
 use Rattle.forwarder.specs.Forwarder.{shown_of}
 use Rattle.gateway.proofs.Places.{free-answered}
 use Rattle.gateway.proofs.records.take_alone.Goals as goal

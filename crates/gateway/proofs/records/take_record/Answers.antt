@@ -1,7 +1,7 @@
 use Rattle.std.proofs.Common.{ap, ◌∙◌}
-use Rattle.kept.specs.declared.waits.Ended.TheVariants.{One}
-use Rattle.kept.specs.declared.waits.Wait.TheVariants.{Pair}
-use Rattle.step_parts.specs.Shown.{Scene}
+use Rattle.waiting.specs.declared.waits.Ended.TheVariants.{One}
+use Rattle.waiting.specs.declared.waits.WaitsFor.TheVariants.{Pair}
+use Rattle.spec_step.specs.Shown.{GatewayAndOutput}
 use Rattle.forwarder.specs.Forwarder.{scene_on}
 use Rattle.gateway.proofs.Staying.{released-stays}
 use Rattle.gateway.proofs.records.take_record.Goals as goal
@@ -9,4 +9,4 @@ use Rattle.gateway.proofs.records.take_record.Goals as goal
 pub returns-in-Some-clause-moment : goal.returns-in-Some-clause-moment
 returns-in-Some-clause-moment c =
     let stays = released-stays (scene_on c.take_and_start-ended.new.forwarder c.take_and_start-ended.new.page) (One (Pair c.in-Some.endpoint)) in
-    ap (λ (s : Scene). s.shown.moment) c.release_one.ensures.scene ∙ stays.moment ∙ c.take_and_start-ended.ensures.moment
+    ap (λ (s : GatewayAndOutput). s.shown.moment) c.release_one.ensures.scene ∙ stays.moment ∙ c.take_and_start-ended.ensures.moment

@@ -1,8 +1,8 @@
 use Rattle.std.proofs.Common.{◌+◌, length, drop, refl, sym, ap, ◌∙◌, arith}
 use Rattle.nat_types.specs.declared.records.Record.{Record}
 use Rattle.link.specs.Link.{answers_count}
-use Rattle.step_parts.specs.Parts.{records_done}
-use Rattle.step_parts.specs.Shown.{Scene}
+use Rattle.spec_step.specs.Parts.{records_done}
+use Rattle.spec_step.specs.Shown.{GatewayAndOutput}
 use Rattle.forwarder.specs.Forwarder.{scene_on}
 use Rattle.gateway.proofs.Taking.{count-more, count-most, first-place, next-at}
 use Rattle.gateway.proofs.records.take_records.Goals as goal
@@ -76,7 +76,7 @@ loop-entry-preserved c =
     let most = count-most rest in
     let counted = ap answers_count e in
     record {
-      scene = ap (λ (s : Scene). records_done s rest) made.scene ∙ (sym (ap (records_done (scene_on c.loop-entry.forwarder c.loop-entry.page)) e) ∙ inv.scene);
+      scene = ap (λ (s : GatewayAndOutput). records_done s rest) made.scene ∙ (sym (ap (records_done (scene_on c.loop-entry.forwarder c.loop-entry.page)) e) ∙ inv.scene);
       moment = made.moment ∙ inv.moment;
       formed = formed.1;
       few = omega (arith, size, few);

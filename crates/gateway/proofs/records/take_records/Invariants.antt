@@ -2,7 +2,7 @@ use Rattle.std.proofs.Common.{◌≡◌, ◌≤◌, ◌*◌, length, drop}
 use Rattle.std.specs.List.{AllByRecursion}
 use Rattle.link.specs.Grammar.{IsWellFormedRecord}
 use Rattle.link.specs.Link.{answers_count, free_places}
-use Rattle.step_parts.specs.Parts.{records_done}
+use Rattle.spec_step.specs.Parts.{records_done}
 use Rattle.forwarder.specs.Forwarder.{scene_on}
 use Rattle.gateway.proofs.records.take_records.Given as goal
 

@@ -1,4 +1,4 @@
-use Rattle.step_parts.specs.Shown.{Shown}
+use Rattle.spec_step.specs.Shown.{Shown}
 use Rattle.forwarder.specs.Forwarder.{shown_of}
 use Rattle.gateway.proofs.routers.cue_router.Goals as goal
 

@@ -1,10 +1,10 @@
 use Rattle.std.proofs.Common.{subst}
-use Rattle.step_parts.specs.declared.events.Event.TheVariants.{Tick}
-use Rattle.step_parts.specs.Shown.{Scene}
-use Rattle.step_parts.specs.Steps.{Does}
+use Rattle.spec_step.specs.declared.events.Event.TheVariants.{Tick}
+use Rattle.spec_step.specs.Shown.{GatewayAndOutput}
+use Rattle.spec_step.specs.Steps.{Does}
 use Rattle.forwarder.specs.Forwarder.{scene_on}
 use Rattle.gateway.proofs.steps.clock_ticked.Goals as goal
 
 pub returns-clause-does : goal.returns-clause-does
 returns-clause-does c =
-    subst (λ (s : Scene). Does s (Tick c.args.now) (scene_on c.take_tick.new.forwarder c.take_tick.new.page)) c.in_ok-make_ready.ensures.scene c.take_tick.ensures.does
+    subst (λ (s : GatewayAndOutput). Does s (Tick c.args.now) (scene_on c.take_tick.new.forwarder c.take_tick.new.page)) c.in_ok-make_ready.ensures.scene c.take_tick.ensures.does

@@ -1,5 +1,5 @@
 use Rattle.std.proofs.Common.{◌∙◌}
-use Rattle.step_parts.specs.Steps.{IsStepOn}
+use Rattle.spec_step.specs.Steps.{IsStepOn}
 use Rattle.forwarder.specs.Forwarder.{scene_on}
 use Rattle.gateway.proofs.Lasting.{step-lasts}
 use Rattle.gateway.proofs.steps.step.Goals as goal

@@ -1,5 +1,5 @@
 use Rattle.std.proofs.Common.{[], sym, ◌∙◌}
-use Rattle.binding_step.specs.Rows.{after, answered, carry_row}
+use Rattle.spec_binding.specs.Rows.{after, answered, carry_row}
 use Rattle.bind_core.specs.Cores.{book_of}
 use Rattle.bind_core.specs.View.{core_of}
 use Rattle.bind_core.proofs.Performing.{works-as, carry-quiet, same-carried}

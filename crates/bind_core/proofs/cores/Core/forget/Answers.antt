@@ -1,7 +1,7 @@
 use Rattle.std.proofs.Common.{subst, sym, ap, ◌∙◌, arith}
 use Rattle.bindings.specs.Table.{Table}
 use Rattle.resync.specs.Loading.{Progress}
-use Rattle.binding_step.specs.Books.{IsBook, empty_book}
+use Rattle.spec_binding.specs.Books.{IsBook, empty_book}
 use Rattle.bind_core.specs.Cores.{Core}
 use Rattle.bind_core.specs.View.{core_of}
 use Rattle.bind_core.proofs.Performing.{forgotten, still-between}

@@ -1,5 +1,5 @@
 use Rattle.std.proofs.Common.{ap, ◌∙◌}
-use Rattle.binding_step.specs.Books.{Book}
+use Rattle.spec_binding.specs.Books.{Book}
 use Rattle.bind_core.specs.Cores.{Core}
 use Rattle.bind_core.proofs.cores.Core.found.Goals as goal
 

@@ -1,7 +1,7 @@
 use Rattle.std.proofs.Common.{◌≡◌, false, refl, subst, sym, ap, ◌∙◌, arith}
 use Rattle.bindings.specs.Table.{Table}
 use Rattle.resync.specs.Loading.{Progress}
-use Rattle.binding_step.specs.Books.{IsBook, is_synced}
+use Rattle.spec_binding.specs.Books.{IsBook, is_synced}
 use Rattle.bind_core.specs.Cores.{Core, book_of}
 use Rattle.bind_core.specs.View.{core_of}
 use Rattle.bind_core.proofs.Performing.{load-book, load-comes, load-kept, still-between, whole-stage}

@@ -1,5 +1,5 @@
 use Rattle.std.proofs.Common.{[], ◌∷◌, refl}
-use Rattle.binding_step.specs.Resets.{put_alone}
+use Rattle.spec_binding.specs.Resets.{put_alone}
 use Rattle.bind_core.specs.Cores.{book_of}
 use Rattle.bind_core.proofs.Performing.{works-as}
 use Rattle.bind_core.proofs.cores.Core.peer_off.Goals as goal

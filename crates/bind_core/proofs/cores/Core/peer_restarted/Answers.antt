@@ -3,9 +3,9 @@ use Rattle.link.specs.Link.{with_promised}
 use Rattle.bindings.specs.Revivals.{revived_entries}
 use Rattle.resync.specs.Batch.{HasNoPending, batch_of}
 use Rattle.resync.specs.declared.cursor.Cursor.{Cursor}
-use Rattle.binding_step.specs.declared.setups.Stage.TheVariants.{Paired}
-use Rattle.binding_step.specs.Books.{Book, IsBook}
-use Rattle.binding_step.specs.Resets.{restarted, restart_link}
+use Rattle.spec_binding.specs.declared.setups.Stage.TheVariants.{Paired}
+use Rattle.spec_binding.specs.Books.{Book, IsBook}
+use Rattle.spec_binding.specs.Resets.{restarted, restart_link}
 use Rattle.bind_core.specs.Cores.{book_of, revived_with}
 use Rattle.bind_core.proofs.Performing.{works-as, restarted-synced, restarted-bare, link-synced, link-bare}
 use Rattle.bind_core.proofs.cores.Core.peer_restarted.Goals as goal

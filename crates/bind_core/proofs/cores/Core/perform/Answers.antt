@@ -1,7 +1,7 @@
 use Rattle.std.proofs.Common.{◌≡◌, true, refl, subst, sym, ap, ◌∙◌, arith}
 use Rattle.bindings.specs.Table.{Table}
-use Rattle.binding_step.specs.Books.{IsBook, is_promised}
-use Rattle.binding_step.specs.Rows.{after}
+use Rattle.spec_binding.specs.Books.{IsBook, is_promised}
+use Rattle.spec_binding.specs.Rows.{after}
 use Rattle.bind_core.specs.Changes.{IsSteady}
 use Rattle.bind_core.specs.Cores.{Core, book_of}
 use Rattle.bind_core.specs.View.{core_of}

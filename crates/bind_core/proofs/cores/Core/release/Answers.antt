@@ -1,5 +1,5 @@
 use Rattle.std.proofs.Common.{◌≡◌, false, ap}
-use Rattle.binding_step.specs.Rows.{idle_row}
+use Rattle.spec_binding.specs.Rows.{idle_row}
 use Rattle.bind_core.specs.Changes.{adds}
 use Rattle.bind_core.specs.Cores.{Core, book_of}
 use Rattle.bind_core.proofs.Deciding.{idle-steady, idle-adds, idle-places}

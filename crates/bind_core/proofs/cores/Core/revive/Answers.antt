@@ -1,6 +1,6 @@
 use Rattle.std.proofs.Common.{subst, sym, ap, ◌∙◌, arith}
 use Rattle.bindings.specs.Table.{Table}
-use Rattle.binding_step.specs.Books.{IsBook}
+use Rattle.spec_binding.specs.Books.{IsBook}
 use Rattle.bind_core.specs.Cores.{Core, revived_with}
 use Rattle.bind_core.specs.View.{core_of}
 use Rattle.bind_core.proofs.Performing.{revived-book, still-between}

@@ -1,6 +1,6 @@
 use Rattle.std.proofs.Common.{[], ◌∷◌, suc, sym, ap, ◌∙◌}
-use Rattle.binding_step.specs.Rows.{row_of, answered, taken_book, taken_answer}
-use Rattle.binding_step.specs.Ledgers.{rests_for}
+use Rattle.spec_binding.specs.Rows.{row_of, answered, taken_book, taken_answer}
+use Rattle.spec_binding.specs.Ledgers.{rests_for}
 use Rattle.bind_core.specs.Cores.{book_of, ledger_of}
 use Rattle.bind_core.proofs.Performing.{book-after, ready-then, works-as, taken-book, taken-answer, taken-ledger, loaded-book, loaded-answer, loaded-ledger}
 use Rattle.bind_core.proofs.cores.Core.take.Goals as goal

@@ -1,6 +1,6 @@
 use Rattle.std.proofs.Common.{◌≡◌, [], Some, slice_get, length, sym, ap, ◌∙◌, arith}
 use Rattle.bindings.specs.Table.{idle_keys_of}
-use Rattle.binding_step.specs.Ledgers.{Ledger, let_go}
+use Rattle.spec_binding.specs.Ledgers.{Ledger, let_go}
 use Rattle.bind_core.specs.Cores.{Core, book_of, ledger_of}
 use Rattle.bind_core.proofs.Performing.{works-as}
 use Rattle.bind_core.proofs.Releasing.{few-idle, one-more-at, all-done, TickLaws, released-works}

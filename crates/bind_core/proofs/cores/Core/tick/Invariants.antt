@@ -1,6 +1,6 @@
 use Rattle.std.proofs.Common.{◌≡◌, ◌+◌, ◌≤◌, ◌++◌, drop, vec_len, vec_capacity}
 use Rattle.bindings.specs.Table.{idle_keys_of}
-use Rattle.binding_step.specs.Ledgers.{let_go}
+use Rattle.spec_binding.specs.Ledgers.{let_go}
 use Rattle.bind_core.specs.Cores.{ledger_of}
 use Rattle.bind_core.proofs.cores.Core.tick.Given as goal
 

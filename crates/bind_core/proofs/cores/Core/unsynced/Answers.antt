@@ -1,7 +1,7 @@
 use Rattle.std.proofs.Common.{sym, subst, ◌∙◌, arith}
 use Rattle.bindings.specs.Table.{Table}
-use Rattle.binding_step.specs.Books.{Book, IsBook, empty_book}
-use Rattle.binding_step.specs.Ledgers.{Ledger}
+use Rattle.spec_binding.specs.Books.{Book, IsBook, empty_book}
+use Rattle.spec_binding.specs.Ledgers.{Ledger}
 use Rattle.resync.specs.Loading.{Progress}
 use Rattle.std.proofs.Common.{ap}
 use Rattle.bind_core.proofs.Performing.{empty-is}

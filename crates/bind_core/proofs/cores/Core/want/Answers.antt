@@ -1,7 +1,7 @@
 use Rattle.std.proofs.Common.{◌≡◌, ap, ◌∙◌}
-use Rattle.binding_step.specs.declared.changes.Wish.{Wish}
-use Rattle.binding_step.specs.Rows.{wish_of, is_full, answered}
-use Rattle.binding_step.specs.Ledgers.{Ledger}
+use Rattle.spec_binding.specs.declared.changes.PortRequest.{PortRequest}
+use Rattle.spec_binding.specs.Rows.{wish_of, is_full, answered}
+use Rattle.spec_binding.specs.Ledgers.{Ledger}
 use Rattle.bind_core.specs.Cores.{book_of}
 use Rattle.bind_core.proofs.Deciding.{wish-steady}
 use Rattle.bind_core.proofs.Performing.{ledger-then, ready-then, works-as}
@@ -23,7 +23,7 @@ pub returns-clause-ledger : goal.returns-clause-ledger
 returns-clause-ledger c =
     rw (← c.is_link_full-full.ensures)
     (ledger-then c.args.now c.args.self.now c.perform.new.self c.wish_for-wish.result.row (wish_of (book_of c.args.self.now) c.is_link_full-full.result c.args.endpoint).row c.perform.ensures.core
-    (ap (λ (w : Wish). w.row) c.wish_for-wish.ensures))
+    (ap (λ (w : PortRequest). w.row) c.wish_for-wish.ensures))
 
 pub returns-clause-ready : goal.returns-clause-ready
 returns-clause-ready c = ready-then c.args.now c.args.self.now c.perform.new.self c.wish_for-wish.result.row c.perform.ensures.core
@@ -31,6 +31,6 @@ returns-clause-ready c = ready-then c.args.now c.args.self.now c.perform.new.sel
 pub returns-clause-works : goal.returns-clause-works
 returns-clause-works c = λ h n stands.
     let link : c.perform.new.link ≡ answered c.args.link.now (wish_of (book_of c.args.self.now) (is_full c.args.link.now) c.args.endpoint).row.answer =
-    rw (← c.is_link_full-full.ensures) (c.perform.ensures.link ∙ ap (λ (w : Wish). answered c.args.link.now w.row.answer) c.wish_for-wish.ensures) in
+    rw (← c.is_link_full-full.ensures) (c.perform.ensures.link ∙ ap (λ (w : PortRequest). answered c.args.link.now w.row.answer) c.wish_for-wish.ensures) in
     works-as c.args.now _ _ (book_of c.args.self.now) c.args.link.now n _ (book_of c.perform.new.self) _ c.perform.new.link n _ h (ap (λ (l : Ledger). l.book) (returns-clause-ledger c)) link
     (c.wish_works.ensures c.args.now (book_of c.args.self.now) c.args.link.now n h (is_full c.args.link.now) c.args.endpoint stands)

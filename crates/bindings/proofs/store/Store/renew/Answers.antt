@@ -1,5 +1,5 @@
 use Rattle.std.proofs.Common.{ap, sym, subst}
-use Rattle.lives.specs.Lives.{Life, Agrees, renewed, life_renewed}
+use Rattle.activity.specs.Lives.{Activity, Agrees, renewed, life_renewed}
 use Rattle.slots.specs.Rows.{PortSlots}
 use Rattle.bindings.specs.declared.store.Item.{Item}
 use Rattle.bindings.proofs.Timed.{changed-timed}
@@ -22,5 +22,5 @@ pub returns-clause-agrees : goal.returns-clause-agrees
 returns-clause-agrees c =
     rw (← c.self.view_is) (λ life past h a.
     let item = item-of_life c.self.inside.slots.rows c.args.key life c.self.invariant.0.keyed h in
-    subst (λ (l : Life). Agrees c.args.key.protocol (renewed c.args.now past) (life_renewed c.args.now l)) item.2
+    subst (λ (l : Activity). Agrees c.args.key.protocol (renewed c.args.now past) (life_renewed c.args.now l)) item.2
     (c.put_renewal.ensures.agrees item.0 past item.1 (subst (Agrees c.args.key.protocol past) (sym item.2) a)))

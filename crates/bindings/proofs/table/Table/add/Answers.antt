@@ -2,7 +2,7 @@ use Rattle.std.proofs.Common.{false, cond, ap, sym, ◌∙◌, arith}
 use Rattle.std.specs.List.{insert}
 use Rattle.nat_types.specs.declared.pairs.Key.{Key}
 use Rattle.nat_types.specs.Same.{same_key}
-use Rattle.lives.specs.Lives.{came}
+use Rattle.activity.specs.Lives.{came}
 use Rattle.bindings.specs.Entries.{entry_in}
 use Rattle.bindings.specs.Lists.{place_in}
 use Rattle.bindings.specs.Ports.{is_free_at}

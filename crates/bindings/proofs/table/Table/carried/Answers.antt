@@ -1,5 +1,5 @@
-use Rattle.lives.specs.Lives.{with_packet, life_carried}
-use Rattle.lives.specs.declared.packets.Packet.{Packet}
+use Rattle.activity.specs.Lives.{with_packet, life_carried}
+use Rattle.activity.specs.declared.packets.Packet.{Packet}
 use Rattle.bindings.proofs.Holding.{stored-lives}
 use Rattle.bindings.proofs.Lived.{goes-on, others-stay, length-changed}
 use Rattle.bindings.proofs.table.Table.carried.Goals as goal

@@ -1,5 +1,5 @@
 use Rattle.std.proofs.Common.{◌∙◌, ap}
-use Rattle.lives.proofs.Pasts.{looks-is}
+use Rattle.activity.proofs.Offered.{looks-is}
 use Rattle.bindings.specs.Lives.{rests_by}
 use Rattle.bindings.proofs.table.Table.idle.Goals as goal
 

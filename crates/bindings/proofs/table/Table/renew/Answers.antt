@@ -1,4 +1,4 @@
-use Rattle.lives.specs.Lives.{renewed, life_renewed}
+use Rattle.activity.specs.Lives.{renewed, life_renewed}
 use Rattle.bindings.proofs.Holding.{stored-lives}
 use Rattle.bindings.proofs.Lived.{goes-on, others-stay, length-changed}
 use Rattle.bindings.proofs.table.Table.renew.Goals as goal

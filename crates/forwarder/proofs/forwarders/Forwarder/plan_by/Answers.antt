@@ -2,12 +2,12 @@ use Rattle.std.proofs.Common.{◌≡◌, ℕ, None, ap, sym, ◌∙◌}
 use Rattle.addresses.specs.declared.internet.Ip.{Ip}
 use Rattle.nat_types.specs.declared.gateways.Side.{Side}
 use Rattle.arp.specs.Neighbours.{mac_at}
-use Rattle.kept.specs.declared.waits.Wait.TheVariants.{Hop}
-use Rattle.kept.specs.Packets.{has_place}
+use Rattle.waiting.specs.declared.waits.WaitsFor.TheVariants.{Hop}
+use Rattle.waiting.specs.Packets.{has_place}
 use Rattle.packet_rules.specs.Networks.{exit_of}
-use Rattle.sides.specs.Stations.{Station}
-use Rattle.step_parts.specs.Shown.{station_on}
-use Rattle.step_parts.specs.Verdict.{exit_by, hop_by, next_by}
+use Rattle.interfaces.specs.Stations.{Interface}
+use Rattle.spec_step.specs.Shown.{station_on}
+use Rattle.spec_step.specs.Verdict.{exit_by, hop_by, next_by}
 use Rattle.forwarder.specs.Forwarder.{shown_of}
 use Rattle.forwarder.proofs.Planning.{plan-waits}
 use Rattle.forwarder.proofs.forwarders.Forwarder.plan_by.Goals as goal
@@ -19,7 +19,7 @@ returns-then-has_place c =
     let hop : c.next_hop-hop.result ≡ hop_by g c.args.by c.args.flow = ap (λ (n : ℕ). let i : Ip = record { 0 = n } in i) c.next_hop-hop.ensures in
     let next : next_by g c.args.by c.args.flow ≡ None =
     sym (c.in-None.ensures.mac
-    ∙ ap (λ (s : Station). mac_at c.next_hop-hop.result.0 c.args.self.now.moment s.neighbours) (c.station.ensures ∙ ap (station_on g) exit)
+    ∙ ap (λ (s : Interface). mac_at c.next_hop-hop.result.0 c.args.self.now.moment s.neighbours) (c.station.ensures ∙ ap (station_on g) exit)
     ∙ ap (λ (i : Ip). mac_at i.0 c.args.self.now.moment (station_on g (exit_by c.args.by)).neighbours) hop) in
     plan-waits g c.args.flow c.args.by c.next_hop-hop.result _ hop next (ap (λ (s : Side). has_place c.args.self.now.kept (Hop s c.next_hop-hop.result)) (sym exit) ∙ sym c.has_place.ensures ∙ c.if-has_place.true)
 
@@ -30,6 +30,6 @@ returns-else-has_place c =
     let hop : c.next_hop-hop.result ≡ hop_by g c.args.by c.args.flow = ap (λ (n : ℕ). let i : Ip = record { 0 = n } in i) c.next_hop-hop.ensures in
     let next : next_by g c.args.by c.args.flow ≡ None =
     sym (c.in-None.ensures.mac
-    ∙ ap (λ (s : Station). mac_at c.next_hop-hop.result.0 c.args.self.now.moment s.neighbours) (c.station.ensures ∙ ap (station_on g) exit)
+    ∙ ap (λ (s : Interface). mac_at c.next_hop-hop.result.0 c.args.self.now.moment s.neighbours) (c.station.ensures ∙ ap (station_on g) exit)
     ∙ ap (λ (i : Ip). mac_at i.0 c.args.self.now.moment (station_on g (exit_by c.args.by)).neighbours) hop) in
     plan-waits g c.args.flow c.args.by c.next_hop-hop.result _ hop next (ap (λ (s : Side). has_place c.args.self.now.kept (Hop s c.next_hop-hop.result)) (sym exit) ∙ sym c.has_place.ensures ∙ c.if-has_place.false)

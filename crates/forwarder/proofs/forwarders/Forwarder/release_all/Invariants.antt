@@ -1,8 +1,8 @@
 use Rattle.std.proofs.Common.{◌≡◌, ◌≤◌, ◌+◌, ◌*◌, drop, length, min}
-use Rattle.kept.specs.declared.waits.Ended.TheVariants.{AllPairs}
-use Rattle.kept.specs.Packets.{ended_by}
+use Rattle.waiting.specs.declared.waits.Ended.TheVariants.{AllPairs}
+use Rattle.waiting.specs.Packets.{ended_by}
 use Rattle.link.specs.Link.{free_places}
-use Rattle.step_parts.specs.Parts.{all_taken, released}
+use Rattle.spec_step.specs.Parts.{all_taken, released}
 use Rattle.forwarder.specs.Forwarder.{scene_on}
 use Rattle.forwarder.proofs.forwarders.Forwarder.release_all.Given as goal
 

@@ -1,13 +1,13 @@
 use Rattle.std.proofs.Common.{◌≡◌, ◌++◌, ◌∷◌, [], true, Some, ap, subst, sym, ◌∙◌}
 use Rattle.nat_types.specs.declared.gateways.GatewayId.{GatewayId}
 use Rattle.nat_types.specs.declared.gateways.GatewayId.TheVariants.{Zero, One}
-use Rattle.nat_types.specs.declared.notes.Happening.TheVariants.{Booted}
+use Rattle.nat_types.specs.declared.notes.NoteKind.TheVariants.{Booted}
 use Rattle.frame_sim.specs.World.{Half, World}
 use Rattle.frame_sim.specs.Events.{may_boot, noting}
 use Rattle.frame_sim.proofs.Taking.{sound-so}
 use Rattle.frame_sim.proofs.Turning.{boot-sound}
-use Rattle.step_parts.specs.Founding.{begun}
-use Rattle.step_parts.specs.Shown.{Shown}
+use Rattle.spec_step.specs.Founding.{begun}
+use Rattle.spec_step.specs.Shown.{Shown}
 use Rattle.frame_sim.proofs.worlds.World.boot.Goals as goal
 
 pub invariant_of-self-in-Zero : goal.invariant_of-self-in-Zero

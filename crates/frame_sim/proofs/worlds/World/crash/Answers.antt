@@ -1,7 +1,7 @@
 use Rattle.std.proofs.Common.{◌≡◌, ◌++◌, ◌∷◌, [], true, ap, subst, sym, ◌∙◌}
 use Rattle.nat_types.specs.declared.gateways.GatewayId.{GatewayId}
 use Rattle.nat_types.specs.declared.gateways.GatewayId.TheVariants.{Zero, One}
-use Rattle.nat_types.specs.declared.notes.Happening.TheVariants.{Crashed}
+use Rattle.nat_types.specs.declared.notes.NoteKind.TheVariants.{Crashed}
 use Rattle.frame_sim.specs.World.{World}
 use Rattle.frame_sim.specs.Events.{may_crash, noting}
 use Rattle.frame_sim.proofs.Taking.{sound-so}

@@ -1,6 +1,6 @@
 use Rattle.std.proofs.Common.{subst, ◌∙◌, ap}
 use Rattle.bindings.specs.Ports.{AreBounds}
-use Rattle.step_parts.specs.Shown.{Shown}
+use Rattle.spec_step.specs.Shown.{Shown}
 use Rattle.frame_sim.proofs.Turning.{founded-zero, founding-sound}
 use Rattle.frame_sim.proofs.worlds.World.new.Goals as goal
 

@@ -1,6 +1,6 @@
 use Rattle.std.proofs.Common.{take, arith, subst}
 use Rattle.std.proofs.lemmas.List.{take_more}
-use Rattle.told.specs.Told.{none_told}
+use Rattle.output.specs.Output.{none_told}
 use Rattle.nat_types.specs.declared.events.WorldEvent.{WorldEvent}
 use Rattle.frame_sim.specs.Runs.{Answers}
 use Rattle.frame_sim.proofs.Runs.{steps-push}

@@ -1,0 +1,14 @@
+-- The lemmas that proofs of other crates may cite.
+
+-- A pair is idle from its due moment on.
+-- a pair is idle just from its due moment on
+pub use Rattle.activity.proofs.Due.{idle-from}
+-- What is kept of a life agrees with its past.
+-- a packet of a UDP pair
+pub use Rattle.activity.proofs.Pasts.{agrees-udp}
+-- a packet of a TCP pair
+pub use Rattle.activity.proofs.Pasts.{agrees-tcp}
+-- whether a pair is idle
+pub use Rattle.activity.proofs.Pasts.{looks-is}
+-- An idle pair has rested since each use.
+pub use Rattle.activity.proofs.Resting.{accounts-came, accounts-renewed, accounts-later, accounts-more, accounts-idle, accounts-unused, rested-later}

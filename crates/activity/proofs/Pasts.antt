@@ -1,0 +1,90 @@
+-- What is kept of a life agrees with its past.
+use Rattle.std.proofs.Common.{◌≡◌, ℕ, ◌<◌, length, get_or, set, Bool, true, false, cond, ◌&&◌, ◌||◌, List, [], ◌∷◌, map, refl, ap, ◌∙◌}
+use Rattle.std.specs.List.{refill}
+use Rattle.std.proofs.lemmas.List.{length-set}
+use Rattle.std.proofs.lemmas.List.Folds.{list_all-map}
+use Rattle.addresses.specs.declared.transport.Protocol.{Protocol}
+use Rattle.addresses.specs.declared.transport.Protocol.TheVariants.{Tcp, Udp}
+use Rattle.activity.specs.declared.packets.Packet.{Packet}
+use Rattle.activity.specs.declared.sessions.Session.{Session}
+use Rattle.activity.specs.declared.TheConstants.{ESTABLISHED_REST, UDP_REST}
+use Rattle.activity.specs.Packets.{same_remote}
+use Rattle.activity.specs.Sessions.{stepped, begun_session, has_passed_by, has_rested}
+use Rattle.activity.specs.Places.{put_at, is_nowhere}
+use Rattle.activity.specs.Kept.{session_place, with_session, all_passed}
+use Rattle.activity.specs.Lives.{Course, History, Activity, Agrees, with_packet, last_of, courses, course_place, is_crowded, is_empty, is_idle, looks_idle, first_course, longer, session_of}
+use Rattle.activity.specs.declared.places.Place.TheVariants.{Known, Passed}
+use Rattle.activity.proofs.Items.{put-map, place-map, refilled, known-within, passed-within, set-changed, set-new}
+use Rattle.activity.proofs.Segments.{stepped-is, begun-is}
+
+-- a packet's place among what is kept
+pub place-is : (p : Packet) (cs : List Course) → session_place p (map session_of cs) ≡ course_place p cs
+place-is p cs = place-map session_of (λ x. same_remote x.remote p.remote) (has_passed_by p.at) cs
+
+-- what is kept once a packet is followed
+pub followed-is : (p : Packet) (cs : List Course) → with_session p (map session_of cs) ≡ map session_of (put_at (course_place p cs) (longer p) (first_course p) cs)
+followed-is p cs =
+    ap (λ place. put_at place (λ x. stepped x p) (begun_session p) (map session_of cs)) (place-is p cs)
+    ∙ ap (λ (x : Session). put_at (course_place p cs) (λ y. stepped y p) x (map session_of cs)) (begun-is p)
+    ∙ put-map session_of (course_place p cs) (longer p) (λ x. stepped x p) (first_course p) cs (λ c. stepped-is p c)
+
+no_use : (b : Bool) → false ≡ (b && false)
+no_use true = refl
+no_use false = refl
+
+-- a packet of a UDP pair
+pub agrees-udp : (past : History) (life2 : Activity) (p : Packet) → life2.last ≡ p.at → life2.is_unused ≡ false → Agrees Udp (with_packet p past) life2
+agrees-udp past life2 p last unused = record {
+  last = last;
+  unused = unused ∙ no_use past.by_install;
+  sessions = λ tcp. cc;
+  crowded = λ tcp. cc;
+}
+
+-- a packet of a TCP pair
+pub agrees-tcp : (past : History) (life life2 : Activity) (p : Packet) (nowhere : Bool) → Agrees Tcp past life → life2.last ≡ p.at → life2.is_unused ≡ false → life2.sessions ≡ with_session p life.sessions → nowhere ≡ is_nowhere (session_place p life.sessions) → life2.is_crowded ≡ (life.is_crowded || nowhere) → Agrees Tcp (with_packet p past) life2
+agrees-tcp past life life2 p nowhere a last unused sessions place crowded =
+    let kept = a.sessions refl in
+    record {
+      last = last;
+      unused = unused ∙ no_use past.by_install;
+      sessions = λ tcp. sessions ∙ ap (with_session p) kept ∙ followed-is p (courses past.packets);
+      crowded = λ tcp. crowded ∙ ap (λ b. b || nowhere) (a.crowded refl) ∙ ap (λ b. is_crowded past.packets || b) (place ∙ ap (λ xs. is_nowhere (session_place p xs)) kept ∙ ap is_nowhere (place-is p (courses past.packets)));
+    }
+
+none-kept : (cs : List Course) → is_empty (map session_of cs) ≡ is_empty cs
+none-kept [] = refl
+none-kept (c ∷ cs) = refl
+
+-- whether a TCP pair is idle
+pub idle-tcp : (past : History) (life : Activity) (now : ℕ) → Agrees Tcp past life → cond (life.is_crowded || is_empty life.sessions) (has_rested ESTABLISHED_REST life.last now) (all_passed now life.sessions) ≡ is_idle Tcp past now
+idle-tcp past life now a =
+    ap (λ b. cond (b || is_empty life.sessions) (has_rested ESTABLISHED_REST life.last now) (all_passed now life.sessions)) (a.crowded refl)
+    ∙ ap (λ xs. cond (is_crowded past.packets || is_empty xs) (has_rested ESTABLISHED_REST life.last now) (all_passed now xs)) (a.sessions refl)
+    ∙ ap (λ b. cond (is_crowded past.packets || b) (has_rested ESTABLISHED_REST life.last now) (all_passed now (map session_of (courses past.packets)))) (none-kept (courses past.packets))
+    ∙ ap (λ n. cond (is_crowded past.packets || is_empty (courses past.packets)) (has_rested ESTABLISHED_REST n now) (all_passed now (map session_of (courses past.packets)))) a.last
+    ∙ ap (cond (is_crowded past.packets || is_empty (courses past.packets)) (has_rested ESTABLISHED_REST (last_of past) now)) (list_all-map (has_passed_by now) session_of (courses past.packets))
+
+-- whether a pair is idle
+pub looks-is : (protocol : Protocol) (past : History) (life : Activity) (now : ℕ) → Agrees protocol past life → looks_idle protocol life now ≡ is_idle protocol past now
+looks-is Udp past life now a = ap (λ n. has_rested UDP_REST n now) a.last
+looks-is Tcp past life now a = idle-tcp past life now a
+
+-- ---- what is written
+
+pub known-written : (p : Packet) (xs there seen written : List Session) (i : ℕ) (d y : Session) → there ≡ xs → seen ≡ xs → written ≡ xs → Known i ≡ session_place p there → y ≡ stepped (get_or seen i d) p → refill (length xs) xs (set written i y) ≡ with_session p xs
+known-written p xs there seen written i d y e1 e2 e3 place is =
+    let here : Known i ≡ session_place p xs = place ∙ ap (session_place p) e1 in
+    let low : i < length xs = known-within (λ (x : Session). same_remote x.remote p.remote) (has_passed_by p.at) xs i d here in
+    let new : y ≡ stepped (get_or xs i d) p = is ∙ ap (λ zs. stepped (get_or zs i d) p) e2 in
+    ap (λ zs. refill (length xs) xs (set zs i y)) e3 ∙ refilled xs (set xs i y) (simp length-set)
+    ∙ ap (set xs i) new ∙ set-changed (λ x. stepped x p) xs i d low
+    ∙ ap (λ place. put_at place (λ x. stepped x p) (begun_session p) xs) here
+
+pub passed-written : (p : Packet) (xs there written : List Session) (i : ℕ) (d y : Session) → there ≡ xs → written ≡ xs → Passed i ≡ session_place p there → y ≡ begun_session p → refill (length xs) xs (set written i y) ≡ with_session p xs
+passed-written p xs there written i d y e1 e3 place is =
+    let here : Passed i ≡ session_place p xs = place ∙ ap (session_place p) e1 in
+    let low : i < length xs = passed-within (λ (x : Session). same_remote x.remote p.remote) (has_passed_by p.at) xs i d here in
+    ap (λ zs. refill (length xs) xs (set zs i y)) e3 ∙ refilled xs (set xs i y) (simp length-set)
+    ∙ ap (set xs i) is ∙ set-new (begun_session p) xs i low
+    ∙ ap (λ place. put_at place (λ x. stepped x p) (begun_session p) xs) here

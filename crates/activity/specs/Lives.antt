@@ -1,0 +1,189 @@
+-- The rule of idle pairs: a function of all packets that were carried since the pair's life began.
+use Rattle.std.specs.Prelude.{◌≡◌, ℕ, Bool, true, false, ◌&&◌, ◌||◌, List, [], ◌∷◌, map, if◌then◌else◌}
+use Rattle.std.specs.List.{list_any, list_all}
+use Rattle.addresses.specs.declared.transport.Protocol.{Protocol}
+use Rattle.addresses.specs.declared.transport.Protocol.TheVariants.{Tcp, Udp}
+use Rattle.addresses.specs.declared.transport.TcpFlags.{TcpFlags}
+use Rattle.activity.specs.declared.packets.Packet.{Packet}
+use Rattle.activity.specs.declared.packets.Remote.{Remote}
+use Rattle.activity.specs.declared.packets.Way.{Way}
+use Rattle.activity.specs.declared.packets.Way.TheVariants.{Outward, Inward}
+use Rattle.activity.specs.declared.places.Place.{Place}
+use Rattle.activity.specs.declared.sessions.Class.{Class}
+use Rattle.activity.specs.declared.sessions.Class.TheVariants.{Opening, Established, Closed}
+use Rattle.activity.specs.declared.sessions.Marks.{Marks}
+use Rattle.activity.specs.declared.sessions.Session.{Session}
+use Rattle.activity.specs.declared.TheConstants.{UDP_REST, ESTABLISHED_REST}
+use Rattle.activity.specs.Packets.{same_way, same_remote, is_fin, is_plain}
+use Rattle.activity.specs.Sessions.{is_closed, is_opening, first_class, rest_of, has_rested}
+use Rattle.activity.specs.Places.{place_by, put_at, is_nowhere}
+use Rattle.activity.specs.Kept.{all_passed, session_place, with_session}
+
+-- ---- one session: its segments, the newest first
+
+-- how a session stands: its class, and the segments since its marks were cleared
+pub record Standing : Type 0 where
+  pub class : Class
+  pub marked : List Packet
+
+-- one of the segments went this way and passes a test
+abbrev pub went : (TcpFlags → Bool) → Way → List Packet → Bool
+went test way segments = list_any (λ s. same_way s.way way && test s.flags) segments
+
+abbrev pub went_both_ways : (TcpFlags → Bool) → List Packet → Bool
+went_both_ways test segments = went test Outward segments && went test Inward segments
+
+-- A first segment: RST makes it Closed, else SYN without ACK Opening, else it is Established. Its own marks are set.
+abbrev pub begun : Packet → Standing
+begun s = record { class = first_class s.flags; marked = s ∷ [] }
+
+-- A further segment: RST counts first, then SYN in Closed, which clears the marks and sets none, then FIN carried both
+-- ways, then a segment with neither SYN nor RST carried each way in Opening.
+abbrev pub went_on : Standing → Packet → Standing
+went_on x s =
+    (if s.flags.rst then record { class = Closed; marked = s ∷ x.marked }
+    else (if is_closed x.class && s.flags.syn then record { class = Opening; marked = [] }
+    else (if went_both_ways is_fin (s ∷ x.marked) then record { class = Closed; marked = s ∷ x.marked }
+    else (if is_opening x.class && went_both_ways is_plain (s ∷ x.marked) then record { class = Established; marked = s ∷ x.marked }
+    else record { class = x.class; marked = s ∷ x.marked }))))
+
+abbrev pub standing : Packet → List Packet → Standing
+standing s [] = begun s
+standing s (t ∷ earlier) = went_on (standing t earlier) s
+
+-- a session: the remote host's address and port, its last segment, and those before it
+pub record Course : Type 0 where
+  pub remote : Remote
+  pub latest : Packet
+  pub earlier : List Packet
+
+abbrev pub class_of : Course → Class
+class_of c = (standing c.latest c.earlier).class
+
+-- its limit has passed, counted from its last segment
+abbrev pub has_passed : ℕ → Course → Bool
+has_passed now c = has_rested (rest_of (class_of c)) c.latest.at now
+
+-- ---- the sessions that a pair keeps
+
+abbrev pub first_course : Packet → Course
+first_course p = record { remote = p.remote; latest = p; earlier = [] }
+
+abbrev pub longer : Packet → Course → Course
+longer p c = record { remote = c.remote; latest = p; earlier = c.latest ∷ c.earlier }
+
+abbrev pub course_place : Packet → List Course → Place
+course_place p cs = place_by (λ c. same_remote c.remote p.remote) (has_passed p.at) cs
+
+-- the sessions after these packets, the newest of which comes first
+abbrev pub courses : List Packet → List Course
+courses [] = []
+courses (p ∷ older) = put_at (course_place p (courses older)) (longer p) (first_course p) (courses older)
+
+-- some packet found no place for its session
+abbrev pub is_crowded : List Packet → Bool
+is_crowded [] = false
+is_crowded (p ∷ older) = is_crowded older || is_nowhere (course_place p (courses older))
+
+-- ---- the life of a pair
+
+-- What a pair's entry saw: whether it came by Install and carried nothing before this life, when this life began, and
+-- the packets that it carried since, the newest first.
+pub record History : Type 0 where
+  pub by_install : Bool
+  pub since : ℕ
+  pub packets : List Packet
+
+-- a pair comes into the table
+abbrev pub came : Bool → ℕ → History
+came by_install now = record { by_install = by_install; since = now; packets = [] }
+
+-- a packet is carried
+abbrev pub with_packet : Packet → History → History
+with_packet p past = record { by_install = past.by_install; since = past.since; packets = p ∷ past.packets }
+
+abbrev pub is_empty : {A : Type 0} → List A → Bool
+is_empty [] = true
+is_empty (x ∷ xs) = false
+
+-- it came by Install, and carried nothing since
+abbrev pub is_unused : History → Bool
+is_unused past = past.by_install && is_empty past.packets
+
+-- the peer says No: the list begins anew
+abbrev pub renewed : ℕ → History → History
+renewed now past = record { by_install = is_unused past; since = now; packets = [] }
+
+abbrev pub newest_or : ℕ → List Packet → ℕ
+newest_or since [] = since
+newest_or since (p ∷ older) = p.at
+
+-- the last use, or the moment at which the life began
+abbrev pub last_of : History → ℕ
+last_of past = newest_or past.since past.packets
+
+-- A pair is idle: a UDP pair by its last use, a TCP pair with no session or that is crowded likewise, and another TCP
+-- pair where the limits of all its sessions have passed.
+abbrev pub is_idle : Protocol → History → ℕ → Bool
+is_idle Udp past now = has_rested UDP_REST (last_of past) now
+is_idle Tcp past now =
+    (if is_crowded past.packets || is_empty (courses past.packets)
+    then has_rested ESTABLISHED_REST (last_of past) now
+    else list_all (has_passed now) (courses past.packets))
+
+-- ---- what is kept of a life
+
+-- what callers see of a life
+pub record Activity : Type 0 where
+  pub last : ℕ
+  pub is_unused : Bool
+  pub is_crowded : Bool
+  pub sessions : List Session
+
+-- the rule on what is kept
+abbrev pub looks_idle : Protocol → Activity → ℕ → Bool
+looks_idle Udp life now = has_rested UDP_REST life.last now
+looks_idle Tcp life now =
+    (if life.is_crowded || is_empty life.sessions
+    then has_rested ESTABLISHED_REST life.last now
+    else all_passed now life.sessions)
+
+-- what is kept as a pair comes into a table, as it carries a packet, and as its list of packets begins empty
+abbrev pub life_begun : Bool → ℕ → Activity
+life_begun by_install now = record { last = now; is_unused = by_install; is_crowded = false; sessions = [] }
+
+abbrev pub life_carried : Protocol → Packet → Activity → Activity
+life_carried Udp p life = record life { last = p.at; is_unused = false }
+life_carried Tcp p life = record {
+  last = p.at;
+  is_unused = false;
+  is_crowded = life.is_crowded || is_nowhere (session_place p life.sessions);
+  sessions = with_session p life.sessions;
+}
+
+abbrev pub life_renewed : ℕ → Activity → Activity
+life_renewed now life = record life { last = now; is_crowded = false; sessions = [] }
+
+-- which ways a kind of segment went
+abbrev pub marks_of : (TcpFlags → Bool) → List Packet → Marks
+marks_of test segments = record { outward = went test Outward segments; inward = went test Inward segments }
+
+-- what a session's segments come to
+abbrev pub summed_up : Remote → Standing → ℕ → Session
+summed_up remote x last = record {
+  remote = remote;
+  class = x.class;
+  fin = marks_of is_fin x.marked;
+  plain = marks_of is_plain x.marked;
+  last = last;
+}
+
+abbrev pub session_of : Course → Session
+session_of c = summed_up c.remote (standing c.latest c.earlier) c.latest.at
+
+-- a life agrees with a past
+pub record Agrees (protocol : Protocol) (past : History) (life : Activity) : Type 0 where
+  pub last : life.last ≡ last_of past
+  pub unused : life.is_unused ≡ is_unused past
+  pub sessions : protocol ≡ Tcp → life.sessions ≡ map session_of (courses past.packets)
+  pub crowded : protocol ≡ Tcp → life.is_crowded ≡ is_crowded past.packets

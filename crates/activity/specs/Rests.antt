@@ -1,0 +1,50 @@
+-- What the rule of idle pairs gives to those who see uses and releases alone.
+use Rattle.std.specs.Prelude.{◌≡◌, ℕ, ◌+◌, ◌≤◌, ◌⊎◌, List, [], ◌∷◌}
+use Rattle.addresses.specs.declared.transport.Protocol.{Protocol}
+use Rattle.addresses.specs.declared.transport.Protocol.TheVariants.{Tcp, Udp}
+use Rattle.activity.specs.declared.packets.Packet.{Packet}
+use Rattle.activity.specs.declared.TheConstants.{UDP_REST, TRANSITORY_REST}
+use Rattle.activity.specs.Lives.{History}
+
+-- how long a pair of a protocol rests at least before it is idle, in centiseconds
+abbrev pub least_rest : Protocol → ℕ
+least_rest Tcp = TRANSITORY_REST
+least_rest Udp = UDP_REST
+
+-- the packets, newest first, were carried at moments that never ran back, none after this one
+abbrev pub CameBy : ℕ → List Packet → Type 0
+CameBy now [] = Unit {0}
+CameBy now (p ∷ older) = (p.at ≤ now) × CameBy p.at older
+
+-- each packet was carried at least so long before
+abbrev pub AllRested : ℕ → ℕ → List Packet → Type 0
+AllRested rest now [] = Unit {0}
+AllRested rest now (p ∷ older) = (p.at + rest ≤ now) × AllRested rest now older
+
+-- each of these moments lies at least so long before
+abbrev pub AllBefore : ℕ → ℕ → List ℕ → Type 0
+AllBefore rest now [] = Unit {0}
+AllBefore rest now (moment ∷ moments) = (moment + rest ≤ now) × AllBefore rest now moments
+
+-- ---- uses, as those see them who know no packets: a list of moments
+
+-- one of these moments is this one
+abbrev pub IsAmong : ℕ → List ℕ → Type 0
+IsAmong moment [] = ⊥
+IsAmong moment (m ∷ ms) = (moment ≡ m) ⊎ IsAmong moment ms
+
+-- a packet was carried at that moment
+abbrev pub WasCarried : ℕ → List Packet → Type 0
+WasCarried moment [] = ⊥
+WasCarried moment (p ∷ older) = (moment ≡ p.at) ⊎ WasCarried moment older
+
+-- each use lies at least so long before a moment
+abbrev pub HaveRested : ℕ → ℕ → List ℕ → Type 0
+HaveRested rest now uses = (use_at : ℕ) → IsAmong use_at uses → use_at + rest ≤ now
+
+-- A past accounts for uses: each of them carried one of its packets, or had rested when the past began. Its packets came
+-- in order, and neither they nor its beginning lie behind this moment.
+pub record AccountsFor (protocol : Protocol) (now : ℕ) (past : History) (uses : List ℕ) : Type 0 where
+  pub since : past.since ≤ now
+  pub packets : CameBy now past.packets
+  pub accounted : (use_at : ℕ) → IsAmong use_at uses → WasCarried use_at past.packets ⊎ (use_at + least_rest protocol ≤ past.since)

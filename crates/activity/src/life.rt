@@ -1,0 +1,136 @@
+//! The life of a pair in a table: what it needs to know whether the pair is idle.
+ghost use Rattle.std.specs.Prelude.{◌≡◌, ◌+◌, ◌||◌, if◌then◌else◌};
+ghost use Rattle.addresses.specs.declared.transport.Protocol.{Protocol as Transport};
+ghost use Rattle.activity.specs.Lives.{History, Agrees, came, with_packet, renewed, is_idle, looks_idle, is_unused, is_empty, life_begun, life_carried, life_renewed};
+ghost use Rattle.activity.specs.Sessions.{has_rested};
+ghost use Rattle.activity.specs.Kept.{all_passed};
+ghost use Rattle.activity.specs.Dues.{last_end, due_moment, clipped};
+
+use crate::places::{end_of_all, follow, have_all_passed};
+use crate::sessions::has_rested_since;
+use crate::{ESTABLISHED_REST, MAX_SESSIONS, Packet, Session, UDP_REST};
+use addresses::Protocol;
+use arrayvec::ArrayVec;
+use std::marker::Model;
+
+/// What a pair's entry keeps of the packets that the pair carried: four sessions at most, and three facts beside.
+#[derive(Drop)]
+pub struct Activity {
+    last: u64,
+    is_unused: bool,
+    is_crowded: bool,
+    sessions: ArrayVec<Session, MAX_SESSIONS>,
+}
+
+impl Model for Activity {
+    ghost use Rattle.activity.specs.Lives.{Activity as Seen};
+
+    ghost Value = { Seen };
+
+    ghost view = { λ l. record {
+      last = l.last;
+      is_unused = l.is_unused;
+      is_crowded = l.is_crowded;
+      sessions = l.sessions.items;
+    } };
+}
+
+/// Whether a TCP pair with these sessions is idle.
+fn is_tcp_idle(sessions: &[Session], is_crowded: bool, last: u64, now: u64) -> bool
+    ensures { result ≡ (if is_crowded || is_empty sessions.now
+        then has_rested ESTABLISHED_REST last
+        now else all_passed now sessions.now) }
+{
+    if is_crowded || sessions.is_empty() {
+        has_rested_since(ESTABLISHED_REST, last, now)
+    } else {
+        have_all_passed(sessions, now)
+    }
+}
+
+/// The moment from which a TCP pair with these sessions is idle, or the last moment of all.
+fn tcp_due(sessions: &[Session], is_crowded: bool, last: u64) -> u64
+    ensures { result ≡ clipped
+        (if is_crowded || is_empty sessions.now then last + ESTABLISHED_REST
+        else last_end sessions.now) }
+{
+    if is_crowded || sessions.is_empty() {
+        last.saturating_add(ESTABLISHED_REST)
+    } else {
+        end_of_all(sessions)
+    }
+}
+
+impl Activity {
+    /// A pair comes into a table, by Install or otherwise.
+    pub fn begin(by_install: bool, now: u64) -> Activity
+        ensures agrees { (protocol : Transport) → Agrees protocol (came by_install now) result }
+        ensures exact { result ≡ life_begun by_install now }
+    {
+        Activity {
+            last: now,
+            is_unused: by_install,
+            is_crowded: false,
+            sessions: ArrayVec::new(),
+        }
+    }
+
+    /// The pair carried a packet.
+    pub fn carried(&mut self, protocol: Protocol, packet: Packet)
+        ensures agrees { (past : History) → Agrees protocol past self.old
+            → Agrees protocol (with_packet packet past) self.new }
+        ensures exact { self.new ≡ life_carried protocol packet self.old }
+    {
+        self.last = packet.at;
+        self.is_unused = false;
+        match protocol {
+            Protocol::Udp => {}
+            Protocol::Tcp => {
+                let nowhere = follow(&mut self.sessions, packet);
+                self.is_crowded |= nowhere;
+            }
+        }
+    }
+
+    /// The list of packets begins empty.
+    pub fn renew(&mut self, now: u64)
+        ensures agrees { (protocol : Transport) → (past : History) → Agrees protocol past self.old
+            → Agrees protocol (renewed now past) self.new }
+        ensures exact { self.new ≡ life_renewed now self.old }
+    {
+        self.last = now;
+        self.is_crowded = false;
+        self.sessions.clear();
+    }
+
+    /// Whether the pair is idle at a moment.
+    pub fn is_idle(&self, protocol: Protocol, now: u64) -> bool
+        ensures idle { (past : History) → Agrees protocol past self.now → result
+            ≡ is_idle protocol past now }
+        ensures exact { result ≡ looks_idle protocol self.now now }
+    {
+        match protocol {
+            Protocol::Udp => has_rested_since(UDP_REST, self.last, now),
+            Protocol::Tcp => is_tcp_idle(self.sessions.as_slice(), self.is_crowded, self.last, now),
+        }
+    }
+
+    /// The moment from which the pair is idle, if it carries nothing more, or the last moment of all.
+    pub fn due(&self, protocol: Protocol) -> u64
+        ensures { result ≡ clipped (due_moment protocol self.now) }
+    {
+        match protocol {
+            Protocol::Udp => self.last.saturating_add(UDP_REST),
+            Protocol::Tcp => tcp_due(self.sessions.as_slice(), self.is_crowded, self.last),
+        }
+    }
+
+    /// Whether the pair came by Install and carried nothing since.
+    pub fn is_unused(&self) -> bool
+        ensures unused { (protocol : Transport) → (past : History) → Agrees protocol past self.now
+            → result ≡ is_unused past }
+        ensures exact { result ≡ self.now.is_unused }
+    {
+        self.is_unused
+    }
+}

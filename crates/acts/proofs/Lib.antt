@@ -1,3 +1,0 @@
-pub mod Statuses
-pub mod Refusing
-pub mod Passing

@@ -1,8 +1,0 @@
-use Rattle.binding_step.proofs.Waiting.{ends-waits, none-ends}
-use Rattle.binding_step.proofs.laws.waits_end.Goals as goal
-
-pub returns-clause-synced : goal.returns-clause-synced
-returns-clause-synced c = ends-waits
-
-pub returns-clause-unsynced : goal.returns-clause-unsynced
-returns-clause-unsynced c = none-ends

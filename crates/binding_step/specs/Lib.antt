@@ -1,8 +1,0 @@
-pub mod Books
-pub mod Rows
-pub mod Fits
-pub mod Resets
-pub mod Machine
-pub mod Ledgers
-pub mod Waits
-pub mod Uses

@@ -1,0 +1,3 @@
+mod Statuses
+mod Refusing
+mod Passing

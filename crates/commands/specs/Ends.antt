@@ -1,0 +1,48 @@
+-- What an exit status says of what was done.
+use Rattle.std.specs.Prelude.{◌≡◌, ℕ, List, Option}
+use Rattle.command_line.specs.Line.{entered_by}
+use Rattle.command_line.specs.Tasks.{Asks}
+use Rattle.command_line.specs.declared.tasks.Task.{Task}
+use Rattle.command_line.specs.declared.tasks.Task.TheVariants.{Init, Sim, Loop, Gate, PeerOff}
+use Rattle.settings.specs.declared.whole.Settings.{Settings}
+use Rattle.gate.specs.Served.{HasServed}
+use Rattle.simulation.specs.Status.{RunsScript}
+use Rattle.loopback.specs.Standings.{MayBe, Standing, bound, unasked}
+use Rattle.loopback_run.specs.Loops.{LoopsScript}
+use Rattle.loopback_run.specs.Turns.{Passes}
+
+-- the status of a run of some script, on a new world of the settings that some text holds
+pub record HasRun (status : ℕ) : Type 0 where
+  pub text : List ℕ
+  pub script : List ℕ
+  pub run : RunsScript text script status
+
+-- the sockets of a loopback passage: once it has its ports, they are those of these settings,
+abbrev pub has_ports : Standing → Settings → Standing → Type 0
+has_ports before settings after = after ≡ bound settings
+
+-- and what is sent may come, or be lost
+abbrev pub may_pass : Passes Standing
+may_pass before parcel fate after = MayBe before fate × (after ≡ before)
+
+-- the status of such a run in which what each event hands in is first sent through these
+pub record HasLoop (status : ℕ) : Type 0 where
+  pub text : List ℕ
+  pub script : List ℕ
+  pub last : Standing
+  pub run : LoopsScript has_ports may_pass text script unasked last status
+
+-- The status with which a task is done, and what was printed until then: that of such a run for `sim` and `loop`, 0 for
+-- the others; and for `gate` there are a start and its rounds.
+abbrev pub Ends : Option (List ℕ) → Option (List ℕ) → Task → ℕ → Type 0
+Ends before after (Init file) status = status ≡ 0
+Ends before after (Sim settings script) status = HasRun status
+Ends before after (Loop settings script) status = HasLoop status
+Ends before after (Gate settings id rounds found) status = (status ≡ 0) × HasServed id rounds found before after
+Ends before after (PeerOff settings id boot) status = status ≡ 0
+
+-- the words ask for a task that is done with this status
+pub record AreDone (words : List (List ℕ)) (before after : Option (List ℕ)) (status : ℕ) : Type 0 where
+  pub task : Task
+  pub asked : Asks (entered_by words) task
+  pub ends : Ends before after task status

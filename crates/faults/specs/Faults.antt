@@ -1,0 +1,37 @@
+-- The faults of the program, and what leads to each.
+use Rattle.std.specs.Prelude.{ℕ}
+use Rattle.faults.specs.declared.faults.Fault.{Fault}
+use Rattle.faults.specs.declared.faults.Fault.TheVariants.{Words, Setting, BadLine, NoFile, Exists, NotWritten, NotText, NoSocket, NoMemory}
+use Rattle.faults.specs.declared.prints.PrintFault.{PrintFault}
+use Rattle.faults.specs.declared.prints.PrintFault.TheVariants as prints
+use Rattle.scripts.specs.declared.faults.ScriptFault.{ScriptFault}
+use Rattle.scripts.specs.declared.faults.ScriptFault.TheVariants as scripts
+use Rattle.settings_file.specs.declared.faults.SettingFault.{SettingFault}
+use Rattle.settings_file.specs.declared.faults.SettingFault.TheVariants as sets
+
+-- 2 for words that can't be read, 1 for all else
+abbrev pub status_of : Fault → ℕ
+status_of Words = 2
+status_of (Setting fault) = 1
+status_of (BadLine n) = 1
+status_of NoFile = 1
+status_of Exists = 1
+status_of NotWritten = 1
+status_of NotText = 1
+status_of NoSocket = 1
+status_of NoMemory = 1
+
+-- the fault of a run that isn't printed
+abbrev pub of_print : PrintFault → Fault
+of_print prints.NotWritten = NotWritten
+of_print prints.NoMemory = NoMemory
+
+-- the fault of a script that isn't read
+abbrev pub of_script : ScriptFault → Fault
+of_script (scripts.BadLine n) = BadLine n
+of_script scripts.NoMemory = NoMemory
+
+-- the fault of settings that aren't read
+abbrev pub of_setting : SettingFault → Fault
+of_setting sets.NoMemory = NoMemory
+of_setting fault = Setting fault

@@ -1,0 +1,165 @@
+//! Why the program ends without its work done.
+ghost use Rattle.std.specs.Prelude.{◌≡◌};
+
+use crate::PrintFault;
+use nat_types::NoMemory;
+use scripts::ScriptFault;
+use settings_file::SettingFault;
+use std::alloc::AllocError;
+use std::io::{self, ErrorKind, Write};
+use thiserror::Error;
+
+/// Why the program ends without its work done.
+#[derive(Debug, Drop, Error)]
+pub enum Fault {
+    /// The words of the command line aren't UTF-8.
+    #[error("words that are not text")]
+    Words,
+    /// The settings' text holds none.
+    #[error("settings {0}")]
+    Setting(SettingFault),
+    /// The script's line with this number, from 1, is none of a script's.
+    #[error("script 1 BadLine {0}")]
+    BadLine(usize),
+    /// A file couldn't be opened or read.
+    #[error("file 1 NoFile")]
+    NoFile,
+    /// A file that was to be made is there already.
+    #[error("file 2 Exists")]
+    Exists,
+    /// A file or output couldn't be written.
+    #[error("file 3 NotWritten")]
+    NotWritten,
+    /// A file isn't UTF-8.
+    #[error("file 4 NotText")]
+    NotText,
+    /// A port couldn't be had.
+    #[error("socket 1 NoSocket")]
+    NoSocket,
+    #[error("memory 1 NoMemory")]
+    NoMemory,
+}
+
+impl Fault {
+    ghost use Rattle.std.specs.Prelude.{◌≡◌, ◌≢◌};
+    ghost use Rattle.std.specs.IoError.{error_kind};
+    ghost use Rattle.faults.specs.Faults.{status_of};
+    ghost use Rattle.faults.specs.declared.faults.Fault.TheVariants as faults;
+
+    /// The exit status that the fault leads to.
+    pub fn status(&self) -> u8
+        ensures { result ≡ status_of self.now }
+    {
+        match self {
+            Fault::Words => 2,
+            _ => 1,
+        }
+    }
+
+    /// Tells of the fault on a line behind `natpair: `, and gives its exit status. Where even that can't be
+    /// written, the status alone tells.
+    pub fn tell<E: Write>(&self, errors: &mut E) -> u8
+        ensures { result ≡ status_of self.now }
+    {
+        let _ = writeln!(errors, "natpair: {self}");
+        self.status()
+    }
+
+    /// The fault of words that couldn't be read.
+    pub fn of_starting(error: io::Error) -> Fault
+        ensures memory { error_kind error ≡ ErrorKind.OutOfMemory → result ≡ faults.NoMemory }
+        ensures words { error_kind error ≢ ErrorKind.OutOfMemory → result ≡ faults.Words }
+    {
+        match error.kind() {
+            ErrorKind::OutOfMemory => Fault::NoMemory,
+            _ => Fault::Words,
+        }
+    }
+
+    /// The fault of a file that couldn't be read.
+    pub fn of_reading(error: io::Error) -> Fault
+        ensures memory { error_kind error ≡ ErrorKind.OutOfMemory → result ≡ faults.NoMemory }
+        ensures file { error_kind error ≢ ErrorKind.OutOfMemory → result ≡ faults.NoFile }
+        ensures status { status_of result ≡ 1 }
+    {
+        match error.kind() {
+            ErrorKind::OutOfMemory => Fault::NoMemory,
+            _ => Fault::NoFile,
+        }
+    }
+}
+
+impl From<AllocError> for Fault {
+    ghost use Rattle.std.specs.Prelude.{◌≡◌};
+    ghost use Rattle.faults.specs.declared.faults.Fault.TheVariants as faults;
+
+    ghost from_gives = { λ _ fault. fault ≡ faults.NoMemory };
+
+    fn from(_: AllocError) -> Fault {
+        Fault::NoMemory
+    }
+}
+
+impl From<NoMemory> for Fault {
+    ghost use Rattle.std.specs.Prelude.{◌≡◌};
+    ghost use Rattle.faults.specs.declared.faults.Fault.TheVariants as faults;
+
+    ghost from_gives = { λ _ fault. fault ≡ faults.NoMemory };
+
+    fn from(_: NoMemory) -> Fault {
+        Fault::NoMemory
+    }
+}
+
+impl From<io::Error> for Fault {
+    ghost use Rattle.std.specs.Prelude.{◌≡◌};
+    ghost use Rattle.faults.specs.declared.faults.Fault.TheVariants as faults;
+
+    ghost from_gives = { λ _ fault. fault ≡ faults.NotWritten };
+
+    fn from(_: io::Error) -> Fault {
+        Fault::NotWritten
+    }
+}
+
+impl From<PrintFault> for Fault {
+    ghost use Rattle.std.specs.Prelude.{◌≡◌};
+    ghost use Rattle.faults.specs.Faults.{of_print};
+
+    ghost from_gives = { λ fault gives. gives ≡ of_print fault };
+
+    fn from(fault: PrintFault) -> Fault {
+        match fault {
+            PrintFault::NotWritten => Fault::NotWritten,
+            PrintFault::NoMemory => Fault::NoMemory,
+        }
+    }
+}
+
+impl From<ScriptFault> for Fault {
+    ghost use Rattle.std.specs.Prelude.{◌≡◌};
+    ghost use Rattle.faults.specs.Faults.{of_script};
+
+    ghost from_gives = { λ fault gives. gives ≡ of_script fault };
+
+    fn from(fault: ScriptFault) -> Fault {
+        match fault {
+            ScriptFault::BadLine(number) => Fault::BadLine(number),
+            ScriptFault::NoMemory => Fault::NoMemory,
+        }
+    }
+}
+
+impl From<SettingFault> for Fault {
+    ghost use Rattle.std.specs.Prelude.{◌≡◌};
+    ghost use Rattle.faults.specs.Faults.{of_setting};
+
+    ghost from_gives = { λ fault gives. gives ≡ of_setting fault };
+
+    fn from(fault: SettingFault) -> Fault {
+        match fault {
+            SettingFault::NoMemory => Fault::NoMemory,
+            fault => Fault::Setting(fault),
+        }
+    }
+}

@@ -1,0 +1,109 @@
+//! What a packet does that has to wait, or is dropped.
+ghost use Rattle.std.specs.Prelude.{◌≡◌, ◌≤◌, ◌+◌, true, min};
+ghost use Rattle.waiting.specs.declared.waits.WaitsFor.TheVariants.{Hop, Pair};
+ghost use Rattle.waiting.specs.Packets.{has_place};
+ghost use Rattle.link.specs.Link.{free_places};
+ghost use Rattle.spec_binding.specs.WellFormed.{IsWellFormedEndpoint};
+ghost use Rattle.packet_rules.specs.Arping.{request_frame};
+ghost use Rattle.packet_rules.specs.Flows.{source_of};
+ghost use Rattle.spec_step.specs.declared.plans.Plan.TheVariants.{Ask, Wait as WaitFor};
+ghost use Rattle.spec_step.specs.Parts.{by_plan, by_refusal, framed};
+ghost use Rattle.spec_step.specs.Shown.{station_on};
+ghost use Rattle.spec_step.specs.Verdict.{exit_by};
+ghost use Rattle.forwarder.specs.Forwarder.{scene_on, shown_of};
+
+use crate::Forwarder;
+use crate::outgoing::Request;
+use addresses::Ip;
+use ipv4::Flow;
+use nat_types::Side;
+use output::OutputBuffer;
+use packet_rules::{Reason, Translation, source_endpoint};
+use waiting::HeldPacket;
+
+impl Forwarder {
+    /// Asks everyone on a side for an address.
+    fn send_request(&self, page: &mut OutputBuffer, exit: Side, hop: Ip)
+        requires frames { 1 ≤ page.old.room.frames }
+        ensures scene { scene_on self.now page.new
+            ≡ framed (scene_on self.now page.old) exit
+            (request_frame (station_on (shown_of self.now) exit).network hop) }
+        ensures room { page.old.room
+            ≡ record page.new.room { frames = page.new.room.frames + 1 } }
+    {
+        let request = Request {
+            network: self.station(exit).network(),
+            hop,
+        };
+        page.make_frame(exit, &request);
+    }
+
+    /// A packet waits for its next hop, which is asked for.
+    pub(crate) fn ask(
+        &mut self,
+        page: &mut OutputBuffer,
+        flow: Flow,
+        by: Translation,
+        hop: Ip,
+        copy: HeldPacket,
+    )
+        requires formed { IsWellFormedEndpoint (source_of flow) }
+        requires place { has_place self.old.kept copy.wait ≡ true }
+        requires since { copy.since ≡ self.old.moment }
+        requires wait { copy.wait ≡ Hop (exit_by by) hop }
+        requires frames { 1 ≤ page.old.room.frames }
+        requires notes { 1 ≤ page.old.room.notes }
+        requires ready { 1 ≤ self.old.core.table.ready }
+        ensures scene { scene_on self.new page.new
+            ≡ by_plan (scene_on self.old page.old) copy.side copy.bytes flow (Ask by hop) }
+        ensures frames { page.old.room.frames ≤ page.new.room.frames + 1 }
+        ensures datagrams { page.new.room.datagrams ≡ page.old.room.datagrams }
+        ensures notes { page.old.room.notes ≤ page.new.room.notes + 1 }
+        ensures ready { self.old.core.table.ready ≤ self.new.core.table.ready + 1 }
+        ensures places { min 64 (free_places self.old.link) ≤ free_places self.new.link }
+    {
+        self.wish_for(page, flow, &by);
+        self.kept.keep(copy);
+        self.send_request(page, by.direction().exit(), hop);
+    }
+
+    /// A packet waits for the answer to the proposal of its endpoint's pair.
+    pub(crate) fn wait(&mut self, page: &mut OutputBuffer, flow: Flow, copy: HeldPacket)
+        requires formed { IsWellFormedEndpoint (source_of flow) }
+        requires place { has_place self.old.kept copy.wait ≡ true }
+        requires since { copy.since ≡ self.old.moment }
+        requires wait { copy.wait ≡ Pair (source_of flow) }
+        requires notes { 1 ≤ page.old.room.notes }
+        requires ready { 1 ≤ self.old.core.table.ready }
+        ensures scene { scene_on self.new page.new
+            ≡ by_plan (scene_on self.old page.old) copy.side copy.bytes flow
+            (WaitFor (source_of flow)) }
+        ensures frames { page.new.room.frames ≡ page.old.room.frames }
+        ensures datagrams { page.new.room.datagrams ≡ page.old.room.datagrams }
+        ensures notes { page.old.room.notes ≤ page.new.room.notes + 1 }
+        ensures ready { self.old.core.table.ready ≤ self.new.core.table.ready + 1 }
+        ensures places { min 64 (free_places self.old.link) ≤ free_places self.new.link }
+    {
+        self.wish(page, source_endpoint(flow));
+        self.kept.keep(copy);
+    }
+
+    /// A packet is dropped; where no port was free, ports may be asked for.
+    pub(crate) fn refuse(&mut self, page: &mut OutputBuffer, flow: Flow, reason: Reason)
+        requires formed { IsWellFormedEndpoint (source_of flow) }
+        requires notes { 1 ≤ page.old.room.notes }
+        requires ready { 1 ≤ self.old.core.table.ready }
+        ensures scene { scene_on self.new page.new
+            ≡ by_refusal (scene_on self.old page.old) flow reason }
+        ensures frames { page.new.room.frames ≡ page.old.room.frames }
+        ensures datagrams { page.new.room.datagrams ≡ page.old.room.datagrams }
+        ensures notes { page.old.room.notes ≤ page.new.room.notes + 1 }
+        ensures ready { self.old.core.table.ready ≤ self.new.core.table.ready + 1 }
+        ensures places { min 64 (free_places self.old.link) ≤ free_places self.new.link }
+    {
+        match reason {
+            Reason::NoPort => self.wish(page, source_endpoint(flow)),
+            _ => {}
+        }
+    }
+}

@@ -1,0 +1,48 @@
+-- The boot of a gateway that begins.
+use Rattle.std.proofs.Common.{IsErrOf, ◌≡◌, ◌⊎◌, inl, inr, ◌<◌, ◌≤◌, ℕ, Bool, true, false, Result, Ok, Err, IfOk, refl, sym, subst, arith, if◌then◌else◌}
+use Rattle.std.proofs.lemmas.Bool.{cases_lt}
+use Rattle.nat_types.specs.declared.gateways.GatewayId.{GatewayId}
+use Rattle.settings.specs.declared.whole.Settings.{Settings}
+use Rattle.spec_step.specs.Shown.{Shown}
+use Rattle.spec_step.specs.Founding.{begun, founded}
+use Rattle.gate.specs.Boots.{HasBoot, IsStart}
+
+of_begun : (settings : Settings) (id : GatewayId) (boot : ℕ) → HasBoot boot (begun settings id boot)
+unfolding HasBoot begun
+of_begun settings id boot = refl
+
+of_founded : (settings : Settings) (boot : ℕ) → HasBoot boot (founded settings boot)
+unfolding HasBoot founded begun
+of_founded settings boot = refl
+
+-- founded or not
+of_either : (settings : Settings) (id : GatewayId) (boot : ℕ) (found : Bool)
+    → HasBoot boot (if found then founded settings boot else begun settings id boot)
+of_either settings id boot true = of_founded settings boot
+of_either settings id boot false = of_begun settings id boot
+
+-- a gateway that begins so is a start
+pub is_start : {E : Type 0} (settings : Settings) (id : GatewayId) (boot : ℕ) (found : Bool) (r : Result Shown E)
+    → IfOk r (λ g. g ≡ (if found then founded settings boot else begun settings id boot)) → IfOk r (IsStart settings id found boot)
+unfolding IsStart
+is_start settings id boot found r is = is
+
+-- and is in that boot
+pub own_boot : (settings : Settings) (id : GatewayId) (found : Bool) (boot : ℕ) (g : Shown)
+    → IsStart settings id found boot g → HasBoot boot g
+unfolding IsStart
+own_boot settings id found boot g is = subst (HasBoot boot) (sym is) (of_either settings id boot found)
+
+-- what is no Err
+abbrev is_ok : {X E : Type 0} → Result X E → Type 0
+is_ok (Ok x) = Unit {0}
+is_ok (Err e) = ⊥
+
+-- where a number is answered, no call more has failed
+pub none_failed : {E : Type 0} (n before after : ℕ) (fault : E)
+    → before ≤ after → (before < after → IsErrOf (Ok n) fault) → after ≡ before
+none_failed n before after fault later failed = same (cases_lt before after)
+  where
+    same : (before < after) ⊎ (after ≤ before) → after ≡ before
+    same (inl less) = absurd (subst is_ok (failed less) tt)
+    same (inr most) = omega (arith, later, most)

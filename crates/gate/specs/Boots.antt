@@ -1,0 +1,28 @@
+-- The gateway that a start begins, and the boot that it is in.
+use Rattle.std.specs.Prelude.{◌≡◌, ◌<◌, ◌++◌, ℕ, Bool, List, Option, codes, if◌then◌else◌}
+use Rattle.std.specs.Fmt.{decimal}
+use Rattle.std.specs.Io.KnownBytes.{Appends}
+use Rattle.nat_types.specs.declared.gateways.GatewayId.{GatewayId}
+use Rattle.settings.specs.declared.whole.Settings.{Settings}
+use Rattle.spec_step.specs.Shown.{Shown}
+use Rattle.spec_step.specs.Founding.{begun, founded}
+
+-- its end of the link has this number for its own
+unfoldable pub HasBoot : ℕ → Shown → Type 0
+HasBoot boot g = g.link.boot ≡ boot
+
+-- it is just the gateway that begins in this boot with these settings: gateway 0 alone, where the pair is founded, else
+-- the one of this id, without a table
+unfoldable pub IsStart : Settings → GatewayId → Bool → ℕ → Shown → Type 0
+IsStart settings id found boot g = g ≡ (if found then founded settings boot else begun settings id boot)
+
+-- the line that tells of a boot
+abbrev pub boot_line : ℕ → List ℕ
+boot_line boot = codes "boot " ++ decimal boot ++ codes "\n"
+
+-- it begins in some boot above 0, and the boot's line is what was printed
+pub record HasStarted (settings : Settings) (id : GatewayId) (found : Bool) (before after : Option (List ℕ)) (g : Shown) : Type 0 where
+  pub boot : ℕ
+  pub above_zero : 0 < boot
+  pub start : IsStart settings id found boot g
+  pub printed : Appends before after (boot_line boot)

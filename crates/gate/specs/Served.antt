@@ -1,0 +1,40 @@
+-- The rounds of a gateway, from its start on.
+use Rattle.std.specs.Prelude.{ℕ, Bool, List, [], Option, codes}
+use Rattle.std.specs.Io.KnownBytes.{Appends}
+use Rattle.toml.specs.Parse.{parse_document}
+use Rattle.nat_types.specs.declared.gateways.GatewayId.{GatewayId}
+use Rattle.settings.specs.declared.whole.Settings.{Settings}
+use Rattle.settings_file.specs.Settings.{IsReadFrom}
+use Rattle.spec_step.specs.Shown.{Shown}
+use Rattle.sockets.specs.Letters.{Polled}
+use Rattle.rounds.specs.Rounds.{AreRounds, Reads, box}
+use Rattle.gate.specs.Boots.{HasStarted}
+
+-- some text holds these settings
+pub record AreHeld (settings : Settings) : Type 0 where
+  pub text : List ℕ
+  pub read : IsReadFrom (parse_document text) settings
+
+-- a clock of which nothing is known
+abbrev pub any_reading : Reads (Unit {0})
+any_reading before moment after = Unit {0}
+
+-- So many rounds were had by a gateway, at whatever moments, from one that shows this, and a wire that has answered this.
+-- However many events, ticks too, may have been left out for want of memory.
+pub record HasRounds (rounds : ℕ) (g : Shown) (answers : List Polled) (g2 : Shown) (answers2 : List Polled) : Type 0 where
+  pub left_out : ℕ
+  pub had : AreRounds any_reading rounds (box g answers 0) tt (box g2 answers2 left_out) tt
+
+-- With the settings of some text the gateway of this id starts, in some boot, whose line is printed; it has its rounds,
+-- with a wire that hasn't answered before; and `end` is printed. There are such settings, boot, answers and events left
+-- out: nothing says which.
+pub record HasServed (id : GatewayId) (rounds : ℕ) (found : Bool) (before after : Option (List ℕ)) : Type 0 where
+  pub settings : Settings
+  pub held : AreHeld settings
+  pub start : Shown
+  pub between : Option (List ℕ)
+  pub started : HasStarted settings id found before between start
+  pub last : Shown
+  pub answers : List Polled
+  pub rounds_had : HasRounds rounds start [] last answers
+  pub ended : Appends between after (codes "end\n")

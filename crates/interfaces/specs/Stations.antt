@@ -1,0 +1,93 @@
+-- What an interface of a gateway shows, and what becomes of it.
+use Rattle.std.specs.Prelude.{◌≡◌, ℕ, Bool, true, false, List, [], ◌∷◌, ◌++◌, map, length, if◌then◌else◌}
+use Rattle.std.specs.List.{filter}
+use Rattle.nat_types.specs.declared.gateways.GatewayId.{GatewayId}
+use Rattle.nat_types.specs.declared.gateways.Side.{Side}
+use Rattle.nat_types.specs.declared.gateways.Side.TheVariants.{Inside, Outside}
+use Rattle.settings.specs.declared.interfaces.Neighbour.{Neighbour as Set}
+use Rattle.settings.specs.declared.whole.Settings.{Settings}
+use Rattle.settings.specs.Parts.{gateway_of}
+use Rattle.arp.specs.declared.caches.Neighbour.{Neighbour}
+use Rattle.arp.specs.declared.packets.ArpPacket.{ArpPacket}
+use Rattle.arp.specs.Macs.{KnowsMacs}
+use Rattle.arp.specs.Neighbours.{Neighbours, with_entry}
+use Rattle.vrrp_states.specs.declared.State.{State}
+use Rattle.vrrp_states.specs.declared.State.TheVariants.{Initialize, Backup, Active}
+use Rattle.vrrp_states.specs.declared.Action.{Action}
+use Rattle.vrrp_states.specs.Table.{Router, Event, IsStep, new_router}
+use Rattle.packet_rules.specs.declared.networks.Network.{Network}
+use Rattle.packet_rules.specs.Arping.{is_learnable}
+use Rattle.packet_rules.specs.Networks.{network_of, networks_of}
+
+-- an interface: its network, the interval (cs) at which it advertises, its virtual router, and the
+-- neighbours that it knows
+pub record Interface : Type 0 where
+  pub network : Network
+  pub interval : ℕ
+  pub router : Router
+  pub neighbours : Neighbours
+
+abbrev pub is_active_in : State → Bool
+is_active_in Initialize = false
+is_active_in Backup = false
+is_active_in Active = true
+
+-- its router is Active
+abbrev pub is_active : Interface → Bool
+is_active station = is_active_in station.router.state
+
+-- one side is another
+abbrev pub same_side : Side → Side → Bool
+same_side Inside Inside = true
+same_side Inside Outside = false
+same_side Outside Inside = false
+same_side Outside Outside = true
+
+-- a static neighbour is on a side
+abbrev pub is_on : Side → Set → Bool
+is_on side n = same_side n.side side
+
+-- a static neighbour as the cache has it
+abbrev pub fixed_of : Set → Neighbour
+fixed_of n = record { address = n.ip; mac = n.mac }
+
+-- the static neighbours on a side, in their order
+abbrev pub fixed_on : Side → List Set → List Neighbour
+fixed_on side set = map fixed_of (filter (is_on side) set)
+
+-- an interface before its first event
+unfoldable pub new_station : Settings → GatewayId → Side → Interface
+new_station settings id side =
+    let own = gateway_of settings id in
+    let network = network_of (networks_of settings id) side in
+    record {
+      network = network;
+      interval = own.interval;
+      router = new_router own.priority own.interval own.preempt network.own_ip.0;
+      neighbours = record { fixed = fixed_on side settings.neighbours.items; learnt = [] };
+    }
+
+-- its router takes a step, and all else stays
+pub record IsRouterStep (old : Interface) (event : Event) (now : ℕ) (action : Action) (new : Interface)
+    : Type 0 where
+  pub line : IsStep old.router event now action new.router
+  pub rest : new ≡ record old { router = new.router }
+
+-- a neighbour is learnt or renewed
+abbrev pub with_neighbour : Interface → ArpPacket → ℕ → Interface
+with_neighbour station p now = record station {
+  neighbours = record station.neighbours {
+    learnt = with_entry (record { address = p.sender_ip; mac = p.sender_mac; at = now })
+        station.neighbours.learnt;
+  };
+}
+
+-- the interface after it heard an ARP packet
+unfoldable pub after_arp : Interface → ArpPacket → ℕ → Interface
+after_arp station p now =
+    (if is_learnable station.network p then with_neighbour station p now else station)
+
+-- all hardware addresses have six bytes
+pub record IsWired (station : Interface) : Type 0 where
+  pub own : length station.network.own_mac.0 ≡ 6
+  pub known : KnowsMacs station.neighbours

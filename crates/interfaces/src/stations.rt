@@ -1,0 +1,225 @@
+//! An interface with its state.
+ghost use Rattle.std.specs.Prelude.{◌≡◌, ℕ, ◌≤◌, ◌+◌, ◌++◌, IfOk, IfSome, length, vec_len, vec_capacity};
+ghost use Rattle.arp.specs.Neighbours.{mac_at};
+ghost use Rattle.arp.specs.declared.packets.TheConstants.{ARP_FRAME};
+ghost use Rattle.vrrp_packet.specs.declared.TheConstants.{ADVERT_FRAME};
+ghost use Rattle.vrrp_states.specs.declared.Action.TheVariants.{Nothing};
+ghost use Rattle.vrrp_states.specs.Table.{IsMoment, IsInterval, Start, Stop, Heard, Tick};
+ghost use Rattle.packet_rules.specs.Arping.{is_learnable, answer_to};
+ghost use Rattle.packet_rules.specs.Adverts.{advert_frame};
+ghost use Rattle.packet_rules.specs.Arping.{gratuitous_frame};
+ghost use Rattle.packet_rules.specs.Steps.{reading_of, Carries};
+ghost use Rattle.interfaces.specs.Stations.{is_active, is_active_in, is_on, fixed_of, fixed_on, new_station, IsRouterStep, after_arp, IsWired};
+
+use addresses::{Ip, Mac};
+use arp::{ArpPacket, Cache, Neighbour};
+use nat_types::{GatewayId, Side};
+use packet_rules::{Network, Networks, Reading, Reason};
+use settings::Settings;
+use std::alloc::{AllocError, Global};
+use std::marker::Model;
+use vrrp_packet::Advert;
+use vrrp_states::laws::exactly_one_line;
+use vrrp_states::{Action, Router, State};
+
+/// One interface of a gateway: its network, its virtual router, and the neighbours that it knows.
+/// Each moment is of one clock, in centiseconds.
+#[derive(Drop)]
+pub struct Interface {
+    network: Network,
+    /// Centiseconds from one advertisement to the next.
+    interval: u16,
+    router: Router,
+    cache: Cache,
+}
+
+impl Model for Interface {
+    ghost use Rattle.vrrp_states.specs.Table.{IsInterval};
+    ghost use Rattle.interfaces.specs.Stations.{Interface as Shown};
+
+    ghost Value = { Shown };
+
+    ghost view = { λ s. record {
+      network = s.network;
+      interval = s.interval;
+      router = s.router;
+      neighbours = s.cache;
+    } };
+
+    ghost invariant = { λ s. IsInterval s.interval };
+}
+
+fn is_on(neighbour: &settings::Neighbour, side: Side) -> bool
+    ensures { result ≡ is_on side neighbour.now }
+{
+    neighbour.side == side
+}
+
+fn fixed(neighbour: &settings::Neighbour) -> Neighbour
+    ensures { result ≡ fixed_of neighbour.now }
+{
+    Neighbour {
+        address: neighbour.ip,
+        mac: neighbour.mac,
+    }
+}
+
+/// The static neighbours on a side, in their order.
+fn fixed_neighbours(
+    alloc: Global,
+    set: &[settings::Neighbour],
+    side: Side,
+) -> Result<Vec<Neighbour>, AllocError>
+    ensures { IfOk result (λ v. v.items ≡ fixed_on side set.now) }
+{
+    set.iter()
+        .filter(|neighbour| is_on(neighbour, side))
+        .map(|neighbour| fixed(neighbour))
+        .collect(alloc)
+}
+
+impl Interface {
+    /// The interface of a gateway on a side, with the static neighbours there and its router in
+    /// Initialize. An `Err` stands for a refused growth.
+    #[tactic(auto, unfolding(crate::specs::Stations::new_station))]
+    pub fn new(
+        alloc: Global,
+        settings: &Settings,
+        id: GatewayId,
+        side: Side,
+    ) -> Result<Interface, AllocError>
+        ensures { IfOk result (λ s. s ≡ new_station settings.now id side) }
+    {
+        let own = settings.gateway(id);
+        let network = Networks::of_gateway(settings, id).of(side);
+        let fixed = fixed_neighbours(alloc, &settings.neighbours, side)?;
+        let cache = Cache::new(alloc, &fixed)?;
+        Ok(Interface {
+            network,
+            interval: own.interval,
+            router: Router::new(own.priority, own.interval, own.preempt, network.own_ip),
+            cache,
+        })
+    }
+
+    /// Reminds the prover that all hardware addresses have six bytes; it does nothing when it runs.
+    pub fn recall(&self)
+        ensures { IsWired self.now }
+    {
+        self.network.recall();
+        self.cache.recall();
+    }
+
+    pub fn network(&self) -> Network
+        ensures { result ≡ self.now.network }
+    {
+        self.network
+    }
+
+    /// Whether its router is Active: then it answers for the virtual address, and takes the frames
+    /// to the virtual router.
+    pub fn is_active(&self) -> bool
+        ensures { result ≡ is_active self.now }
+    {
+        match self.router.state() {
+            State::Initialize | State::Backup => false,
+            State::Active => true,
+        }
+    }
+
+    /// Starts the router, where the gateway is founded or loaded; nothing is sent yet (RFC 9568,
+    /// section 6.4.1).
+    pub fn start(&mut self, now: u64)
+        requires { IsMoment now }
+        ensures { IsRouterStep self.old Start now Nothing self.new }
+    {
+        exactly_one_line();
+        let _action = self.router.start(now);
+    }
+
+    /// At most one move of the router, where its timer is due.
+    pub fn tick(&mut self, now: u64) -> Action
+        requires { IsMoment now }
+        ensures { IsRouterStep self.old Tick now result self.new }
+    {
+        self.router.tick(now)
+    }
+
+    /// An advertisement of this virtual router, from another gateway's primary address.
+    pub fn heard(&mut self, advert: &Advert, from: Ip, now: u64) -> Action
+        requires { IsMoment now }
+        ensures { IsRouterStep self.old (Heard advert.now.priority advert.now.interval from.0) now
+            result self.new }
+    {
+        self.router.heard(advert, from, now)
+    }
+
+    /// Stops the router (RFC 9568, sections 6.4.2 and 6.4.3).
+    pub fn stop(&mut self) -> Action
+        ensures { (now : ℕ) → IsRouterStep self.old Stop now result self.new }
+    {
+        self.router.stop()
+    }
+
+    /// Learns or renews the sender of an ARP packet at a moment, if it is one that is learnt, and
+    /// says whether it is.
+    #[tactic(auto, unfolding(crate::specs::Stations::after_arp))]
+    pub fn learn(&mut self, packet: &ArpPacket, now: u64) -> bool
+        ensures learnt { result ≡ is_learnable self.old.network packet.now }
+        ensures after { self.new ≡ after_arp self.old packet.now now }
+    {
+        let learns = packet_rules::is_learnt(&self.network, packet);
+        if learns {
+            self.cache.learn(packet.sender_ip, packet.sender_mac, now);
+        }
+        learns
+    }
+
+    /// The hardware address of a neighbour that is static, or was learnt and is valid at a moment.
+    pub fn mac_of(&self, address: Ip, now: u64) -> Option<Mac>
+        ensures mac { result ≡ mac_at address.0 now self.now.neighbours }
+        ensures six { IfSome result (λ mac. length mac.0 ≡ 6) }
+    {
+        self.cache.mac_of(address, now)
+    }
+
+    /// Reads a frame that came in here, by a gateway that is `up` or not; or gives the reason of the
+    /// first step that refuses it.
+    pub fn read_frame(&self, up: bool, bytes: &[u8]) -> Result<Reading, Reason>
+        ensures reading { result
+            ≡ reading_of self.now.network (is_active self.now) up bytes.now }
+        ensures carries { IfOk result (Carries bytes.now) }
+    {
+        packet_rules::read_frame(&self.network, self.is_active(), up, bytes)
+    }
+
+    /// The hardware address by which an ARP packet is answered here, where it asks for an address of
+    /// the gateway.
+    pub fn answer_to(&self, packet: &ArpPacket) -> Option<Mac>
+        ensures { result ≡ answer_to self.now.network (is_active self.now) packet.now }
+    {
+        packet_rules::answer_to(&self.network, self.is_active(), packet)
+    }
+
+    /// Puts the frame of an advertisement with this priority behind a list with room for it.
+    pub fn append_advert(&self, list: &mut Vec<u8>, priority: u8)
+        requires { vec_len list.old + ADVERT_FRAME ≤ vec_capacity list.old }
+        ensures items { list.new.items
+            ≡ list.old.items ++ advert_frame self.now.network priority self.now.interval }
+        ensures len { vec_len list.new ≡ vec_len list.old + ADVERT_FRAME }
+        ensures capacity { vec_capacity list.old ≤ vec_capacity list.new }
+    {
+        packet_rules::append_advert(list, &self.network, priority, self.interval);
+    }
+
+    /// Puts the frame that tells everyone where the virtual address is behind a list with room for
+    /// it.
+    pub fn append_gratuitous(&self, list: &mut Vec<u8>)
+        requires { vec_len list.old + ARP_FRAME ≤ vec_capacity list.old }
+        ensures items { list.new.items ≡ list.old.items ++ gratuitous_frame self.now.network }
+        ensures len { vec_len list.new ≡ vec_len list.old + ARP_FRAME }
+        ensures capacity { vec_capacity list.old ≤ vec_capacity list.new }
+    {
+        packet_rules::append_gratuitous(list, &self.network);
+    }
+}

@@ -1,3 +1,0 @@
-mod Moving
-pub mod Places
-mod Singles

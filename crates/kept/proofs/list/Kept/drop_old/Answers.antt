@@ -1,8 +1,0 @@
-use Rattle.kept.specs.Packets.{is_young}
-use Rattle.kept.proofs.Places.{kept-filter}
-use Rattle.std.proofs.Common.{arith}
-use Rattle.kept.proofs.list.Kept.drop_old.Goals as goal
-
-pub invariant_of-self : goal.invariant_of-self
-invariant_of-self c =
-    (rw c.retain_young.ensures.items (kept-filter (is_young c.args.now) c.self.inside.packets.items c.self.invariant.0), omega (arith, c.self.invariant.1, c.retain_young.ensures.capacity))

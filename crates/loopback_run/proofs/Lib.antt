@@ -1,0 +1,4 @@
+mod Turning
+mod Looping
+mod Telling
+mod Stopping

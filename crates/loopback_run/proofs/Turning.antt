@@ -1,0 +1,102 @@
+-- Turns in order, and one more.
+use Rattle.std.proofs.Common.{◌≡◌, ◌∙◌, ◌||◌, Bool, true, false, List, [], ◌∷◌, ◌++◌, Option, Some, None, refl, sym, ap, subst}
+use Rattle.output.specs.Output.{none_told}
+use Rattle.frame_sim.specs.declared.events.Step.{Step}
+use Rattle.nat_types.specs.declared.events.WorldEvent.{WorldEvent}
+use Rattle.frame_sim.specs.World.{World}
+use Rattle.frame_sim.specs.Runs.{Answers, AreSteps}
+use Rattle.frame_sim.specs.Status.{has_refusal}
+use Rattle.loopback.specs.declared.passage.Passed.{Passed}
+use Rattle.loopback.specs.declared.passage.Passed.TheVariants.{Received, Lost}
+use Rattle.loopback.specs.Parcels.{Message}
+use Rattle.loopback_run.specs.Turns.{AreTurns, HasSent, HasTurned, IsTurn, Passes, TakesTurn, Turn, handed, is_lost, is_refusal, left, lost, received, step_of, steps_in, without}
+
+-- ---- one turn
+
+-- what an event hands in is lost
+pub lost_turn : {P : Type 0} (passes : Passes P) (w : World) (p : P) (e : WorldEvent) (r : Option Passed) (w2 : World) (p2 : P)
+    → HasSent passes p (handed w e) r p2 → is_lost r ≡ true → w2 ≡ w → TakesTurn passes w p e None w2 p2
+lost_turn {P = P} passes w p e r w2 p2 sent gone same = go (handed w e) r refl gone sent
+  where
+    go : (o : Option Message) (x : Option Passed) → handed w e ≡ o → is_lost x ≡ true → HasSent passes p o x p2 → TakesTurn passes w p e None w2 p2
+    go o None is not h = absurd (cc)
+    go o (Some Received) is not h = absurd (cc)
+    go None (Some Lost) is not h = absurd (let bad : Some Lost ≡ None = h.0 in cc)
+    go (Some parcel) (Some Lost) is not h = record { turn = lost parcel; is = (is, h, same); gives = refl }
+
+-- it isn't, and the event is answered
+pub taken_turn : {P : Type 0} (passes : Passes P) (w : World) (p : P) (e : WorldEvent) (r : Option Passed) (s : Step) (w2 : World) (p2 : P)
+    → HasSent passes p (handed w e) r p2 → is_lost r ≡ false → Answers w e none_told s.answer s.out w2 → TakesTurn passes w p e (Some s) w2 p2
+taken_turn {P = P} passes w p e r s w2 p2 sent kept answers = go (handed w e) r refl kept sent
+  where
+    go : (o : Option Message) (x : Option Passed) → handed w e ≡ o → is_lost x ≡ false → HasSent passes p o x p2 → TakesTurn passes w p e (Some s) w2 p2
+    go None x is not h = record { turn = without s; is = (is, h.1, answers); gives = refl }
+    go (Some parcel) None is not h = absurd h
+    go (Some parcel) (Some Received) is not h = record { turn = received parcel s; is = (is, h, answers); gives = refl }
+    go (Some parcel) (Some Lost) is not h = absurd (cc)
+
+-- ---- turns in order
+
+turns-push : {P : Type 0} (passes : Passes P) (w : World) (p : P) (es : List WorldEvent) (ts : List Turn) (mid : World) (q : P)
+    (e : WorldEvent) (t : Turn) (w2 : World) (p2 : P) → AreTurns passes w p es ts mid q → IsTurn passes mid q e t w2 p2
+    → AreTurns passes w p (es ++ e ∷ []) (ts ++ t ∷ []) w2 p2
+turns-push {P = P} passes w p [] [] mid q e t w2 p2 turns turn =
+    (w2, (p2, (subst (λ (x : World). IsTurn passes x p e t w2 p2) turns.0 (subst (λ (x : P). IsTurn passes mid x e t w2 p2) turns.1 turn), (refl, refl))))
+turns-push passes w p [] (u ∷ ts) mid q e t w2 p2 turns turn = absurd turns
+turns-push passes w p (f ∷ es) [] mid q e t w2 p2 turns turn = absurd turns
+turns-push passes w p (f ∷ es) (u ∷ ts) mid q e t w2 p2 turns turn =
+    (turns.0, (turns.1.0, (turns.1.1.0, turns-push passes turns.0 turns.1.0 es ts mid q e t w2 p2 turns.1.1.1 turn)))
+
+or_assoc : (a b c : Bool) → (a || (b || c)) ≡ ((a || b) || c)
+or_assoc true b c = refl
+or_assoc false b c = refl
+
+or_false : (a : Bool) → (a || false) ≡ a
+or_false true = refl
+or_false false = refl
+
+refusal_alone : (t : Turn) → has_refusal (steps_in (t ∷ [])) ≡ is_refusal (step_of t)
+refusal_alone (without s) = or_false _
+refusal_alone (received parcel s) = or_false _
+refusal_alone (lost parcel) = refl
+
+-- a refusal among turns, and one more
+refused-push : (ts : List Turn) (t : Turn) → has_refusal (steps_in (ts ++ t ∷ [])) ≡ (has_refusal (steps_in ts) || is_refusal (step_of t))
+refused-push [] t = refusal_alone t
+refused-push (without s ∷ ts) t =
+    ap (λ b. is_refusal (Some s) || b) (refused-push ts t) ∙ or_assoc (is_refusal (Some s)) (has_refusal (steps_in ts)) (is_refusal (step_of t))
+refused-push (received parcel s ∷ ts) t =
+    ap (λ b. is_refusal (Some s) || b) (refused-push ts t) ∙ or_assoc (is_refusal (Some s)) (has_refusal (steps_in ts)) (is_refusal (step_of t))
+refused-push (lost parcel ∷ ts) t = refused-push ts t
+
+-- no event has had its turn
+pub none_turned : {P : Type 0} (passes : Passes P) (w : World) (p : P) (w2 : World) (p2 : P) → w2 ≡ w → p2 ≡ p → HasTurned passes w p [] w2 p2 false
+none_turned passes w p w2 p2 a b = record { turns = []; taken = (a, b); refusals = refl }
+
+-- one event more
+pub one_turned : {P : Type 0} (passes : Passes P) (w : World) (p : P) (es : List WorldEvent) (mid : World) (q : P) (refused : Bool)
+    (e : WorldEvent) (step : Option Step) (w2 : World) (p2 : P) → HasTurned passes w p es mid q refused → TakesTurn passes mid q e step w2 p2
+    → HasTurned passes w p (es ++ e ∷ []) w2 p2 (refused || is_refusal step)
+one_turned passes w p es mid q refused e step w2 p2 before last =
+    let flags = ap (λ b. b || is_refusal step) before.refusals ∙ ap (λ o. has_refusal (steps_in before.turns) || is_refusal o) last.gives in
+    record {
+      turns = before.turns ++ last.turn ∷ [];
+      taken = turns-push passes w p es before.turns mid q e last.turn w2 p2 before.taken last.is;
+      refusals = flags ∙ sym (refused-push before.turns last.turn);
+    }
+
+-- ---- what was left of the events
+
+-- the steps of a run of those that weren't lost
+pub steps_of_turns : {P : Type 0} (passes : Passes P) (w : World) (p : P) (es : List WorldEvent) (ts : List Turn) (w2 : World) (p2 : P)
+    → AreTurns passes w p es ts w2 p2 → AreSteps w (left es ts) (steps_in ts) w2
+steps_of_turns passes w p [] [] w2 p2 turns = turns.0
+steps_of_turns passes w p [] (t ∷ ts) w2 p2 turns = absurd turns
+steps_of_turns passes w p (e ∷ es) [] w2 p2 turns = absurd turns
+steps_of_turns passes w p (e ∷ es) (without s ∷ ts) w2 p2 turns =
+    (turns.0, turns.1.1.0.2, steps_of_turns passes turns.0 turns.1.0 es ts w2 p2 turns.1.1.1)
+steps_of_turns passes w p (e ∷ es) (received parcel s ∷ ts) w2 p2 turns =
+    (turns.0, turns.1.1.0.2, steps_of_turns passes turns.0 turns.1.0 es ts w2 p2 turns.1.1.1)
+steps_of_turns passes w p (e ∷ es) (lost parcel ∷ ts) w2 p2 turns =
+    let rest = steps_of_turns passes turns.0 turns.1.0 es ts w2 p2 turns.1.1.1 in
+    subst (λ (x : World). AreSteps x (left es ts) (steps_in ts) w2) turns.1.1.0.2 rest

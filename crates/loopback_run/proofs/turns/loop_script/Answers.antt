@@ -1,0 +1,45 @@
+use Rattle.std.proofs.Common.{List, refl, subst}
+use Rattle.nat_types.specs.declared.events.WorldEvent.{WorldEvent}
+use Rattle.loopback_run.specs.Loops.{IsLoop}
+use Rattle.loopback_run.specs.Stops.{StopsLoop}
+use Rattle.loopback_run.proofs.Looping.{in_ok}
+use Rattle.loopback_run.proofs.Stopping.{in_err, leaves_refused, leaves_stopped}
+use Rattle.loopback_run.proofs.Telling.{told_socket}
+use Rattle.loopback_run.proofs.turns.loop_script.Goals as goal
+
+pub returns-clause-told : goal.returns-clause-told
+returns-clause-told g c =
+    let job = c.in_ok-job.ensures in
+    rw c.of_socket.ensures (told_socket c.args.settings.now c.args.script.now _ (c.in_ok-job.job.settings, job.job.held) job.good)
+
+pub returns-in-Ok-clause-run : goal.returns-in-Ok-clause-run
+returns-in-Ok-clause-run g c = in_ok c.play.result (λ n h. record {
+  job = c.in_ok-job.job;
+  is = c.in_ok-job.ensures.job;
+  open_passage = c.open.new.self;
+  opened = c.in-Ok.ensures.opens;
+  run = subst (λ (es : List WorldEvent). IsLoop g.P.Channel.passes c.in_ok-job.job.settings es c.open.new.self c.play.new.passage n) c.as_slice.ensures.value h;
+}) c.play.ensures.run
+
+pub returns-clause-leaves : goal.returns-clause-leaves
+returns-clause-leaves g c = rw c.of_socket.ensures (leaves_refused _ _ _ _ _ _ _ _ _ c.in-Err.fault (record {
+  texts = record { job = c.in_ok-job.job; is = c.in_ok-job.ensures.job; good = c.in_ok-job.ensures.good };
+  refused = c.in-Err.ensures.refuses;
+  unwritten = refl;
+}))
+
+pub returns-clause-untouched : goal.returns-clause-untouched
+returns-clause-untouched g c none =
+    absurd (none (record { job = c.in_ok-job.job; is = c.in_ok-job.ensures.job; good = c.in_ok-job.ensures.good }))
+
+pub returns-in-Ok-clause-leaves : goal.returns-in-Ok-clause-leaves
+returns-in-Ok-clause-leaves g c = in_err c.play.result (λ e h. leaves_stopped _ _ _ _ _ _ _ _ _ e (record {
+  texts = record { job = c.in_ok-job.job; is = c.in_ok-job.ensures.job; good = c.in_ok-job.ensures.good };
+  open_passage = c.open.new.self;
+  opened = c.in-Ok.ensures.opens;
+  stopped = subst (λ (es : List WorldEvent). StopsLoop g.P.Channel.passes c.in_ok-job.job.settings es c.open.new.self c.play.new.passage c.args.output.now c.play.new.output e) c.as_slice.ensures.value h;
+})) c.play.ensures.stops
+
+pub returns-in-Ok-clause-untouched : goal.returns-in-Ok-clause-untouched
+returns-in-Ok-clause-untouched g c none =
+    absurd (none (record { job = c.in_ok-job.job; is = c.in_ok-job.ensures.job; good = c.in_ok-job.ensures.good }))

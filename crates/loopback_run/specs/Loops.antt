@@ -1,0 +1,36 @@
+-- A run in which what each event hands in is first sent through a passage.
+use Rattle.std.specs.Prelude.{◌≡◌, ℕ, List, None}
+use Rattle.toml.specs.Parse.{parse_document}
+use Rattle.settings.specs.declared.whole.Settings.{Settings}
+use Rattle.settings_file.specs.Settings.{IsReadFrom}
+use Rattle.nat_types.specs.declared.events.WorldEvent.{WorldEvent}
+use Rattle.frame_sim.specs.World.{founding}
+use Rattle.faults.specs.declared.faults.Fault.{Fault}
+use Rattle.faults.specs.declared.faults.Fault.TheVariants.{NoSocket}
+use Rattle.faults.specs.declared.jobs.Job.{Job}
+use Rattle.scripts.specs.Script.{first_bad_line}
+use Rattle.faults.specs.Jobs.{IsJobOf, TellsRun}
+use Rattle.frame_sim.specs.Status.{IsRun}
+use Rattle.loopback_run.specs.Turns.{AreTurns, Passes, Turn, left, steps_in}
+
+-- A run of these events on a new world of these settings, with a passage before and after: each event has its turn, and
+-- the run, its world and its status are those of the events that weren't lost; its steps are those of their turns.
+pub record IsLoop {P : Type 0} (passes : Passes P) (settings : Settings) (events : List WorldEvent) (before after : P) (status : ℕ) : Type 0 where
+  pub turns : List Turn
+  pub run : IsRun settings (left events turns) status
+  pub steps : run.steps ≡ steps_in turns
+  pub taken : AreTurns passes (founding settings) before events turns run.world after
+
+-- such a run of a script's events, with the settings that a text holds, for which the passage had its ports
+pub record LoopsScript {P : Type 0} (opens : P → Settings → P → Type 0) (passes : Passes P) (text script : List ℕ) (before after : P) (status : ℕ) : Type 0 where
+  pub job : Job
+  pub is : IsJobOf text script job
+  pub open_passage : P
+  pub opened : opens before job.settings open_passage
+  pub run : IsLoop passes job.settings job.events.items open_passage after status
+
+-- why a script isn't run so to its end: as without a passage; or ports aren't had, where both texts are good
+abbrev pub TellsLoop : List ℕ → List ℕ → Fault → Type 0
+TellsLoop text script NoSocket =
+    ((settings : Settings) × IsReadFrom (parse_document text) settings) × (first_bad_line script ≡ None)
+TellsLoop text script fault = TellsRun text script fault

@@ -1,0 +1,97 @@
+-- What a run through a passage leaves where a fault ends it.
+use Rattle.std.specs.Prelude.{◌≡◌, ◌⊎◌, ◌<◌, ℕ, List, None, take}
+use Rattle.settings.specs.declared.whole.Settings.{Settings}
+use Rattle.nat_types.specs.declared.events.WorldEvent.{WorldEvent}
+use Rattle.sockets.specs.declared.sockets.SocketFault.{SocketFault}
+use Rattle.sockets.specs.declared.sockets.SocketFault.TheVariants as sockets
+use Rattle.frame_sim.specs.World.{World, founding}
+use Rattle.faults.specs.declared.faults.Fault.{Fault}
+use Rattle.faults.specs.declared.faults.Fault.TheVariants.{Setting, BadLine, NotWritten, NoSocket, NoMemory}
+use Rattle.scripts.specs.Script.{first_bad_line}
+use Rattle.faults.specs.declared.jobs.Job.{Job}
+use Rattle.faults.specs.Jobs.{IsJobOf}
+use Rattle.loopback_run.specs.Turns.{AreTurns, Passes, Turn}
+use Rattle.loopback_run.specs.Loops.{TellsLoop}
+
+-- nothing was sent and nothing written: the passage and the output are what they were
+abbrev pub Untouched : {P O : Type 0} → P → P → O → O → Type 0
+Untouched before after output printed = (after ≡ before) × (printed ≡ output)
+
+-- ---- events that run
+
+-- some of these events have had their turns, in order from the first: that one at least, where there is one
+pub record HaveBegun {P : Type 0} (passes : Passes P) (w : World) (p : P) (es : List WorldEvent) (p2 : P) : Type 0 where
+  pub count : ℕ
+  pub some : 0 < count
+  pub turns : List Turn
+  pub world : World
+  pub taken : AreTurns passes w p (take count es) turns world p2
+
+-- all of them have
+pub record HaveEnded {P : Type 0} (passes : Passes P) (w : World) (p : P) (es : List WorldEvent) (p2 : P) : Type 0 where
+  pub turns : List Turn
+  pub world : World
+  pub taken : AreTurns passes w p es turns world p2
+
+-- how far events have come from one world where a fault ends their run: output is refused after the first turn at the
+-- earliest, and memory, which the tables want, after the last
+abbrev pub Stops : {P : Type 0} → Passes P → World → P → List WorldEvent → P → Fault → Type 0
+Stops passes w p es p2 NotWritten = HaveBegun passes w p es p2
+Stops passes w p es p2 NoMemory = HaveEnded passes w p es p2
+Stops passes w p es p2 others = ⊥
+
+-- the same on a new world of these settings; for want of memory there may be none, and then nothing is touched
+abbrev pub StopsLoop : {P O : Type 0} → Passes P → Settings → List WorldEvent → P → P → O → O → Fault → Type 0
+StopsLoop passes settings events before after output printed NotWritten = HaveBegun passes (founding settings) before events after
+StopsLoop passes settings events before after output printed NoMemory =
+    Untouched before after output printed ⊎ HaveEnded passes (founding settings) before events after
+StopsLoop passes settings events before after output printed others = ⊥
+
+-- ---- a script's run
+
+-- both texts are good, and hold this job
+pub record HoldJob (text script : List ℕ) : Type 0 where
+  pub job : Job
+  pub is : IsJobOf text script job
+  pub good : first_bad_line script ≡ None
+
+-- how a passage is opened, and how it is refused its ports
+abbrev pub Opens : Type 0 → Type 1
+Opens P = P → Settings → P → Type 0
+
+abbrev pub Refuses : Type 0 → Type 1
+Refuses P = P → Settings → SocketFault → P → Type 0
+
+-- both texts are good, and the passage was refused the ports of those settings for this; nothing is written
+pub record IsRefused {P O : Type 0} (refuses : Refuses P) (text script : List ℕ) (before after : P) (output printed : O) (want : SocketFault) : Type 0 where
+  pub texts : HoldJob text script
+  pub refused : refuses before texts.job.settings want after
+  pub unwritten : printed ≡ output
+
+-- both texts are good, the passage got its ports, and then this fault ended the run
+pub record IsStopped {P O : Type 0} (opens : Opens P) (passes : Passes P) (text script : List ℕ) (before after : P) (output printed : O) (fault : Fault) : Type 0 where
+  pub texts : HoldJob text script
+  pub open_passage : P
+  pub opened : opens before texts.job.settings open_passage
+  pub stopped : StopsLoop passes texts.job.settings texts.job.events.items open_passage after output printed fault
+
+-- What a fault leaves: one of the texts nothing touched, one of a port the passage refused and the output as it was, and
+-- refused output a run that has begun. Memory may be wanted at each of these.
+abbrev pub Leaves : {P O : Type 0} → Opens P → Refuses P → Passes P → List ℕ → List ℕ → P → P → O → O → Fault → Type 0
+Leaves opens refuses passes text script before after output printed (Setting fault) = Untouched before after output printed
+Leaves opens refuses passes text script before after output printed (BadLine n) = Untouched before after output printed
+Leaves opens refuses passes text script before after output printed NoSocket =
+    IsRefused refuses text script before after output printed sockets.NoSocket
+Leaves opens refuses passes text script before after output printed NotWritten =
+    IsStopped opens passes text script before after output printed NotWritten
+Leaves opens refuses passes text script before after output printed NoMemory =
+    Untouched before after output printed
+    ⊎ (IsRefused refuses text script before after output printed sockets.NoMemory
+    ⊎ IsStopped opens passes text script before after output printed NoMemory)
+Leaves opens refuses passes text script before after output printed others = ⊥
+
+-- a fault ended the run: which, and what it leaves
+pub record FailsScript {P O : Type 0} (opens : Opens P) (refuses : Refuses P) (passes : Passes P) (text script : List ℕ) (before after : P) (output printed : O) : Type 0 where
+  pub fault : Fault
+  pub told : TellsLoop text script fault
+  pub leaves : Leaves opens refuses passes text script before after output printed fault

@@ -1,0 +1,260 @@
+//! A script's run in which what each event hands in is first sent through a passage.
+ghost use Rattle.std.specs.Prelude.{◌≡◌, ◌⊎◌, ◌||◌, None, IfOk, IfErr, OnOk, OnErr, IsSome, if◌then◌else◌};
+ghost use Rattle.output.specs.Output.{none_told};
+ghost use Rattle.frame_sim.specs.Runs.{Answers};
+ghost use Rattle.faults.specs.Faults.{status_of};
+ghost use Rattle.scripts.specs.Script.{first_bad_line};
+ghost use Rattle.faults.specs.declared.faults.Fault.TheVariants as faults;
+ghost use Rattle.loopback_run.specs.Turns.{HasSent, HasTurned, TakesTurn, TakesTurns, handed, is_lost, is_refusal, of_socket};
+ghost use Rattle.loopback_run.specs.Loops.{IsLoop, LoopsScript, TellsLoop};
+ghost use Rattle.loopback_run.specs.Stops.{FailsScript, HaveBegun, HoldJob, Leaves, Stops, StopsLoop, Untouched};
+
+use faults::{Fault, job_of};
+use frame_sim::{Step, World};
+use gateway::Out;
+use loopback::{Channel, Passed};
+use nat_types::WorldEvent;
+use printing::Printer;
+use settings::Settings;
+use sockets::{Place, SocketFault};
+use std::alloc::Global;
+use std::io::{self, Write};
+
+/// Runs a script as `simulation::simulate` does, but each frame and each datagram that an event hands in is first sent
+/// through the passage. Where it is lost, its event is left out: that is printed, and the world doesn't take it.
+///
+/// The answer is the exit status: 0, 3 where an event was refused, or 1 for a fault, which is told on `errors`.
+pub fn run_loop<P: Channel, O: Write, E: Write>(
+    alloc: Global,
+    settings: &str,
+    script: &str,
+    passage: &mut P,
+    output: &mut O,
+    errors: &mut E,
+) -> u8
+    ensures status { (result ≡ 0) ⊎ ((result ≡ 1) ⊎ (result ≡ 3)) }
+    ensures bad { IsSome (first_bad_line script.now) → result ≡ 1 }
+    ensures run { (result ≡ 0) ⊎ (result ≡ 3) → LoopsScript P.opens P.passes settings.now
+        script.now passage.old passage.new result }
+    ensures fault { result ≡ 1 → FailsScript P.opens P.refuses P.passes settings.now script.now
+        passage.old passage.new output.old output.new }
+    ensures untouched { (HoldJob settings.now script.now → ⊥)
+        → Untouched passage.old passage.new output.old output.new }
+    ensures quiet { (result ≡ 0) ⊎ (result ≡ 3) → errors.new ≡ errors.old }
+{
+    match loop_script(alloc, settings, script, passage, output) {
+        Ok(status) => status,
+        Err(fault) => fault.tell(errors),
+    }
+}
+
+/// Runs a script as `run_loop` does. The answer is the exit status: 0, or 3 where an event was
+/// refused.
+///
+/// # Errors
+///
+/// The settings' fault, else the script's first bad line: after both nothing was sent and nothing is
+/// written. Else `NoSocket` where the passage is refused its ports: then nothing is written. Else
+/// `NotWritten` where output is refused: part of it may be written, and what the events up to there
+/// hand in was sent. `NoMemory` may come at each.
+pub fn loop_script<P: Channel, O: Write>(
+    alloc: Global,
+    settings: &str,
+    script: &str,
+    passage: &mut P,
+    output: &mut O,
+) -> Result<u8, Fault>
+    ensures told { IfErr result (TellsLoop settings.now script.now) }
+    ensures known { IfErr result (λ fault. status_of fault ≡ 1) }
+    ensures good { OnOk result (first_bad_line script.now ≡ None) }
+    ensures run { IfOk result (LoopsScript P.opens P.passes settings.now script.now passage.old
+        passage.new) }
+    ensures status { IfOk result (λ status. (status ≡ 0) ⊎ (status ≡ 3)) }
+    ensures leaves { IfErr result (Leaves P.opens P.refuses P.passes settings.now script.now
+        passage.old passage.new output.old output.new) }
+    ensures untouched { (HoldJob settings.now script.now → ⊥)
+        → Untouched passage.old passage.new output.old output.new }
+{
+    let job = job_of(alloc, settings, script)?;
+    match passage.open(&job.settings) {
+        Ok(()) => play(alloc, &job.settings, job.events.as_slice(), passage, output),
+        Err(fault) => Err(of_socket(fault)),
+    }
+}
+
+fn of_socket(fault: SocketFault) -> Fault
+    ensures { result ≡ of_socket fault }
+{
+    match fault {
+        SocketFault::NoSocket => Fault::NoSocket,
+        SocketFault::NoMemory => Fault::NoMemory,
+    }
+}
+
+/// Runs events on a new world of these settings, each after what it hands in has passed, and prints their steps, which
+/// were lost, and the world's tables. The answer is the exit status.
+///
+/// # Errors
+///
+/// `NotWritten` where output is refused: the events up to there have had their turns. `NoMemory`
+/// before the first event, or after the last.
+pub fn play<P: Channel, O: Write>(
+    alloc: Global,
+    settings: &Settings,
+    events: &[WorldEvent],
+    passage: &mut P,
+    output: &mut O,
+) -> Result<u8, Fault>
+    ensures run { IfOk result (IsLoop P.passes settings.now events.now passage.old passage.new) }
+    ensures status { IfOk result (λ status. (status ≡ 0) ⊎ (status ≡ 3)) }
+    ensures fault { IfErr result
+        (λ fault. (fault ≡ faults.NotWritten) ⊎ (fault ≡ faults.NoMemory)) }
+    ensures stops { IfErr result (StopsLoop P.passes settings.now events.now passage.old
+        passage.new output.old output.new) }
+{
+    match World::founded(alloc, settings) {
+        Ok(mut world) => {
+            let status = played(alloc, &mut world, events, passage, output);
+            world.end();
+            status
+        }
+        Err(fault) => Err(Fault::from(fault)),
+    }
+}
+
+/// Runs events on a world, and prints what they gave and its tables.
+fn played<P: Channel, O: Write>(
+    alloc: Global,
+    world: &mut World<'_>,
+    events: &[WorldEvent],
+    passage: &mut P,
+    output: &mut O,
+) -> Result<u8, Fault>
+    ensures run { IfOk result (TakesTurns P.passes world.old passage.old events.now world.new
+        passage.new) }
+    ensures status { IfOk result (λ status. (status ≡ 0) ⊎ (status ≡ 3)) }
+    ensures fault { IfErr result
+        (λ fault. (fault ≡ faults.NotWritten) ⊎ (fault ≡ faults.NoMemory)) }
+    ensures stops { IfErr result (Stops P.passes world.old passage.old events.now passage.new) }
+{
+    let refused = turned(alloc, world, events, passage, output)?;
+    world.tables(output)?;
+    output.flush()?;
+    Ok(status_of(refused))
+}
+
+/// Gives each event its turn, and prints what it gave. The answer says whether one was refused.
+fn turned<P: Channel, O: Write>(
+    alloc: Global,
+    world: &mut World<'_>,
+    events: &[WorldEvent],
+    passage: &mut P,
+    output: &mut O,
+) -> io::Result<bool>
+    ensures had { IfOk result (HasTurned P.passes world.old passage.old events.now world.new
+        passage.new) }
+    ensures begun { OnErr result (HaveBegun P.passes world.old passage.old events.now
+        passage.new) }
+{
+    let mut printer = Printer::new();
+    let mut refused = false;
+    for event in events {
+        let step = turn(alloc, world, event, passage);
+        refused = has_refused(refused, &step);
+        print(&mut printer, output, event, &step)?;
+    }
+    Ok(refused)
+}
+
+/// 3 where an event was refused, else 0.
+fn status_of(refused: bool) -> u8
+    ensures { result ≡ (if refused then 3 else 0) }
+{
+    if refused { 3 } else { 0 }
+}
+
+/// An event was refused before, or this one is.
+fn has_refused(before: bool, step: &Option<Step>) -> bool
+    ensures { result ≡ (before || is_refusal step.now) }
+{
+    before || is_refusal(step)
+}
+
+/// An event was refused.
+fn is_refusal(step: &Option<Step>) -> bool
+    ensures { result ≡ is_refusal step.now }
+{
+    match step {
+        Some(step) => step.answer.is_err(),
+        None => false,
+    }
+}
+
+/// Prints what an event gave, or that it is lost.
+fn print<O: Write>(
+    printer: &mut Printer,
+    output: &mut O,
+    event: &WorldEvent,
+    step: &Option<Step>,
+) -> io::Result<()> {
+    match step {
+        Some(step) => printer.step(output, event, &step.answer, &step.out),
+        None => printer.lost(output),
+    }
+}
+
+/// What an event gives, where what it hands in isn't lost.
+fn turn<P: Channel>(
+    alloc: Global,
+    world: &mut World<'_>,
+    event: &WorldEvent,
+    passage: &mut P,
+) -> Option<Step>
+    ensures { TakesTurn P.passes world.old passage.old event.now result world.new passage.new }
+{
+    let passed = sent(world, event, passage);
+    if is_lost(&passed) {
+        None
+    } else {
+        Some(step(alloc, world, event))
+    }
+}
+
+/// What was sent is lost.
+fn is_lost(passed: &Option<Passed>) -> bool
+    ensures { result ≡ is_lost passed.now }
+{
+    match passed {
+        Some(Passed::Lost) => true,
+        Some(Passed::Received) | None => false,
+    }
+}
+
+/// Sends what an event hands in, if it hands in anything, and says what became of it.
+fn sent<P: Channel>(world: &World<'_>, event: &WorldEvent, passage: &mut P) -> Option<Passed>
+    ensures { HasSent P.passes passage.old (handed world.now event.now) result passage.new }
+{
+    match event {
+        WorldEvent::Frame(id, side, bytes) => {
+            Some(passage.pass(*id, Place::Side(*side), bytes.as_slice()))
+        }
+        WorldEvent::Deliver(id, number) => {
+            let bytes = world.datagram(*id, *number)?;
+            Some(passage.pass(*id, Place::Link, bytes))
+        }
+        WorldEvent::Tick(_, _)
+        | WorldEvent::Stop(_)
+        | WorldEvent::Crash(_)
+        | WorldEvent::Boot(_, _)
+        | WorldEvent::PeerOff(_, _) => None,
+    }
+}
+
+/// What an event gives.
+fn step(alloc: Global, world: &mut World<'_>, event: &WorldEvent) -> Step
+    ensures { Answers world.old event.now none_told result.answer result.out world.new }
+{
+    let mut out = Out::new(alloc);
+    let answer = world.apply(event, &mut out);
+    Step { answer, out }
+}

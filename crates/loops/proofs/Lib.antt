@@ -1,4 +1,0 @@
-pub mod Turning
-pub mod Looping
-pub mod Telling
-pub mod Stopping

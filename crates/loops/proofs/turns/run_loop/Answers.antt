@@ -1,6 +1,0 @@
-use Rattle.std.proofs.Common.{◌∙◌}
-use Rattle.loops.proofs.Stopping.{isnt_1}
-use Rattle.loops.proofs.turns.run_loop.Goals as goal
-
-pub returns-in-Err-clause-run : goal.returns-in-Err-clause-run
-returns-in-Err-clause-run g c done = isnt_1 _ (c.tell.ensures ∙ c.in-Err.ensures.known) done

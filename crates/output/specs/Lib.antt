@@ -1,0 +1,3 @@
+pub mod Piles
+pub mod Readers
+pub mod Output

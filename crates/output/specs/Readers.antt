@@ -1,0 +1,6 @@
+-- What a reader of frames gets.
+use Rattle.output.specs.declared.readers.Frame.{Frame}
+use Rattle.output.specs.Output.{Sent}
+
+abbrev pub sent_of : Frame → Sent
+sent_of frame = record { side = frame.side; bytes = frame.bytes.now }

@@ -1,0 +1,208 @@
+//! The page on which a step writes what it tells.
+ghost use Rattle.std.specs.Prelude.{◌≡◌, ◌≤◌, ◌<◌, ◌+◌, ◌-◌, ◌++◌, length, vec_len, vec_capacity};
+ghost use Rattle.std.specs.Prelude.{OnOk, OnErr, IsOk};
+ghost use Rattle.output.specs.Output.{none_told, no_room, with_frame, with_datagram, with_note};
+ghost use Rattle.output.specs.Output.{without_notes, IsWithin};
+
+use crate::piles::Pile;
+use crate::readers::{ByteStrings, Frames};
+use crate::writing::WriteBytes;
+use nat_types::{Note, Side};
+use std::alloc::{AllocError, Global};
+use std::marker::Model;
+use std::{mem, slice};
+
+/// The bytes of the longest frame that is sent.
+const LONGEST_FRAME: usize = 1514;
+
+/// The bytes of the longest datagram: a header of 38 and 64 records of at most 34.
+const LONGEST_DATAGRAM: usize = 2214;
+
+/// For how much there is room: frames of up to 1,514 bytes each, datagrams of up to 2,214 bytes
+/// each, and notes.
+#[derive(Clone, Copy, Debug, PartialEq, Eq, Default)]
+pub struct Room {
+    pub frames: usize,
+    pub datagrams: usize,
+    pub notes: usize,
+}
+
+/// What was told so far, and for how much more there is room. What is added takes no memory:
+/// `ready` takes it.
+#[derive(Debug, Drop)]
+pub struct OutputBuffer {
+    sides: Vec<Side>,
+    frames: Pile,
+    datagrams: Pile,
+    notes: Vec<Note>,
+    room: Room,
+}
+
+impl Model for OutputBuffer {
+    ghost use Rattle.std.specs.Prelude.{◌≡◌, ◌≤◌, ◌+◌, ◌*◌, length, vec_len, vec_capacity};
+    ghost use Rattle.output.specs.Output.{Paged, HasRoom, sent};
+
+    ghost Value = { Paged };
+
+    ghost view = { λ p. record {
+      told = record {
+        frames = sent p.sides.items p.frames.strings;
+        datagrams = p.datagrams.strings;
+        notes = p.notes.items;
+      };
+      room = p.room;
+    } };
+
+    ghost invariant = { λ p. (length p.sides.items ≡ length p.frames.strings)
+        × (vec_len p.sides + p.room.frames ≤ vec_capacity p.sides)
+        × HasRoom p.room.frames 1514 p.frames.places p.frames.octets
+        × HasRoom p.room.datagrams 2214 p.datagrams.places p.datagrams.octets
+        × (vec_len p.notes + p.room.notes ≤ vec_capacity p.notes) };
+}
+
+fn note_reserved(list: &mut Vec<Note>, notes: &[Note])
+    requires { vec_len list.old + length notes.now ≤ vec_capacity list.old }
+    ensures items { list.new.items ≡ list.old.items ++ notes.now }
+    ensures len { vec_len list.new ≡ vec_len list.old + length notes.now }
+    ensures capacity { vec_capacity list.old ≤ vec_capacity list.new }
+{
+    match list.extend_from_slice(notes) {
+        Ok(()) => {}
+        Err(_full) => unreachable!(),
+    }
+}
+
+impl OutputBuffer {
+    /// With nothing told, and no room.
+    pub fn new(alloc: Global) -> OutputBuffer
+        ensures told { result.told ≡ none_told }
+        ensures room { result.room ≡ no_room }
+    {
+        OutputBuffer {
+            sides: Vec::new(alloc),
+            frames: Pile::new(alloc),
+            datagrams: Pile::new(alloc),
+            notes: Vec::new(alloc),
+            room: Room {
+                frames: 0,
+                datagrams: 0,
+                notes: 0,
+            },
+        }
+    }
+
+    /// Makes room for so much, in all.
+    pub fn ready(&mut self, room: Room) -> Result<(), AllocError>
+        requires few_frames { room.frames ≤ 4096 }
+        requires few_datagrams { room.datagrams ≤ 4096 }
+        ensures ok { OnOk result (self.new ≡ record self.old { room = room }) }
+        ensures err { OnErr result (self.new ≡ self.old) }
+        ensures enough { IsWithin room self.old.room → IsOk result }
+    {
+        self.sides.reserve(room.frames)?;
+        self.frames.ready(room.frames, LONGEST_FRAME * room.frames)?;
+        self.datagrams
+            .ready(room.datagrams, LONGEST_DATAGRAM * room.datagrams)?;
+        self.notes.reserve(room.notes)?;
+        self.room = room;
+        Ok(())
+    }
+
+    /// Tells nothing any more, and keeps the memory.
+    pub fn clear(&mut self)
+        ensures told { self.new.told ≡ none_told }
+        ensures room { self.new.room ≡ self.old.room }
+    {
+        self.sides.clear();
+        self.frames.clear();
+        self.datagrams.clear();
+        self.notes.clear();
+    }
+
+    /// Adds a frame that goes to this side, and is made where it lies.
+    pub fn make_frame<W: WriteBytes>(&mut self, side: Side, frame: &W)
+        requires ready { W.can_write frame.now }
+        requires room { 0 < self.old.room.frames }
+        requires short { W.room frame.now ≤ 1514 }
+        ensures told { self.new.told ≡ with_frame self.old.told side (W.bytes frame.now) }
+        ensures room { self.old.room
+            ≡ record self.new.room { frames = self.new.room.frames + 1 } }
+    {
+        self.sides.push_reserved(side);
+        self.frames.write(frame);
+        self.room.frames -= 1;
+    }
+
+    /// Adds a datagram that is made where it lies.
+    pub fn make_datagram<W: WriteBytes>(&mut self, datagram: &W)
+        requires ready { W.can_write datagram.now }
+        requires room { 0 < self.old.room.datagrams }
+        requires short { W.room datagram.now ≤ 2214 }
+        ensures told { self.new.told ≡ with_datagram self.old.told (W.bytes datagram.now) }
+        ensures room { self.old.room
+            ≡ record self.new.room { datagrams = self.new.room.datagrams + 1 } }
+    {
+        self.datagrams.write(datagram);
+        self.room.datagrams -= 1;
+    }
+
+    /// Adds a note.
+    pub fn note(&mut self, note: &Note)
+        requires { 0 < self.old.room.notes }
+        ensures told { self.new.told ≡ with_note self.old.told note.now }
+        ensures room { self.old.room ≡ record self.new.room { notes = self.new.room.notes + 1 } }
+    {
+        note_reserved(&mut self.notes, slice::from_ref(note));
+        self.room.notes -= 1;
+    }
+
+    /// Hands the list of notes out, to what appends notes to a list with room; `put_notes` takes it
+    /// back.
+    pub fn take_notes(&mut self) -> Vec<Note>
+        ensures notes { result.items ≡ self.old.told.notes }
+        ensures room { vec_len result + self.old.room.notes ≤ vec_capacity result }
+        ensures rest { self.new ≡ without_notes self.old }
+    {
+        self.room.notes = 0;
+        let alloc = *self.notes.allocator();
+        mem::replace(&mut self.notes, Vec::new(alloc))
+    }
+
+    /// Takes a list of notes in place of the one that was there, with the room that it has.
+    pub fn put_notes(&mut self, notes: Vec<Note>)
+        ensures told { self.new.told ≡ record self.old.told { notes = notes.items } }
+        ensures room { self.new.room
+            ≡ record self.old.room { notes = vec_capacity notes - vec_len notes } }
+    {
+        self.room.notes = notes.capacity() - notes.len();
+        self.notes = notes;
+    }
+
+    /// The frames, in order.
+    pub fn frames(&self) -> Frames<'_>
+        ensures { result ≡ self.now.told.frames }
+    {
+        Frames::of(&self.sides, self.frames.strings())
+    }
+
+    /// How many datagrams there are.
+    pub fn datagram_count(&self) -> usize
+        ensures { result ≡ length self.now.told.datagrams }
+    {
+        self.datagrams.count()
+    }
+
+    /// The datagrams, in order.
+    pub fn datagrams(&self) -> ByteStrings<'_>
+        ensures { result ≡ self.now.told.datagrams }
+    {
+        self.datagrams.strings()
+    }
+
+    /// The notes, in order.
+    pub fn notes(&self) -> &[Note]
+        ensures { result.now ≡ self.now.told.notes }
+    {
+        self.notes.as_slice()
+    }
+}

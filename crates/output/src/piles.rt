@@ -1,0 +1,91 @@
+//! Strings of bytes that lie one behind the other, so that none takes memory of its own.
+ghost use Rattle.std.specs.Prelude.{◌≡◌, ◌≤◌, ◌<◌, ◌+◌, ◌++◌, ◌∷◌, [], length, OnOk, OnErr, IsOk};
+
+use crate::readers::ByteStrings;
+use crate::writing::WriteBytes;
+use std::alloc::{AllocError, Global};
+use std::marker::Model;
+
+#[derive(Debug, Drop)]
+pub(crate) struct Pile {
+    sizes: Vec<usize>,
+    bytes: Vec<u8>,
+}
+
+impl Model for Pile {
+    ghost use Rattle.std.specs.Prelude.{◌≡◌, ◌-◌, length, sum, vec_len, vec_capacity};
+    ghost use Rattle.output.specs.Piles.{Pile as Strings, cut};
+
+    ghost Value = { Strings };
+
+    ghost view = { λ p. record {
+      strings = cut p.sizes.items p.bytes.items;
+      places = vec_capacity p.sizes - vec_len p.sizes;
+      octets = vec_capacity p.bytes - vec_len p.bytes;
+    } };
+
+    ghost invariant = { λ p. sum p.sizes.items ≡ length p.bytes.items };
+}
+
+impl Pile {
+    /// With no string and no room.
+    pub(crate) fn new(alloc: Global) -> Pile
+        ensures { result.strings ≡ [] }
+    {
+        Pile {
+            sizes: Vec::new(alloc),
+            bytes: Vec::new(alloc),
+        }
+    }
+
+    /// Makes room for so many more strings, and for so many more bytes in all.
+    pub(crate) fn ready(&mut self, places: usize, octets: usize) -> Result<(), AllocError>
+        ensures strings { self.new.strings ≡ self.old.strings }
+        ensures places { OnOk result (places ≤ self.new.places) }
+        ensures octets { OnOk result (octets ≤ self.new.octets) }
+        ensures places_stay { self.old.places ≤ self.new.places }
+        ensures octets_stay { self.old.octets ≤ self.new.octets }
+        ensures enough { places ≤ self.old.places → octets ≤ self.old.octets → IsOk result }
+    {
+        self.sizes.reserve(places)?;
+        self.bytes.reserve(octets)
+    }
+
+    /// Takes all strings off, and keeps the room.
+    pub(crate) fn clear(&mut self)
+        ensures strings { self.new.strings ≡ [] }
+        ensures places { self.old.places ≤ self.new.places }
+        ensures octets { self.old.octets ≤ self.new.octets }
+    {
+        self.sizes.clear();
+        self.bytes.clear();
+    }
+
+    /// Lets a string be made behind the others.
+    pub(crate) fn write<W: WriteBytes>(&mut self, source: &W)
+        requires ready { W.can_write source.now }
+        requires place { 0 < self.old.places }
+        requires octets { W.room source.now ≤ self.old.octets }
+        ensures strings { self.new.strings ≡ self.old.strings ++ W.bytes source.now ∷ [] }
+        ensures places { self.old.places ≤ self.new.places + 1 }
+        ensures octets { self.old.octets ≤ self.new.octets + W.room source.now }
+    {
+        let start = self.bytes.len();
+        source.write_to(&mut self.bytes);
+        self.sizes.push_reserved(self.bytes.len() - start);
+    }
+
+    /// How many strings there are.
+    pub(crate) fn count(&self) -> usize
+        ensures { result ≡ length self.now.strings }
+    {
+        self.sizes.len()
+    }
+
+    /// The strings, in order.
+    pub(crate) fn strings(&self) -> ByteStrings<'_>
+        ensures { result ≡ self.now.strings }
+    {
+        ByteStrings::of(&self.sizes, &self.bytes)
+    }
+}

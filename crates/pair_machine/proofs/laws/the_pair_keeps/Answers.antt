@@ -1,8 +1,0 @@
-use Rattle.pair_machine.proofs.Kept as laws
-use Rattle.pair_machine.proofs.laws.the_pair_keeps.Goals as goal
-
-pub returns-clause-kept : goal.returns-clause-kept
-returns-clause-kept c = λ r es can. laws.always_kept r es can
-
-pub returns-clause-owners : goal.returns-clause-owners
-returns-clause-owners c = λ r es can. laws.always_owned r es can

@@ -1,9 +1,0 @@
-//! What a gateway's bytes are sent through before they are handed in, and such a passage through
-//! loopback sockets.
-#![tactic(auto)]
-
-mod loopback;
-mod passage;
-
-pub use loopback::{LIMIT, Loopback};
-pub use passage::{Passage, Passed};

@@ -1,0 +1,10 @@
+-- The lemmas that proofs of other crates may cite.
+
+-- The port that is chosen.
+pub use Rattle.port_range.proofs.Choice.{chosen-same}
+-- what may be given out lies between the two
+pub use Rattle.port_range.proofs.Choice.{Between}
+-- a chosen port, as a relation
+pub use Rattle.port_range.proofs.Choice.{chosen-is}
+-- where none is chosen, none may be given out
+pub use Rattle.port_range.proofs.Choice.{chosen-none}

@@ -1,0 +1,13 @@
+use Rattle.rounds.proofs.rounds.round.Goals as goal
+
+pub returns : goal.returns
+returns g c = record {
+  answers = c.take_what_comes.ensures.answers;
+  poll = c.take_what_comes.ensures.poll;
+  between = _;
+  letters = c.take_what_comes.ensures.taken;
+  moment = _;
+  read = c.moment.ensures;
+  tick = c.hand_in.ensures.taken;
+  no_more = c.hand_in.ensures.answers;
+}

@@ -1,9 +1,0 @@
-use Rattle.std.proofs.Common.{length}
-use Rattle.runs.proofs.Playing.{IsUnderWay}
-use Rattle.runs.proofs.simulation.steps_of.Given as goal
-
-abbrev pub invariant-loop-rest : goal.invariant-loop-rest
-invariant-loop-rest g l = IsUnderWay l.fn.world l.fn.events l.rest l.steps.items l.world
-
-abbrev pub decreases-loop-rest : goal.decreases-loop-rest
-decreases-loop-rest g l = length l.rest

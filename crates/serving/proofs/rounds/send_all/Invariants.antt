@@ -1,8 +1,0 @@
-use Rattle.std.proofs.Common.{◌≡◌}
-use Rattle.serving.proofs.rounds.send_all.Given as goal
-
-abbrev pub invariant-loop-frame : goal.invariant-loop-frame
-invariant-loop-frame g l = g.W.Wire.answers l.wire ≡ g.W.Wire.answers l.fn.wire
-
-abbrev pub invariant-loop-datagram : goal.invariant-loop-datagram
-invariant-loop-datagram g l = g.W.Wire.answers l.wire ≡ g.W.Wire.answers l.fn.wire

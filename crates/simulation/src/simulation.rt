@@ -1,0 +1,169 @@
+//! A script's run: its events on a new world, their steps and the tables at its end printed.
+ghost use Rattle.std.specs.Prelude.{◌≡◌, ◌⊎◌, None, IfOk, IfErr, OnOk, IsSome};
+ghost use Rattle.frame_sim.specs.Runs.{AreSteps};
+ghost use Rattle.faults.specs.Faults.{status_of};
+ghost use Rattle.scripts.specs.Script.{first_bad_line};
+ghost use Rattle.faults.specs.Jobs.{TellsRun};
+ghost use Rattle.frame_sim.specs.Status.{has_refusal, run_status, IsRun, TakesSteps};
+ghost use Rattle.simulation.specs.Status.{RunsScript};
+ghost use Rattle.faults.specs.declared.faults.Fault.TheVariants as faults;
+
+use crate::shown::print_steps;
+use crate::{Progress, Unwatched};
+use faults::{Fault, PrintFault, job_of};
+use frame_sim::{Step, World};
+use nat_types::{NoMemory, WorldEvent};
+use settings::Settings;
+use std::alloc::Global;
+use std::io::Write;
+
+/// Runs a script on a new world of the settings that a text in TOML holds, and prints its steps and tables.
+///
+/// The answer is the exit status: 0, 3 where an event was refused, or 1 for a fault, which is told on `errors`.
+pub fn simulate<O: Write, E: Write>(
+    alloc: Global,
+    settings: &str,
+    script: &str,
+    output: &mut O,
+    errors: &mut E,
+) -> u8
+    ensures status { (result ≡ 0) ⊎ ((result ≡ 1) ⊎ (result ≡ 3)) }
+    ensures bad { IsSome (first_bad_line script.now) → result ≡ 1 }
+    ensures run { (result ≡ 0) ⊎ (result ≡ 3) → RunsScript settings.now script.now result }
+{
+    match simulate_watched(alloc, settings, script, &mut Unwatched, output) {
+        Ok(status) => status,
+        Err(fault) => fault.tell(errors),
+    }
+}
+
+/// Runs a script as `simulate` does, and tells how far it is before every few events. The answer is the exit status: 0, or 3
+/// where an event was refused.
+///
+/// # Errors
+///
+/// The settings' fault, else the script's first bad line; `NotWritten` where output is refused, `NoMemory`.
+pub fn simulate_watched<P: Progress, O: Write>(
+    alloc: Global,
+    settings: &str,
+    script: &str,
+    progress: &mut P,
+    output: &mut O,
+) -> Result<u8, Fault>
+    ensures told { IfErr result (TellsRun settings.now script.now) }
+    ensures known { IfErr result (λ fault. status_of fault ≡ 1) }
+    ensures good { OnOk result (first_bad_line script.now ≡ None) }
+    ensures run { IfOk result (RunsScript settings.now script.now) }
+    ensures status { IfOk result (λ status. (status ≡ 0) ⊎ (status ≡ 3)) }
+{
+    let job = job_of(alloc, settings, script)?;
+    play(
+        alloc,
+        &job.settings,
+        job.events.as_slice(),
+        progress,
+        output,
+    )
+}
+
+/// Runs events on a new world of these settings, tells how far it is before every few of them, and prints their steps and the
+/// world's tables. The answer is the exit status.
+///
+/// # Errors
+///
+/// `NotWritten` where output is refused, `NoMemory`.
+pub fn play<P: Progress, O: Write>(
+    alloc: Global,
+    settings: &Settings,
+    events: &[WorldEvent],
+    progress: &mut P,
+    output: &mut O,
+) -> Result<u8, Fault>
+    ensures run { IfOk result (IsRun settings.now events.now) }
+    ensures status { IfOk result (λ status. (status ≡ 0) ⊎ (status ≡ 3)) }
+    ensures fault { IfErr result
+        (λ fault. (fault ≡ faults.NotWritten) ⊎ (fault ≡ faults.NoMemory)) }
+{
+    match World::founded(alloc, settings) {
+        Ok(mut world) => {
+            let status = played(alloc, &mut world, events, progress, output);
+            world.end();
+            status
+        }
+        Err(fault) => Err(Fault::from(fault)),
+    }
+}
+
+/// Runs events on a world, and prints their steps and its tables.
+fn played<P: Progress, O: Write>(
+    alloc: Global,
+    world: &mut World<'_>,
+    events: &[WorldEvent],
+    progress: &mut P,
+    output: &mut O,
+) -> Result<u8, Fault>
+    ensures run { IfOk result (TakesSteps world.old events.now world.new) }
+    ensures status { IfOk result (λ status. (status ≡ 0) ⊎ (status ≡ 3)) }
+    ensures fault { IfErr result
+        (λ fault. (fault ≡ faults.NotWritten) ⊎ (fault ≡ faults.NoMemory)) }
+{
+    let steps = steps_of(alloc, world, events, progress)?;
+    print(world, events, steps.as_slice(), output)?;
+    Ok(status_of(steps.as_slice()))
+}
+
+/// Prints steps, and the tables of the world to which they led.
+fn print<O: Write>(
+    world: &World<'_>,
+    events: &[WorldEvent],
+    steps: &[Step],
+    output: &mut O,
+) -> Result<(), PrintFault> {
+    print_steps(output, events, steps)?;
+    world.tables(output)?;
+    output.flush()?;
+    Ok(())
+}
+
+/// How many events are run at a time.
+const AT_A_TIME: usize = 64;
+
+/// What the events do to a world, in order.
+fn steps_of<P: Progress>(
+    alloc: Global,
+    world: &mut World<'_>,
+    events: &[WorldEvent],
+    progress: &mut P,
+) -> Result<Vec<Step>, NoMemory>
+    ensures { IfOk result (λ steps. AreSteps world.old events.now steps.items world.new) }
+{
+    let mut steps = Vec::with_capacity(alloc, events.len())?;
+    let mut rest = events;
+    while !rest.is_empty() {
+        progress.reached(steps.len(), events.len());
+        let (next, others) = rest.split_at(rest.len().min(AT_A_TIME));
+        steps.append(&mut next_steps(world, next)?)?;
+        rest = others;
+    }
+    Ok(steps)
+}
+
+/// What the next few events do to a world, in order.
+fn next_steps(world: &mut World<'_>, events: &[WorldEvent]) -> Result<Vec<Step>, NoMemory>
+    ensures { IfOk result (λ steps. AreSteps world.old events.now steps.items world.new) }
+{
+    world.run(events)
+}
+
+/// 3 where an event was refused, else 0.
+fn status_of(steps: &[Step]) -> u8
+    ensures { result ≡ run_status steps.now }
+{
+    if has_refusal(steps) { 3 } else { 0 }
+}
+
+fn has_refusal(steps: &[Step]) -> bool
+    ensures { result ≡ has_refusal steps.now }
+{
+    steps.iter().any(|step| step.answer.is_err())
+}

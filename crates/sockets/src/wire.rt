@@ -1,0 +1,112 @@
+//! What a box sends datagrams to and receives them from.
+ghost use Rattle.std.specs.Prelude.{◌≡◌, ◌≤◌, ◌++◌, ◌∷◌, [], ◌-◌, ◌==◌, List, IfOk, IfSome};
+ghost use Rattle.sockets.specs.Letters.{Polled, answer_of};
+
+use crate::{Answers, Place};
+use std::marker::Model;
+use std::time::Duration;
+
+/// The bytes that a receiver has room for. A link datagram has at most 2,214 bytes and a frame 1,514; of a longer
+/// datagram the end is lost, and what is left is too long for either.
+pub const LONGEST: usize = 4_096;
+
+/// A datagram that wasn't sent, or of which it isn't known whether it came.
+#[derive(Clone, Copy, Debug, PartialEq, Eq)]
+pub struct WireFault;
+
+/// What a box sends datagrams to and receives them from.
+pub trait Wire {
+    /// What was answered each time that a datagram was asked for, in order.
+    ghost answers: { Self → List Polled };
+
+    /// Sends a datagram. After an Err it is lost.
+    fn send(&mut self, to: Place, bytes: &[u8]) -> Result<(), WireFault>
+        ensures answers { answers self.new ≡ answers self.old };
+
+    /// The next datagram of any place: where it came from, and how many bytes of `room` it has. Where none is there, one
+    /// is waited for until `limit` has passed; a limit of 0 doesn't wait. After an Err nothing was received.
+    fn receive(
+        &mut self,
+        limit: Duration,
+        room: &mut [u8; LONGEST],
+    ) -> Result<Option<(Place, usize)>, WireFault>
+        ensures within { IfOk result (λ found. IfSome found (λ datagram. datagram.1 ≤ 4096)) }
+        ensures answers { answers self.new
+            ≡ answers self.old ++ answer_of result room.new ∷ [] };
+}
+
+/// A wire whose call with a given number, counted from 1 over both its calls, fails; all others are those of the
+/// wire below it. It is for tests of what stands on a wire.
+#[derive(Drop)]
+pub struct Failing<'a, W> {
+    wire: &'a mut W,
+    left: u64,
+    answers: Answers,
+}
+
+impl<'a, W> Model for Failing<'a, W> {
+    ghost use Rattle.sockets.specs.Failing.{Faulty};
+
+    ghost Value = { Faulty W };
+
+    ghost view = { λ f. record { wire = f.wire; left = f.left; answers = f.answers } };
+}
+
+impl<'a, W: Wire> Failing<'a, W> {
+    /// Fails at the call with this number; at none where it is 0.
+    pub fn new(wire: &'a mut W, number: u64) -> Failing<'a, W>
+        ensures { result ≡ record { wire = wire.entry; left = number; answers = [] } }
+    {
+        Failing {
+            wire,
+            left: number,
+            answers: Answers::none(),
+        }
+    }
+
+    /// Counts a call, and says whether it is the one that fails.
+    fn fails(&mut self) -> bool
+        ensures fails { result ≡ (self.old.left == 1) }
+        ensures counted { self.new ≡ record self.old { left = self.old.left - 1 } }
+    {
+        let fails = self.left == 1;
+        self.left = self.left.saturating_sub(1);
+        fails
+    }
+
+    /// What is answered, where this call isn't the one that fails.
+    fn asked(
+        &mut self,
+        limit: Duration,
+        room: &mut [u8; LONGEST],
+    ) -> Result<Option<(Place, usize)>, WireFault>
+        ensures within { IfOk result (λ found. IfSome found (λ datagram. datagram.1 ≤ 4096)) }
+        ensures answers { self.new.answers ≡ self.old.answers }
+    {
+        if self.fails() {
+            return Err(WireFault);
+        }
+        self.wire.receive(limit, room)
+    }
+}
+
+impl<W: Wire> Wire for Failing<'_, W> {
+    ghost answers = { λ f. f.answers };
+
+    fn send(&mut self, to: Place, bytes: &[u8]) -> Result<(), WireFault> {
+        if self.fails() {
+            return Err(WireFault);
+        }
+        self.wire.send(to, bytes)
+    }
+
+    fn receive(
+        &mut self,
+        limit: Duration,
+        room: &mut [u8; LONGEST],
+    ) -> Result<Option<(Place, usize)>, WireFault> {
+        let result = self.asked(limit, room);
+        self.answers.keep(result, room);
+        result
+    }
+}

@@ -1,0 +1,21 @@
+mod Slots
+mod Parts
+mod Taking
+mod Members
+mod Moves
+mod Loads
+mod Working
+mod Wishing
+mod Pairs
+mod Unbroken
+mod Restarting
+mod Comes
+mod Fitting
+mod Keeping
+mod Leaving
+mod Waiting
+mod Knowing
+mod Accounting
+mod Staying
+mod Settling
+pub mod Offered

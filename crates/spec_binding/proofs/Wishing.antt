@@ -1,0 +1,246 @@
+-- A wish for a port, an idle pair at a tick, and a packet that is translated, as acts of the machine.
+use Rattle.std.proofs.Common.{◌≡◌, ℕ, zero, suc, ◌+◌, ◌-◌, Bool, true, false, cond, not, ◌&&◌, Option, Some, None, List, [], ◌∷◌, ◌++◌, reverse, refl, sym, ap, ◌∙◌}
+use Rattle.std.proofs.lemmas.Bool.{and_parts, not-true}
+use Rattle.std.proofs.lemmas.List.{map-append, append-nil}
+use Rattle.addresses.specs.declared.transport.Parity.{Parity}
+use Rattle.addresses.specs.declared.transport.Port.{Port}
+use Rattle.addresses.specs.Transport.{parity_of}
+use Rattle.nat_types.specs.declared.notes.NoteKind.TheVariants as happens
+use Rattle.nat_types.specs.declared.pairs.EntryState.{EntryState}
+use Rattle.nat_types.specs.declared.pairs.EntryState.TheVariants as state
+use Rattle.nat_types.specs.declared.pairs.Endpoint.{Endpoint}
+use Rattle.nat_types.specs.declared.pairs.Key.{Key}
+use Rattle.nat_types.specs.declared.pairs.Pair.{Pair}
+use Rattle.nat_types.specs.declared.records.Record.{Record}
+use Rattle.nat_types.specs.declared.records.Record.TheVariants as rec
+use Rattle.bindings.specs.declared.entries.Entry.{Entry}
+use Rattle.bindings.specs.Entries.{slot_of, entry_of, entry_in}
+use Rattle.bindings.specs.Ports.{is_free_in, is_open_in, key_of, lowest_of, highest_of}
+use Rattle.bindings.proofs.Offered.{none_from_is_none, slot-key}
+use Rattle.port_range.specs.Ports.{chosen_open, first_where, fits, is_listed, is_open, lowest_open, or_else}
+use Rattle.link.specs.Link.{Link, with_pushed}
+use Rattle.spec_pair.specs.Acts.{Do, LoneNew, LoneUse, LoneDrop, WantPorts}
+use Rattle.spec_pair.specs.Box.{Letter}
+use Rattle.spec_pair.specs.Mapped.{slot_in, machine_record}
+use Rattle.spec_pair.specs.Step.{IsStep}
+use Rattle.spec_pair.specs.Talk as machine
+use Rattle.spec_binding.specs.declared.changes.Change.TheVariants.{Keep, Add, Turn, Drop}
+use Rattle.spec_binding.specs.declared.changes.Change.TheVariants as change_of
+use Rattle.spec_binding.specs.declared.changes.Transition.{Transition}
+use Rattle.spec_binding.specs.declared.changes.PortRequest.{PortRequest}
+use Rattle.spec_binding.specs.declared.changes.Want.TheVariants as want
+use Rattle.spec_binding.specs.Books.{Book, is_synced, is_lone, owns}
+use Rattle.spec_binding.specs.Machine.{box_at, machine_records, ranges_of, slots_of, Stands, Works}
+use Rattle.spec_binding.specs.Rows.{after, answered, asking, carry_row, idle_row, known_wish, may_want, new_pair, new_wish, none_row, noted_by, port_for, proposal, pushed_by, quiet, release_row, released_row, row, use_row, used_row, wish, wish_by, wish_of}
+use Rattle.spec_binding.proofs.Parts.{act-step}
+use Rattle.spec_binding.proofs.Slots.{slots-at, slots-drop, slots-none, slots-put, slots-turn}
+use Rattle.spec_binding.proofs.Taking.{is-unbound}
+use Rattle.spec_binding.proofs.Working.{changed-keeps, stands-answer}
+
+-- ---- a port that is chosen may be given out
+
+first-says : (test : ℕ → Bool) (start count : ℕ) (p : Port) → first_where test start count ≡ Some p → test p.0 ≡ true
+first-says test start zero p h = absurd (cc)
+first-says test start (suc count) p h = at (test start) refl h (first-says test (start + 1) count p)
+  where
+    at : (b : Bool) → test start ≡ b → (let o : Option Port = cond b (Some (record { 0 = start })) (first_where test (start + 1) count) in o) ≡ Some p → (first_where test (start + 1) count ≡ Some p → test p.0 ≡ true) → test p.0 ≡ true
+    at true is h ih = let one : (let q : Port = record { 0 = start } in q) ≡ p = cc in ap (λ (q : Port). test q.0) (sym one) ∙ is
+    at false is h ih = ih h
+
+lowest-says : (test : ℕ → Bool) (low high : ℕ) (wanted : Option Parity) (p : Port) → lowest_open test low high wanted ≡ Some p → test p.0 ≡ true
+lowest-says test low high wanted p h = (and_parts (test p.0) (fits wanted p.0) (first-says (is_open test wanted) low (high + 1 - low) p h)).0
+
+open-says : (test : ℕ → Bool) (low high : ℕ) (parity : Parity) (p : Port) → chosen_open test low high parity ≡ Some p → test p.0 ≡ true
+open-says test low high parity p h = at (lowest_open test low high (Some parity)) refl h
+  where
+    at : (o : Option Port) → lowest_open test low high (Some parity) ≡ o → or_else o (lowest_open test low high None) ≡ Some p → test p.0 ≡ true
+    at None is h = lowest-says test low high None p h
+    at (Some x) is h = lowest-says test low high (Some parity) p (is ∙ h)
+
+pub record IsOpen (b : Book) (e : Endpoint) (port : Port) : Type 0 where
+  pub owned : owns b port.0 ≡ true
+  pub free : slot_of b.entries (new_pair e port).key ≡ None
+
+pub chosen-says : (b : Book) (e : Endpoint) (port : Port) → port_for b e ≡ Some port → IsOpen b e port
+chosen-says b e port h =
+    let test = is_open_in b.entries b.owned e.protocol in
+    let parts = and_parts (is_listed port.0 b.owned) (is_free_in b.entries e.protocol port.0) (open-says test (lowest_of b.zero b.one) (highest_of b.zero b.one) (parity_of e.port.0) port h) in
+    record { owned = parts.0; free = none_from_is_none (slot_of b.entries (key_of e.protocol port.0)) parts.1 }
+
+pub at-key : (es : List Entry) (k : Key) (x : Entry) → slot_of es k ≡ Some x → slot_of es x.pair.key ≡ Some x
+at-key es k x found = ap (slot_of es) (slot-key es k x found) ∙ found
+
+module _ (now : ℕ) (c : Book) (e : Link) (h : List Record) (n : ℕ) (letters : List Letter) (words : List ℕ) where
+  -- the row is a part of a step that takes no record
+  abbrev pub WishSteps : Transition → Type 0
+  WishSteps r = IsStep (ranges_of c) c.id now (box_at c e h n) (box_at (after c r) (answered e r.answer) (h ++ pushed_by r.answer) n) letters words [] (reverse (noted_by c.id now r.what)) [] []
+
+  sent-none : machine_records (h ++ []) ≡ machine_records h
+  sent-none = map-append machine_record h [] ∙ append-nil (machine_records h)
+
+  pub rest-row : WishSteps quiet
+  rest-row = record { acts = []; follows = tt; box_is = ap (λ (s : List machine.MachineRecord). record (box_at c e h n) { sent = s }) sent-none; trace_is = refl; mail_is = refl }
+
+  -- a pair on a port that was chosen
+  record MayBegin (p : Pair) : Type 0 where
+    owned : owns c p.key.port.0 ≡ true
+    free : slot_of c.entries p.key ≡ None
+    new : machine.IsUnbound (slots_of c.entries) p.endpoint
+
+  lone-row : is_synced c.stage ≡ true → is_lone c.stage ≡ true → (p : Pair) → MayBegin p → WishSteps (row (Add (entry_in state.Live p)) None (Some (happens.Retaken p)))
+  lone-row synced lone p may =
+      let r : Transition = row (Add (entry_in state.Live p)) None (Some (happens.Retaken p)) in
+      act-step (ranges_of c) c.id now (box_at c e h n) (box_at (after c r) e (h ++ []) n) (LoneNew p.key p.endpoint) letters words (noted_by c.id now r.what)
+      (synced, lone, may.owned, slots-none c.entries p.key may.free, may.new)
+      (λ m i. absurd i, tt)
+      (record { up = refl; boot = refl; synced = refl; lone = refl; peer = refl; table = slots-put (entry_in state.Live p) c.entries may.free; sent = sent-none; taken = refl; loading = refl; owned = λ p. refl; wants = refl; named = refl; promised = refl })
+      refl
+      (λ m. refl)
+
+  propose-row : is_synced c.stage ≡ true → is_lone c.stage ≡ false → (p : Pair) → MayBegin p → WishSteps (proposal p)
+  propose-row synced lone p may =
+      let r : Transition = proposal p in
+      act-step (ranges_of c) c.id now (box_at c e h n) (box_at (after c r) (with_pushed e (rec.Install p)) (h ++ rec.Install p ∷ []) n) (Do (machine.Propose p.key p.endpoint)) letters words []
+      (synced, lone, (may.owned, slots-none c.entries p.key may.free, may.new), refl)
+      (λ m i. absurd i, tt)
+      (record { up = refl; boot = refl; synced = refl; lone = refl; peer = refl; table = slots-put (entry_in state.Pending p) c.entries may.free; sent = map-append machine_record h (rec.Install p ∷ []); taken = refl; loading = refl; owned = λ p. refl; wants = refl; named = refl; promised = refl })
+      refl
+      (λ m. refl)
+
+  -- a Want is pushed where none is open
+  want-row : is_synced c.stage ≡ true → is_lone c.stage ≡ false → c.wants ≡ false → WishSteps (row change_of.Want (Some rec.Want) None)
+  want-row synced lone none =
+      let r : Transition = row change_of.Want (Some rec.Want) None in
+      act-step (ranges_of c) c.id now (box_at c e h n) (box_at (after c r) (with_pushed e rec.Want) (h ++ rec.Want ∷ []) n) WantPorts letters words []
+      (synced, lone, none) (λ m i. absurd i, tt)
+      (record { up = refl; boot = refl; synced = refl; lone = refl; peer = refl; table = λ k. refl; sent = map-append machine_record h (rec.Want ∷ []); taken = refl; loading = refl; owned = λ p. refl; wants = refl; named = refl; promised = refl })
+      refl (λ m. refl)
+
+  known-steps : (p : Pair) (s : EntryState) → WishSteps (known_wish p s).row
+  known-steps p state.Pending = rest-row
+  known-steps p state.Doomed = rest-row
+  known-steps p state.Live = rest-row
+  known-steps p state.Closing = rest-row
+  known-steps p state.Held = rest-row
+
+  none-steps : is_synced c.stage ≡ true → (full : Bool) → WishSteps (none_row c full)
+  none-steps synced full = at (may_want c full) refl
+    where
+      at : (t : Bool) → may_want c full ≡ t → WishSteps (let r : Transition = cond t (row change_of.Want (Some rec.Want) None) quiet in r)
+      at true may =
+          let one = and_parts (not (is_lone c.stage)) (not c.wants && not full) may in
+          let two = and_parts (not c.wants) (not full) one.1 in
+          want-row synced (not-true (is_lone c.stage) one.0) (not-true c.wants two.0)
+      at false may = rest-row
+
+  new-steps : is_synced c.stage ≡ true → (full : Bool) (x : Endpoint) → entry_of c.entries x ≡ None → (o : Option Port) → port_for c x ≡ o → WishSteps (new_wish c full x o).row
+  new-steps synced full x none None found = none-steps synced full
+  new-steps synced full x none (Some port) found = at (is_lone c.stage) refl full
+    where
+      begins : MayBegin (new_pair x port)
+      begins = let says = chosen-says c x port found in record { owned = says.owned; free = says.free; new = is-unbound c.entries x none }
+
+      at : (lone : Bool) → is_lone c.stage ≡ lone → (full : Bool) → WishSteps (let w : PortRequest = cond lone (wish (want.Port port) (row (Add (entry_in state.Live (new_pair x port))) None (Some (happens.Retaken (new_pair x port))))) (cond full (wish want.NotNow quiet) (wish want.Wait (proposal (new_pair x port)))) in w).row
+      at true lone full = lone-row synced lone (new_pair x port) begins
+      at false lone true = rest-row
+      at false lone false = propose-row synced lone (new_pair x port) begins
+
+  by-steps : is_synced c.stage ≡ true → (full : Bool) (x : Endpoint) (o : Option Entry) → entry_of c.entries x ≡ o → WishSteps (wish_by c full x o).row
+  by-steps synced full x (Some y) found = known-steps y.pair y.state
+  by-steps synced full x None found = new-steps synced full x found (port_for c x) refl
+
+  pub wish-steps : (full : Bool) (x : Endpoint) → WishSteps (wish_of c full x).row
+  wish-steps full x = at (is_synced c.stage) refl
+    where
+      at : (b : Bool) → is_synced c.stage ≡ b → WishSteps (let w : PortRequest = cond b (wish_by c full x (entry_of c.entries x)) (wish want.NotNow quiet) in w).row
+      at true synced = by-steps synced full x (entry_of c.entries x) refl
+      at false unsynced = rest-row
+
+  -- ---- an idle pair, and one that is used
+
+  drops : (x : Entry) → is_synced c.stage ≡ true → is_lone c.stage ≡ true → machine.translated (slots_of c.entries x.pair.key) ≡ Some x.pair.endpoint → WishSteps (row (Drop x.pair.key) None (Some (happens.Released x.pair)))
+  drops x synced lone there =
+      let r : Transition = row (Drop x.pair.key) None (Some (happens.Released x.pair)) in
+      act-step (ranges_of c) c.id now (box_at c e h n) (box_at (after c r) e (h ++ []) n) (LoneDrop x.pair.key x.pair.endpoint) letters words (noted_by c.id now r.what)
+      (synced, lone, there) (λ m i. absurd i, tt)
+      (record { up = refl; boot = refl; synced = refl; lone = refl; peer = refl; table = slots-drop x.pair.key c.entries; sent = sent-none; taken = refl; loading = refl; owned = λ p. refl; wants = refl; named = refl; promised = refl })
+      refl (λ m. refl)
+
+  asks : (x : Entry) → is_synced c.stage ≡ true → is_lone c.stage ≡ false → slot_of c.entries x.pair.key ≡ Some x → slots_of c.entries x.pair.key ≡ machine.Live x.pair.endpoint → WishSteps (asking x.pair)
+  asks x synced lone found live =
+      let r : Transition = asking x.pair in
+      act-step (ranges_of c) c.id now (box_at c e h n) (box_at (after c r) (with_pushed e (rec.Ask x.pair.key)) (h ++ rec.Ask x.pair.key ∷ []) n) (Do (machine.Close x.pair.key x.pair.endpoint)) letters words (noted_by c.id now r.what)
+      (synced, lone, live, refl) (λ m i. absurd i, tt)
+      (record { up = refl; boot = refl; synced = refl; lone = refl; peer = refl; table = slots-turn x.pair.key state.Closing c.entries x found; sent = map-append machine_record h (rec.Ask x.pair.key ∷ []); taken = refl; loading = refl; owned = λ p. refl; wants = refl; named = refl; promised = refl })
+      refl (λ m. refl)
+
+  uses : (x : Entry) → is_synced c.stage ≡ true → machine.translated (slots_of c.entries x.pair.key) ≡ Some x.pair.endpoint → WishSteps (row Keep None (Some (happens.Used x.pair)))
+  uses x synced there = at (is_lone c.stage) refl
+    where
+      at : (b : Bool) → is_lone c.stage ≡ b → WishSteps (row Keep None (Some (happens.Used x.pair)))
+      at true lone =
+          act-step (ranges_of c) c.id now (box_at c e h n) (box_at c e (h ++ []) n) (LoneUse x.pair.key x.pair.endpoint) letters words (noted_by c.id now (Some (happens.Used x.pair)))
+          (synced, lone, there) (λ m i. absurd i, tt)
+          (record { up = refl; boot = refl; synced = refl; lone = refl; peer = refl; table = λ k. refl; sent = sent-none; taken = refl; loading = refl; owned = λ p. refl; wants = refl; named = refl; promised = refl })
+          refl (λ m. refl)
+      at false lone =
+          act-step (ranges_of c) c.id now (box_at c e h n) (box_at c e (h ++ []) n) (Do (machine.Use x.pair.key x.pair.endpoint)) letters words (noted_by c.id now (Some (happens.Used x.pair)))
+          (synced, lone, there, refl) (λ m i. absurd i, tt)
+          (record { up = refl; boot = refl; synced = refl; lone = refl; peer = refl; table = λ k. refl; sent = map-append machine_record h []; taken = refl; loading = refl; owned = λ p. refl; wants = refl; named = refl; promised = refl })
+          refl (λ m. refl)
+
+  slot : (x : Entry) (s : EntryState) → x.state ≡ s → slot_of c.entries x.pair.key ≡ Some x → slots_of c.entries x.pair.key ≡ slot_in s x.pair.endpoint
+  slot x s is found = slots-at c.entries x.pair.key x found ∙ ap (λ (z : EntryState). slot_in z x.pair.endpoint) is
+
+  released-steps : (ask : Bool) (x : Entry) (s : EntryState) → is_synced c.stage ≡ true → x.state ≡ s → slot_of c.entries x.pair.key ≡ Some x → WishSteps (released_row (is_lone c.stage) ask x.pair s)
+  released-steps ask x state.Pending synced is found = rest-row
+  released-steps ask x state.Doomed synced is found = rest-row
+  released-steps ask x state.Live synced is found = at (is_lone c.stage) refl ask
+    where
+      at : (b : Bool) → is_lone c.stage ≡ b → (ask : Bool) → WishSteps (let r : Transition = cond b (row (Drop x.pair.key) None (Some (happens.Released x.pair))) (cond ask (asking x.pair) quiet) in r)
+      at true lone ask = drops x synced lone (ap machine.translated (slot x state.Live is found))
+      at false lone true = asks x synced lone found (slot x state.Live is found)
+      at false lone false = rest-row
+  released-steps ask x state.Closing synced is found = rest-row
+  released-steps ask x state.Held synced is found = at (is_lone c.stage) refl
+    where
+      at : (b : Bool) → is_lone c.stage ≡ b → WishSteps (let r : Transition = cond b (row (Drop x.pair.key) None (Some (happens.Released x.pair))) quiet in r)
+      at true lone = drops x synced lone (ap machine.translated (slot x state.Held is found))
+      at false lone = rest-row
+
+  idle-steps : (ask : Bool) (k : Key) → WishSteps (idle_row c ask k)
+  idle-steps ask k = at (is_synced c.stage) refl (slot_of c.entries k) refl
+    where
+      at : (b : Bool) → is_synced c.stage ≡ b → (o : Option Entry) → slot_of c.entries k ≡ o → WishSteps (let r : Transition = cond b (release_row (is_lone c.stage) ask o) quiet in r)
+      at true synced None found = rest-row
+      at true synced (Some x) found = released-steps ask x x.state synced refl (at-key c.entries k x found)
+      at false synced o found = rest-row
+
+  used-steps : (x : Entry) (s : EntryState) → is_synced c.stage ≡ true → x.state ≡ s → slot_of c.entries x.pair.key ≡ Some x → WishSteps (used_row x.pair s)
+  used-steps x state.Pending synced is found = rest-row
+  used-steps x state.Doomed synced is found = rest-row
+  used-steps x state.Live synced is found = uses x synced (ap machine.translated (slot x state.Live is found))
+  used-steps x state.Closing synced is found = rest-row
+  used-steps x state.Held synced is found = uses x synced (ap machine.translated (slot x state.Held is found))
+
+  carry-steps : (k : Key) → WishSteps (carry_row c k)
+  carry-steps k = at (is_synced c.stage) refl (slot_of c.entries k) refl
+    where
+      at : (b : Bool) → is_synced c.stage ≡ b → (o : Option Entry) → slot_of c.entries k ≡ o → WishSteps (let r : Transition = cond b (use_row o) quiet in r)
+      at true synced None found = rest-row
+      at true synced (Some x) found = used-steps x x.state synced refl (at-key c.entries k x found)
+      at false synced o found = rest-row
+
+row-works : (now : ℕ) (b : Book) (e : Link) (n : ℕ) (h : List Record) (r : Transition) → Stands b e h → WishSteps now b e h n [] [] r → Works now [] [] b e n (after b r) (answered e r.answer) n (noted_by b.id now r.what) h
+row-works now b e n h r stands step =
+    let keeps = changed-keeps r.change b in
+    record { house = keeps.house; history = h ++ pushed_by r.answer; agrees = stands-answer b (after b r) e h r.answer keeps stands; step = step }
+
+pub wish-works : (now : ℕ) (b : Book) (e : Link) (n : ℕ) (h : List Record) (full : Bool) (x : Endpoint) → Stands b e h → Works now [] [] b e n (after b (wish_of b full x).row) (answered e (wish_of b full x).row.answer) n (noted_by b.id now (wish_of b full x).row.what) h
+wish-works now b e n h full x stands = row-works now b e n h (wish_of b full x).row stands (wish-steps now b e h n [] [] full x)
+
+pub idle-works : (now : ℕ) (b : Book) (e : Link) (n : ℕ) (h : List Record) (ask : Bool) (k : Key) → Stands b e h → Works now [] [] b e n (after b (idle_row b ask k)) (answered e (idle_row b ask k).answer) n (noted_by b.id now (idle_row b ask k).what) h
+idle-works now b e n h ask k stands = row-works now b e n h (idle_row b ask k) stands (idle-steps now b e h n [] [] ask k)
+
+pub carry-works : (now : ℕ) (b : Book) (e : Link) (n : ℕ) (h : List Record) (k : Key) → Stands b e h → Works now [] [] b e n (after b (carry_row b k)) (answered e (carry_row b k).answer) n (noted_by b.id now (carry_row b k).what) h
+carry-works now b e n h k stands = row-works now b e n h (carry_row b k) stands (carry-steps now b e h n [] [] k)

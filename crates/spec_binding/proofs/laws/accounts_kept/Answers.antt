@@ -1,0 +1,37 @@
+use Rattle.std.proofs.Common.{refl}
+use Rattle.spec_binding.specs.Books.{empty_book, founded_book}
+use Rattle.spec_binding.proofs.Settling.{alone-accounts, begun-accounts, carried-accounts, fed-accounts, foreign-accounts, later-accounts, let-go-accounts, restarted-accounts, taken-accounts, wished-accounts}
+use Rattle.spec_binding.proofs.laws.accounts_kept.Goals as goal
+
+pub returns-clause-begun : goal.returns-clause-begun
+returns-clause-begun c = λ now id zero one h none idle. begun-accounts now (empty_book id zero one) h refl none idle
+
+pub returns-clause-founded : goal.returns-clause-founded
+returns-clause-founded c = λ now zero one h none idle. begun-accounts now (founded_book zero one) h refl none idle
+
+pub returns-clause-later : goal.returns-clause-later
+returns-clause-later c = later-accounts
+
+pub returns-clause-foreign : goal.returns-clause-foreign
+returns-clause-foreign c = foreign-accounts
+
+pub returns-clause-fed : goal.returns-clause-fed
+returns-clause-fed c = fed-accounts
+
+pub returns-clause-wished : goal.returns-clause-wished
+returns-clause-wished c = wished-accounts
+
+pub returns-clause-taken : goal.returns-clause-taken
+returns-clause-taken c = taken-accounts
+
+pub returns-clause-carried : goal.returns-clause-carried
+returns-clause-carried c = carried-accounts
+
+pub returns-clause-restarted : goal.returns-clause-restarted
+returns-clause-restarted c = restarted-accounts
+
+pub returns-clause-alone : goal.returns-clause-alone
+returns-clause-alone c = alone-accounts
+
+pub returns-clause-let_go : goal.returns-clause-let_go
+returns-clause-let_go c = let-go-accounts

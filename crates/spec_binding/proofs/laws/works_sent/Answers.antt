@@ -1,0 +1,5 @@
+use Rattle.spec_binding.proofs.Parts.{works-sent}
+use Rattle.spec_binding.proofs.laws.works_sent.Goals as goal
+
+pub returns-clause-sent : goal.returns-clause-sent
+returns-clause-sent c = works-sent

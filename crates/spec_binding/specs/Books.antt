@@ -1,0 +1,110 @@
+-- What the binding protocol knows of a gateway: its book.
+use Rattle.std.specs.Prelude.{◌≡◌, ℕ, Bool, true, false, IsTrue, List, [], ◌∷◌, Some, ◌+◌, ◌-◌}
+use Rattle.nat_types.specs.declared.gateways.GatewayId.{GatewayId}
+use Rattle.nat_types.specs.declared.pairs.Key.{Key}
+use Rattle.nat_types.specs.declared.records.Record.{Record}
+use Rattle.bindings.specs.declared.entries.Entry.{Entry}
+use Rattle.bindings.specs.declared.entries.PortBounds.{PortBounds}
+use Rattle.bindings.specs.Entries.{slot_of, HasDistinctKeys}
+use Rattle.bindings.specs.Lists.{AreInOrder, IsOneToOne}
+use Rattle.bindings.specs.Ports.{AreBounds, in_either}
+use Rattle.port_range.specs.Ports.{is_listed, AreRising}
+use Rattle.std.specs.List.{AllByRecursion, range_with_len}
+use Rattle.nat_types.specs.Granted.{IsPort}
+use Rattle.nat_types.specs.declared.gateways.GatewayId.TheVariants.{Zero}
+use Rattle.link.specs.Grammar.{IsWellFormedPair, IsWellFormedRecord}
+use Rattle.resync.specs.Loading.{Load}
+use Rattle.spec_binding.specs.declared.setups.Stage.{Stage}
+use Rattle.spec_binding.specs.declared.setups.Stage.TheVariants.{Unsynced, Paired, Lone}
+
+-- Who it is, both ranges, how far it is, whether Begin was taken and not yet Done, the last port that an Owner named,
+-- its entries, the ports that it owns (loading: is to own), whether a Want of its is open, and the records of a promised
+-- batch that are still to be handed in.
+pub record Book : Type 0 where
+  pub id : GatewayId
+  pub zero : PortBounds
+  pub one : PortBounds
+  pub stage : Stage
+  pub begun : Bool
+  pub named : ℕ
+  pub entries : List Entry
+  pub owned : List ℕ
+  pub wants : Bool
+  pub coming : List Record
+
+abbrev pub is_synced : Stage → Bool
+is_synced Unsynced = false
+is_synced Paired = true
+is_synced Lone = true
+
+abbrev pub is_lone : Stage → Bool
+is_lone Unsynced = false
+is_lone Paired = false
+is_lone Lone = true
+
+-- a batch is promised, and not handed in whole yet
+abbrev pub is_any : List Record → Bool
+is_any [] = false
+is_any (r ∷ rs) = true
+
+abbrev pub is_promised : Book → Bool
+is_promised b = is_any b.coming
+
+-- the port lies in one of the two ranges
+abbrev pub in_ranges : Book → ℕ → Bool
+in_ranges b port = in_either b.zero b.one port
+
+abbrev pub owns : Book → ℕ → Bool
+owns b port = is_listed port b.owned
+
+-- a gateway without a table, whose peer may be known
+abbrev pub empty_book : GatewayId → PortBounds → PortBounds → Book
+empty_book id zero one = record {
+  id = id;
+  zero = zero;
+  one = one;
+  stage = Unsynced;
+  begun = false;
+  named = 0;
+  entries = [];
+  owned = [];
+  wants = false;
+  coming = [];
+}
+
+-- the ports of a range, rising
+abbrev pub ports_of : PortBounds → List ℕ
+ports_of range = range_with_len range.lowest.0 (range.highest.0 + 1 - range.lowest.0)
+
+-- gateway 0 as it is founded: alone, with range zero
+abbrev pub founded_book : PortBounds → PortBounds → Book
+founded_book zero one = record (empty_book Zero zero one) { stage = Lone; owned = ports_of zero }
+
+-- the table that is loaded
+abbrev pub load_of : Book → Load
+load_of b = record { zero = b.zero; one = b.one; begun = b.begun; named = b.named; entries = b.entries; owned = b.owned }
+
+abbrev pub with_load : Book → Load → Book
+with_load b l = record b { begun = l.begun; named = l.named; entries = l.entries; owned = l.owned }
+
+-- what holds of every book
+pub record IsBook (b : Book) : Type 0 where
+  pub zero : AreBounds b.zero
+  pub one : AreBounds b.one
+  pub highest : IsPort b.zero.highest.0 × IsPort b.one.highest.0
+  pub order : AreInOrder b.entries
+  pub keys : HasDistinctKeys b.entries
+  pub endpoints : IsOneToOne b.entries
+  pub within : (k : Key) (x : Entry) → slot_of b.entries k ≡ Some x → IsTrue (in_ranges b k.port.0)
+  pub formed : (k : Key) (x : Entry) → slot_of b.entries k ≡ Some x → IsWellFormedPair x.pair
+  pub coming : AllByRecursion IsWellFormedRecord b.coming
+  pub rising : AreRising b.owned
+  pub owned : (port : ℕ) → owns b port ≡ true → IsTrue (in_ranges b port)
+  -- synced, it doesn't load; and without Begin it has nothing
+  pub loaded : is_synced b.stage ≡ true → b.begun ≡ false
+  pub bare : is_synced b.stage ≡ false → b.begun ≡ false → (b.entries ≡ []) × (b.owned ≡ [])
+  -- only a synced gateway that isn't lone has a Want open, or a batch promised
+  pub closed : b.wants ≡ true → b.stage ≡ Paired
+  pub promised : is_promised b ≡ true → b.stage ≡ Paired
+  -- unsynced before Begin, no port is named
+  pub unnamed : is_synced b.stage ≡ false → b.begun ≡ false → b.named ≡ 0

@@ -1,0 +1,112 @@
+-- A book with what its pairs carried, and what each call makes of both.
+use Rattle.std.specs.Prelude.{ℕ, ◌-◌, Bool, true, false, not, is_some, nat_le, ◌&&◌, ◌||◌, List, [], ◌∷◌, ◌++◌, Option, Some, None, if◌then◌else◌}
+use Rattle.std.specs.List.{insert}
+use Rattle.nat_types.specs.declared.pairs.EntryState.{EntryState}
+use Rattle.nat_types.specs.declared.pairs.EntryState.TheVariants.{Pending, Doomed, Live, Closing, Held}
+use Rattle.nat_types.specs.declared.notes.Note.{Note}
+use Rattle.nat_types.specs.declared.pairs.Key.{Key}
+use Rattle.nat_types.specs.declared.records.Record.{Record}
+use Rattle.nat_types.specs.declared.records.Record.TheVariants.{Ask}
+use Rattle.link.specs.Link.{Link}
+use Rattle.activity.specs.declared.packets.Packet.{Packet}
+use Rattle.activity.specs.Lives.{Activity, life_begun, life_carried, life_renewed}
+use Rattle.bindings.specs.declared.entries.Entry.{Entry}
+use Rattle.bindings.specs.Lists.{place_in}
+use Rattle.bindings.specs.Lives.{lives_with, lives_without, rests_at, is_unused_at}
+use Rattle.bindings.specs.Revivals.{lives_of_pairs}
+use Rattle.resync.specs.Loading.{Load, loaded, lives_taken}
+use Rattle.spec_binding.specs.declared.changes.Change.{Change}
+use Rattle.spec_binding.specs.declared.changes.Change.TheVariants.{Keep, Add, Turn, Renew, Drop, Yield, Want, Give, Gain}
+use Rattle.spec_binding.specs.Books.{Book, is_synced, load_of}
+use Rattle.spec_binding.specs.Resets.{restarted, put_alone}
+use Rattle.spec_binding.specs.Rows.{answered, carry_row, changed, idle_row, is_full, noted_by, row_of, taken_book}
+
+-- the entries of the book, and the life of each, in the same order
+pub record Ledger : Type 0 where
+  pub book : Book
+  pub lives : List Activity
+
+-- the peer's pair comes by Install
+abbrev pub is_held : EntryState → Bool
+is_held Pending = false
+is_held Doomed = false
+is_held Live = false
+is_held Closing = false
+is_held Held = true
+
+-- the lives after a change: that of a new entry begins, a No begins one anew, one that is dropped goes
+abbrev pub lives_after : ℕ → Change → List Entry → List Activity → List Activity
+lives_after now Keep es ls = ls
+lives_after now (Add e) es ls = insert ls (place_in e.pair es) (life_begun (is_held e.state) now)
+lives_after now (Turn k s) es ls = ls
+lives_after now (Renew k) es ls = lives_with (life_renewed now) k es ls
+lives_after now (Drop k) es ls = lives_without k es ls
+lives_after now (Yield q p) es ls = insert ls (place_in p es) (life_begun true now)
+lives_after now Want es ls = ls
+lives_after now (Give g) es ls = ls
+lives_after now (Gain g) es ls = ls
+
+abbrev pub ledger_after : ℕ → Change → Ledger → Ledger
+ledger_after now c l = record { book = changed c l.book; lives = lives_after now c l.book.entries l.lives }
+
+-- the pair of an Ask is idle, or came by Install and carried nothing since
+abbrev pub rests_for : ℕ → Ledger → Record → Bool
+rests_for now l (Ask k) = rests_at l.book.entries l.lives k now || is_unused_at l.book.entries l.lives k
+rests_for now l r = false
+
+-- the lives of a table that is loaded: a record out of place changes nothing
+abbrev pub lives_loaded : ℕ → Record → List Entry → List Activity → Option Load → List Activity
+lives_loaded now r es ls None = ls
+lives_loaded now r es ls (Some l) = lives_taken now r es ls
+
+-- a record is taken
+abbrev pub taken_lives : ℕ → Ledger → Record → List Activity
+taken_lives now l r =
+    if is_synced l.book.stage
+    then lives_after now (row_of l.book (rests_for now l r) r).change l.book.entries l.lives
+    else lives_loaded now r l.book.entries l.lives (loaded (load_of l.book) r)
+
+abbrev pub taken_ledger : ℕ → Ledger → Record → Ledger
+taken_ledger now l r = record { book = taken_book l.book (rests_for now l r) r; lives = taken_lives now l r }
+
+-- the pair of a key carries a packet, where it translates
+abbrev pub carried_ledger : Key → Packet → Ledger → Ledger
+carried_ledger k p l = record l {
+  lives = if is_some (carry_row l.book k).what then lives_with (life_carried k.protocol p) k l.book.entries l.lives else l.lives;
+}
+
+-- a greater boot of the peer is heard
+abbrev pub restarted_ledger : Ledger → Ledger
+restarted_ledger l = record {
+  book = restarted l.book;
+  lives = if is_synced l.book.stage then lives_of_pairs l.book.entries l.lives else [];
+}
+
+-- the operator says that the peer is off
+abbrev pub alone_ledger : Ledger → Ledger
+alone_ledger l = record { book = put_alone l.book; lives = lives_of_pairs l.book.entries l.lives }
+
+-- ---- the idle pairs of a tick
+
+-- the peer was heard at most 300 centiseconds ago
+abbrev pub is_heard : Option ℕ → ℕ → Bool
+is_heard None now = false
+is_heard (Some last) now = nat_le (now - last) 300
+
+-- an idle pair's end may be asked for: the peer was heard lately, and the link isn't full
+abbrev pub may_ask : ℕ → Link → Bool
+may_ask now e = is_heard e.heard now && not (is_full e)
+
+-- a ledger, its end of the link, and what was noted
+pub record LetGo : Type 0 where
+  pub ledger : Ledger
+  pub link : Link
+  pub notes : List Note
+
+-- idle pairs are let go one after another, each by what the ones before left
+abbrev pub let_go : ℕ → List Key → Ledger → Link → LetGo
+let_go now [] l e = record { ledger = l; link = e; notes = [] }
+let_go now (k ∷ ks) l e =
+    let row = idle_row l.book (may_ask now e) k in
+    let rest = let_go now ks (ledger_after now row.change l) (answered e row.answer) in
+    record rest { notes = noted_by l.book.id now row.what ++ rest.notes }

@@ -1,0 +1,52 @@
+-- What a greater boot of the peer, and the operator's word that it is off, make of a book.
+use Rattle.std.specs.Prelude.{ℕ, false, List, [], length, map, if◌then◌else◌}
+use Rattle.nat_types.specs.declared.gateways.GatewayId.{GatewayId}
+use Rattle.nat_types.specs.declared.notes.NoteKind.TheVariants.{Retaken}
+use Rattle.nat_types.specs.declared.notes.Note.{Note}
+use Rattle.nat_types.specs.declared.pairs.Pair.{Pair}
+use Rattle.nat_types.specs.declared.records.Record.{Record}
+use Rattle.bindings.specs.declared.entries.Entry.{Entry}
+use Rattle.bindings.specs.Entries.{pairs_in}
+use Rattle.bindings.specs.Revivals.{revived_entries, comes_back}
+use Rattle.link.specs.Link.{Link, with_promised}
+use Rattle.resync.specs.Batch.{batch_of}
+use Rattle.spec_binding.specs.declared.setups.Stage.TheVariants.{Paired, Lone}
+use Rattle.spec_binding.specs.Books.{Book, is_synced, empty_book}
+
+-- the pairs that translate again then
+abbrev pub back_in : List Entry → List Pair
+back_in es = pairs_in comes_back es
+
+-- their notes
+abbrev pub retaken : GatewayId → ℕ → List Pair → List Note
+retaken i now ps = map (λ p. record { by = i; at = now; what = Retaken p }) ps
+
+-- what was proposed or asked to be closed translates, proposals given up are no more, and a Want is closed
+abbrev pub revived : Book → Book
+revived b = record b { entries = revived_entries b.entries; wants = false; coming = [] }
+
+-- the batch of a synced gateway then
+abbrev pub restart_batch : Book → List Record
+restart_batch b = batch_of b.owned (revived_entries b.entries)
+
+-- a synced gateway then isn't alone, and its batch is promised
+abbrev pub begun_anew : Book → Book
+begun_anew b = record (revived b) { stage = Paired; coming = restart_batch b }
+
+-- once a greater boot of the peer is heard
+abbrev pub restarted : Book → Book
+restarted b =
+    if is_synced b.stage
+    then begun_anew b
+    else empty_book b.id b.zero b.one
+
+abbrev pub restart_notes : Book → ℕ → List Note
+restart_notes b now = (if is_synced b.stage then retaken b.id now (back_in b.entries) else [])
+
+-- the batch is promised
+abbrev pub restart_link : Book → Link → Link
+restart_link b e = (if is_synced b.stage then with_promised e (length (restart_batch b)) else e)
+
+-- once the operator says that the peer is off
+abbrev pub put_alone : Book → Book
+put_alone b = record (revived b) { stage = Lone }

@@ -1,0 +1,24 @@
+-- The endpoints whose packets wait for the peer's answer.
+use Rattle.std.specs.Prelude.{Bool, true, false, Option, Some, None}
+use Rattle.nat_types.specs.declared.pairs.EntryState.{EntryState}
+use Rattle.nat_types.specs.declared.pairs.EntryState.TheVariants.{Pending, Doomed, Live, Closing, Held}
+use Rattle.nat_types.specs.declared.pairs.Endpoint.{Endpoint}
+use Rattle.bindings.specs.declared.entries.Entry.{Entry}
+use Rattle.bindings.specs.Entries.{entry_of}
+use Rattle.spec_binding.specs.Books.{Book}
+
+-- an own proposal that the peer hasn't answered
+abbrev pub is_pending : EntryState → Bool
+is_pending Pending = true
+is_pending Doomed = false
+is_pending Live = false
+is_pending Closing = false
+is_pending Held = false
+
+abbrev pub waits_by : Option Entry → Bool
+waits_by None = false
+waits_by (Some x) = is_pending x.state
+
+-- the endpoint's pair is proposed, and the peer hasn't answered yet
+abbrev pub is_waiting : Book → Endpoint → Bool
+is_waiting b e = waits_by (entry_of b.entries e)

@@ -1,0 +1,80 @@
+-- What a change needs of the book that it changes.
+use Rattle.std.specs.Prelude.{◌≡◌, ℕ, ◌<◌, ◌≤◌, ◌^◌, true, IsTrue, None, Some, length}
+use Rattle.nat_types.specs.Granted.{Granted, IsPort}
+use Rattle.nat_types.specs.declared.pairs.Endpoint.{Endpoint}
+use Rattle.nat_types.specs.declared.pairs.Key.{Key}
+use Rattle.nat_types.specs.declared.pairs.Pair.{Pair}
+use Rattle.bindings.specs.declared.entries.Entry.{Entry}
+use Rattle.bindings.specs.Entries.{slot_of, entry_of, is_pair, pairs_in}
+use Rattle.bindings.specs.Ports.{is_spare}
+use Rattle.port_range.specs.Ports.{is_listed}
+use Rattle.link.specs.Grammar.{IsWellFormedPair, IsWellFormedGrant}
+use Rattle.resync.specs.Batch.{is_settled}
+use Rattle.spec_pair.specs.Ownership.{AreDistinct}
+use Rattle.spec_binding.specs.declared.setups.Stage.TheVariants.{Paired}
+use Rattle.spec_binding.specs.declared.changes.Change.{Change}
+use Rattle.spec_binding.specs.declared.changes.Change.TheVariants.{Keep, Add, Turn, Renew, Drop, Yield, Want, Give, Gain}
+use Rattle.spec_binding.specs.Books.{Book, in_ranges}
+use Rattle.spec_binding.specs.Rows.{numbers_of}
+
+-- an endpoint that a pair can have
+pub record IsWellFormedEndpoint (e : Endpoint) : Type 0 where
+  pub address : e.address.0 < 2 ^ 32
+  pub port : IsPort e.port.0
+
+-- the pair is new in key and endpoint, and on a port of the ranges
+pub record IsNewPair (b : Book) (p : Pair) : Type 0 where
+  pub key : slot_of b.entries p.key ≡ None
+  pub endpoint : entry_of b.entries p.endpoint ≡ None
+  pub within : IsTrue (in_ranges b p.key.port.0)
+  pub formed : IsWellFormedPair p
+
+-- the key has an entry that is a pair
+pub record HasPair (b : Book) (k : Key) : Type 0 where
+  pub entry : Entry
+  pub found : slot_of b.entries k ≡ Some entry
+  pub pair : is_pair entry.state ≡ true
+
+-- the entry of the one key is the endpoint's, and the other key is free and on a port of the ranges
+pub record GivesWay (b : Book) (q : Key) (p : Pair) : Type 0 where
+  pub entry : Entry
+  pub found : slot_of b.entries q ≡ Some entry
+  pub pair : is_pair entry.state ≡ true
+  pub endpoint : entry.pair.endpoint ≡ p.endpoint
+  pub key : slot_of b.entries p.key ≡ None
+  pub within : IsTrue (in_ranges b p.key.port.0)
+  pub formed : IsWellFormedPair p
+
+-- at most 16 ports, each once, owned and without an entry
+pub record MayGive (b : Book) (g : Granted) : Type 0 where
+  pub most : length g.ports ≤ 16
+  pub distinct : AreDistinct (numbers_of g)
+  pub spare : (port : ℕ) → is_listed port (numbers_of g) ≡ true → is_spare b.entries b.owned port ≡ true
+  pub formed : IsWellFormedGrant g
+
+-- who the gateway is, how far it is, and what of a batch is still to come is left
+pub record IsBeside (b b2 : Book) : Type 0 where
+  pub id : b2.id ≡ b.id
+  pub zero : b2.zero ≡ b.zero
+  pub one : b2.one ≡ b.one
+  pub stage : b2.stage ≡ b.stage
+  pub begun : b2.begun ≡ b.begun
+  pub named : b2.named ≡ b.named
+  pub coming : b2.coming ≡ b.coming
+
+-- a batch of the one is a batch of the other
+pub record IsSameBatch (b b2 : Book) : Type 0 where
+  pub pairs : pairs_in is_settled b2.entries ≡ pairs_in is_settled b.entries
+  pub owned : b2.owned ≡ b.owned
+
+-- the change can be made, and what holds of every synced book holds of the changed one
+abbrev pub Fits : Book → Change → Type 0
+Fits b Keep = Unit {0}
+Fits b (Add e) = IsNewPair b e.pair
+Fits b (Turn k s) = HasPair b k
+Fits b (Renew k) = HasPair b k
+Fits b (Drop k) = Unit {0}
+Fits b (Yield q p) = GivesWay b q p
+Fits b Want = b.stage ≡ Paired
+Fits b (Give g) = MayGive b g
+Fits b (Gain g) = Unit {0}

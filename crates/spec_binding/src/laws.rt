@@ -1,0 +1,310 @@
+//! What holds of each row of the record table, and of what resets a book. Each law is the contract of
+//! a function that does nothing.
+
+ghost use Rattle.std.specs.Prelude.{◌≡◌, ◌↔◌, ℕ, ◌+◌, ◌<◌, ◌≤◌, ◌∷◌, ◌++◌, ◌&&◌, [], suc, List, Bool, true, false};
+ghost use Rattle.std.specs.Prelude.{IfSome, None, Some, length, reverse, slice_get};
+ghost use Rattle.std.specs.List.{AllByRecursion};
+ghost use Rattle.nat_types.specs.Granted.{IsPort};
+ghost use Rattle.nat_types.specs.declared.gateways.GatewayId.{GatewayId};
+ghost use Rattle.nat_types.specs.declared.gateways.GatewayId.TheVariants.{Zero};
+ghost use Rattle.nat_types.specs.declared.notes.Note.{Note};
+ghost use Rattle.nat_types.specs.declared.pairs.Endpoint.{Endpoint};
+ghost use Rattle.nat_types.specs.declared.pairs.Key.{Key};
+ghost use Rattle.nat_types.specs.declared.records.Record.{Record};
+ghost use Rattle.bindings.specs.declared.entries.Entry.{Entry};
+ghost use Rattle.bindings.specs.declared.entries.PortBounds.{PortBounds};
+ghost use Rattle.bindings.specs.Entries.{is_pair, slot_of};
+ghost use Rattle.bindings.specs.Ports.{AreBounds};
+ghost use Rattle.link.specs.declared.datagrams.Datagram.{Datagram};
+ghost use Rattle.link.specs.declared.datagrams.Taken.{Taken};
+ghost use Rattle.link.specs.Grammar.{IsWellFormedRecord};
+ghost use Rattle.link.specs.Letters.{IsLetter};
+ghost use Rattle.link.specs.Link.{Link, Agrees, IsTaken, fresh, handed_count, met};
+ghost use Rattle.link.specs.Link.{needs_answer, with_fed};
+ghost use Rattle.resync.specs.Batch.{is_settled};
+ghost use Rattle.spec_pair.specs.Box.{In, Letter, booted, founder};
+ghost use Rattle.spec_pair.specs.Step.{IsStep, WasSent};
+ghost use Rattle.spec_binding.specs.declared.changes.Change.{Change};
+ghost use Rattle.spec_binding.specs.Books.{Book, IsBook, empty_book, founded_book};
+ghost use Rattle.spec_binding.specs.Books.{is_lone, is_promised, is_synced};
+ghost use Rattle.spec_binding.specs.WellFormed.{Fits, IsBeside, IsSameBatch, IsWellFormedEndpoint};
+ghost use Rattle.spec_binding.specs.Machine.{box_at, letter_of, promised_of, ranges_of};
+ghost use Rattle.spec_binding.specs.Machine.{IsTurn, Stands, Works};
+ghost use Rattle.spec_binding.specs.Resets.{back_in, put_alone, restart_batch, restart_link};
+ghost use Rattle.spec_binding.specs.Resets.{restart_notes, restarted, retaken};
+ghost use Rattle.spec_binding.specs.Rows.{after, answered, carry_row, changed, idle_row, noted_by};
+ghost use Rattle.spec_binding.specs.Rows.{row_of, taken_answer, taken_book, taken_ended, taken_what, wish_of};
+ghost use Rattle.spec_binding.specs.Waits.{is_waiting};
+ghost use Rattle.nat_types.specs.declared.pairs.Pair.{Pair};
+ghost use Rattle.nat_types.specs.Same.{same};
+ghost use Rattle.activity.specs.declared.packets.Packet.{Packet};
+ghost use Rattle.bindings.specs.Lives.{idle_keys_in};
+ghost use Rattle.spec_trace.specs.Past.{Idle};
+ghost use Rattle.spec_binding.specs.Ledgers.{Ledger, alone_ledger, carried_ledger, ledger_after};
+ghost use Rattle.spec_binding.specs.Ledgers.{let_go, restarted_ledger, rests_for, taken_ledger};
+ghost use Rattle.spec_binding.specs.Uses.{Accounts, uses_of};
+
+/// What each row changes fits the book that it is decided on.
+pub fn rows_fit()
+    ensures taken { (b : Book) (rests : Bool) (r : Record) → IsBook b → IsWellFormedRecord r
+        → Fits b (row_of b rests r).change }
+    ensures wished { (b : Book) (full : Bool) (e : Endpoint) → IsBook b → IsWellFormedEndpoint e
+        → Fits b (wish_of b full e).row.change }
+    ensures idle { (b : Book) (ask : Bool) (k : Key) → IsBook b
+        → Fits b (idle_row b ask k).change }
+    ensures carried { (b : Book) (k : Key) → IsBook b → Fits b (carry_row b k).change }
+{}
+
+/// What is pushed has a spelling.
+pub fn answers_fit()
+    ensures taken { (b : Book) (rests : Bool) (r : Record) → IsBook b → IsWellFormedRecord r
+        → IfSome (taken_answer b rests r) IsWellFormedRecord }
+    ensures row { (b : Book) (rests : Bool) (r : Record) → IsBook b → IsWellFormedRecord r
+        → IfSome (row_of b rests r).answer IsWellFormedRecord }
+    ensures wished { (b : Book) (full : Bool) (e : Endpoint) → IsBook b → IsWellFormedEndpoint e
+        → IfSome (wish_of b full e).row.answer IsWellFormedRecord }
+    ensures idle { (b : Book) (ask : Bool) (k : Key) → IsBook b
+        → IfSome (idle_row b ask k).answer IsWellFormedRecord }
+    ensures batch { (b : Book) → IsBook b
+        → AllByRecursion IsWellFormedRecord (restart_batch b) }
+    ensures fed { (b : Book) (records rest : List Record) → IsBook b
+        → b.coming ≡ records ++ rest → AllByRecursion IsWellFormedRecord records }
+{}
+
+/// What a change, a record and a row leave as it is.
+pub fn rows_leave()
+    ensures change { (b : Book) (c : Change) → IsBeside b (changed c b) }
+    // Only a record that needs an answer is answered.
+    ensures answer { (b : Book) (rests : Bool) (r : Record) → needs_answer r ≡ false
+        → taken_answer b rests r ≡ None }
+    ensures together { (b : Book) (rests : Bool) (r : Record) → is_lone b.stage ≡ false
+        → is_lone (taken_book b rests r).stage ≡ false }
+    ensures coming { (b : Book) (rests : Bool) (r : Record)
+        → (taken_book b rests r).coming ≡ b.coming }
+    // While a batch is promised, a record changes nothing, and nothing else changes the batch.
+    ensures promised { (b : Book) (rests : Bool) (r : Record) → is_synced b.stage ≡ true
+        → is_promised b ≡ true → taken_book b rests r ≡ b }
+    ensures wished { (b : Book) (full : Bool) (e : Endpoint) → is_lone b.stage ≡ false
+        → IsSameBatch b (after b (wish_of b full e).row) }
+    ensures idle { (b : Book) (ask : Bool) (k : Key) → IsBook b → is_lone b.stage ≡ false
+        → IsSameBatch b (after b (idle_row b ask k)) }
+    ensures carried { (b : Book) (k : Key) → IsSameBatch b (after b (carry_row b k)) }
+    // So much room a batch needs on the link.
+    ensures room { (b : Book)
+        → length (restart_batch b) ≤ length b.owned + length b.entries + 2 }
+{}
+
+/// What holds of every book is kept by each change that fits, at a synced gateway, and so by each row.
+pub fn books_keep()
+    ensures change { (b : Book) (c : Change) → IsBook b → is_synced b.stage ≡ true
+        → Fits b c
+        → IsBook (changed c b) }
+    ensures taken { (b : Book) (rests : Bool) (r : Record) → IsBook b → IsWellFormedRecord r
+        → IsBook (taken_book b rests r) }
+    ensures wished { (b : Book) (full : Bool) (e : Endpoint) → IsBook b → IsWellFormedEndpoint e
+        → IsBook (after b (wish_of b full e).row) }
+    ensures idle { (b : Book) (ask : Bool) (k : Key) → IsBook b
+        → IsBook (after b (idle_row b ask k)) }
+    ensures carried { (b : Book) (k : Key) → IsBook b → IsBook (after b (carry_row b k)) }
+    ensures restarted { (b : Book) → IsBook b → IsBook (restarted b) }
+    // Each entry is an agreed pair then.
+    ensures agreed { (b : Book) → IsBook b → (key : Key) (x : Entry)
+        → slot_of (restarted b).entries key ≡ Some x
+        → (is_settled x.state ≡ true) × (is_pair x.state ≡ true) }
+    ensures alone { (b : Book) → IsBook b → is_synced b.stage ≡ true
+        → IsBook (put_alone b) }
+    ensures fed { (b : Book) (records rest : List Record) → IsBook b
+        → b.coming ≡ records ++ rest → IsBook (record b { coming = rest }) }
+{}
+
+/// A gateway without a table, and the founded one: they are books, and the boxes with which the machine begins.
+pub fn books_begin()
+    ensures empty { (id : GatewayId) (zero one : PortBounds) → AreBounds zero → AreBounds one
+        → IsPort zero.highest.0 → IsPort one.highest.0 → IsBook (empty_book id zero one) }
+    ensures founded { (zero one : PortBounds) → AreBounds zero → AreBounds one
+        → IsPort zero.highest.0 → IsPort one.highest.0 → IsBook (founded_book zero one) }
+    ensures booted { (id : GatewayId) (zero one : PortBounds) (boot capacity : ℕ)
+        → box_at (empty_book id zero one) (fresh id boot capacity) [] 0 ≡ booted boot }
+    ensures founder { (zero one : PortBounds) (capacity : ℕ) → AreBounds zero
+        → let b = founded_book zero one in let r = ranges_of b in
+        box_at b (fresh Zero 1 capacity) [] 0 ≡ founder (λ p. r.in_ranges p && r.at_start p) }
+{}
+
+/// A record ends the wait of an endpoint (`ended` of its row) exactly where the endpoint's own proposal waited for the
+/// peer's answer before it, and doesn't after it. At a gateway that isn't synced it ends none.
+pub fn waits_end()
+    ensures synced { (b : Book) (rests : Bool) (r : Record) (e : Endpoint) → IsBook b
+        → IsWellFormedRecord r → is_synced b.stage ≡ true → (taken_ended b rests r ≡ Some e)
+        ↔ ((is_waiting b e ≡ true) × (is_waiting (taken_book b rests r) e ≡ false)) }
+    ensures unsynced { (b : Book) (rests : Bool) (r : Record) → is_synced b.stage ≡ false
+        → taken_ended b rests r ≡ None }
+{}
+
+/// A record that comes in its turn is an act of the machine: at a synced gateway that of its row, or where its batch is
+/// promised none but the taking; at one that loads that of the loading.
+pub fn record_works()
+    ensures { (now : ℕ) (b : Book) (e : Link) (n : ℕ) (h : List Record) (l : Letter)
+        (offset : ℕ)
+        (rests : Bool) (r : Record) → IsBook b → is_lone b.stage ≡ false → Stands b e h
+        → IsTurn e n l offset r
+        → Works now (l ∷ []) [] b e n (taken_book b rests r) (answered e (taken_answer b rests r))
+        (suc n) (noted_by b.id now (taken_what b rests r)) h }
+{}
+
+/// A packet's wish is an act of the machine, or none.
+pub fn wish_works()
+    ensures { (now : ℕ) (b : Book) (e : Link) (n : ℕ) (h : List Record) (full : Bool)
+        (x : Endpoint)
+        → Stands b e h → let w = (wish_of b full x).row in
+        Works now [] [] b e n (after b w) (answered e w.answer) n (noted_by b.id now w.what) h }
+{}
+
+/// An idle pair at a tick is let go by an act of the machine, or nothing happens.
+pub fn idle_works()
+    ensures { (now : ℕ) (b : Book) (e : Link) (n : ℕ) (h : List Record) (ask : Bool) (k : Key)
+        → Stands b e h → let w = idle_row b ask k in
+        Works now [] [] b e n (after b w) (answered e w.answer) n (noted_by b.id now w.what) h }
+{}
+
+/// A packet that is translated is an act of the machine.
+pub fn carry_works()
+    ensures { (now : ℕ) (b : Book) (e : Link) (n : ℕ) (h : List Record) (k : Key)
+        → Stands b e h → let w = carry_row b k in
+        Works now [] [] b e n (after b w) (answered e w.answer) n (noted_by b.id now w.what) h }
+{}
+
+/// A greater boot of the peer is heard: e is the end before the datagram, e1 the one after it.
+pub fn restart_works()
+    ensures { (now : ℕ) (b : Book) (e e1 : Link) (n : ℕ) (h : List Record) (l : Letter)
+        → IsBook b
+        → Agrees [] [] e1 → e.boot ≡ e1.boot → e.known < e1.known → l.boot ≡ e1.known
+        → Works now (l ∷ []) [] b e n (restarted b) (restart_link b e1) 0 (restart_notes b now) h }
+{}
+
+/// The operator's word at a synced gateway: e is the end before, e1 the one whose session is closed.
+pub fn word_works()
+    ensures { (now : ℕ) (b : Book) (e e1 : Link) (n number : ℕ) (h : List Record) → IsBook b
+        → is_synced b.stage ≡ true → Agrees [] [] e1 → e.boot ≡ e1.boot → e1.known ≡ number
+        → Works now [] (number ∷ []) b e n (put_alone b) e1 0
+        (retaken b.id now (back_in b.entries)) h }
+{}
+
+/// Records of the promised batch are handed in. The machine sees only that the last one was.
+pub fn feed_works()
+    ensures { (now : ℕ) (b : Book) (e : Link) (n : ℕ) (h records rest : List Record)
+        → IsBook b
+        → Stands b e h → b.coming ≡ records ++ rest
+        → Works now [] [] b e n (record b { coming = rest }) (with_fed e records) n [] h }
+{}
+
+/// Of a datagram that isn't of a greater boot the machine sees nothing until its records are taken.
+/// In general: two ends that speak of the same boots and have as much promised make the same box.
+pub fn heard_works()
+    ensures heard { (now : ℕ) (b : Book) (e e1 : Link) (n : ℕ) (h : List Record)
+        (bytes : List ℕ)
+        (t : Taken) (d : Datagram) → Stands b e h → IsTaken bytes e now t e1 d
+        → t.restarted ≡ false → Works now [] [] b e n b e1 n [] h }
+    ensures alike { (now : ℕ) (b : Book) (e e1 : Link) (n : ℕ) (h : List Record)
+        → Stands b e1 h
+        → e1.boot ≡ e.boot → e1.known ≡ e.known → promised_of e1 ≡ promised_of e
+        → Works now [] [] b e n b e1 n [] h }
+{}
+
+/// A part in which nothing happens.
+pub fn works_nothing()
+    ensures { (now : ℕ) (letters : List Letter) (words : List ℕ) (b : Book) (e : Link) (n : ℕ)
+        (h : List Record) → Stands b e h → Works now letters words b e n b e n [] h }
+{}
+
+/// Two parts make one: the second goes on from what was pushed by then.
+pub fn works_join()
+    ensures { (now : ℕ) (letters : List Letter) (words : List ℕ) (b b2 b3 : Book)
+        (e e2 e3 : Link) (n n2 n3 : ℕ) (ns ns2 : List Note) (h : List Record)
+        → (a : Works now letters words b e n b2 e2 n2 ns h)
+        → Works now letters words b2 e2 n2 b3 e3 n3 ns2 a.history
+        → Works now letters words b e n b3 e3 n3 (ns ++ ns2) h }
+{}
+
+/// A part that was handed these letters and words is one that was handed more.
+pub fn works_more()
+    ensures { (now : ℕ) (letters letters2 : List Letter) (words words2 : List ℕ) (b b2 : Book)
+        (e e2 : Link) (n n2 : ℕ) (ns : List Note) (h : List Record)
+        → WasSent letters letters2 → ((k : ℕ) → In k words → In k words2)
+        → Works now letters words b e n b2 e2 n2 ns h
+        → Works now letters2 words2 b e n b2 e2 n2 ns h }
+{}
+
+/// With the datagram behind it, of which all was handed in, a part is a step of the machine. e3 is
+/// the end once it is sent.
+pub fn works_sent()
+    ensures sent { (now : ℕ) (letters : List Letter) (words : List ℕ) (b b2 : Book)
+        (e e2 e3 : Link) (n n2 before count : ℕ) (ns : List Note) (h : List Record) (d : Datagram)
+        → (w : Works now letters words b e n b2 e2 n2 ns h) → IsLetter w.history e2 before count d
+        → before + count ≤ handed_count e2 → e3.boot ≡ e2.boot → e3.known ≡ e2.known
+        → promised_of e3 ≡ promised_of e2
+        → IsStep (ranges_of b) b.id now (box_at b e h n) (box_at b2 e3 w.history n2) letters words
+        [] (reverse ns) [] (letter_of d ∷ []) }
+    ensures unsent { (now : ℕ) (letters : List Letter) (words : List ℕ) (b b2 : Book)
+        (e e2 : Link) (n n2 : ℕ) (ns : List Note) (h : List Record)
+        → (w : Works now letters words b e n b2 e2 n2 ns h)
+        → IsStep (ranges_of b) b.id now (box_at b e h n) (box_at b2 e2 w.history n2) letters words
+        [] (reverse ns) [] [] }
+{}
+
+/// Each record that a datagram gives comes in its turn, at any end that speaks of the same boots as the one after it.
+pub fn records_come()
+    ensures turn { (bytes : List ℕ) (e e1 e2 : Link) (now : ℕ) (t : Taken) (d : Datagram)
+        → IsTaken bytes e now t e1 d → e2.boot ≡ e1.boot → e2.known ≡ e1.known
+        → (k : ℕ) (r : Record) → slice_get t.records.items k ≡ Some r
+        → (offset : ℕ) × IsTurn e2 ((met e d).taken + k) (letter_of d) offset r }
+    ensures anew { (bytes : List ℕ) (e e1 : Link) (now : ℕ) (t : Taken) (d : Datagram)
+        → IsTaken bytes e now t e1 d → t.restarted ≡ true → (met e d).taken ≡ 0 }
+    ensures on { (bytes : List ℕ) (e e1 : Link) (now : ℕ) (t : Taken) (d : Datagram)
+        → IsTaken bytes e now t e1 d → t.restarted ≡ false → (met e d).taken ≡ e.taken }
+    ensures all { (bytes : List ℕ) (e e1 : Link) (now : ℕ) (t : Taken) (d : Datagram)
+        → IsTaken bytes e now t e1 d → (met e d).taken + length t.records.items ≡ e1.taken }
+    ensures greater { (bytes : List ℕ) (e e1 : Link) (now : ℕ) (t : Taken) (d : Datagram)
+        → IsTaken bytes e now t e1 d → t.restarted ≡ true
+        → Agrees [] [] e1 × (e.boot ≡ e1.boot) × (e.known < e1.known)
+        × ((letter_of d).boot ≡ e1.known) }
+{}
+
+/// A ledger that accounts for a trace (`Accounts`, the newest note first) does so whatever becomes of it, with what is
+/// noted of it put in front; so each release comes where its pair is idle: at least 30,000 cs (UDP) or 24,000 cs (TCP)
+/// after each use of it by the gateway in the same life. It begins so at each boot of the gateway (`begun`, `founded`).
+pub fn accounts_kept()
+    ensures begun { (now : ℕ) (id : GatewayId) (zero one : PortBounds) (h : List Note)
+        → ((p : Pair) → uses_of id h p ≡ []) → Idle h
+        → Accounts now (record { book = empty_book id zero one; lives = [] }) h }
+    ensures founded { (now : ℕ) (zero one : PortBounds) (h : List Note)
+        → ((p : Pair) → uses_of Zero h p ≡ []) → Idle h
+        → Accounts now (record { book = founded_book zero one; lives = [] }) h }
+    ensures later { (since now : ℕ) (l : Ledger) (h : List Note) → since ≤ now
+        → Accounts since l h → Accounts now l h }
+    // What the other gateway notes.
+    ensures foreign { (now : ℕ) (l : Ledger) (h ns : List Note)
+        → AllByRecursion (λ n. same l.book.id n.by ≡ false) ns → Idle (ns ++ h)
+        → Accounts now l h → Accounts now l (ns ++ h) }
+    ensures fed { (now : ℕ) (l : Ledger) (h : List Note) (rest : List Record) → Accounts now l h
+        → Accounts now (record l { book = record l.book { coming = rest } }) h }
+    ensures wished { (now : ℕ) (l : Ledger) (h : List Note) (full : Bool) (e : Endpoint)
+        → IsBook l.book → Accounts now l h → let w = (wish_of l.book full e).row in
+        Accounts now (ledger_after now w.change l)
+        (reverse (noted_by l.book.id now w.what) ++ h) }
+    ensures taken { (now : ℕ) (l : Ledger) (h : List Note) (r : Record) → IsBook l.book
+        → Accounts now l h → Accounts now (taken_ledger now l r)
+        (reverse (noted_by l.book.id now (taken_what l.book (rests_for now l r) r)) ++ h) }
+    ensures carried { (l : Ledger) (h : List Note) (k : Key) (p : Packet) → Accounts p.at l h
+        → Accounts p.at (carried_ledger k p l)
+        (reverse (noted_by l.book.id p.at (carry_row l.book k).what) ++ h) }
+    ensures restarted { (now : ℕ) (l : Ledger) (h : List Note) → IsBook l.book
+        → Accounts now l h
+        → Accounts now (restarted_ledger l) (reverse (restart_notes l.book now) ++ h) }
+    ensures alone { (now : ℕ) (l : Ledger) (h : List Note) → IsBook l.book → Accounts now l h
+        → Accounts now (alone_ledger l)
+        (reverse (retaken l.book.id now (back_in l.book.entries)) ++ h) }
+    // The idle pairs of a tick.
+    ensures let_go { (now : ℕ) (l : Ledger) (e : Link) (h : List Note) → IsBook l.book
+        → Accounts now l h → let keys = idle_keys_in now l.book.entries l.lives in
+        Accounts now (let_go now keys l e).ledger (reverse (let_go now keys l e).notes ++ h) }
+{}

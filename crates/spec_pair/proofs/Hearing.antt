@@ -1,0 +1,412 @@
+-- A synced gateway hears a greater boot of its peer.
+use Rattle.std.proofs.Common.{◌≡◌, ℕ, suc, length, Bool, true, false, not, ◌&&◌, ◌+◌, cond, List, [], ◌∷◌, ◌++◌, ◌<◌, ◌≤◌, IsTrue, Option, Some, None, refl, sym, ap, subst, ◌∙◌, inl, inr, ◌⊎◌, append-nil, arith, le_refl}
+use Rattle.std.proofs.lemmas.Bool.{both_ways, cases_Bool, and_from, and_right}
+use Rattle.nat_types.proofs.Offered.{same-self, pair-eq, pair-self}
+use Rattle.nat_types.specs.Same.{same, other, same_pair}
+use Rattle.nat_types.specs.declared.gateways.GatewayId.{GatewayId}
+use Rattle.nat_types.specs.declared.gateways.GatewayId.TheVariants.{Zero, One}
+use Rattle.nat_types.specs.declared.notes.Note.{Note}
+use Rattle.nat_types.specs.declared.pairs.Endpoint.{Endpoint}
+use Rattle.nat_types.specs.declared.pairs.Key.{Key}
+use Rattle.nat_types.specs.declared.pairs.Pair.{Pair}
+use Rattle.spec_trace.specs.Past.{is_synced, is_open, goes_on, Fits, Silent}
+use Rattle.spec_pair.specs.Acts.{Hear, PeerOff}
+use Rattle.spec_pair.specs.Box.{Box, Letter, In, nth, empty, load, mirrored, revived, is_back, retakes, hears, put_off, batch}
+use Rattle.spec_pair.proofs.Beside.{side_beside}
+use Rattle.spec_pair.proofs.Invariant.{bit, gifts, View, Awaits, Side, Inv, is_proper}
+use Rattle.spec_pair.proofs.Phase.{owns, Phase, Nothing, Shared, shared, closing, is_given_up, slot_at, flight_at}
+use Rattle.spec_pair.specs.Ownership.{Ranges, Run, keyed, left_to}
+use Rattle.spec_pair.specs.Talk.{Slot, Free, Pending, Doomed, Live, Closing, Held, held, translated}
+use Rattle.spec_pair.proofs.Traced.{GoesAt}
+use Rattle.spec_pair.specs.World.{Scene, Can, after_act}
+use Rattle.spec_pair.proofs.Acts.{same-not}
+use Rattle.spec_pair.proofs.Covers.{goes_other}
+use Rattle.spec_pair.proofs.Grants.{proper-phase}
+use Rattle.spec_pair.proofs.Granting.{bit_true, bit_false}
+use Rattle.spec_pair.proofs.Inversions.{shared_slot}
+use Rattle.spec_pair.proofs.HandOver.{free_at}
+use Rattle.spec_pair.proofs.Set.{cases_endpoint}
+
+flag : {A : Type 0} (b : Bool) → b ≡ true → b ≡ false → A
+flag b h g = absurd (both_ways b g h)
+
+-- the phase of a port that is put into the batch, or isn't
+abbrev pub renewed : Option Endpoint → Phase
+renewed None = Nothing
+renewed (Some e) = Shared e
+
+held-revived : (s : Slot) → held (revived s) ≡ held s
+held-revived Free = refl
+held-revived (Pending e) = refl
+held-revived (Doomed e) = refl
+held-revived (Live e) = refl
+held-revived (Closing e) = refl
+held-revived (Held e) = refl
+
+shared-renewed : (o : Option Endpoint) → shared (renewed o) ≡ o
+shared-renewed None = refl
+shared-renewed (Some e) = refl
+
+closing-renewed : (o : Option Endpoint) → closing (renewed o) ≡ None
+closing-renewed None = refl
+closing-renewed (Some e) = refl
+
+steady-renewed : (o : Option Endpoint) → is_given_up (renewed o) ≡ false
+steady-renewed None = refl
+steady-renewed (Some e) = refl
+
+quiet-renewed : (own : Bool) (k : Key) (o : Option Endpoint) → [] ≡ flight_at own k (renewed o)
+quiet-renewed true k None = refl
+quiet-renewed true k (Some e) = refl
+quiet-renewed false k None = refl
+quiet-renewed false k (Some e) = refl
+
+slot-renewed : (own : Bool) (s : Slot) → is_proper own s ≡ true → revived s ≡ slot_at own (renewed (held (revived s)))
+slot-renewed true Free h = refl
+slot-renewed true (Pending e) h = refl
+slot-renewed true (Doomed e) h = refl
+slot-renewed true (Live e) h = refl
+slot-renewed true (Closing e) h = refl
+slot-renewed true (Held e) h = absurd (cc)
+slot-renewed false Free h = refl
+slot-renewed false (Pending e) h = absurd (cc)
+slot-renewed false (Doomed e) h = absurd (cc)
+slot-renewed false (Live e) h = absurd (cc)
+slot-renewed false (Closing e) h = absurd (cc)
+slot-renewed false (Held e) h = refl
+
+mirrored-renewed : (own : Key → Bool) (k : Key) (o : Option Endpoint) → mirrored own k o ≡ slot_at (own k) (renewed o)
+mirrored-renewed own k None = elim (own k) as (λ b. Free ≡ cond b Free Free) [ true ↦ refl | false ↦ refl ]
+mirrored-renewed own k (Some e) = refl
+
+held-renewed : (own : Bool) (o : Option Endpoint) → held (slot_at own (renewed o)) ≡ o
+held-renewed true None = refl
+held-renewed true (Some e) = refl
+held-renewed false None = refl
+held-renewed false (Some e) = refl
+
+-- what comes back translates then
+back-translated : (s : Slot) (e : Endpoint) → is_back s ≡ Some e → translated (revived s) ≡ Some e
+back-translated Free e h = absurd (cc)
+back-translated (Pending n) e h = h
+back-translated (Doomed n) e h = absurd (cc)
+back-translated (Live n) e h = absurd (cc)
+back-translated (Closing n) e h = h
+back-translated (Held n) e h = absurd (cc)
+
+not_back : (s : Slot) → is_back s ≡ None → translated (revived s) ≡ translated s
+not_back Free h = refl
+not_back (Pending e) h = absurd (cc)
+not_back (Doomed e) h = refl
+not_back (Live e) h = refl
+not_back (Closing e) h = absurd (cc)
+not_back (Held e) h = refl
+
+back_out : (s : Slot) (e : Endpoint) → is_back s ≡ Some e → translated s ≡ None
+back_out Free e h = absurd (cc)
+back_out (Pending n) e h = refl
+back_out (Doomed n) e h = absurd (cc)
+back_out (Live n) e h = absurd (cc)
+back_out (Closing n) e h = refl
+back_out (Held n) e h = absurd (cc)
+
+pub synced-retakes : (moment : ℕ) (j i : GatewayId) (ps : List Pair) (t : List Note) → is_synced j (retakes i moment ps ++ t) ≡ is_synced j t
+synced-retakes moment j i [] t = refl
+synced-retakes moment j i (p ∷ ps) t = synced-retakes moment j i ps t
+
+open-retakes : (moment : ℕ) (q : Pair) (i : GatewayId) (ps : List Pair) (t : List Note) → is_open q (retakes i moment ps ++ t) ≡ is_open q t
+open-retakes moment q i [] t = refl
+open-retakes moment q i (p ∷ ps) t = open-retakes moment q i ps t
+
+fits-retakes : (moment : ℕ) (i : GatewayId) (ps : List Pair) (t : List Note) → Fits t → Fits (retakes i moment ps ++ t)
+fits-retakes moment i [] t h = h
+fits-retakes moment i (p ∷ ps) t h = (tt, fits-retakes moment i ps t h)
+
+silent-retakes : (moment : ℕ) (i : GatewayId) (ps : List Pair) (t : List Note) → Silent t → Silent (retakes i moment ps ++ t)
+silent-retakes moment i [] t h = h
+silent-retakes moment i (p ∷ ps) t h = (tt, silent-retakes moment i ps t h)
+
+goes_other-retakes : (moment : ℕ) (j i : GatewayId) (table : Key → Slot) (ps : List Pair) (t : List Note) → same j i ≡ false → GoesAt j table t → GoesAt j table (retakes i moment ps ++ t)
+goes_other-retakes moment j i table [] t s g = g
+goes_other-retakes moment j i table (p ∷ ps) t s g = (goes_other moment j i table (retakes i moment ps ++ t) p s (goes_other-retakes moment j i table ps t s g)).2
+
+-- among those taken again a pair goes on, and the others as before
+goes-in : (moment : ℕ) (i : GatewayId) (q : Pair) (ps : List Pair) (t : List Note) → In q ps → goes_on i q (retakes i moment ps ++ t) ≡ true
+goes-in moment i q [] t h = absurd h
+goes-in moment i q (p ∷ ps) t h = elim h [
+  | inl e ↦ ap (λ b. cond b true (goes_on i q (retakes i moment ps ++ t))) (and_from (same i i) (same_pair q p) (same-self i) (ap (same_pair q) (sym e) ∙ pair-self q))
+  | inr r ↦ elim (same i i && same_pair q p) as (λ b. cond b true (goes_on i q (retakes i moment ps ++ t)) ≡ true) [ true ↦ refl | false ↦ goes-in moment i q ps t r ]
+]
+
+goes-out : (moment : ℕ) (i : GatewayId) (q : Pair) (ps : List Pair) (t : List Note) → (In q ps → ⊥) → goes_on i q (retakes i moment ps ++ t) ≡ goes_on i q t
+goes-out moment i q [] t h = refl
+goes-out moment i q (p ∷ ps) t h = elim (cases_Bool (same_pair q p)) [
+  | inl e ↦ absurd (h (inl (pair-eq q p e)))
+  | inr ne ↦ ap (λ b. cond b true (goes_on i q (retakes i moment ps ++ t))) (and_right (same i i) (same_pair q p) ne) ∙ goes-out moment i q ps t (λ r. h (inr r))
+]
+
+some_or_none : (o : Option Endpoint) → (o ≡ None) ⊎ ((e : Endpoint) × (o ≡ Some e))
+some_or_none None = inl refl
+some_or_none (Some e) = inr (e, refl)
+
+one_some : {A : Type 0} (a b : A) → Some a ≡ Some b → a ≡ b
+one_some a b h = cc
+
+goes-revived : (moment : ℕ) (i : GatewayId) (table : Key → Slot) (back : List Pair) (t : List Note) → GoesAt i table t
+    → ((p : Pair) → (In p back → is_back (table p.key) ≡ Some p.endpoint) × (is_back (table p.key) ≡ Some p.endpoint → In p back))
+    → GoesAt i (λ k. revived (table k)) (retakes i moment back ++ t)
+goes-revived moment i table back t g exact p = elim (some_or_none (is_back (table p.key))) [
+  | inl none ↦
+      let out : In p back → ⊥ = λ h. let bad : None ≡ Some p.endpoint = sym none ∙ (exact p).0 h in cc in (
+        λ h. not_back (table p.key) none ∙ (g p).0 (sym (goes-out moment i p back t out) ∙ h),
+        λ h. goes-out moment i p back t out ∙ (g p).1 (sym (not_back (table p.key) none) ∙ h),
+      )
+  | inr some ↦ elim (cases_endpoint some.0 p.endpoint) [
+    | inl e ↦
+        let is : is_back (table p.key) ≡ Some p.endpoint = some.1 ∙ ap (λ x. Some x) e in (
+          λ h. back-translated (table p.key) p.endpoint is,
+          λ h. goes-in moment i p back t ((exact p).1 is),
+        )
+    | inr ne ↦
+        let out : In p back → ⊥ = λ h. let e : Some some.0 ≡ Some p.endpoint = sym some.1 ∙ (exact p).0 h in ne (one_some some.0 p.endpoint e) in (
+          λ h. let old : translated (table p.key) ≡ Some p.endpoint = (g p).0 (sym (goes-out moment i p back t out) ∙ h) in
+              let bad : None ≡ Some p.endpoint = sym (back_out (table p.key) some.0 some.1) ∙ old in absurd (cc),
+          λ h. let e : Some some.0 ≡ Some p.endpoint = sym (back-translated (table p.key) some.0 some.1) ∙ h in absurd (ne (one_some some.0 p.endpoint e)),
+        )
+  ]
+]
+
+-- whose a key is, where its port is i's or else the other's
+mine_by : (i : GatewayId) (b : Bool) → same i (cond b i (other i)) ≡ b
+mine_by Zero true = refl
+mine_by Zero false = refl
+mine_by One true = refl
+mine_by One false = refl
+
+theirs_by : (i : GatewayId) (b : Bool) → same (other i) (cond b i (other i)) ≡ not b
+theirs_by Zero true = refl
+theirs_by Zero false = refl
+theirs_by One true = refl
+theirs_by One false = refl
+
+pub proper-revived : (own : Bool) (s : Slot) → is_proper own s ≡ true → is_proper own (revived s) ≡ true
+proper-revived own Free h = refl
+proper-revived own (Pending e) h = h
+proper-revived own (Doomed e) h = refl
+proper-revived own (Live e) h = h
+proper-revived own (Closing e) h = h
+proper-revived own (Held e) h = h
+
+-- a port of the ranges is the other's where it isn't the own, and no other port is anyone's
+split : (own inside : Bool) → (own ≡ true → inside ≡ true) → bit own + (bit (inside && not own) + 0) ≡ bit inside
+split true true h = refl
+split true false h = let bad : false ≡ true = h refl in absurd (cc)
+split false true h = refl
+split false false h = refl
+
+off_own : (own inside : Bool) → (inside && not own) ≡ true → own ≡ false
+off_own true true h = absurd (cc)
+off_own true false h = absurd (cc)
+off_own false inside h = refl
+
+off_both : (own inside : Bool) → own ≡ false → (inside && not own) ≡ false → inside ≡ false
+off_both true inside h g = absurd (cc)
+off_both false true h g = absurd (cc)
+off_both false false h g = refl
+
+module _ (r : Ranges) where
+  -- what a gateway that hears knows of its own table
+  pub record Known (i : GatewayId) (a b : Box) (t : List Note) : Type 0 where
+    pub proper : (k : Key) → is_proper (keyed a.owned k) (a.table k) ≡ true
+    pub within : (p : ℕ) → a.owned p ≡ true → r.in_ranges p ≡ true
+    pub nowhere : (k : Key) → keyed r.in_ranges k ≡ false → a.table k ≡ Free
+    pub one_each : (k q : Key) (e : Endpoint) → held (a.table k) ≡ Some e → held (a.table q) ≡ Some e → k ≡ q
+    pub covers : (p : Pair) → IsTrue (is_open p t) → held (a.table p.key) ≡ Some p.endpoint
+
+  view_proper : (i : GatewayId) (a b : Box) (mb : List Letter) (t : List Note) (x : View r i a b mb t) (k : Key) → is_proper (keyed a.owned k) (a.table k) ≡ true
+  view_proper i a b mb t x k = elim (cases_Bool (keyed a.owned k)) [
+    | inl o ↦ ap (λ c. is_proper c (a.table k)) o ∙ ap (is_proper true) (x.talks.here.slots k ∙ ap (λ c. slot_at c (x.phase k)) (x.ports.mine_is k o)) ∙ proper-phase true (x.phase k)
+    | inr o ↦ elim (cases_Bool (keyed x.their_owned k)) [
+      | inl h ↦ ap (λ c. is_proper c (a.table k)) o ∙ ap (is_proper false) (x.talks.here.slots k ∙ ap (λ c. slot_at c (x.phase k)) (x.ports.theirs_is k h)) ∙ proper-phase false (x.phase k)
+      | inr h ↦ ap (λ c. is_proper c (a.table k)) o ∙ ap (is_proper false) (x.talks.here.slots k ∙ ap (slot_at (owns x.owner i k)) (x.ports.nobody k o h) ∙ free_at (owns x.owner i k))
+    ]
+  ]
+
+  view_within : (i : GatewayId) (a b : Box) (mb : List Letter) (t : List Note) (x : View r i a b mb t) (p : ℕ) → a.owned p ≡ true → r.in_ranges p ≡ true
+  view_within i a b mb t x p o =
+      let h : bit (a.owned p) + (bit (x.their_owned p) + (gifts p x.out + gifts p x.inn)) ≡ bit (r.in_ranges p) = x.ports.places p in
+      let e : bit (a.owned p) ≡ 1 = ap bit o in
+      bit_true (r.in_ranges p) (omega arith)
+
+  view_nowhere : (i : GatewayId) (a b : Box) (mb : List Letter) (t : List Note) (x : View r i a b mb t) (k : Key) → keyed r.in_ranges k ≡ false → a.table k ≡ Free
+  view_nowhere i a b mb t x k out =
+      let p : ℕ = k.port.0 in
+      let h : bit (a.owned k.port.0) + (bit (x.their_owned k.port.0) + (gifts k.port.0 x.out + gifts k.port.0 x.inn)) ≡ bit (r.in_ranges k.port.0) = x.ports.places k.port.0 in
+      let e : bit (r.in_ranges k.port.0) ≡ 0 = ap bit out in
+      let mine : a.owned k.port.0 ≡ false = bit_false (a.owned k.port.0) (omega arith) in
+      let theirs : x.their_owned k.port.0 ≡ false = bit_false (x.their_owned k.port.0) (omega arith) in
+      x.talks.here.slots k ∙ ap (slot_at (owns x.owner i k)) (x.ports.nobody k mine theirs) ∙ free_at (owns x.owner i k)
+
+  pub known_of : (i : GatewayId) (a b : Box) (ma mb : List Letter) (t : List Note) → Side r i a b ma mb t → a.synced ≡ true → Known i a b t
+  known_of i a b ma mb t side sa = elim (side.state sa) [
+    | inl x ↦ record { proper = x.proper; within = x.within; nowhere = x.nowhere; one_each = x.one_each; covers = x.covers }
+    | inr x ↦ record {
+      proper = view_proper i a b mb t x;
+      within = view_within i a b mb t x;
+      nowhere = view_nowhere i a b mb t x;
+      one_each = x.talks.here.one_each;
+      covers = λ p o. ap held (x.talks.here.slots p.key) ∙ shared_slot (owns x.owner i p.key) (x.phase p.key) p.endpoint (x.covers p o);
+    }
+  ]
+
+  promise_is : (part : Bool) (n m : ℕ) → cond part (Some n) None ≡ Some m → m ≡ n
+  promise_is true n m h = sym (one_some n m h)
+  promise_is false n m h = let bad : None ≡ Some m = h in absurd (cc)
+
+  pub inv_hear : (moment : ℕ) (i : GatewayId) (s : Scene) (l : Letter) (back : List Pair) (os : List Run) (ps : List Pair) (part : Bool) → Inv r i s → Can r i s (Hear l back os ps part) → Inv r i (after_act r i moment s (Hear l back os ps part))
+  inv_hear moment i s l back os ps part v can =
+      let here : Side r i s.mine s.theirs s.my_mail s.their_mail s.trace = v.here in
+      let there : Side r (other i) s.theirs s.mine s.their_mail s.my_mail s.trace = v.there in
+      let sa : s.mine.synced ≡ true = can.0.0 in
+      let newer : s.mine.peer < l.boot = can.0.1 in
+      let at_most : l.boot ≤ s.theirs.boot = (there.boots l (can.1 l (inl refl))).0 in
+      let sb : s.theirs.synced ≡ false = elim (cases_Bool s.theirs.synced) [
+        | inl z ↦ elim (here.state sa) [ inl y ↦ flag s.theirs.synced z y.other_out | inr y ↦ let p : s.mine.peer ≡ s.theirs.boot = (y.real z).peer in absurd (omega arith) ]
+        | inr z ↦ z
+      ] in
+      let known : Known i s.mine s.theirs s.trace = known_of i s.mine s.theirs s.my_mail s.their_mail s.trace here sa in
+      let t2 : List Note = retakes i moment back ++ s.trace in
+      let a2 : Box = hears s.mine l.boot os ps part in
+      let ph : Key → Phase = λ k. renewed (held (revived (s.mine.table k))) in
+      let one_each : (k q : Key) (e : Endpoint) → held (revived (s.mine.table k)) ≡ Some e → held (revived (s.mine.table q)) ≡ Some e → k ≡ q = λ k q e x y. known.one_each k q e (sym (held-revived (s.mine.table k)) ∙ x) (sym (held-revived (s.mine.table q)) ∙ y) in
+      let owner : Key → GatewayId = λ k. cond (keyed s.mine.owned k) i (other i) in
+      let to_own : Key → Bool = keyed (left_to r (other i) os) in
+      let nothing : (k : Key) → keyed r.in_ranges k ≡ false → renewed (held (revived (s.mine.table k))) ≡ Nothing = λ k out. ap (λ z. renewed (held (revived z))) (known.nowhere k out) in
+      let whose : (k : Key) → slot_at (keyed (left_to r (other i) os) k) (renewed (held (revived (s.mine.table k)))) ≡ slot_at (owns (λ k. cond (keyed s.mine.owned k) i (other i)) (other i) k) (renewed (held (revived (s.mine.table k)))) = λ k. elim (cases_Bool (keyed r.in_ranges k)) [
+        | inl inside ↦ ap (λ c. slot_at c (renewed (held (revived (s.mine.table k))))) (can.0.4 k.port.0 ∙ ap (λ c. c && not (keyed s.mine.owned k)) inside ∙ sym (theirs_by i (keyed s.mine.owned k)))
+        | inr out ↦ ap (slot_at (keyed (left_to r (other i) os) k)) (nothing k out) ∙ free_at (keyed (left_to r (other i) os) k) ∙ sym (ap (slot_at (owns (λ k. cond (keyed s.mine.owned k) i (other i)) (other i) k)) (nothing k out) ∙ free_at (owns (λ k. cond (keyed s.mine.owned k) i (other i)) (other i) k))
+      ] in
+      let theirs_at : (k : Key) → load (keyed (left_to r (other i) os)) empty ps k ≡ slot_at (owns (λ k. cond (keyed s.mine.owned k) i (other i)) (other i) k) (ph k) = λ k. can.0.6 k ∙ mirrored-renewed (keyed (left_to r (other i) os)) k (held (revived (s.mine.table k))) ∙ whose k in
+      let theirs_held : (k : Key) → held (load (keyed (left_to r (other i) os)) empty ps k) ≡ held (revived (s.mine.table k)) = λ k. ap held (theirs_at k) ∙ held-renewed (owns (λ k. cond (keyed s.mine.owned k) i (other i)) (other i) k) (held (revived (s.mine.table k))) in
+      let view : View r i a2 s.theirs s.their_mail t2 = record {
+        lone = refl;
+        phase = ph;
+        table = load (keyed (left_to r (other i) os)) empty ps;
+        owner = λ k. cond (keyed s.mine.owned k) i (other i);
+        their_owned = left_to r (other i) os;
+        their_want = false;
+        gone = batch os ps;
+        out = [];
+        heard = [];
+        inn = [];
+        sent = sym (append-nil (batch os ps));
+        taken = refl;
+        talks = record {
+          here = record { slots = λ k. slot-renewed (keyed s.mine.owned k) (s.mine.table k) (known.proper k) ∙ ap (λ c. slot_at c (renewed (held (revived (s.mine.table k))))) (sym (mine_by i (keyed s.mine.owned k))); flights = λ k. quiet-renewed (owns (λ k. cond (keyed s.mine.owned k) i (other i)) i k) k (held (revived (s.mine.table k))); one_each = one_each };
+          there = record { slots = theirs_at; flights = λ k. quiet-renewed (owns (λ k. cond (keyed s.mine.owned k) i (other i)) (other i) k) k (held (revived (s.mine.table k))); one_each = λ k q e x y. one_each k q e (sym (theirs_held k) ∙ x) (sym (theirs_held q) ∙ y) };
+          excused_out = λ z. tt;
+          excused_in = λ z. tt;
+          steady = λ k z. steady-renewed (held (revived (s.mine.table k)));
+        };
+        ports = record {
+          mine_is = λ k h. mine_by i (keyed s.mine.owned k) ∙ h;
+          theirs_is = λ k h. mine_by i (keyed s.mine.owned k) ∙ off_own (keyed s.mine.owned k) (keyed r.in_ranges k) (sym (can.0.4 k.port.0) ∙ h);
+          nobody = λ k h g. nothing k (off_both (keyed s.mine.owned k) (keyed r.in_ranges k) h (sym (can.0.4 k.port.0) ∙ g));
+          places = λ p. ap (λ c. bit (s.mine.owned p) + (bit c + 0)) (can.0.4 p) ∙ split (s.mine.owned p) (r.in_ranges p) (known.within p);
+          my_want = refl;
+          their_wants = refl;
+        };
+        letters = λ m inside boot to n q h. let none : m.records ≡ [] = here.later sa m inside (omega arith) in let bad : nth [] n ≡ Some q = ap (λ x. nth x n) (sym none) ∙ h in absurd (cc);
+        covers = λ p o. shared-renewed (held (revived (s.mine.table p.key))) ∙ held-revived (s.mine.table p.key) ∙ known.covers p (sym (open-retakes moment p i back s.trace) ∙ o);
+        lets = λ g z k e own cl. let bad : None ≡ Some e = sym (closing-renewed (held (revived (s.mine.table k)))) ∙ cl in absurd (cc);
+        real = λ z. flag s.theirs.synced z sb;
+        owes = λ m p. (refl, sb);
+        loads = λ z u p. record {
+          os = os;
+          ps = ps;
+          rising = can.0.3;
+          owned_is = λ p. refl;
+          want_is = refl;
+          batch_is = refl;
+          heard_is = refl;
+          inn_is = refl;
+          are_new = can.0.5;
+          table_is = λ q. refl;
+          bar = λ m p. promise_is part (suc (length os + length ps)) m p;
+          none_closing = λ k own. closing-renewed (held (revived (s.mine.table k)));
+          progress = inl ((there.awaits sb u).fresh (λ q. omega arith));
+        };
+      } in
+      record {
+        fits = fits-retakes moment i back s.trace v.fits;
+        silent = silent-retakes moment i back s.trace v.silent;
+        some_synced = inl sa;
+        here = record {
+          synced_is = synced-retakes moment i i back s.trace ∙ here.synced_is;
+          up_synced = here.up_synced;
+          goes = λ u. goes-revived moment i s.mine.table back s.trace (here.goes u) can.0.2;
+          letters = λ u alone m inside boot to. let le : m.to ≤ s.mine.peer = here.known u m inside boot in absurd (omega arith);
+          barred = λ k p m inside boot to. let le : m.to ≤ s.mine.peer = here.known (here.up_synced sa) m inside boot in absurd (omega arith);
+          boots = here.boots;
+          known = λ u m inside boot. let le : m.to ≤ s.mine.peer = here.known u m inside boot in omega arith;
+          peer_at = at_most;
+          later = λ z m inside more. here.later sa m inside (omega arith);
+          quiet = λ z. flag s.mine.synced sa z;
+          state = λ z. inr view;
+          awaits = λ z u. flag s.mine.synced sa z;
+        };
+        there = side_beside r (other i) s.theirs s.mine _ s.their_mail s.my_mail s.trace _ there refl
+            (synced-retakes moment (other i) i back s.trace ∙ there.synced_is)
+            (λ u. goes_other-retakes moment (other i) i s.theirs.table back s.trace (same-not i) (there.goes u))
+            (λ z. flag s.theirs.synced z sb)
+            (λ z u. let w : Awaits s.theirs s.mine s.my_mail = there.awaits z u in record {
+              letters = λ m n q inside to h. let o : (m.boot ≡ s.mine.boot) × (s.mine.peer ≡ s.theirs.boot) = w.letters m n q inside to h in let p : s.mine.peer ≡ s.theirs.boot = o.1 in absurd (omega arith);
+              fresh = λ q. w.fresh (λ p. omega arith);
+            });
+      }
+
+  off_now : (moment : ℕ) (i : GatewayId) (s : Scene) (back : List Pair) → Inv r i s → s.mine.synced ≡ true → s.theirs.up ≡ false
+      → ((p : Pair) → (In p back → is_back (s.mine.table p.key) ≡ Some p.endpoint) × (is_back (s.mine.table p.key) ≡ Some p.endpoint → In p back))
+      → Inv r i (record { mine = put_off s.mine s.theirs.boot; theirs = s.theirs; my_mail = s.my_mail; their_mail = s.their_mail; trace = retakes i moment back ++ s.trace })
+  off_now moment i s back v sa down exact =
+      let here : Side r i s.mine s.theirs s.my_mail s.their_mail s.trace = v.here in
+      let there : Side r (other i) s.theirs s.mine s.their_mail s.my_mail s.trace = v.there in
+      let sb : s.theirs.synced ≡ false = elim (cases_Bool s.theirs.synced) [ inl z ↦ flag s.theirs.up (there.up_synced z) down | inr z ↦ z ] in
+      let known : Known i s.mine s.theirs s.trace = known_of i s.mine s.theirs s.my_mail s.their_mail s.trace here sa in
+      record {
+        fits = fits-retakes moment i back s.trace v.fits;
+        silent = silent-retakes moment i back s.trace v.silent;
+        some_synced = inl sa;
+        here = record {
+          synced_is = synced-retakes moment i i back s.trace ∙ here.synced_is;
+          up_synced = here.up_synced;
+          goes = λ u. goes-revived moment i s.mine.table back s.trace (here.goes u) exact;
+          letters = λ u alone. let bad : true ≡ false = alone sa in absurd (cc);
+          barred = λ m p. absurd (cc);
+          boots = here.boots;
+          known = λ u m inside boot. (here.boots m inside).1;
+          peer_at = le_refl s.theirs.boot;
+          later = λ z m inside more. let le : m.boot ≤ s.theirs.boot = (there.boots m inside).0 in absurd (omega arith);
+          quiet = λ z. flag s.mine.synced sa z;
+          state = λ z. inl record {
+            lone = refl;
+            other_out = sb;
+            proper = λ k. proper-revived (keyed s.mine.owned k) (s.mine.table k) (known.proper k);
+            within = known.within;
+            nowhere = λ k out. ap revived (known.nowhere k out);
+            one_each = λ k q e x y. known.one_each k q e (sym (held-revived (s.mine.table k)) ∙ x) (sym (held-revived (s.mine.table q)) ∙ y);
+            covers = λ p o. held-revived (s.mine.table p.key) ∙ known.covers p (sym (open-retakes moment p i back s.trace) ∙ o);
+            sent = refl;
+            unheard = λ u p. absurd (both_ways s.theirs.up down u);
+          };
+          awaits = λ z u. flag s.mine.synced sa z;
+        };
+        there = side_beside r (other i) s.theirs s.mine _ s.their_mail s.my_mail s.trace _ there refl
+            (synced-retakes moment (other i) i back s.trace ∙ there.synced_is)
+            (λ u. goes_other-retakes moment (other i) i s.theirs.table back s.trace (same-not i) (there.goes u))
+            (λ z. flag s.theirs.synced z sb)
+            (λ z u. flag s.theirs.up u down);
+      }
+
+  pub inv_peer_off : (moment : ℕ) (i : GatewayId) (s : Scene) (number : ℕ) (back : List Pair) → Inv r i s → Can r i s (PeerOff number back) → Inv r i (after_act r i moment s (PeerOff number back))
+  inv_peer_off moment i s number back v can = subst (λ (n : ℕ). Inv r i (record { mine = put_off s.mine n; theirs = s.theirs; my_mail = s.my_mail; their_mail = s.their_mail; trace = retakes i moment back ++ s.trace })) (sym can.2.1) (off_now moment i s back v can.0.0 can.2.0 can.0.1)

@@ -1,0 +1,237 @@
+-- What holds of each world that can come about.
+use Rattle.std.specs.Prelude.{◌≡◌, ℕ, suc, Bool, true, false, not, cond, List, [], ◌∷◌, ◌++◌, ◌==◌, length, ◌<◌, ◌≤◌, ◌+◌, IsTrue, Some, None, ◌⊎◌}
+use Rattle.nat_types.specs.Same.{other}
+use Rattle.nat_types.specs.declared.gateways.GatewayId.{GatewayId}
+use Rattle.nat_types.specs.declared.notes.Note.{Note}
+use Rattle.nat_types.specs.declared.pairs.Endpoint.{Endpoint}
+use Rattle.nat_types.specs.declared.pairs.Key.{Key}
+use Rattle.nat_types.specs.declared.pairs.Pair.{Pair}
+use Rattle.spec_trace.specs.Past.{is_synced, is_open, Fits, Silent}
+use Rattle.spec_pair.specs.Box.{Box, Letter, In, nth, empty, load, AreLoadable, batch}
+use Rattle.spec_pair.proofs.Phase.{owns, Phase, Nothing, closing, Talks}
+use Rattle.spec_pair.specs.Ownership.{Ranges, Run, keyed, left_to, last_named, AreRising}
+use Rattle.spec_pair.specs.Talk.{Slot, Free, Pending, Doomed, Live, Closing, Held, held, MachineRecord, Install, Accept, Refuse, Ask, Yes, No, Begin, Put, Done, Want, Grant, Owner}
+use Rattle.spec_pair.proofs.Traced.{Covers, LetsGo, GoesAt}
+use Rattle.spec_pair.specs.World.{Scene}
+
+-- the letter's records stand in the history at their numbers
+abbrev pub Within : Letter → List MachineRecord → Type 0
+Within l history = (n : ℕ) (r : MachineRecord) → nth l.records n ≡ Some r → nth history (l.first + n) ≡ Some r
+
+-- nothing is loaded yet
+pub record Fresh (a : Box) : Type 0 where
+  pub table : (q : Key) → a.table q ≡ Free
+  pub taken : a.taken ≡ 0
+  pub loading : a.loading ≡ false
+  pub wants : a.wants ≡ false
+
+-- the peer is in the session, and is as it is seen
+pub record Real (a b : Box) (table : Key → Slot) (owned : ℕ → Bool) (want : Bool) (gone heard inn : List MachineRecord) : Type 0 where
+  pub table_is : (q : Key) → b.table q ≡ table q
+  pub owned_is : (p : ℕ) → b.owned p ≡ owned p
+  pub want_is : b.wants ≡ want
+  pub sent : b.sent ≡ heard ++ inn
+  pub taken : b.taken ≡ length gone
+  pub peer : a.peer ≡ b.boot
+  pub back : b.peer ≡ a.boot
+  pub lone : b.lone ≡ false
+
+-- a slot that gateway i can have at a port, by whose it is
+abbrev pub is_proper : Bool → Slot → Bool
+is_proper own Free = true
+is_proper own (Pending e) = own
+is_proper own (Doomed e) = own
+is_proper own (Live e) = own
+is_proper own (Closing e) = own
+is_proper own (Held e) = not own
+
+-- 1 where it is so
+abbrev pub bit : Bool → ℕ
+bit b = cond b 1 0
+
+-- how often a port stands in a list
+abbrev pub times : ℕ → List ℕ → ℕ
+times p [] = 0
+times p (q ∷ qs) = bit (p == q) + times p qs
+
+-- how often a port stands in a Grant
+abbrev pub gift : ℕ → MachineRecord → ℕ
+gift p (Install k e) = 0
+gift p (Accept k) = 0
+gift p (Refuse k) = 0
+gift p (Ask k) = 0
+gift p (Yes k) = 0
+gift p (No k) = 0
+gift p Begin = 0
+gift p (Put k e) = 0
+gift p Done = 0
+gift p Want = 0
+gift p (Grant ports) = times p ports
+gift p (Owner first last) = 0
+
+-- how often it stands in the Grants among these
+abbrev pub gifts : ℕ → List MachineRecord → ℕ
+gifts p [] = 0
+gifts p (r ∷ rs) = gift p r + gifts p rs
+
+-- a Want counts
+abbrev pub is_want : MachineRecord → ℕ
+is_want (Install k e) = 0
+is_want (Accept k) = 0
+is_want (Refuse k) = 0
+is_want (Ask k) = 0
+is_want (Yes k) = 0
+is_want (No k) = 0
+is_want Begin = 0
+is_want (Put k e) = 0
+is_want Done = 0
+is_want Want = 1
+is_want (Grant ports) = 0
+is_want (Owner first last) = 0
+
+-- a Grant counts
+abbrev pub is_grant : MachineRecord → ℕ
+is_grant (Install k e) = 0
+is_grant (Accept k) = 0
+is_grant (Refuse k) = 0
+is_grant (Ask k) = 0
+is_grant (Yes k) = 0
+is_grant (No k) = 0
+is_grant Begin = 0
+is_grant (Put k e) = 0
+is_grant Done = 0
+is_grant Want = 0
+is_grant (Grant ports) = 1
+is_grant (Owner first last) = 0
+
+-- how many Wants are among these
+abbrev pub wants_in : List MachineRecord → ℕ
+wants_in [] = 0
+wants_in (r ∷ rs) = is_want r + wants_in rs
+
+-- how many Grants are
+abbrev pub grants_in : List MachineRecord → ℕ
+grants_in [] = 0
+grants_in (r ∷ rs) = is_grant r + grants_in rs
+
+-- a letter for this life of an unsynced gateway is of the other's present boot, which knows that life
+pub record Awaits (a b : Box) (their_mail : List Letter) : Type 0 where
+  pub letters : (l : Letter) (n : ℕ) (r : MachineRecord) → In l their_mail → l.to ≡ a.boot → nth l.records n ≡ Some r → (l.boot ≡ b.boot) × (b.peer ≡ a.boot)
+  pub fresh : (b.peer ≡ a.boot → ⊥) → Fresh a
+
+module _ (r : Ranges) where
+  -- Where the ports are. The ghost says of each key whose it is, also where its port is on its way or lost: there nothing stands at it.
+  pub record Whereabouts (i : GatewayId) (phase : Key → Phase) (owner : Key → GatewayId) (mine theirs : ℕ → Bool) (want their_want : Bool) (out inn : List MachineRecord) : Type 0 where
+    pub mine_is : (k : Key) → keyed mine k ≡ true → owns owner i k ≡ true
+    pub theirs_is : (k : Key) → keyed theirs k ≡ true → owns owner i k ≡ false
+    pub nobody : (k : Key) → keyed mine k ≡ false → keyed theirs k ≡ false → phase k ≡ Nothing
+    -- each port of the ranges is owned by one, or stands once in a Grant under way
+    pub places : (p : ℕ) → bit (mine p) + (bit (theirs p) + (gifts p out + gifts p inn)) ≡ bit (r.in_ranges p)
+    -- an open Want is under way, or its Grant is
+    pub my_want : wants_in out + grants_in inn ≡ bit want
+    pub their_wants : wants_in inn + grants_in out ≡ bit their_want
+
+  -- some of the runs are named, in the session with a
+  pub record Naming (j : GatewayId) (a b : Box) (os : List Run) : Type 0 where
+    pub front : List Run
+    pub back : List Run
+    pub whole : os ≡ front ++ back
+    pub peer : b.peer ≡ a.boot
+    pub taken : b.taken ≡ suc (length front)
+    pub loading : b.loading ≡ true
+    pub wants : b.wants ≡ false
+    pub table : (q : Key) → b.table q ≡ Free
+    pub owned : (p : ℕ) → b.owned p ≡ left_to r j front p
+    pub named : b.named ≡ last_named 0 front
+
+  -- all of them are, and some of these pairs are loaded
+  pub record Part (j : GatewayId) (a b : Box) (os : List Run) (ps : List Pair) : Type 0 where
+    pub front : List Pair
+    pub back : List Pair
+    pub whole : ps ≡ front ++ back
+    pub peer : b.peer ≡ a.boot
+    pub taken : b.taken ≡ suc (length os + length front)
+    pub loading : b.loading ≡ true
+    pub wants : b.wants ≡ false
+    pub owned : (p : ℕ) → b.owned p ≡ left_to r j os p
+    pub table : (q : Key) → b.table q ≡ load (keyed (left_to r j os)) empty front q
+
+  -- the peer is to load these, which stand first among the records pushed
+  pub record Loads (i : GatewayId) (a b : Box) (phase : Key → Phase) (owner : Key → GatewayId) (table : Key → Slot) (owned : ℕ → Bool) (want : Bool) (gone heard inn : List MachineRecord) : Type 0 where
+    pub os : List Run
+    pub ps : List Pair
+    pub batch_is : gone ≡ batch os ps
+    pub heard_is : heard ≡ []
+    pub inn_is : inn ≡ []
+    pub rising : AreRising r.in_ranges 0 os
+    pub owned_is : (p : ℕ) → owned p ≡ left_to r (other i) os p
+    pub want_is : want ≡ false
+    pub are_new : AreLoadable r (keyed (left_to r (other i) os)) empty ps
+    pub table_is : (q : Key) → table q ≡ load (keyed (left_to r (other i) os)) empty ps q
+    pub bar : (m : ℕ) → a.promised ≡ Some m → m ≡ suc (length os + length ps)
+    pub none_closing : (k : Key) → IsTrue (owns owner (other i) k) → closing (phase k) ≡ None
+    pub progress : Fresh b ⊎ (Naming (other i) a b os ⊎ Part (other i) a b os ps)
+
+  -- What a synced gateway that isn't lone may take its peer to be: while both are synced it is so. After a crash of
+  -- the peer it is what the peer was, and once a greater boot is heard what it will be when it has loaded the batch.
+  pub record View (i : GatewayId) (a b : Box) (their_mail : List Letter) (t : List Note) : Type 0 where
+    pub lone : a.lone ≡ false
+    pub phase : Key → Phase
+    pub table : Key → Slot
+    -- whose each key is, the ports that the peer owns, and its Want
+    pub owner : Key → GatewayId
+    pub their_owned : ℕ → Bool
+    pub their_want : Bool
+    -- the records that a pushed: those that the peer took, and those under way
+    pub gone : List MachineRecord
+    pub out : List MachineRecord
+    -- and those that the peer pushed
+    pub heard : List MachineRecord
+    pub inn : List MachineRecord
+    pub sent : a.sent ≡ gone ++ out
+    pub taken : a.taken ≡ length heard
+    pub talks : Talks owner i a.table out table inn phase
+    pub ports : Whereabouts i phase owner a.owned their_owned a.wants their_want out inn
+    pub letters : (l : Letter) → In l their_mail → l.boot ≡ a.peer → l.to ≡ a.boot → Within l (heard ++ inn)
+    pub covers : Covers phase t
+    pub lets : (g : GatewayId) → LetsGo owner g phase t
+    pub real : b.synced ≡ true → Real a b table their_owned their_want gone heard inn
+    -- while records are promised, the peer has pushed nothing
+    pub owes : (m : ℕ) → a.promised ≡ Some m → (inn ≡ []) × (b.synced ≡ false)
+    pub loads : b.synced ≡ false → b.up ≡ true → a.peer ≡ b.boot → Loads i a b phase owner table their_owned their_want gone heard inn
+
+  -- what holds of a lone gateway: its table alone covers what is open
+  pub record Alone (i : GatewayId) (a b : Box) (t : List Note) : Type 0 where
+    pub lone : a.lone ≡ true
+    pub other_out : b.synced ≡ false
+    pub proper : (k : Key) → is_proper (keyed a.owned k) (a.table k) ≡ true
+    pub within : (p : ℕ) → a.owned p ≡ true → r.in_ranges p ≡ true
+    pub nowhere : (k : Key) → keyed r.in_ranges k ≡ false → a.table k ≡ Free
+    pub one_each : (k q : Key) (e : Endpoint) → held (a.table k) ≡ Some e → held (a.table q) ≡ Some e → k ≡ q
+    pub covers : (p : Pair) → IsTrue (is_open p t) → held (a.table p.key) ≡ Some p.endpoint
+    pub sent : a.sent ≡ []
+    pub unheard : b.up ≡ true → a.peer ≡ b.boot → ⊥
+
+  -- what holds of gateway i, at a, beside the other, at b
+  pub record Side (i : GatewayId) (a b : Box) (my_mail their_mail : List Letter) (t : List Note) : Type 0 where
+    pub synced_is : is_synced i t ≡ a.synced
+    pub up_synced : a.synced ≡ true → a.up ≡ true
+    pub goes : a.up ≡ true → GoesAt i a.table t
+    pub letters : a.up ≡ true → (a.synced ≡ true → a.lone ≡ false) → (l : Letter) → In l my_mail → l.boot ≡ a.boot → l.to ≡ a.peer → Within l a.sent
+    pub boots : (l : Letter) → In l my_mail → (l.boot ≤ a.boot) × (l.to ≤ b.boot)
+    -- what is not handed in isn't sent
+    pub barred : (m : ℕ) → a.promised ≡ Some m → (l : Letter) → In l my_mail → l.boot ≡ a.boot → l.to ≡ a.peer → (n : ℕ) (q : MachineRecord) → nth l.records n ≡ Some q → l.first + n < m
+    pub known : a.up ≡ true → (l : Letter) → In l my_mail → l.boot ≡ a.boot → l.to ≤ a.peer
+    pub peer_at : a.peer ≤ b.boot
+    pub later : a.synced ≡ true → (l : Letter) → In l their_mail → a.peer < l.boot → l.records ≡ []
+    pub quiet : a.synced ≡ false → a.sent ≡ []
+    pub state : a.synced ≡ true → Alone i a b t ⊎ View i a b their_mail t
+    pub awaits : a.synced ≡ false → a.up ≡ true → Awaits a b their_mail
+
+  -- The invariant: the promises, a synced gateway, and what holds of each of the two.
+  pub record Inv (i : GatewayId) (s : Scene) : Type 0 where
+    pub fits : Fits s.trace
+    pub silent : Silent s.trace
+    pub some_synced : (s.mine.synced ≡ true) ⊎ (s.theirs.synced ≡ true)
+    pub here : Side i s.mine s.theirs s.my_mail s.their_mail s.trace
+    pub there : Side (other i) s.theirs s.mine s.their_mail s.my_mail s.trace

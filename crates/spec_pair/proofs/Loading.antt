@@ -1,0 +1,439 @@
+-- An unsynced gateway takes the batch.
+use Rattle.std.proofs.Common.{◌≡◌, ℕ, suc, Bool, true, false, cond, List, [], ◌∷◌, ◌++◌, length, ◌<◌, ◌≤◌, ◌+◌, IsTrue, Some, None, refl, sym, ap, subst, ◌∙◌, inl, inr, ◌⊎◌, append_assoc, append-nil, arith}
+use Rattle.std.proofs.lemmas.Bool.{both_ways, cases_Bool}
+use Rattle.nat_types.proofs.Offered.{same-self, same-eq, other-other}
+use Rattle.nat_types.specs.Same.{same, other, same_key}
+use Rattle.nat_types.specs.declared.gateways.GatewayId.{GatewayId}
+use Rattle.nat_types.specs.declared.notes.NoteKind.TheVariants.{Retaken, Synced}
+use Rattle.nat_types.specs.declared.notes.Note.{Note}
+use Rattle.nat_types.specs.declared.pairs.Endpoint.{Endpoint}
+use Rattle.nat_types.specs.declared.pairs.Key.{Key}
+use Rattle.nat_types.specs.declared.pairs.Pair.{Pair}
+use Rattle.spec_trace.specs.Past.{is_synced, Fits, Silent}
+use Rattle.spec_pair.specs.Acts.{LoadOwner, LoadBegin, LoadPut, LoadDone, LoadSkip, IsMisplaced}
+use Rattle.spec_pair.specs.Box.{owners, takes_owner, Box, Letter, nth, empty, load, loaded_slot, puts, batch, takes_begin, takes_put, takes_done, In, StandsNext, AreLoadable}
+use Rattle.spec_pair.proofs.Beside.{side_beside, view_beside}
+use Rattle.spec_pair.proofs.Invariant.{Within, Fresh, Naming, Part, Loads, Real, View, Awaits, Side, Inv}
+use Rattle.spec_pair.proofs.Phase.{owns, Phase, closing}
+use Rattle.spec_pair.specs.Ownership.{Ranges, Run, keyed, left_to, cut, cuts, in_run, last_named, AreRising, IsRisingRun}
+use Rattle.spec_pair.specs.Talk.{Slot, Free, Live, Held, held, translated, MachineRecord, Put, Owner, set_at, pair_of, note, Done, Begin}
+use Rattle.spec_pair.proofs.Traced.{Covers, LetsGo, GoesAt}
+use Rattle.spec_pair.specs.World.{Scene, Can, after_act}
+use Rattle.spec_pair.proofs.Acts.{same-not}
+use Rattle.spec_pair.proofs.Covers.{goes_quiet, goes_in, goes_other, lets_go_retake}
+use Rattle.spec_pair.proofs.Lists.{length_last}
+use Rattle.spec_pair.proofs.Lives.{other_synced}
+use Rattle.spec_pair.proofs.Mirror.{mirror}
+use Rattle.spec_pair.proofs.Set.{set_same, set_other}
+
+flag : {A : Type 0} (b : Bool) → b ≡ true → b ≡ false → A
+flag b h g = absurd (both_ways b g h)
+
+pub load-last : (owned : Key → Bool) (table : Key → Slot) (ps : List Pair) (p : Pair) → load owned table (ps ++ p ∷ []) ≡ set_at (load owned table ps) p.key (loaded_slot owned p.key p.endpoint)
+load-last owned table [] p = refl
+load-last owned table (x ∷ ps) p = load-last owned (set_at table x.key (loaded_slot owned x.key x.endpoint)) ps p
+
+cuts-last : (owned : ℕ → Bool) (os : List Run) (o : Run) → cuts owned (os ++ o ∷ []) ≡ cut o.first o.last (cuts owned os)
+cuts-last owned [] o = refl
+cuts-last owned (x ∷ os) o = cuts-last (cut x.first x.last owned) os o
+
+named-last : (low : ℕ) (os : List Run) (o : Run) → last_named low (os ++ o ∷ []) ≡ o.last
+named-last low [] o = refl
+named-last low (x ∷ os) o = named-last x.last os o
+
+rising-next : (ranges : ℕ → Bool) (low : ℕ) (front : List Run) (o : Run) (rest : List Run) → AreRising ranges low (front ++ o ∷ rest) → IsRisingRun ranges (last_named low front) o.first o.last
+rising-next ranges low [] o rest h = h.0
+rising-next ranges low (x ∷ front) o rest h = rising-next ranges x.last front o rest h.1
+
+next_put : (front back : List Pair) (out : List MachineRecord) → nth ((puts (front ++ back) ++ Done ∷ []) ++ out) (length front) ≡ nth ((puts back ++ Done ∷ []) ++ out) 0
+next_put [] back out = refl
+next_put (p ∷ front) back out = next_put front back out
+
+next_owner : (front back : List Run) (rs out : List MachineRecord) → nth (owners (front ++ back) rs ++ out) (length front) ≡ nth (owners back rs ++ out) 0
+next_owner [] back rs out = refl
+next_owner (o ∷ front) back rs out = next_owner front back rs out
+
+past_owners : (os : List Run) (rs out : List MachineRecord) (n : ℕ) → nth (owners os rs ++ out) (length os + n) ≡ nth (rs ++ out) n
+past_owners [] rs out n = let e : 0 + n ≡ n = omega arith in ap (nth (rs ++ out)) e
+past_owners (o ∷ os) rs out n = let e : suc (length os) + n ≡ suc (length os + n) = omega arith in ap (nth (Owner o.first o.last ∷ (owners os rs ++ out))) e ∙ past_owners os rs out n
+
+-- the record behind Begin and the Owners of the front
+next_name : (front back : List Run) (ps : List Pair) (out : List MachineRecord) → nth (batch (front ++ back) ps ++ out) (suc (length front)) ≡ nth (owners back (puts ps ++ Done ∷ []) ++ out) 0
+next_name front back ps out = next_owner front back (puts ps ++ Done ∷ []) out
+
+-- the record behind Begin, the Owners and the Puts of the front
+pub next_load : (os : List Run) (front back : List Pair) (out : List MachineRecord) → nth (batch os (front ++ back) ++ out) (suc (length os + length front)) ≡ nth ((puts back ++ Done ∷ []) ++ out) 0
+next_load os front back out = past_owners os (puts (front ++ back) ++ Done ∷ []) out (length front) ∙ next_put front back out
+
+length-puts : (ps : List Pair) → length (puts ps ++ Done ∷ []) ≡ suc (length ps)
+length-puts [] = refl
+length-puts (p ∷ ps) = ap suc (length-puts ps)
+
+length-owners : (os : List Run) (rs : List MachineRecord) → length (owners os rs) ≡ length os + length rs
+length-owners [] rs = omega arith
+length-owners (o ∷ os) rs = let h : length (owners os rs) ≡ length os + length rs = length-owners os rs in omega arith
+
+loaded_translates : (own : Bool) (e : Endpoint) → translated (cond own (Live e) (Held e)) ≡ Some e
+loaded_translates true e = refl
+loaded_translates false e = refl
+
+some_record : (a b : MachineRecord) → Some a ≡ Some b → a ≡ b
+some_record a b h = cc
+
+-- only a Put comes before the end, and then the next
+is_put : (back : List Pair) (out : List MachineRecord) (p : Pair) → nth ((puts back ++ Done ∷ []) ++ out) 0 ≡ Some (Put p.key p.endpoint) → (rest : List Pair) × (back ≡ p ∷ rest)
+is_put [] out p h = let e : Done ≡ Put p.key p.endpoint = some_record Done (Put p.key p.endpoint) h in absurd (cc)
+is_put (x ∷ back) out p h =
+    let e : Put x.key x.endpoint ≡ Put p.key p.endpoint = some_record (Put x.key x.endpoint) (Put p.key p.endpoint) h in
+    let k : x.key ≡ p.key = cc in
+    let n : x.endpoint ≡ p.endpoint = cc in
+    (back, ap (λ y. pair_of y x.endpoint ∷ back) k ∙ ap (λ y. pair_of p.key y ∷ back) n)
+
+is_end : (back : List Pair) (out : List MachineRecord) → nth ((puts back ++ Done ∷ []) ++ out) 0 ≡ Some Done → back ≡ []
+is_end [] out h = refl
+is_end (x ∷ back) out h = let e : Put x.key x.endpoint ≡ Done = some_record (Put x.key x.endpoint) Done h in absurd (cc)
+
+-- what comes next: a Put or the end
+some_load : (back : List Pair) (out : List MachineRecord) (q : MachineRecord) → nth ((puts back ++ Done ∷ []) ++ out) 0 ≡ Some q → (q ≡ Done) ⊎ ((p : Pair) × (rest : List Pair) × (back ≡ p ∷ rest) × (q ≡ Put p.key p.endpoint))
+some_load [] out q h = inl (sym (some_record Done q h))
+some_load (p ∷ back) out q h = inr (p, back, refl, sym (some_record (Put p.key p.endpoint) q h))
+
+-- an Owner, or no run is left
+some_run : (back : List Run) (rs out : List MachineRecord) (q : MachineRecord) → nth (owners back rs ++ out) 0 ≡ Some q → (back ≡ []) ⊎ ((o : Run) × (rest : List Run) × (back ≡ o ∷ rest) × (q ≡ Owner o.first o.last))
+some_run [] rs out q h = inl refl
+some_run (o ∷ back) rs out q h = inr (o, back, refl, sym (some_record (Owner o.first o.last) q h))
+
+run_of : ℕ → ℕ → Run
+run_of a b = record { first = a; last = b }
+
+module _ (r : Ranges) where
+  -- What an unsynced gateway reads: the record that stands behind those that it took, in the session's batch.
+  pub record Reading (i : GatewayId) (s : Scene) (q : MachineRecord) : Type 0 where
+    pub view : View r (other i) s.theirs s.mine s.my_mail s.trace
+    pub loads : Loads r (other i) s.theirs s.mine view.phase view.owner view.table view.their_owned view.their_want view.gone view.heard view.inn
+    pub back : s.theirs.peer ≡ s.mine.boot
+    pub peer : s.mine.peer ≡ s.theirs.boot
+    pub stands : nth (batch loads.os loads.ps ++ view.out) s.mine.taken ≡ Some q
+
+  pub reading : (i : GatewayId) (s : Scene) (l : Letter) (n : ℕ) (q : MachineRecord) → Inv r i s → s.mine.synced ≡ false → In l s.their_mail → StandsNext s.mine l n q → Reading i s q
+  reading i s l n q v sa sent x =
+      let here : Side r i s.mine s.theirs s.my_mail s.their_mail s.trace = v.here in
+      let there : Side r (other i) s.theirs s.mine s.their_mail s.my_mail s.trace = v.there in
+      let sb : s.theirs.synced ≡ true = other_synced r i s v sa in
+      let from : (l.boot ≡ s.theirs.boot) × (s.theirs.peer ≡ s.mine.boot) = (here.awaits sa x.up).letters l n q sent x.to x.record_is in
+      let view : View r (other i) s.theirs s.mine s.my_mail s.trace = elim (there.state sb) [ inl y ↦ absurd (y.unheard x.up from.1) | inr y ↦ y ] in
+      let loads : Loads r (other i) s.theirs s.mine view.phase view.owner view.table view.their_owned view.their_want view.gone view.heard view.inn = view.loads sa x.up from.1 in
+      let stands : nth s.theirs.sent (l.first + n) ≡ Some q = there.letters (there.up_synced sb) (λ z. view.lone) l sent from.0 (x.to ∙ sym from.1) n q x.record_is in
+      record {
+        view = view;
+        loads = loads;
+        back = from.1;
+        peer = sym x.boot ∙ from.0;
+        stands = ap (λ y. nth (y ++ view.out) s.mine.taken) (sym loads.batch_is) ∙ ap (λ y. nth y s.mine.taken) (sym view.sent) ∙ ap (nth s.theirs.sent) (sym x.number) ∙ stands;
+      }
+
+  -- the scene after a step of the loading, which stays unsynced
+  still_loading : (i : GatewayId) (s : Scene) (a2 : Box) (t2 : List Note) (q : MachineRecord) → Inv r i s → Reading i s q → s.mine.synced ≡ false
+      → a2.up ≡ s.mine.up → a2.boot ≡ s.mine.boot → a2.synced ≡ false → a2.peer ≡ s.mine.peer → a2.sent ≡ s.mine.sent → a2.promised ≡ s.mine.promised
+      → (g : ((j : GatewayId) → is_synced j t2 ≡ is_synced j s.trace)) → Fits t2 → Silent t2
+      → (s.mine.up ≡ true → GoesAt i a2.table t2) → ((table : Key → Slot) → GoesAt (other i) table s.trace → GoesAt (other i) table t2)
+      → ((ph : Key → Phase) → Covers ph s.trace → Covers ph t2) → ((owner : Key → GatewayId) (g : GatewayId) (ph : Key → Phase) → LetsGo owner g ph s.trace → LetsGo owner g ph t2)
+      → ((x : Reading i s q) → Naming r (other (other i)) s.theirs a2 x.loads.os ⊎ Part r (other (other i)) s.theirs a2 x.loads.os x.loads.ps)
+      → Inv r i (record { mine = a2; theirs = s.theirs; my_mail = s.my_mail; their_mail = s.their_mail; trace = t2 })
+  still_loading i s a2 t2 q v x sa up boot sa2 peer sent prom same_synced fits silent goes goes_there covers lets part =
+      let here : Side r i s.mine s.theirs s.my_mail s.their_mail s.trace = v.here in
+      let there : Side r (other i) s.theirs s.mine s.their_mail s.my_mail s.trace = v.there in
+      let sb : s.theirs.synced ≡ true = other_synced r i s v sa in
+      record {
+        fits = fits;
+        silent = silent;
+        some_synced = inr sb;
+        here = record {
+          synced_is = same_synced i ∙ here.synced_is ∙ sa ∙ sym sa2;
+          up_synced = λ h. flag a2.synced h sa2;
+          goes = λ u. goes (sym up ∙ u);
+          letters = λ u alone l inside lb lt. subst (Within l) (sym sent) (here.letters (sym up ∙ u) (λ z. flag s.mine.synced z sa) l inside (lb ∙ boot) (lt ∙ peer));
+          barred = λ m p l inside lb lt. here.barred m (sym prom ∙ p) l inside (lb ∙ boot) (lt ∙ peer);
+          boots = λ l inside. let o : (l.boot ≤ s.mine.boot) × (l.to ≤ s.theirs.boot) = here.boots l inside in (omega (arith, o.0), o.1);
+          known = λ u l inside lb. let o : l.to ≤ s.mine.peer = here.known (sym up ∙ u) l inside (lb ∙ boot) in omega arith;
+          peer_at = (let o : s.mine.peer ≤ s.theirs.boot = here.peer_at in omega arith);
+          later = λ h. flag a2.synced h sa2;
+          quiet = λ h. sent ∙ here.quiet sa;
+          state = λ h. flag a2.synced h sa2;
+          awaits = λ h u. let w : Awaits s.mine s.theirs s.their_mail = here.awaits sa (sym up ∙ u) in
+              record {
+                letters = λ l n z inside to nn. let o : (l.boot ≡ s.theirs.boot) × (s.theirs.peer ≡ s.mine.boot) = w.letters l n z inside (to ∙ boot) nn in (o.0, o.1 ∙ sym boot);
+                fresh = λ z. absurd (z (x.back ∙ sym boot));
+              };
+        };
+        there = record {
+          synced_is = same_synced (other i) ∙ there.synced_is;
+          up_synced = there.up_synced;
+          goes = λ u. goes_there s.theirs.table (there.goes u);
+          letters = there.letters;
+          barred = there.barred;
+          boots = λ l inside. let o : (l.boot ≤ s.theirs.boot) × (l.to ≤ s.mine.boot) = there.boots l inside in (o.0, omega (arith, o.1));
+          known = there.known;
+          peer_at = (let o : s.theirs.peer ≤ s.mine.boot = there.peer_at in omega arith);
+          later = there.later;
+          quiet = there.quiet;
+          state = λ h. inr (view_beside r (other i) s.theirs s.mine _ s.my_mail _ s.trace _ x.view
+              x.view.letters
+              (covers x.view.phase x.view.covers)
+              (λ g. lets x.view.owner g x.view.phase (x.view.lets g))
+              (λ z. flag a2.synced z sa2)
+              (λ m p. ((x.view.owes m p).0, sa2))
+              (λ z u p. record { os = x.loads.os; ps = x.loads.ps; rising = x.loads.rising; owned_is = x.loads.owned_is; want_is = x.loads.want_is; batch_is = x.loads.batch_is; heard_is = x.loads.heard_is; inn_is = x.loads.inn_is; are_new = x.loads.are_new; bar = x.loads.bar; table_is = x.loads.table_is; none_closing = x.loads.none_closing; progress = inr (part x) }));
+          awaits = λ h u. flag s.theirs.synced sb h;
+        };
+      }
+
+  -- the record that comes while the Owners or the Puts are loaded
+  comes_name : (i : GatewayId) (s : Scene) (q : MachineRecord) (x : Reading i s q) (g : Naming r (other (other i)) s.theirs s.mine x.loads.os) → nth (owners g.back (puts x.loads.ps ++ Done ∷ []) ++ x.view.out) 0 ≡ Some q
+  comes_name i s q x g = sym (next_name g.front g.back x.loads.ps x.view.out) ∙ ap (λ y. nth (batch y x.loads.ps ++ x.view.out) (suc (length g.front))) (sym g.whole) ∙ ap (nth (batch x.loads.os x.loads.ps ++ x.view.out)) (sym g.taken) ∙ x.stands
+
+  comes_next : (i : GatewayId) (s : Scene) (q : MachineRecord) (x : Reading i s q) (g : Part r (other (other i)) s.theirs s.mine x.loads.os x.loads.ps) → nth ((puts g.back ++ Done ∷ []) ++ x.view.out) 0 ≡ Some q
+  comes_next i s q x g = sym (next_load x.loads.os g.front g.back x.view.out) ∙ ap (λ y. nth (batch x.loads.os y ++ x.view.out) (suc (length x.loads.os + length g.front))) (sym g.whole) ∙ ap (nth (batch x.loads.os x.loads.ps ++ x.view.out)) (sym g.taken) ∙ x.stands
+
+  -- once all are named the Puts begin
+  turns : (i : GatewayId) (s : Scene) (q : MachineRecord) (x : Reading i s q) (g : Naming r (other (other i)) s.theirs s.mine x.loads.os) → g.back ≡ [] → Part r (other (other i)) s.theirs s.mine x.loads.os x.loads.ps
+  turns i s q x g none =
+      let all : x.loads.os ≡ g.front = g.whole ∙ ap (λ y. g.front ++ y) none ∙ append-nil g.front in
+      let count : length x.loads.os ≡ length g.front = ap length all in
+      record {
+        front = [];
+        back = x.loads.ps;
+        whole = refl;
+        peer = g.peer;
+        taken = (let t : s.mine.taken ≡ suc (length g.front) = g.taken in omega arith);
+        loading = g.loading;
+        wants = g.wants;
+        owned = λ p. g.owned p ∙ ap (λ y. left_to r (other (other i)) y p) (sym all);
+        table = g.table;
+      }
+
+  -- where no Owner comes, all are named
+  in_part : (i : GatewayId) (s : Scene) (q : MachineRecord) (x : Reading i s q) → s.mine.loading ≡ true → ((a b : ℕ) → q ≡ Owner a b → ⊥) → Part r (other (other i)) s.theirs s.mine x.loads.os x.loads.ps
+  in_part i s q x h none = elim x.loads.progress [
+    | inl f ↦ flag s.mine.loading h f.loading
+    | inr y ↦ elim y [
+      | inl g ↦ elim (some_run g.back (puts x.loads.ps ++ Done ∷ []) x.view.out q (comes_name i s q x g)) [ inl e ↦ turns i s q x g e | inr e ↦ absurd (none e.0.first e.0.last e.3) ]
+      | inr g ↦ g
+    ]
+  ]
+
+  no_begin : {A : Type 0} (i : GatewayId) (s : Scene) (x : Reading i s Begin) → Part r (other (other i)) s.theirs s.mine x.loads.os x.loads.ps → A
+  no_begin i s x g = elim (some_load g.back x.view.out Begin (comes_next i s Begin x g)) [ inl e ↦ absurd (let bad : Begin ≡ Done = e in cc) | inr e ↦ absurd (let bad : Begin ≡ Put e.0.key e.0.endpoint = e.3 in cc) ]
+
+  pub inv_load_begin : (moment : ℕ) (i : GatewayId) (s : Scene) (l : Letter) (n : ℕ) → Inv r i s → Can r i s (LoadBegin l n) → Inv r i (after_act r i moment s (LoadBegin l n))
+  inv_load_begin moment i s l n v can =
+      let x : Reading i s Begin = reading i s l n Begin v can.0.0 (can.1 l (inl refl)) can.0.1 in
+      let f : Fresh s.mine = elim x.loads.progress [
+        | inl f ↦ f
+        | inr y ↦ elim y [
+          | inl g ↦ elim (some_run g.back (puts x.loads.ps ++ Done ∷ []) x.view.out Begin (comes_name i s Begin x g)) [ inl e ↦ no_begin i s x (turns i s Begin x g e) | inr e ↦ absurd (let bad : Begin ≡ Owner e.0.first e.0.last = e.3 in cc) ]
+          | inr g ↦ no_begin i s x g
+        ]
+      ] in
+      still_loading i s (takes_begin (r.at_begin i) s.mine) s.trace Begin v x can.0.0 refl refl can.0.0 refl refl refl (λ j. refl) v.fits v.silent
+      (λ u. goes_quiet i s.mine.table empty s.trace (v.here.goes u) (λ q. ap translated (sym (f.table q))))
+      (λ table g. g) (λ ph c. c) (λ owner g ph z. z)
+      (λ y. inl record { front = []; back = y.loads.os; whole = refl; peer = y.peer; taken = ap suc f.taken; loading = refl; wants = f.wants; table = λ q. refl; owned = λ p. ap (λ j. r.at_begin j p) (sym (other-other i)); named = refl })
+
+  no_owner : {A : Type 0} (i : GatewayId) (s : Scene) (first last : ℕ) (x : Reading i s (Owner first last)) → Part r (other (other i)) s.theirs s.mine x.loads.os x.loads.ps → A
+  no_owner i s first last x g = elim (some_load g.back x.view.out (Owner first last) (comes_next i s (Owner first last) x g)) [ inl e ↦ absurd (let bad : Owner first last ≡ Done = e in cc) | inr e ↦ absurd (let bad : Owner first last ≡ Put e.0.key e.0.endpoint = e.3 in cc) ]
+
+  pub inv_load_owner : (moment : ℕ) (i : GatewayId) (s : Scene) (l : Letter) (n first last : ℕ) → Inv r i s → Can r i s (LoadOwner l n first last) → Inv r i (after_act r i moment s (LoadOwner l n first last))
+  inv_load_owner moment i s l n first last v can =
+      let x : Reading i s (Owner first last) = reading i s l n (Owner first last) v can.0.0 (can.1 l (inl refl)) can.0.4 in
+      still_loading i s (takes_owner s.mine first last) s.trace (Owner first last) v x can.0.0 refl refl can.0.0 refl refl refl (λ j. refl) v.fits v.silent
+      v.here.goes (λ table g. g) (λ ph c. c) (λ owner g ph z. z)
+      (λ y. elim y.loads.progress [
+        | inl f ↦ flag s.mine.loading can.0.1 f.loading
+        | inr z ↦ elim z [
+          | inl g ↦ elim (some_run g.back (puts y.loads.ps ++ Done ∷ []) y.view.out (Owner first last) (comes_name i s (Owner first last) y g)) [
+            | inl e ↦ no_owner i s first last y (turns i s (Owner first last) y g e)
+            | inr e ↦
+                let same_run : Owner first last ≡ Owner e.0.first e.0.last = e.3 in
+                let a : first ≡ e.0.first = cc in
+                let b : last ≡ e.0.last = cc in
+                inl record {
+                  front = g.front ++ e.0 ∷ [];
+                  back = e.1;
+                  whole = g.whole ∙ ap (λ m. g.front ++ m) e.2 ∙ sym (append_assoc g.front (e.0 ∷ []) e.1);
+                  peer = g.peer;
+                  taken = ap suc (g.taken ∙ sym (length_last g.front e.0));
+                  loading = g.loading;
+                  wants = g.wants;
+                  table = g.table;
+                  owned = λ p. ap (λ c. cut c last s.mine.owned p) a ∙ ap (λ c. cut e.0.first c s.mine.owned p) b ∙ ap (cond (in_run e.0.first e.0.last p) false) (g.owned p) ∙ ap (λ (f : ℕ → Bool). f p) (sym (cuts-last (r.at_begin (other (other i))) g.front e.0));
+                  named = b ∙ sym (named-last 0 g.front e.0);
+                }
+          ]
+          | inr g ↦ no_owner i s first last y g
+        ]
+      ])
+
+  lets_load : (moment : ℕ) (owner : Key → GatewayId) (g i : GatewayId) (p : Pair) (ph : Key → Phase) (t : List Note) → is_synced i t ≡ false → LetsGo owner g ph t → LetsGo owner g ph (note i moment (Retaken p) ∷ t)
+  lets_load moment owner g i p ph t out l s = elim (cases_Bool (same g i)) [
+    | inl e ↦ let gi : g ≡ i = same-eq g i e in absurd (both_ways (is_synced i t) out (ap (λ y. is_synced y t) (sym gi) ∙ s))
+    | inr ne ↦ lets_go_retake owner moment g ph t i p.key p.endpoint l (λ own e. absurd (both_ways (same g i) ne e)) s
+  ]
+
+  pub inv_load_put : (moment : ℕ) (i : GatewayId) (s : Scene) (l : Letter) (n : ℕ) (p : Pair) → Inv r i s → Can r i s (LoadPut l n p) → Inv r i (after_act r i moment s (LoadPut l n p))
+  inv_load_put moment i s l n p v can =
+      let x : Reading i s (Put p.key p.endpoint) = reading i s l n (Put p.key p.endpoint) v can.0.0 (can.1 l (inl refl)) can.0.4 in
+      let slot : Slot = loaded_slot (keyed s.mine.owned) p.key p.endpoint in
+      still_loading i s (takes_put s.mine p) (note i moment (Retaken p) ∷ s.trace) (Put p.key p.endpoint) v x can.0.0 refl refl can.0.0 refl refl refl (λ j. refl) (tt, v.fits) (tt, v.silent)
+      (λ u. goes_in moment i s.mine.table (set_at s.mine.table p.key slot) s.trace p.key p.endpoint (v.here.goes u)
+      (ap translated (set_same s.mine.table p.key slot p.key refl) ∙ loaded_translates (keyed s.mine.owned p.key) p.endpoint)
+      (λ q ne. ap translated (set_other s.mine.table p.key slot q ne))
+      (λ m h. let bad : None ≡ Some m = ap translated (sym can.0.2) ∙ h in absurd (cc)))
+      (λ table g. (goes_other moment (other i) i table s.trace p (same-not i) g).2)
+      (λ ph c. c) (λ owner g ph z. lets_load moment owner g i p ph s.trace (v.here.synced_is ∙ can.0.0) z)
+      (λ y. let g : Part r (other (other i)) s.theirs s.mine y.loads.os y.loads.ps = in_part i s (Put p.key p.endpoint) y can.0.1 (λ a b e. cc) in
+      let m : (rest : List Pair) × (g.back ≡ p ∷ rest) = is_put g.back y.view.out p (comes_next i s (Put p.key p.endpoint) y g) in
+      let to_own : Key → Bool = keyed (left_to r (other (other i)) y.loads.os) in
+      inr record {
+        front = g.front ++ p ∷ [];
+        back = m.0;
+        whole = g.whole ∙ ap (λ z. g.front ++ z) m.1 ∙ sym (append_assoc g.front (p ∷ []) m.0);
+        peer = g.peer;
+        taken = (let t : s.mine.taken ≡ suc (length y.loads.os + length g.front) = g.taken in let z : length (g.front ++ p ∷ []) ≡ suc (length g.front) = length_last g.front p in omega arith);
+        loading = g.loading;
+        wants = g.wants;
+        owned = g.owned;
+        table = λ q. ap (cond (same_key p.key q) slot) (g.table q) ∙ ap (λ b. cond (same_key p.key q) (cond b (Live p.endpoint) (Held p.endpoint)) (load to_own empty g.front q)) (g.owned p.key.port.0) ∙ ap (λ (f : Key → Slot). f q) (sym (load-last to_own empty g.front p));
+      })
+
+  nil_of : (hs ins : List MachineRecord) → hs ≡ [] → ins ≡ [] → [] ≡ hs ++ ins
+  nil_of hs ins h k = sym k ∙ ap (λ y. y ++ ins) (sym h)
+
+  lets_done : (moment : ℕ) (owner : Key → GatewayId) (g i : GatewayId) (ph : Key → Phase) (t : List Note) → ((k : Key) → IsTrue (owns owner i k) → closing (ph k) ≡ None) → LetsGo owner g ph t → LetsGo owner g ph (note i moment Synced ∷ t)
+  lets_done moment owner g i ph t none l s k e own cl = elim (cases_Bool (same g i)) [
+    | inl eq ↦ let gi : g ≡ i = same-eq g i eq in let bad : None ≡ Some e = sym (none k (ap (λ y. owns owner y k) (sym gi) ∙ own)) ∙ cl in absurd (cc)
+    | inr ne ↦ l (ap (λ y. cond y true (is_synced g t)) (sym ne) ∙ s) k e own cl
+  ]
+
+  pub inv_load_done : (moment : ℕ) (i : GatewayId) (s : Scene) (l : Letter) (n : ℕ) → Inv r i s → Can r i s (LoadDone l n) → Inv r i (after_act r i moment s (LoadDone l n))
+  inv_load_done moment i s l n v can =
+      let here : Side r i s.mine s.theirs s.my_mail s.their_mail s.trace = v.here in
+      let there : Side r (other i) s.theirs s.mine s.their_mail s.my_mail s.trace = v.there in
+      let sa : s.mine.synced ≡ false = can.0.0 in
+      let sb : s.theirs.synced ≡ true = other_synced r i s v sa in
+      let up : s.mine.up ≡ true = can.0.2.up in
+      let x : Reading i s Done = reading i s l n Done v sa (can.1 l (inl refl)) can.0.2 in
+      let g : Part r (other (other i)) s.theirs s.mine x.loads.os x.loads.ps = in_part i s Done x can.0.1 (λ a b e. cc) in
+      let no_more : g.back ≡ [] = is_end g.back x.view.out (comes_next i s Done x g) in
+      let all : x.loads.ps ≡ g.front = g.whole ∙ ap (λ y. g.front ++ y) no_more ∙ append-nil g.front in
+      let none_promised : (m : ℕ) → s.theirs.promised ≡ Some m → ⊥ = λ m p.
+      let from : (l.boot ≡ s.theirs.boot) × (s.theirs.peer ≡ s.mine.boot) = (here.awaits sa up).letters l n Done (can.1 l (inl refl)) can.0.2.to can.0.2.record_is in
+      let less : l.first + n < m = there.barred m p l (can.1 l (inl refl)) from.0 (can.0.2.to ∙ sym from.1) n Done can.0.2.record_is in
+      let at : l.first + n ≡ s.mine.taken = can.0.2.number in
+      let end : s.mine.taken ≡ suc (length x.loads.os + length g.front) = g.taken in
+      let whole : m ≡ suc (length x.loads.os + length x.loads.ps) = x.loads.bar m p in
+      let same_length : length x.loads.ps ≡ length g.front = ap length all in
+      omega arith in
+      let a2 : Box = takes_done s.mine in
+      let t2 : List Note = note i moment Synced ∷ s.trace in
+      let real : Real s.theirs a2 x.view.table x.view.their_owned x.view.their_want x.view.gone x.view.heard x.view.inn = record {
+        table_is = λ q. g.table q ∙ ap (λ y. load (keyed (left_to r (other (other i)) x.loads.os)) empty y q) (sym all) ∙ sym (x.loads.table_is q);
+        owned_is = λ p. g.owned p ∙ sym (x.loads.owned_is p);
+        want_is = g.wants ∙ sym x.loads.want_is;
+        sent = here.quiet sa ∙ nil_of x.view.heard x.view.inn x.loads.heard_is x.loads.inn_is;
+        taken =
+            (let t : s.mine.taken ≡ suc (length x.loads.os + length g.front) = g.taken in
+            let m : length x.loads.ps ≡ length g.front = ap length all in
+            let z : length (puts x.loads.ps ++ Done ∷ []) ≡ suc (length x.loads.ps) = length-puts x.loads.ps in
+            let w : length (owners x.loads.os (puts x.loads.ps ++ Done ∷ [])) ≡ length x.loads.os + length (puts x.loads.ps ++ Done ∷ []) = length-owners x.loads.os (puts x.loads.ps ++ Done ∷ []) in
+            let y : length x.view.gone ≡ suc (length (owners x.loads.os (puts x.loads.ps ++ Done ∷ []))) = ap length x.loads.batch_is in
+            omega arith);
+        peer = x.back;
+        back = x.peer;
+        lone = refl;
+      } in
+      let theirs_view : View r (other i) s.theirs a2 s.my_mail t2 = record {
+        lone = x.view.lone;
+        phase = x.view.phase;
+        table = x.view.table;
+        owner = x.view.owner;
+        their_owned = x.view.their_owned;
+        their_want = x.view.their_want;
+        ports = x.view.ports;
+        gone = x.view.gone;
+        out = x.view.out;
+        heard = x.view.heard;
+        inn = x.view.inn;
+        sent = x.view.sent;
+        taken = x.view.taken;
+        talks = x.view.talks;
+        letters = x.view.letters;
+        covers = x.view.covers;
+        lets = λ j. lets_done moment x.view.owner j i x.view.phase s.trace (λ k own. x.loads.none_closing k (ap (λ y. owns x.view.owner y k) (other-other i) ∙ own)) (x.view.lets j);
+        real = λ z. real;
+        owes = λ m p. absurd (none_promised m p);
+        loads = λ z u p. absurd (cc);
+      } in
+      let my_view : View r (other (other i)) a2 s.theirs s.their_mail t2 = mirror r (other i) s.theirs a2 s.their_mail s.my_mail t2 theirs_view sb refl (λ m inside boot to. there.letters (there.up_synced sb) (λ z. x.view.lone) m inside boot to) (λ m p. absurd (cc)) in
+      record {
+        fits = (tt, v.fits);
+        silent = (tt, v.silent);
+        some_synced = inr sb;
+        here = record {
+          synced_is = ap (λ b. cond b true (is_synced i s.trace)) (same-self i);
+          up_synced = λ h. up;
+          goes = here.goes;
+          letters = λ u alone. here.letters u (λ z. flag s.mine.synced z sa);
+          barred = λ m p. absurd (cc);
+          boots = here.boots;
+          known = here.known;
+          peer_at = here.peer_at;
+          later = λ h m inside newer. let le : m.boot ≤ s.theirs.boot = (there.boots m inside).0 in let p : s.mine.peer ≡ s.theirs.boot = x.peer in absurd (omega arith);
+          quiet = λ h. absurd (cc);
+          state = λ h. inr (subst (λ (j : GatewayId). View r j a2 s.theirs s.their_mail t2) (other-other i) my_view);
+          awaits = λ h u. absurd (cc);
+        };
+        there = side_beside r (other i) s.theirs s.mine _ s.their_mail s.my_mail s.trace _ there refl
+            (ap (λ b. cond b true (is_synced (other i) s.trace)) (same-not i) ∙ there.synced_is)
+            there.goes
+            (λ h. inr theirs_view)
+            (λ h u. flag s.theirs.synced sb h);
+      }
+
+  -- what is next in the batch is new
+  next_new : (owned : Key → Bool) (table : Key → Slot) (front : List Pair) (p : Pair) (rest : List Pair) → AreLoadable r owned table (front ++ p ∷ rest) → (load owned table front p.key ≡ Free) × ((q : Key) → held (load owned table front q) ≡ Some p.endpoint → ⊥) × IsTrue (r.in_ranges p.key.port.0)
+  next_new owned table [] p rest h = (h.0, h.1, h.2)
+  next_new owned table (x ∷ front) p rest h = next_new owned (set_at table x.key (loaded_slot owned x.key x.endpoint)) front p rest h.3
+
+  never_put : (i : GatewayId) (s : Scene) (q : MachineRecord) (x : Reading i s q) (g : Part r (other (other i)) s.theirs s.mine x.loads.os x.loads.ps) → IsMisplaced r s.mine q → ⊥
+  never_put i s q x g lost = elim (some_load g.back x.view.out q (comes_next i s q x g)) [
+    | inl e ↦ let m : IsMisplaced r s.mine Done = subst (λ (y : MachineRecord). IsMisplaced r s.mine y) e lost in m g.loading
+    | inr e ↦
+        let m : IsMisplaced r s.mine (Put e.0.key e.0.endpoint) = subst (λ (y : MachineRecord). IsMisplaced r s.mine y) e.3 lost in
+        let own : Key → Bool = keyed (left_to r (other (other i)) x.loads.os) in
+        let all : AreLoadable r own empty (g.front ++ e.0 ∷ e.1) = subst (AreLoadable r own empty) (g.whole ∙ ap (λ z. g.front ++ z) e.2) x.loads.are_new in
+        let is_new : (load own empty g.front e.0.key ≡ Free) × ((q : Key) → held (load own empty g.front q) ≡ Some e.0.endpoint → ⊥) × IsTrue (r.in_ranges e.0.key.port.0) = next_new own empty g.front e.0 e.1 all in
+        m g.loading is_new.2 (g.table e.0.key ∙ is_new.0) (λ q h. is_new.1 q (ap held (sym (g.table q)) ∙ h))
+  ]
+
+  -- nothing out of place comes
+  never_misplaced : (i : GatewayId) (s : Scene) (l : Letter) (n : ℕ) (q : MachineRecord) → Inv r i s → s.mine.synced ≡ false → In l s.their_mail → StandsNext s.mine l n q → IsMisplaced r s.mine q → ⊥
+  never_misplaced i s l n q v sa sent reads lost =
+      let x : Reading i s q = reading i s l n q v sa sent reads in
+      elim x.loads.progress [
+        | inl f ↦ let e : Some Begin ≡ Some q = ap (λ m. nth (batch x.loads.os x.loads.ps ++ x.view.out) m) (sym f.taken) ∙ x.stands in
+            subst (λ (y : MachineRecord). IsMisplaced r s.mine y) (sym (some_record Begin q e)) lost
+        | inr y ↦ elim y [
+          | inl g ↦ elim (some_run g.back (puts x.loads.ps ++ Done ∷ []) x.view.out q (comes_name i s q x g)) [
+            | inl e ↦ never_put i s q x (turns i s q x g e) lost
+            | inr e ↦
+                let m : IsMisplaced r s.mine (Owner e.0.first e.0.last) = subst (λ (y : MachineRecord). IsMisplaced r s.mine y) e.3 lost in
+                let all : AreRising r.in_ranges 0 (g.front ++ e.0 ∷ e.1) = subst (AreRising r.in_ranges 0) (g.whole ∙ ap (λ z. g.front ++ z) e.2) x.loads.rising in
+                m g.loading g.table (subst (λ (z : ℕ). IsRisingRun r.in_ranges z e.0.first e.0.last) (sym g.named) (rising-next r.in_ranges 0 g.front e.0 e.1 all))
+          ]
+          | inr g ↦ never_put i s q x g lost
+        ]
+      ]
+
+  pub inv_load_skip : (moment : ℕ) (i : GatewayId) (s : Scene) (l : Letter) (n : ℕ) (q : MachineRecord) → Inv r i s → Can r i s (LoadSkip l n q) → Inv r i (after_act r i moment s (LoadSkip l n q))
+  inv_load_skip moment i s l n q v can = absurd (never_misplaced i s l n q v can.0.0 (can.1 l (inl refl)) can.0.1 can.0.2)

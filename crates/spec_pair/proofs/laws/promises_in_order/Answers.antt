@@ -1,0 +1,17 @@
+use Rattle.spec_pair.proofs.Props as laws
+use Rattle.spec_pair.proofs.laws.promises_in_order.Goals as goal
+
+pub returns-clause-fits : goal.returns-clause-fits
+returns-clause-fits c = laws.fits_in_order
+
+pub returns-clause-kept : goal.returns-clause-kept
+returns-clause-kept c = laws.kept_in_order
+
+pub returns-clause-silent : goal.returns-clause-silent
+returns-clause-silent c = laws.silent_in_order
+
+pub returns-clause-goes_on : goal.returns-clause-goes_on
+returns-clause-goes_on c = laws.goes_on_in_order
+
+pub returns-clause-synced : goal.returns-clause-synced
+returns-clause-synced c = laws.synced_in_order

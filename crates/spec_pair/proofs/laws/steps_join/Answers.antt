@@ -1,0 +1,5 @@
+use Rattle.spec_pair.proofs.StepLaws as laws
+use Rattle.spec_pair.proofs.laws.steps_join.Goals as goal
+
+pub returns : goal.returns
+returns c = laws.steps_join

@@ -1,0 +1,184 @@
+-- What one gateway may do, by what it knows itself, and what that changes, notes and sends.
+use Rattle.std.specs.Prelude.{Bool, IsTrue, List, Some, [], false, true, ℕ, ◌+◌, ◌<◌, ◌∷◌, ◌≡◌, ◌≤◌}
+use Rattle.nat_types.specs.Same.{other}
+use Rattle.nat_types.specs.declared.gateways.GatewayId.{GatewayId}
+use Rattle.nat_types.specs.declared.notes.NoteKind.TheVariants.{Used, Released, Retaken, Synced, Crashed, Booted}
+use Rattle.nat_types.specs.declared.notes.Note.{Note}
+use Rattle.nat_types.specs.declared.pairs.Endpoint.{Endpoint}
+use Rattle.nat_types.specs.declared.pairs.Key.{Key}
+use Rattle.nat_types.specs.declared.pairs.Pair.{Pair}
+use Rattle.spec_pair.specs.Box.{AreLoadable, grants_ports, takes, booted, revived, hands_in, AreBack, put_off, does, Box, skips, retakes, with_table, AreMirrored, takes_begin, takes_done, takes_owner, StandsNext, empty, hears, wants_ports, takes_put, Letter, takes_ports, letter, hears_anew, crashed, IsVacant}
+use Rattle.spec_pair.specs.Ownership.{left_to, Ranges, keyed, Run, AreRising, IsRisingRun, has, AreDistinct, LeaveRest}
+use Rattle.spec_pair.specs.Talk.{pair_of, MachineRecord, Refuse, Owner, Grant, Yes, Install, MayDo, Want, Accept, No, set_at, Begin, Ask, Live, Deed, Done, Free, taken_by, note, IsUnbound, noted_by, Put, translated}
+
+-- what a gateway does, with its free choices
+pub data Act : Type 0 where
+  -- synced and not lone: a deed that takes no record, or one that takes the next record of a letter
+  Do : (d : Deed) → Act
+  Take : (l : Letter) (offset : ℕ) (r : MachineRecord) (d : Deed) → Act
+  -- Synced, it hears a letter of a greater boot: these pairs come back, these runs are named, and these pairs are put.
+  -- In parts: these records are promised, and Done may be sent once the rest is handed in.
+  Hear : (l : Letter) (back : List Pair) (os : List Run) (ps : List Pair) (part : Bool) → Act
+  HandIn : Act
+  -- a record that comes while records are promised: it is taken and changes nothing
+  Ignore : (l : Letter) (offset : ℕ) (r : MachineRecord) → Act
+  -- unsynced, it hears a letter of a greater boot
+  HearAnew : (l : Letter) → Act
+  -- synced, it gets the operator's word that the peer's boot of this number is off
+  PeerOff : (number : ℕ) (back : List Pair) → Act
+  -- unsynced, it takes the records of a batch, and passes over the others
+  LoadBegin : (l : Letter) (offset : ℕ) → Act
+  LoadOwner : (l : Letter) (offset : ℕ) (first last : ℕ) → Act
+  LoadPut : (l : Letter) (offset : ℕ) (p : Pair) → Act
+  LoadDone : (l : Letter) (offset : ℕ) → Act
+  LoadSkip : (l : Letter) (offset : ℕ) (r : MachineRecord) → Act
+  -- it asks for ports; takes a Want and grants some; takes a Grant, of which these become owned; takes one that it didn't ask for
+  WantPorts : Act
+  GrantPorts : (l : Letter) (offset : ℕ) (ports : List ℕ) → Act
+  TakePorts : (l : Letter) (offset : ℕ) (ports got : List ℕ) → Act
+  LosePorts : (l : Letter) (offset : ℕ) (ports : List ℕ) → Act
+  -- it sends any part of the session's records
+  Send : (first count : ℕ) → Act
+  -- lone, it makes a pair, translates with one, drops one
+  LoneNew : (k : Key) (e : Endpoint) → Act
+  LoneUse : (k : Key) (e : Endpoint) → Act
+  LoneDrop : (k : Key) (e : Endpoint) → Act
+  Crash : Act
+  Boot : (number : ℕ) → Act
+
+-- the letter that it reads
+abbrev pub read_by : Act → List Letter
+read_by (Take l n r d) = l ∷ []
+read_by (Hear l back os ps part) = l ∷ []
+read_by (HearAnew l) = l ∷ []
+read_by (LoadBegin l n) = l ∷ []
+read_by (LoadOwner l n first last) = l ∷ []
+read_by (LoadPut l n p) = l ∷ []
+read_by (LoadDone l n) = l ∷ []
+read_by (LoadSkip l n r) = l ∷ []
+read_by (GrantPorts l n ports) = l ∷ []
+read_by (TakePorts l n ports got) = l ∷ []
+read_by (LosePorts l n ports) = l ∷ []
+read_by (Ignore l n r) = l ∷ []
+read_by x = []
+
+-- the letter that it sends
+abbrev pub letters_by : Box → Act → List Letter
+letters_by a (Send first count) = letter a first count ∷ []
+letters_by a x = []
+
+-- the notes, the newest first
+abbrev pub act_notes : GatewayId → ℕ → Act → List Note
+act_notes i moment (Do d) = noted_by i moment d
+act_notes i moment (Take l n r d) = noted_by i moment d
+act_notes i moment (Hear l back os ps part) = retakes i moment back
+act_notes i moment (PeerOff number back) = retakes i moment back
+act_notes i moment (LoadPut l n p) = note i moment (Retaken p) ∷ []
+act_notes i moment (LoadDone l n) = note i moment Synced ∷ []
+act_notes i moment (LoneNew k e) = note i moment (Retaken (pair_of k e)) ∷ []
+act_notes i moment (LoneUse k e) = note i moment (Used (pair_of k e)) ∷ []
+act_notes i moment (LoneDrop k e) = note i moment (Released (pair_of k e)) ∷ []
+act_notes i moment Crash = note i moment Crashed ∷ []
+act_notes i moment (Boot n) = note i moment (Booted n) ∷ []
+act_notes i moment x = []
+
+-- each of these ports is owned, and nothing stands at it
+abbrev pub AreSpare : Box → List ℕ → Type 0
+AreSpare a ports = (p : ℕ) → IsTrue (has p ports) → IsTrue (a.owned p) × IsVacant a.table p
+
+module _ (r : Ranges) where
+  -- of the granted ports these become owned, and no port is left out that lies in the ranges, isn't owned and has nothing at it
+  abbrev pub AreGot : Box → List ℕ → List ℕ → Type 0
+  AreGot a ports got =
+      (p : ℕ) → (IsTrue (has p got) → IsTrue (has p ports))
+      × (IsTrue (has p ports) → IsTrue (r.in_ranges p) → a.owned p ≡ false
+      → IsVacant a.table p → IsTrue (has p got))
+
+  -- a record out of place for an unsynced gateway: not of a batch, or not new
+  abbrev pub IsMisplaced : Box → MachineRecord → Type 0
+  IsMisplaced a (Install k e) = Unit {0}
+  IsMisplaced a (Accept k) = Unit {0}
+  IsMisplaced a (Refuse k) = Unit {0}
+  IsMisplaced a (Ask k) = Unit {0}
+  IsMisplaced a (Yes k) = Unit {0}
+  IsMisplaced a (No k) = Unit {0}
+  IsMisplaced a Begin = ⊥
+  IsMisplaced a (Put k e) =
+      a.loading ≡ true → IsTrue (keyed r.in_ranges k) → a.table k ≡ Free → IsUnbound a.table e → ⊥
+  IsMisplaced a Done = a.loading ≡ true → ⊥
+  IsMisplaced a Want = Unit {0}
+  IsMisplaced a (Grant ports) = Unit {0}
+  IsMisplaced a (Owner first last) =
+      a.loading ≡ true → ((k : Key) → a.table k ≡ Free) →
+      IsRisingRun r.in_ranges a.named first last → ⊥
+
+  -- when gateway i, at a, may do it, by what it knows itself
+  abbrev pub MayAct : GatewayId → Box → Act → Type 0
+  MayAct i a (Do d) =
+      (a.synced ≡ true) × (a.lone ≡ false) × MayDo (keyed a.owned) i a.table d × (taken_by d ≡ [])
+  MayAct i a (Take l n q d) =
+      (a.synced ≡ true) × (a.lone ≡ false) × MayDo (keyed a.owned) i a.table d
+      × (taken_by d ≡ q ∷ []) × StandsNext a l n q
+  MayAct i a (Hear l back os ps part) = (a.synced ≡ true) × (a.peer < l.boot) × AreBack a.table back
+      × AreRising r.in_ranges 0 os × LeaveRest r i a.owned os
+      × AreLoadable r (keyed (left_to r (other i) os)) empty ps
+      × AreMirrored (keyed (left_to r (other i) os)) (λ k. revived (a.table k)) ps
+  MayAct i a (HearAnew l) = (a.up ≡ true) × (a.synced ≡ false) × (a.peer < l.boot)
+  MayAct i a (PeerOff number back) = (a.synced ≡ true) × AreBack a.table back
+  MayAct i a (LoadBegin l n) = (a.synced ≡ false) × StandsNext a l n Begin
+  MayAct i a (LoadOwner l n first last) =
+      (a.synced ≡ false) × (a.loading ≡ true) × ((k : Key) → a.table k ≡ Free)
+      × IsRisingRun r.in_ranges a.named first last × StandsNext a l n (Owner first last)
+  MayAct i a (LoadPut l n p) =
+      (a.synced ≡ false) × (a.loading ≡ true) × (a.table p.key ≡ Free)
+      × IsUnbound a.table p.endpoint × StandsNext a l n (Put p.key p.endpoint)
+      × IsTrue (keyed r.in_ranges p.key)
+  MayAct i a (LoadDone l n) = (a.synced ≡ false) × (a.loading ≡ true) × StandsNext a l n Done
+  MayAct i a (LoadSkip l n q) = (a.synced ≡ false) × StandsNext a l n q × IsMisplaced a q
+  MayAct i a WantPorts = (a.synced ≡ true) × (a.lone ≡ false) × (a.wants ≡ false)
+  MayAct i a (GrantPorts l n ports) =
+      (a.synced ≡ true) × (a.lone ≡ false) × AreDistinct ports × AreSpare a ports
+      × StandsNext a l n Want
+  MayAct i a (TakePorts l n ports got) =
+      (a.synced ≡ true) × (a.lone ≡ false) × (a.wants ≡ true) × AreGot a ports got
+      × StandsNext a l n (Grant ports)
+  MayAct i a (LosePorts l n ports) =
+      (a.synced ≡ true) × (a.lone ≡ false) × (a.wants ≡ false) × StandsNext a l n (Grant ports)
+  MayAct i a HandIn = a.synced ≡ true
+  MayAct i a (Ignore l n q) =
+      (a.synced ≡ true) × (a.lone ≡ false) × ((m : ℕ) × (a.promised ≡ Some m)) × StandsNext a l n q
+  MayAct i a (Send first count) =
+      (a.up ≡ true) × ((m : ℕ) → a.promised ≡ Some m → first + count ≤ m)
+  MayAct i a (LoneNew k e) =
+      (a.synced ≡ true) × (a.lone ≡ true) × IsTrue (keyed a.owned k) × (a.table k ≡ Free)
+      × IsUnbound a.table e
+  MayAct i a (LoneUse k e) = (a.synced ≡ true) × (a.lone ≡ true) × (translated (a.table k) ≡ Some e)
+  MayAct i a (LoneDrop k e) =
+      (a.synced ≡ true) × (a.lone ≡ true) × (translated (a.table k) ≡ Some e)
+  MayAct i a Crash = a.up ≡ true
+  MayAct i a (Boot n) = (a.up ≡ false) × (a.boot < n)
+
+  -- the box afterwards
+  abbrev pub box_after : GatewayId → Box → Act → Box
+  box_after i a (Do d) = does a d
+  box_after i a (Take l n q d) = takes a d
+  box_after i a (Hear l back os ps part) = hears a l.boot os ps part
+  box_after i a (HearAnew l) = hears_anew a l.boot
+  box_after i a (PeerOff number back) = put_off a number
+  box_after i a (LoadBegin l n) = takes_begin (r.at_begin i) a
+  box_after i a (LoadOwner l n first last) = takes_owner a first last
+  box_after i a (LoadPut l n p) = takes_put a p
+  box_after i a (LoadDone l n) = takes_done a
+  box_after i a (LoadSkip l n q) = skips a
+  box_after i a WantPorts = wants_ports a
+  box_after i a (GrantPorts l n ports) = grants_ports a ports
+  box_after i a (TakePorts l n ports got) = takes_ports a got
+  box_after i a (LosePorts l n ports) = skips a
+  box_after i a HandIn = hands_in a
+  box_after i a (Ignore l n q) = skips a
+  box_after i a (Send first count) = a
+  box_after i a (LoneNew k e) = with_table a (set_at a.table k (Live e))
+  box_after i a (LoneUse k e) = a
+  box_after i a (LoneDrop k e) = with_table a (set_at a.table k Free)
+  box_after i a Crash = crashed a
+  box_after i a (Boot n) = booted n

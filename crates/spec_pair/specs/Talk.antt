@@ -1,0 +1,216 @@
+-- What two gateways hold and have under way between them, and what one of them may do.
+use Rattle.std.specs.Prelude.{◌≡◌, ℕ, Bool, false, cond, List, [], ◌∷◌, IsTrue, Option, Some, None, ◌⊎◌}
+use Rattle.nat_types.specs.Same.{same_key}
+use Rattle.nat_types.specs.declared.gateways.GatewayId.{GatewayId}
+use Rattle.nat_types.specs.declared.gateways.GatewayId.TheVariants.{One}
+use Rattle.nat_types.specs.declared.notes.NoteKind.{NoteKind}
+use Rattle.nat_types.specs.declared.notes.NoteKind.TheVariants.{Used, Released, Retaken}
+use Rattle.nat_types.specs.declared.notes.Note.{Note}
+use Rattle.nat_types.specs.declared.pairs.Endpoint.{Endpoint}
+use Rattle.nat_types.specs.declared.pairs.Key.{Key}
+use Rattle.nat_types.specs.declared.pairs.Pair.{Pair}
+
+-- what a gateway's table has at an outside port
+pub data Slot : Type 0 where
+  Free : Slot
+  Pending : (endpoint : Endpoint) → Slot
+  Doomed : (endpoint : Endpoint) → Slot
+  Live : (endpoint : Endpoint) → Slot
+  Closing : (endpoint : Endpoint) → Slot
+  Held : (endpoint : Endpoint) → Slot
+
+-- the endpoint of a pair of the table: a doomed entry is none
+abbrev pub held : Slot → Option Endpoint
+held Free = None
+held (Pending e) = Some e
+held (Doomed e) = None
+held (Live e) = Some e
+held (Closing e) = Some e
+held (Held e) = Some e
+
+-- the endpoint of a pair that translates
+abbrev pub translated : Slot → Option Endpoint
+translated Free = None
+translated (Pending e) = None
+translated (Doomed e) = None
+translated (Live e) = Some e
+translated (Closing e) = None
+translated (Held e) = Some e
+
+-- a record of the link, with those of ports that move
+pub data MachineRecord : Type 0 where
+  Install : (key : Key) (endpoint : Endpoint) → MachineRecord
+  Accept : (key : Key) → MachineRecord
+  Refuse : (key : Key) → MachineRecord
+  Ask : (key : Key) → MachineRecord
+  Yes : (key : Key) → MachineRecord
+  No : (key : Key) → MachineRecord
+  Begin : MachineRecord
+  Put : (key : Key) (endpoint : Endpoint) → MachineRecord
+  Done : MachineRecord
+  -- ports are asked for and granted; Owner names a run of ports that the sender of a batch owns
+  Want : MachineRecord
+  Grant : (ports : List ℕ) → MachineRecord
+  Owner : (first last : ℕ) → MachineRecord
+
+-- whether a record of the running protocol is on this port
+abbrev pub is_on : Key → MachineRecord → Bool
+is_on k (Install q e) = same_key k q
+is_on k (Accept q) = same_key k q
+is_on k (Refuse q) = same_key k q
+is_on k (Ask q) = same_key k q
+is_on k (Yes q) = same_key k q
+is_on k (No q) = same_key k q
+is_on k Begin = false
+is_on k (Put q e) = false
+is_on k Done = false
+is_on k Want = false
+is_on k (Grant ports) = false
+is_on k (Owner first last) = false
+
+-- those of the records that are on this port
+abbrev pub on : Key → List MachineRecord → List MachineRecord
+on k [] = []
+on k (r ∷ rs) = cond (is_on k r) (r ∷ on k rs) (on k rs)
+
+-- a function with another value at one place
+abbrev pub set_at : {A : Type 0} → (Key → A) → Key → A → Key → A
+set_at f k v q = cond (same_key k q) v (f q)
+
+-- What a synced gateway that isn't lone does with a pair, with its free choices: it needs no reason.
+pub data Deed : Type 0 where
+  -- it proposes a pair, asks to close one, translates with one
+  Propose : (key : Key) (endpoint : Endpoint) → Deed
+  Close : (key : Key) (endpoint : Endpoint) → Deed
+  Use : (key : Key) (endpoint : Endpoint) → Deed
+  -- an Install is accepted; accepted, and the own proposal for the endpoint given up; refused
+  Agree : (key : Key) (endpoint : Endpoint) → Deed
+  Yield : (key : Key) (endpoint : Endpoint) (mine : Key) → Deed
+  Reject : (key : Key) (endpoint : Endpoint) → Deed
+  -- an Accept, or a Refuse, of the own proposal comes
+  Agreed : (key : Key) (endpoint : Endpoint) → Deed
+  Rejected : (key : Key) → Deed
+  -- an Ask is answered by Yes, and the pair dropped; or by No
+  Leave : (key : Key) (endpoint : Endpoint) → Deed
+  Stay : (key : Key) (endpoint : Endpoint) → Deed
+  -- a Yes comes, or a No
+  Left : (key : Key) (endpoint : Endpoint) → Deed
+  Stayed : (key : Key) (endpoint : Endpoint) → Deed
+  -- an Ask for what isn't held is answered by Yes; a record to which nothing here belongs is passed over
+  Pass : (key : Key) → Deed
+  Skip : (r : MachineRecord) → Deed
+
+-- the record that is taken
+abbrev pub taken_by : Deed → List MachineRecord
+taken_by (Propose k e) = []
+taken_by (Close k e) = []
+taken_by (Use k e) = []
+taken_by (Agree k e) = Install k e ∷ []
+taken_by (Yield k e q) = Install k e ∷ []
+taken_by (Reject k e) = Install k e ∷ []
+taken_by (Agreed k e) = Accept k ∷ []
+taken_by (Rejected k) = Refuse k ∷ []
+taken_by (Leave k e) = Ask k ∷ []
+taken_by (Stay k e) = Ask k ∷ []
+taken_by (Left k e) = Yes k ∷ []
+taken_by (Stayed k e) = No k ∷ []
+taken_by (Pass k) = Ask k ∷ []
+taken_by (Skip r) = r ∷ []
+
+-- the record that is pushed
+abbrev pub pushed_by : Deed → List MachineRecord
+pushed_by (Propose k e) = Install k e ∷ []
+pushed_by (Close k e) = Ask k ∷ []
+pushed_by (Use k e) = []
+pushed_by (Agree k e) = Accept k ∷ []
+pushed_by (Yield k e q) = Accept k ∷ []
+pushed_by (Reject k e) = Refuse k ∷ []
+pushed_by (Agreed k e) = []
+pushed_by (Rejected k) = []
+pushed_by (Leave k e) = Yes k ∷ []
+pushed_by (Stay k e) = No k ∷ []
+pushed_by (Left k e) = []
+pushed_by (Stayed k e) = []
+pushed_by (Pass k) = Yes k ∷ []
+pushed_by (Skip r) = []
+
+-- the table afterwards
+abbrev pub table_after : (Key → Slot) → Deed → Key → Slot
+table_after table (Propose k e) = set_at table k (Pending e)
+table_after table (Close k e) = set_at table k (Closing e)
+table_after table (Use k e) = table
+table_after table (Agree k e) = set_at table k (Held e)
+table_after table (Yield k e q) = set_at (set_at table q (Doomed e)) k (Held e)
+table_after table (Reject k e) = table
+table_after table (Agreed k e) = set_at table k (Live e)
+table_after table (Rejected k) = set_at table k Free
+table_after table (Leave k e) = set_at table k Free
+table_after table (Stay k e) = table
+table_after table (Left k e) = set_at table k Free
+table_after table (Stayed k e) = set_at table k (Live e)
+table_after table (Pass k) = table
+table_after table (Skip r) = table
+
+-- the pair of a key and an endpoint
+abbrev pub pair_of : Key → Endpoint → Pair
+pair_of k e = record { key = k; endpoint = e }
+
+-- gateway i notes this at its moment
+abbrev pub note : GatewayId → ℕ → NoteKind → Note
+note i moment what = record { by = i; at = moment; what = what }
+
+-- the notes
+abbrev pub noted_by : GatewayId → ℕ → Deed → List Note
+noted_by i moment (Propose k e) = []
+noted_by i moment (Close k e) = note i moment (Released (pair_of k e)) ∷ []
+noted_by i moment (Use k e) = note i moment (Used (pair_of k e)) ∷ []
+noted_by i moment (Agree k e) = note i moment (Retaken (pair_of k e)) ∷ []
+noted_by i moment (Yield k e q) = note i moment (Retaken (pair_of k e)) ∷ []
+noted_by i moment (Reject k e) = []
+noted_by i moment (Agreed k e) = note i moment (Retaken (pair_of k e)) ∷ []
+noted_by i moment (Rejected k) = []
+noted_by i moment (Leave k e) = note i moment (Released (pair_of k e)) ∷ []
+noted_by i moment (Stay k e) = []
+noted_by i moment (Left k e) = []
+noted_by i moment (Stayed k e) = note i moment (Retaken (pair_of k e)) ∷ []
+noted_by i moment (Pass k) = []
+noted_by i moment (Skip r) = []
+
+-- no pair of the table has the endpoint
+abbrev pub IsUnbound : (Key → Slot) → Endpoint → Type 0
+IsUnbound table e = (q : Key) → held (table q) ≡ Some e → ⊥
+
+-- owned says whether the gateway owns the port of a key
+module _ (owned : Key → Bool) where
+  -- nothing in the table belongs to the record
+  abbrev pub IsLost : (Key → Slot) → MachineRecord → Type 0
+  IsLost table (Install k e) = ⊥
+  IsLost table (Accept k) = (e : Endpoint) → IsTrue (owned k) → table k ≡ Pending e → ⊥
+  IsLost table (Refuse k) =
+      (e : Endpoint) → IsTrue (owned k) → ((table k ≡ Pending e) ⊎ (table k ≡ Doomed e)) → ⊥
+  IsLost table (Ask k) = ⊥
+  IsLost table (Yes k) = (e : Endpoint) → IsTrue (owned k) → table k ≡ Closing e → ⊥
+  IsLost table (No k) = (e : Endpoint) → IsTrue (owned k) → table k ≡ Closing e → ⊥
+  IsLost table Begin = Unit {0}
+  IsLost table (Put k e) = Unit {0}
+  IsLost table Done = Unit {0}
+  IsLost table Want = ⊥
+  IsLost table (Grant ports) = ⊥
+  IsLost table (Owner first last) = Unit {0}
+
+  -- when gateway i may do it: only an owner's slot is Pending, Doomed, Live or Closing
+  abbrev pub MayDo : GatewayId → (Key → Slot) → Deed → Type 0
+  MayDo i table (Propose k e) = IsTrue (owned k) × (table k ≡ Free) × IsUnbound table e
+  MayDo i table (Close k e) = table k ≡ Live e
+  MayDo i table (Use k e) = translated (table k) ≡ Some e
+  MayDo i table (Agree k e) = (table k ≡ Free) × IsUnbound table e
+  MayDo i table (Yield k e q) = (i ≡ One) × (table k ≡ Free) × (table q ≡ Pending e)
+  MayDo i table (Reject k e) = Unit {0}
+  MayDo i table (Agreed k e) = table k ≡ Pending e
+  MayDo i table (Rejected k) = (e : Endpoint) × ((table k ≡ Pending e) ⊎ (table k ≡ Doomed e))
+  MayDo i table (Leave k e) = table k ≡ Held e
+  MayDo i table (Stay k e) = table k ≡ Held e
+  MayDo i table (Left k e) = table k ≡ Closing e
+  MayDo i table (Stayed k e) = table k ≡ Closing e
+  MayDo i table (Pass k) = (e : Endpoint) → table k ≡ Held e → ⊥
+  MayDo i table (Skip r) = IsLost table r

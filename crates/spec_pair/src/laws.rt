@@ -1,0 +1,220 @@
+//! What holds of every pair. Each law is the contract of a function that does nothing.
+
+ghost use Rattle.std.specs.Prelude.{◌≡◌, ◌≤◌, ℕ, Bool, false, ◌&&◌, ◌++◌, List, [], ◌∷◌, Some, IsTrue, filter, true, reverse};
+ghost use Rattle.nat_types.specs.Same.{other, same};
+ghost use Rattle.nat_types.specs.declared.gateways.GatewayId.{GatewayId};
+ghost use Rattle.nat_types.specs.declared.notes.Note.{Note};
+ghost use Rattle.nat_types.specs.declared.pairs.Key.{Key};
+ghost use Rattle.nat_types.specs.declared.pairs.Pair.{Pair};
+ghost use Rattle.spec_trace.specs.Past.{is_synced};
+ghost use Rattle.spec_trace.specs.Trace.{Fits, GoesOn, Kept, Silent};
+ghost use Rattle.spec_pair.specs.Acts.{Act, AreGot, MayAct, box_after, letters_by, act_notes};
+ghost use Rattle.spec_pair.specs.Batch.{AreApart, AreThose, LieWithin};
+ghost use Rattle.spec_pair.specs.Box.{AreMirrored, AreLoadable, AreSame, Box, In, StandsNext, Letter, empty, nth};
+ghost use Rattle.spec_pair.specs.Ownership.{LeaveRest, Ranges, Run, fixed, in_runs, moving};
+ghost use Rattle.spec_pair.specs.Rows.{live_first, held_first, LeadsTo, LeavesPorts, alone, alone_notes, promising, promising_notes, naming, naming_notes, returning, returning_notes, six_ports, asked_no, asked_no_notes, asked_yes, asked_yes_notes, crossing, crossing_notes, doomed, doomed_notes, granting, host, loading, loading_notes, losing, losing_notes, peer_off, peer_off_notes, slot_on, revival, revival_notes, sharing, two_ranges, using, using_notes, wanting};
+ghost use Rattle.spec_pair.specs.RecordTable.{AreFacts, DoesTake, Facts, act_by_table, becomes_owned};
+ghost use Rattle.spec_pair.specs.Step.{IsOff, IsStep, ReadsOnly, WasSent};
+ghost use Rattle.spec_pair.specs.Talk.{Free, Held, Live, MachineRecord, Slot};
+ghost use Rattle.spec_pair.specs.World.{AreAllowed, Can, EndsBy, MachineEvent, HasOwners, TableHolds, IsKept, IsWorld, Scene, TableTranslates, box_in, after_event, mail_in, after_events, seen_by, founding, tables_of, with_step};
+
+/// The headline. Whatever is lost, repeated or reordered, and whenever a gateway crashes and boots: no outside port of
+/// an open pair serves another endpoint, no endpoint gets another port, every open pair is held by each synced gateway,
+/// no unsynced gateway uses a pair, and each synced gateway translates with what it used or took over. No port is owned
+/// by two synced gateways, and once both have taken all that was pushed each port of the ranges has an owner.
+pub fn the_pair_keeps()
+    ensures kept { (r : Ranges) (events : List MachineEvent)
+        → AreAllowed r events (founding r) →
+        let s = after_events r events (founding r) in IsKept s.trace (tables_of s) }
+    ensures owners { (r : Ranges) (events : List MachineEvent)
+        → AreAllowed r events (founding r) →
+        HasOwners r (after_events r events (founding r)) }
+{}
+
+/// The founding can come about.
+pub fn begins()
+    ensures { (r : Ranges) → IsWorld r (founding r) }
+{}
+
+/// An execution with one more allowed event is one: what the event leads to can come about.
+pub fn goes_to()
+    ensures { (r : Ranges) (s : Scene) (e : MachineEvent) → IsWorld r s →
+        Can r e.by (seen_by e.by s) e.act → IsWorld r (after_event r s e) }
+{}
+
+/// A scene that can come about keeps what is promised; its trace has the newest note first.
+pub fn promises()
+    ensures kept { (r : Ranges) (s : Scene) → IsWorld r s → IsKept s.trace (tables_of s) }
+    ensures owners { (r : Ranges) (s : Scene) → IsWorld r s → HasOwners r s }
+{}
+
+/// The same of a trace in the order in which its notes were made, and that a gateway's box is synced exactly where
+/// the trace says so.
+pub fn promises_in_order()
+    ensures fits { (r : Ranges) (s : Scene) (trace : List Note) → IsWorld r s →
+        s.trace ≡ reverse trace → Fits trace }
+    ensures kept { (r : Ranges) (s : Scene) (trace : List Note) → IsWorld r s →
+        s.trace ≡ reverse trace → Kept (TableHolds (tables_of s)) trace }
+    ensures silent { (r : Ranges) (s : Scene) (trace : List Note) → IsWorld r s →
+        s.trace ≡ reverse trace → Silent trace }
+    ensures goes_on { (r : Ranges) (s : Scene) (trace : List Note) → IsWorld r s →
+        s.trace ≡ reverse trace → GoesOn (TableTranslates (tables_of s)) trace }
+    ensures synced { (r : Ranges) (s : Scene) (trace : List Note) (i : GatewayId)
+        → IsWorld r s →
+        s.trace ≡ reverse trace → (box_in s i).synced ≡ is_synced i (reverse trace) }
+{}
+
+/// Where the other gateway is synced, the record that gateway i may take next is the one that the other pushed at that
+/// place of the session: what is taken is a beginning of what was pushed.
+pub fn takes_in_order()
+    ensures { (r : Ranges) (s : Scene) (i : GatewayId) (l : Letter) (offset : ℕ)
+        (q : MachineRecord)
+        → IsWorld r s → let v = seen_by i s in IsTrue v.theirs.synced → In l v.their_mail →
+        StandsNext v.mine l offset q → nth v.theirs.sent v.mine.taken ≡ Some q }
+{}
+
+/// What only a forger can do: while its batch is promised, a synced gateway that isn't lone never meets a letter of the
+/// other's with a record that stands next, and in the session with it the other took no more than may be sent;
+/// and ever it took no more than letters of its session have.
+pub fn nothing_forged()
+    ensures waits { (r : Ranges) (s : Scene) (i : GatewayId) (m : ℕ) (l : Letter) (offset : ℕ)
+        (q : MachineRecord) → IsWorld r s → let v = seen_by i s in v.mine.synced ≡ true →
+        v.mine.lone ≡ false → v.mine.promised ≡ Some m → In l v.their_mail →
+        StandsNext v.mine l offset q → ⊥ }
+    ensures taken { (r : Ranges) (s : Scene) (i : GatewayId) (m : ℕ) → IsWorld r s →
+        let v = seen_by i s in v.mine.synced ≡ true → v.mine.lone ≡ false →
+        v.mine.promised ≡ Some m → v.theirs.up ≡ true → v.mine.peer ≡ v.theirs.boot →
+        v.theirs.taken ≤ m }
+    ensures sent { (r : Ranges) (s : Scene) (i : GatewayId) (n : ℕ) → IsWorld r s →
+        let v = seen_by i s in EndsBy v.theirs v.my_mail n → v.theirs.taken ≤ n }
+{}
+
+/// A step of gateway i, as its own contract tells of it, leads from a scene that can come about to one that can, where
+/// the letters that it was handed were sent by the other and the operator's words of the other are true.
+pub fn a_step_keeps()
+    ensures { (r : Ranges) (i : GatewayId) (moment : ℕ) (s : Scene) (ls : List Letter)
+        (ws : List ℕ)
+        (new : Box) (t : List Note) (mail : List Letter) → IsWorld r s →
+        WasSent ls (mail_in s (other i)) → IsOff ws (box_in s (other i)) →
+        IsStep r i moment (box_in s i) new ls ws s.trace t (mail_in s i) mail →
+        IsWorld r (with_step s i new t mail) }
+{}
+
+/// A step that changes nothing that the machine knows.
+pub fn rests()
+    ensures { (r : Ranges) (i : GatewayId) (moment : ℕ) (a b : Box) (ls : List Letter)
+        (ws : List ℕ)
+        (t : List Note) (mail : List Letter) → AreSame b a →
+        IsStep r i moment a b ls ws t t mail mail }
+{}
+
+/// A step of one act.
+pub fn one_act()
+    ensures { (r : Ranges) (i : GatewayId) (moment : ℕ) (a b : Box) (x : Act) (ls : List Letter)
+        (ws : List ℕ) (t : List Note) (mail : List Letter) → MayAct r i a x → ReadsOnly ls ws x →
+        AreSame b (box_after r i a x) →
+        IsStep r i moment a b ls ws t (act_notes i moment x ++ t) mail (letters_by a x ++ mail) }
+{}
+
+/// Boxes that tell the same, table and ports included, are one box.
+pub fn same_boxes()
+    ensures { (a b : Box) → AreSame a b → a ≡ b }
+{}
+
+/// Two parts of a step make one.
+pub fn steps_join()
+    ensures { (r : Ranges) (i : GatewayId) (moment : ℕ) (a b c : Box) (ls : List Letter)
+        (ws : List ℕ) (t t2 t3 : List Note) (m m2 m3 : List Letter) →
+        IsStep r i moment a b ls ws t t2 m m2 → IsStep r i moment b c ls ws t2 t3 m2 m3 →
+        IsStep r i moment a c ls ws t t3 m m3 }
+{}
+
+/// A step that was handed these letters and words is one that was handed more.
+pub fn more_is_handed()
+    ensures { (r : Ranges) (i : GatewayId) (moment : ℕ) (a b : Box) (ls ls2 : List Letter)
+        (ws ws2 : List ℕ) (t t2 : List Note) (m m2 : List Letter) → WasSent ls ls2 →
+        ((n : ℕ) → In n ws → In n ws2) → IsStep r i moment a b ls ws t t2 m m2 →
+        IsStep r i moment a b ls2 ws2 t t2 m m2 }
+{}
+
+/// What a step notes and sends doesn't hang on what was noted and sent before.
+pub fn steps_anywhere()
+    ensures { (r : Ranges) (i : GatewayId) (moment : ℕ) (a b : Box) (ls : List Letter)
+        (ws : List ℕ)
+        (ns : List Note) (ms : List Letter) → IsStep r i moment a b ls ws [] ns [] ms →
+        (t : List Note) (mail : List Letter) →
+        IsStep r i moment a b ls ws t (ns ++ t) mail (ms ++ mail) }
+{}
+
+/// Any bytes: whatever record stands at the next number of a letter, the record table names the act that takes it, at a
+/// gateway that isn't lone; of granted ports those become owned that lie in the ranges, aren't owned and have no entry.
+pub fn any_record_is_taken()
+    ensures taken { (r : Ranges) (i : GatewayId) (a : Box) (l : Letter) (offset : ℕ) (f : Facts)
+        (q : MachineRecord) → (a.synced ≡ true → a.lone ≡ false) → StandsNext a l offset q →
+        AreFacts r a q f → DoesTake r i a l (act_by_table r i a l offset f q) }
+    ensures granted { (r : Ranges) (a : Box) (ports : List ℕ) →
+        AreGot r a ports (filter (becomes_owned r a) ports) }
+{}
+
+/// A list of the pairs of a table, each once and on ports of the ranges, may be put into a batch: each pair is new
+/// where it is loaded, and a gateway that owns the ports `own` has the mirrored table in the end.
+pub fn batch_loads()
+    ensures loads { (r : Ranges) (own : Key → Bool) (table : Key → Slot) (ps : List Pair) →
+        LieWithin r table → AreThose table ps → AreApart ps → AreLoadable r own empty ps }
+    ensures mirrors { (r : Ranges) (own : Key → Bool) (table : Key → Slot) (ps : List Pair) →
+        LieWithin r table → AreThose table ps → AreApart ps → AreMirrored own table ps }
+{}
+
+/// Where ports move and the runs are the owned ports, they leave the rest of the ranges.
+pub fn runs_leave()
+    ensures { (in_ranges at_start owned : ℕ → Bool) (i : GatewayId) (os : List Run) →
+        ((p : ℕ) → in_runs p os ≡ owned p) → LeaveRest (moving in_ranges at_start) i owned os }
+{}
+
+/// With fixed ranges no run is named: what is left is the other's range.
+pub fn fixed_leaves()
+    ensures { (in_ranges : ℕ → Bool) (owner : ℕ → GatewayId) (i : GatewayId) →
+        LeaveRest (fixed in_ranges owner) i (λ p. in_ranges p && same i (owner p)) [] }
+{}
+
+/// Whole runs from the founding: the guards of the acts can be met, and the notes and the tables of gateway 0 and of
+/// gateway 1 come out as the protocol says. All but `named` have fixed ranges.
+pub fn rows_lead()
+    ensures loaded { LeadsTo two_ranges loading loading_notes [] [] }
+    ensures used { LeadsTo two_ranges (loading ++ using) (loading_notes ++ using_notes) live_first
+        held_first }
+    ensures crossed { LeadsTo two_ranges (loading ++ crossing) (loading_notes ++ crossing_notes)
+        live_first (slot_on 40000 Free ∷ held_first) }
+    ensures asked_yes { LeadsTo two_ranges (loading ++ using ++ asked_yes)
+        (loading_notes ++ using_notes ++ asked_yes_notes) [] [] }
+    ensures asked_no { LeadsTo two_ranges (loading ++ using ++ asked_no)
+        (loading_notes ++ using_notes ++ asked_no_notes) live_first held_first }
+    ensures revived { LeadsTo two_ranges (loading ++ using ++ revival)
+        (loading_notes ++ using_notes ++ revival_notes) live_first held_first }
+    ensures doomed { LeadsTo two_ranges (loading ++ doomed) (loading_notes ++ doomed_notes)
+        live_first held_first }
+    ensures alone { LeadsTo two_ranges alone alone_notes (slot_on 20001 Free ∷ live_first) [] }
+    ensures promised { LeadsTo two_ranges (alone ++ promising) (alone_notes ++ promising_notes)
+        (slot_on 20001 Free ∷ live_first) held_first }
+    ensures named { LeadsTo six_ports naming naming_notes live_first held_first }
+    ensures returned { LeadsTo two_ranges (loading ++ using ++ peer_off ++ returning)
+        (loading_notes ++ using_notes ++ peer_off_notes ++ returning_notes)
+        (slot_on 20001 (Live (host 5001)) ∷ live_first)
+        (slot_on 20001 (Held (host 5001)) ∷ held_first) }
+    ensures peer_off { LeadsTo two_ranges (loading ++ using ++ peer_off)
+        (loading_notes ++ using_notes ++ peer_off_notes)
+        (slot_on 20001 (Live (host 5001)) ∷ live_first) [] }
+{}
+
+/// Whole runs with six ports that move: while a Grant is on its way its ports are nobody's; then they are the asker's;
+/// if it is lost in a crash, the asker has them once it is loaded again. Owners stand beside Puts in one batch too.
+pub fn ports_move()
+    ensures granted { LeavesPorts (sharing ++ wanting) loading_notes (20000 ∷ 20001 ∷ [])
+        (40000 ∷ 40001 ∷ []) }
+    ensures taken { LeavesPorts (sharing ++ wanting ++ granting) loading_notes
+        (20000 ∷ 20001 ∷ 40002 ∷ 40003 ∷ []) (40000 ∷ 40001 ∷ []) }
+    ensures named { LeavesPorts naming naming_notes (20000 ∷ 20001 ∷ [])
+        (40000 ∷ 40001 ∷ 40002 ∷ 40003 ∷ []) }
+    ensures lost { LeavesPorts (sharing ++ wanting ++ losing) (loading_notes ++ losing_notes)
+        (20000 ∷ 20001 ∷ 40002 ∷ 40003 ∷ []) (40000 ∷ 40001 ∷ []) }
+{}

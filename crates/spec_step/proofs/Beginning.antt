@@ -1,0 +1,33 @@
+-- What holds of a gateway as it begins.
+use Rattle.std.proofs.Common.{◌≡◌, ℕ, [], inl, refl, arith}
+use Rattle.nat_types.specs.declared.gateways.GatewayId.{GatewayId}
+use Rattle.settings.specs.declared.whole.Settings.{Settings}
+use Rattle.spec_binding.proofs.Offered.{empty-keeps, founded-keeps}
+use Rattle.spec_step.specs.Founding.{HasRanges, begun, bounds_of, founded, link_places}
+use Rattle.spec_step.specs.Machine.{IsStanding}
+
+pub begun-stands : (settings : Settings) (id : GatewayId) (boot : ℕ) → HasRanges settings → IsStanding (begun settings id boot) []
+unfolding begun
+begun-stands settings id boot has = record {
+  book = empty-keeps id (bounds_of settings.ports.zero) (bounds_of settings.ports.one) has.zero has.one has.highest_zero has.highest_one;
+  alone = λ t. absurd (cc);
+  kept = tt;
+  pushed = record { counted = omega arith; coming = refl; behind = refl };
+}
+
+pub begun-room : (settings : Settings) (id : GatewayId) (boot : ℕ) → (begun settings id boot).link.capacity ≡ link_places (bounds_of settings.ports.zero) (bounds_of settings.ports.one)
+unfolding begun
+begun-room settings id boot = refl
+
+pub founded-stands : (settings : Settings) (boot : ℕ) → HasRanges settings → IsStanding (founded settings boot) []
+unfolding founded begun
+founded-stands settings boot has = record {
+  book = founded-keeps (bounds_of settings.ports.zero) (bounds_of settings.ports.one) has.zero has.one has.highest_zero has.highest_one;
+  alone = λ t. inl refl;
+  kept = tt;
+  pushed = record { counted = omega arith; coming = refl; behind = refl };
+}
+
+pub founded-room : (settings : Settings) (boot : ℕ) → (founded settings boot).link.capacity ≡ link_places (bounds_of settings.ports.zero) (bounds_of settings.ports.one)
+unfolding founded begun
+founded-room settings boot = refl

@@ -1,0 +1,470 @@
+-- How many notes each part of a step makes, how many packets it keeps more, and that no step makes more than it may.
+use Rattle.std.proofs.Common.{◌≡◌, ◌≤◌, ℕ, zero, suc, ◌+◌, ◌-◌, ◌*◌, Bool, true, false, cond, not, ◌&&◌, List, [], ◌∷◌, ◌++◌, length, filter, Option, Some, None, Result, Ok, Err, refl, sym, ap, subst, ◌∙◌, arith}
+use Rattle.std.proofs.lemmas.List.{length-append, length-drop, length-map}
+use Rattle.std.proofs.lemmas.List.Filters.{length-filter_both}
+use Rattle.addresses.specs.declared.ethernet.Mac.{Mac}
+use Rattle.addresses.specs.declared.transport.TcpFlags.{TcpFlags}
+use Rattle.nat_types.specs.declared.gateways.GatewayId.{GatewayId}
+use Rattle.nat_types.specs.declared.gateways.Side.{Side}
+use Rattle.nat_types.specs.declared.gateways.Side.TheVariants.{Inside, Outside}
+use Rattle.nat_types.specs.declared.notes.NoteKind.{NoteKind}
+use Rattle.nat_types.specs.declared.notes.NoteKind.TheVariants.{Retaken}
+use Rattle.nat_types.specs.declared.notes.Note.{Note}
+use Rattle.nat_types.specs.declared.pairs.Endpoint.{Endpoint}
+use Rattle.nat_types.specs.declared.pairs.Key.{Key}
+use Rattle.nat_types.specs.declared.pairs.Pair.{Pair}
+use Rattle.nat_types.specs.declared.records.Record.{Record}
+use Rattle.arp.specs.declared.packets.ArpPacket.{ArpPacket}
+use Rattle.ipv4.specs.declared.flows.Flow.{Flow}
+use Rattle.activity.specs.Lives.{Activity}
+use Rattle.activity.specs.declared.packets.Packet.{Packet as Carried}
+use Rattle.bindings.specs.declared.entries.Entry.{Entry}
+use Rattle.bindings.specs.Lives.{idle_keys_in, is_idle_row}
+use Rattle.bindings.specs.Revivals.{comes_back}
+use Rattle.link.specs.declared.datagrams.Datagram.{Datagram}
+use Rattle.link.specs.declared.faults.LinkFault.{LinkFault}
+use Rattle.link.specs.Grammar.{IsWellFormed}
+use Rattle.link.specs.Link.{Link, after_take, closed_at, free_places, is_beginning, is_due_on_tick, is_restart, met, records_taken, refusal, sent_on_tick, takeable, untaken}
+use Rattle.link.specs.Reading.{reading}
+use Rattle.link.proofs.Offered.{length-takeable, reading_takes}
+use Rattle.spec_binding.specs.declared.changes.Transition.{Transition}
+use Rattle.spec_binding.specs.Books.{Book, is_synced}
+use Rattle.spec_binding.specs.Ledgers.{Ledger, alone_ledger, may_ask, restarted_ledger, rests_for, taken_ledger}
+use Rattle.spec_binding.specs.Resets.{back_in, restart_link, restart_notes, retaken}
+use Rattle.spec_binding.specs.Rows.{answered, carry_row, idle_row, is_full, noted_by, taken_answer, taken_ended, taken_what, wish_of}
+use Rattle.waiting.specs.declared.waits.Ended.{Ended}
+use Rattle.waiting.specs.declared.waits.Ended.TheVariants.{AllPairs, One}
+use Rattle.waiting.specs.declared.waits.WaitsFor.{WaitsFor}
+use Rattle.waiting.specs.declared.waits.WaitsFor.TheVariants as wait
+use Rattle.waiting.specs.Packets.{HeldPacket, ended_by, is_young, left_by}
+use Rattle.waiting.specs.Waits.{ends}
+use Rattle.packet_rules.specs.declared.readings.Reading.{Reading}
+use Rattle.packet_rules.specs.declared.readings.Reading.TheVariants.{Arp, Advert, Packet}
+use Rattle.packet_rules.specs.declared.reasons.Reason.{Reason}
+use Rattle.packet_rules.specs.declared.translations.Translation.{Translation}
+use Rattle.packet_rules.specs.declared.translations.Translation.TheVariants.{Outward, Inward, Hairpin}
+use Rattle.packet_rules.specs.Arping.{answer_to, is_learnable}
+use Rattle.packet_rules.specs.Flows.{source_of}
+use Rattle.interfaces.specs.Stations.{Interface, after_arp, is_active}
+use Rattle.output.specs.Output.{Output, with_datagram}
+use Rattle.vrrp_states.specs.Table as table
+use Rattle.vrrp_states.specs.Table.{Event as RouterEvent}
+use Rattle.spec_step.specs.declared.events.Event.{Event}
+use Rattle.spec_step.specs.declared.events.Event.TheVariants.{Frame, Datagram as Comes, Tick, Stop, PeerOff}
+use Rattle.spec_step.specs.declared.plans.Plan.{Plan}
+use Rattle.spec_step.specs.declared.plans.Plan.TheVariants.{Send, Ask, Wait as WaitFor}
+use Rattle.spec_step.specs.Machine.{AreBytes, HasBytes}
+use Rattle.spec_step.specs.Parts.{all_framed, all_idle_done, all_taken, answered_by, arp_taken, by_plan, by_row, by_verdict, carried_all, carried_by, datagram_in, datagram_read, flow_taken, framed, frames_of, handed_in, has_synced, heard_by, heard_unless, idle_done, idle_taken, keeping, link_answered, link_ticked, old_dropped, record_done, record_shown, record_told, records_done, released, reset, retaken_by, started, taken_again, wait_ended, wanted_by, wanted_for, with_link, word_taken}
+use Rattle.spec_step.specs.Rests.{most_notes}
+use Rattle.spec_step.specs.Shown.{GatewayAndOutput, Shown, id_of, scene, station_on, with_notes, with_station}
+use Rattle.spec_step.specs.Steps.{BothAct, Does, FrameDoes, IsStepOn, RouterActs, ended_on, ticked, word_by, word_refusal}
+use Rattle.spec_step.specs.Verdict.{plan_of, reading_on}
+use Rattle.spec_step.proofs.Packets.{refusal-leaves}
+
+-- from one scene to another at most n notes more, and at most k packets more are kept
+record Adds (n k : ℕ) (s s2 : GatewayAndOutput) : Type 0 where
+  notes : length s2.told.notes ≤ length s.told.notes + n
+  kept : length s2.shown.kept ≤ length s.shown.kept + k
+
+-- one part behind the other
+adds-then : (n k m j : ℕ) (a b c : GatewayAndOutput) → Adds n k a b → Adds m j b c → Adds (n + m) (k + j) a c
+adds-then n k m j a b c x y = record { notes = omega (arith, x.notes, y.notes); kept = omega (arith, x.kept, y.kept) }
+
+adds-fewer : (n k m j : ℕ) (a b : GatewayAndOutput) → n ≤ m → k ≤ j → Adds n k a b → Adds m j a b
+adds-fewer n k m j a b le le2 x = record { notes = omega (arith, x.notes, le); kept = omega (arith, x.kept, le2) }
+
+-- nothing is noted, and the same packets are kept
+adds-none : (s s2 : GatewayAndOutput) → s2.told.notes ≡ s.told.notes → s2.shown.kept ≡ s.shown.kept → Adds 0 0 s s2
+adds-none s s2 notes kept = record {
+  notes = omega (arith, ap (λ (ns : List Note). length ns) notes);
+  kept = omega (arith, ap (λ (ws : List HeldPacket). length ws) kept);
+}
+
+-- these notes are made
+adds-noted : (n : ℕ) (s s2 : GatewayAndOutput) (notes : List Note) → length notes ≤ n → s2.told.notes ≡ s.told.notes ++ notes → s2.shown.kept ≡ s.shown.kept → Adds n 0 s s2
+adds-noted n s s2 notes few are kept = record {
+  notes = omega (arith, few, ap (λ (ns : List Note). length ns) are, length-append s.told.notes notes);
+  kept = omega (arith, ap (λ (ws : List HeldPacket). length ws) kept);
+}
+
+noted-one : (id : GatewayId) (now : ℕ) (o : Option NoteKind) → length (noted_by id now o) ≤ 1
+noted-one id now None = omega arith
+noted-one id now (Some what) = omega arith
+
+-- ---- one packet
+
+row-adds : (s : GatewayAndOutput) (row : Transition) → Adds 1 0 s (by_row s row)
+row-adds s row = adds-noted 1 s (by_row s row) (noted_by (id_of s.shown) s.shown.moment row.what) (noted-one (id_of s.shown) s.shown.moment row.what) refl refl
+
+wanted-adds : (s : GatewayAndOutput) (e : Endpoint) → Adds 1 0 s (wanted_by s e)
+wanted-adds s e = row-adds s (wish_of s.shown.ledger.book (is_full s.shown.link) e).row
+
+carried-adds : (s : GatewayAndOutput) (k : Key) (p : Carried) → Adds 1 0 s (carried_by s k p)
+carried-adds s k p =
+    let what = (carry_row s.shown.ledger.book k).what in
+    adds-noted 1 s (carried_by s k p) (noted_by (id_of s.shown) s.shown.moment what) (noted-one (id_of s.shown) s.shown.moment what) refl refl
+
+carried-all-adds : (s : GatewayAndOutput) (flow : Flow) (flags : TcpFlags) (by : Translation) → Adds 2 0 s (carried_all s flow flags by)
+carried-all-adds s flow flags (Outward p) = adds-fewer 1 0 2 0 s _ (omega arith) (omega arith) (carried-adds s p.key _)
+carried-all-adds s flow flags (Inward p) = adds-fewer 1 0 2 0 s _ (omega arith) (omega arith) (carried-adds s p.key _)
+carried-all-adds s flow flags (Hairpin own other) = adds-then 1 0 1 0 s _ _ (carried-adds s own.key _) (carried-adds _ other.key _)
+
+wanted-for-adds : (s : GatewayAndOutput) (flow : Flow) (by : Translation) → Adds 1 0 s (wanted_for s flow by)
+wanted-for-adds s flow (Outward p) = wanted-adds s (source_of flow)
+wanted-for-adds s flow (Inward p) = adds-fewer 0 0 1 0 s s (omega arith) (omega arith) (adds-none s s refl refl)
+wanted-for-adds s flow (Hairpin own other) = wanted-adds s (source_of flow)
+
+framed-adds : (s : GatewayAndOutput) (side : Side) (bytes : List ℕ) → Adds 0 0 s (framed s side bytes)
+framed-adds s side bytes = adds-none s (framed s side bytes) refl refl
+
+keeping-adds : (s : GatewayAndOutput) (side : Side) (bytes : List ℕ) (w : WaitsFor) → Adds 0 1 s (keeping s side bytes w)
+keeping-adds s side bytes w =
+    let one : HeldPacket = record { side = side; bytes = bytes; since = s.shown.moment; wait = w } in
+    record { notes = omega arith; kept = omega (arith, length-append s.shown.kept (one ∷ [])) }
+
+plan-adds : (s : GatewayAndOutput) (side : Side) (bytes : List ℕ) (flow : Flow) (plan : Plan) → Adds 3 1 s (by_plan s side bytes flow plan)
+plan-adds s side bytes flow (Send by next) =
+    let one = wanted_for s flow by in
+    adds-fewer 3 0 3 1 s _ (omega arith) (omega arith)
+    (adds-then 1 0 2 0 s one _ (wanted-for-adds s flow by)
+    (adds-then 0 0 2 0 one _ _ (framed-adds one _ _) (carried-all-adds _ flow _ by)))
+plan-adds s side bytes flow (Ask by hop) =
+    let one = wanted_for s flow by in
+    adds-fewer 1 1 3 1 s _ (omega arith) (omega arith)
+    (adds-then 1 0 0 1 s one _ (wanted-for-adds s flow by)
+    (adds-then 0 1 0 0 one _ _ (keeping-adds one side bytes _) (framed-adds _ _ _)))
+plan-adds s side bytes flow (WaitFor e) =
+    let one = wanted_by s e in
+    adds-fewer 1 1 3 1 s _ (omega arith) (omega arith)
+    (adds-then 1 0 0 1 s one _ (wanted-adds s e) (keeping-adds one side bytes _))
+
+-- a packet makes at most three notes, and at most it itself is kept
+verdict-adds : (s : GatewayAndOutput) (side : Side) (bytes : List ℕ) (flow : Flow) (plan : Result Plan Reason) → Adds 3 1 s (by_verdict s side bytes flow plan)
+verdict-adds s side bytes flow (Ok plan) = plan-adds s side bytes flow plan
+verdict-adds s side bytes flow (Err reason) =
+    refusal-leaves (λ x. Adds 3 1 s x) s flow reason
+    (adds-fewer 0 0 3 1 s s (omega arith) (omega arith) (adds-none s s refl refl))
+    (adds-fewer 1 0 3 1 s _ (omega arith) (omega arith) (wanted-adds s (source_of flow)))
+
+flow-adds : (s : GatewayAndOutput) (side : Side) (bytes : List ℕ) (flow : Flow) → Adds 3 1 s (flow_taken s side bytes flow)
+flow-adds s side bytes flow = verdict-adds s side bytes flow (plan_of s.shown side flow)
+
+-- ---- those whose wait is over
+
+retaken-adds : (s : GatewayAndOutput) (side : Side) (bytes : List ℕ) (r : Result Reading Reason) → Adds 3 1 s (retaken_by s side bytes r)
+retaken-adds s side bytes (Ok (Packet packet)) = flow-adds s side bytes packet.flow
+retaken-adds s side bytes (Ok (Arp p)) = adds-fewer 0 0 3 1 s s (omega arith) (omega arith) (adds-none s s refl refl)
+retaken-adds s side bytes (Ok (Advert a from)) = adds-fewer 0 0 3 1 s s (omega arith) (omega arith) (adds-none s s refl refl)
+retaken-adds s side bytes (Err reason) = adds-fewer 0 0 3 1 s s (omega arith) (omega arith) (adds-none s s refl refl)
+
+all-add : (s : GatewayAndOutput) (ws : List HeldPacket) → Adds (3 * length ws) (length ws) s (all_taken s ws)
+all-add s [] = adds-none s s refl refl
+all-add s (w ∷ ws) =
+    let one = retaken-adds s w.side w.bytes (reading_on s.shown w.side w.bytes) in
+    let rest = all-add (taken_again s w) ws in
+    record { notes = omega (arith, one.notes, rest.notes); kept = omega (arith, one.kept, rest.kept) }
+
+-- where at most c packets are kept, at most n notes are made, and no more packets are kept
+abbrev Within : ℕ → ℕ → GatewayAndOutput → GatewayAndOutput → Type 0
+Within c n s s2 = length s.shown.kept ≤ c → (length s2.told.notes ≤ length s.told.notes + n) × (length s2.shown.kept ≤ c)
+
+within-then : (c n m : ℕ) (a b d : GatewayAndOutput) → Within c n a b → Within c m b d → Within c (n + m) a d
+within-then c n m a b d x y = λ le.
+    let one = x le in
+    let two = y one.1 in
+    (omega (arith, one.0, two.0), two.1)
+
+within-adds : (c n : ℕ) (a b : GatewayAndOutput) → Adds n 0 a b → Within c n a b
+within-adds c n a b x = λ le. (x.notes, omega (arith, x.kept, le))
+
+within-fewer : (c n m : ℕ) (a b : GatewayAndOutput) → n ≤ m → Within c n a b → Within c m a b
+within-fewer c n m a b few x = λ le. let one = x le in (omega (arith, one.0, few), one.1)
+
+nothing-within : (c n : ℕ) (s : GatewayAndOutput) → Within c n s s
+nothing-within c n s = within-fewer c 0 n s s (omega arith) (within-adds c 0 s s (adds-none s s refl refl))
+
+-- parts that note nothing, before one that does
+within-after : (c n : ℕ) (a b d : GatewayAndOutput) → Adds 0 0 a b → Within c n b d → Within c n a d
+within-after c n a b d x y = λ le.
+    let two = y (omega (arith, le, x.kept)) in
+    (omega (arith, two.0, x.notes), two.1)
+
+kept-parts : (ended : Ended) (ws : List HeldPacket) → length (ended_by ended ws) + length (left_by ended ws) ≡ length ws
+kept-parts ended ws = length-filter_both (λ (w : HeldPacket). ends ended w.wait) (λ (w : HeldPacket). not (ends ended w.wait)) (λ w. refl) ws
+
+released-within : (c : ℕ) (s : GatewayAndOutput) (ended : Ended) → Within c (3 * c) s (released s ended)
+released-within c s ended = λ le.
+    let parts = kept-parts ended s.shown.kept in
+    let start = scene (record s.shown { kept = left_by ended s.shown.kept }) s.told in
+    let x = all-add start (ended_by ended s.shown.kept) in
+    (omega (arith, le, parts, x.notes), omega (arith, le, parts, x.kept))
+
+-- ---- interfaces
+
+station-adds : (s : GatewayAndOutput) (side : Side) (station : Interface) → Adds 0 0 s (scene (with_station s.shown side station) s.told)
+station-adds s Inside station = adds-none s _ refl refl
+station-adds s Outside station = adds-none s _ refl refl
+
+answered-adds : (s : GatewayAndOutput) (side : Side) (p : ArpPacket) (o : Option Mac) → Adds 0 0 s (answered_by s side p o)
+answered-adds s side p (Some mac) = framed-adds s side _
+answered-adds s side p None = adds-none s s refl refl
+
+arp-within : (c : ℕ) (s : GatewayAndOutput) (side : Side) (p : ArpPacket) → Within c (3 * c) s (arp_taken s side p)
+arp-within c s side p =
+    let station = station_on s.shown side in
+    let heard = scene (with_station s.shown side (after_arp station p s.shown.moment)) s.told in
+    let told = answered_by heard side p (answer_to station.network (is_active station) p) in
+    within-after c (3 * c) s told (arp_taken s side p)
+    (adds-then 0 0 0 0 s heard told (station-adds s side (after_arp station p s.shown.moment)) (answered-adds heard side p (answer_to station.network (is_active station) p)))
+    (at (is_learnable station.network p) told)
+  where
+    at : (b : Bool) (told : GatewayAndOutput) → Within c (3 * c) told (let x : GatewayAndOutput = cond b (released told (One (wait.Hop side p.sender_ip))) told in x)
+    at true told = released-within c told (One (wait.Hop side p.sender_ip))
+    at false told = nothing-within c (3 * c) told
+
+all-framed-adds : (s : GatewayAndOutput) (side : Side) (frames : List (List ℕ)) → Adds 0 0 s (all_framed s side frames)
+all-framed-adds s side [] = adds-none s s refl refl
+all-framed-adds s side (f ∷ fs) = adds-then 0 0 0 0 s (framed s side f) _ (framed-adds s side f) (all-framed-adds (framed s side f) side fs)
+
+all-framed-book : (s : GatewayAndOutput) (side : Side) (frames : List (List ℕ)) → (all_framed s side frames).shown ≡ s.shown
+all-framed-book s side [] = refl
+all-framed-book s side (f ∷ fs) = all-framed-book (framed s side f) side fs
+
+station-book : (g : Shown) (side : Side) (station : Interface) → (with_station g side station).ledger ≡ g.ledger
+station-book g Inside station = refl
+station-book g Outside station = refl
+
+router-adds : (s : GatewayAndOutput) (side : Side) (event : RouterEvent) (s2 : GatewayAndOutput) → RouterActs s side event s2 → Adds 0 0 s s2
+router-adds s side event s2 acts =
+    let mid = scene (with_station s.shown side acts.station) s.told in
+    subst (λ (x : GatewayAndOutput). Adds 0 0 s x) (sym acts.is)
+    (adds-then 0 0 0 0 s mid _ (station-adds s side acts.station) (all-framed-adds mid side (frames_of acts.station acts.action)))
+
+router-book : (s : GatewayAndOutput) (side : Side) (event : RouterEvent) (s2 : GatewayAndOutput) → RouterActs s side event s2 → s2.shown.ledger ≡ s.shown.ledger
+router-book s side event s2 acts =
+    let mid = scene (with_station s.shown side acts.station) s.told in
+    ap (λ (x : GatewayAndOutput). x.shown.ledger) acts.is
+    ∙ ap (λ (g : Shown). g.ledger) (all-framed-book mid side (frames_of acts.station acts.action))
+    ∙ station-book s.shown side acts.station
+
+both-add : (s : GatewayAndOutput) (event : RouterEvent) (s2 : GatewayAndOutput) → BothAct s event s2 → Adds 0 0 s s2
+both-add s event s2 both = adds-then 0 0 0 0 s both.between s2 (router-adds s Inside event both.between both.inside) (router-adds both.between Outside event s2 both.outside)
+
+both-book : (s : GatewayAndOutput) (event : RouterEvent) (s2 : GatewayAndOutput) → BothAct s event s2 → s2.shown.ledger ≡ s.shown.ledger
+both-book s event s2 both = router-book both.between Outside event s2 both.outside ∙ router-book s Inside event both.between both.inside
+
+-- ---- records
+
+routed-adds : (now : ℕ) (g : Shown) (told : Output) (b : Bool) → Adds 0 0 (scene g told) (scene (let x : Shown = cond b (record g { inside = started g.inside now; outside = started g.outside now }) g in x) told)
+routed-adds now g told true = adds-none (scene g told) _ refl refl
+routed-adds now g told false = adds-none (scene g told) _ refl refl
+
+ended-within : (c : ℕ) (s : GatewayAndOutput) (o : Option Endpoint) → Within c (3 * c) s (wait_ended o s)
+ended-within c s None = nothing-within c (3 * c) s
+ended-within c s (Some e) = released-within c s (One (wait.Pair e))
+
+record-within : (c : ℕ) (s : GatewayAndOutput) (r : Record) → Within c (1 + 3 * c) s (record_done s r)
+record-within c s r =
+    let g = s.shown in let b = g.ledger.book in
+    let rests = rests_for g.moment g.ledger r in
+    let what = taken_what b rests r in
+    let g2 : Shown = record g { ledger = taken_ledger g.moment g.ledger r; link = answered g.link (taken_answer b rests r) } in
+    let told = record_told g r s.told in
+    let s2 = scene g2 told in
+    let s3 = scene (record_shown g r) told in
+    let first : Adds 1 0 s s2 = adds-noted 1 s s2 (noted_by b.id g.moment what) (noted-one b.id g.moment what) refl refl in
+    within-then c 1 (3 * c) s s3 (record_done s r)
+    (within-adds c 1 s s3 (adds-then 1 0 0 0 s s2 s3 first (routed-adds g2.moment g2 told (has_synced g g2 && not g2.stopped))))
+    (ended-within c s3 (taken_ended b rests r))
+
+-- at most n records, of at most m notes each
+within-more : (c m n : ℕ) (a b d : GatewayAndOutput) → Within c m a b → Within c (n * m) b d → Within c (suc n * m) a d
+within-more c m n a b d x y =
+    let more : suc n * m ≡ m + n * m = omega arith in
+    subst (λ (k : ℕ). Within c k a d) (sym more) (within-then c m (n * m) a b d x y)
+
+records-within : (c n : ℕ) (s : GatewayAndOutput) (rs : List Record) → length rs ≤ n → Within c (n * (1 + 3 * c)) s (records_done s rs)
+records-within c n s [] few = nothing-within c (n * (1 + 3 * c)) s
+records-within c zero s (r ∷ rs) few = absurd (omega (arith, few))
+records-within c (suc n) s (r ∷ rs) few =
+    within-more c (1 + 3 * c) n s (record_done s r) (records_done s (r ∷ rs)) (record-within c s r)
+    (records-within c n (record_done s r) rs (omega (arith, few)))
+
+-- ---- datagrams, and the operator's word
+
+few-taken : (e : Link) (d : Datagram) → IsWellFormed d → length (records_taken e d) ≤ 64
+few-taken e d fits = at (is_restart e d && not (is_beginning e d))
+  where
+    at : (b : Bool) → length (let rs : List Record = cond b [] (takeable (free_places (met e d)) (untaken (met e d).taken d)) in rs) ≤ 64
+    at true = omega arith
+    at false = omega (
+      arith,
+      fits.count,
+      length-takeable (free_places (met e d)) (untaken (met e d).taken d),
+      length-drop ((met e d).taken + 1 - d.first) d.records.items,
+    )
+
+few-retaken : (id : GatewayId) (now : ℕ) (es : List Entry) → length (retaken id now (back_in es)) ≤ length es
+few-retaken id now es = omega (
+  arith,
+  length-map (back_in es) (λ (p : Pair). retaken_note p),
+  length-map (filter (λ (e : Entry). comes_back e.state) es) (λ (e : Entry). e.pair),
+  length-filter_both (λ (e : Entry). comes_back e.state) (λ (e : Entry). not (comes_back e.state)) (λ e. refl) es,
+)
+  where
+    retaken_note : Pair → Note
+    retaken_note p = record { by = id; at = now; what = Retaken p }
+
+few-restart : (b : Book) (now : ℕ) → length (restart_notes b now) ≤ length b.entries
+few-restart b now = at (is_synced b.stage)
+  where
+    at : (t : Bool) → length (let ns : List Note = cond t (retaken b.id now (back_in b.entries)) [] in ns) ≤ length b.entries
+    at true = few-retaken b.id now b.entries
+    at false = omega arith
+
+reset-within : (c : ℕ) (s : GatewayAndOutput) → Within c (length s.shown.ledger.book.entries + 3 * c) s (reset s)
+reset-within c s =
+    let g = s.shown in let b = g.ledger.book in
+    let notes = restart_notes b g.moment in
+    let mid = scene (record g { ledger = restarted_ledger g.ledger; link = restart_link b g.link }) (with_notes s.told notes) in
+    within-then c (length b.entries) (3 * c) s mid (reset s)
+    (within-adds c (length b.entries) s mid (adds-noted (length b.entries) s mid notes (few-restart b g.moment) refl refl))
+    (released-within c mid AllPairs)
+
+heard-within : (c : ℕ) (s : GatewayAndOutput) (d : Datagram) → IsWellFormed d → Within c (length s.shown.ledger.book.entries + 3 * c + 64 * (1 + 3 * c)) s (heard_by s d)
+heard-within c s d fits = at (is_restart s.shown.link d)
+  where
+    at : (b : Bool) → Within c (length s.shown.ledger.book.entries + 3 * c + 64 * (1 + 3 * c)) s (let e = s.shown.link in let after = with_link s (after_take e d s.shown.moment) in records_done (let x : GatewayAndOutput = cond b (reset after) after in x) (records_taken e d))
+    at true =
+        let heard = with_link s (after_take s.shown.link d s.shown.moment) in
+        let m = length s.shown.ledger.book.entries + 3 * c in
+        within-then c m (64 * (1 + 3 * c)) s (reset heard) (records_done (reset heard) (records_taken s.shown.link d))
+        (within-after c m s heard (reset heard) (adds-none s heard refl refl) (reset-within c heard))
+        (records-within c 64 (reset heard) (records_taken s.shown.link d) (few-taken s.shown.link d fits))
+    at false =
+        let heard = with_link s (after_take s.shown.link d s.shown.moment) in
+        let m = length s.shown.ledger.book.entries + 3 * c in
+        within-then c m (64 * (1 + 3 * c)) s heard (records_done heard (records_taken s.shown.link d))
+        (within-fewer c 0 m s heard (omega arith) (within-adds c 0 s heard (adds-none s heard refl refl)))
+        (records-within c 64 heard (records_taken s.shown.link d) (few-taken s.shown.link d fits))
+
+abbrev most : ℕ → ℕ → ℕ
+most entries c = entries + 3 * c + 64 * (1 + 3 * c) + 3
+
+datagram-within : (c : ℕ) (s : GatewayAndOutput) (bytes : List ℕ) (r : Result Datagram LinkFault) → reading bytes ≡ r → AreBytes bytes → Within c (most (length s.shown.ledger.book.entries) c) s (datagram_read s r)
+datagram-within c s bytes (Ok d) read are = at (refusal s.shown.link d)
+  where
+    at : (o : Option LinkFault) → Within c (length s.shown.ledger.book.entries + 3 * c + 64 * (1 + 3 * c) + 3) s (heard_unless s d o)
+    at None = within-fewer c (length s.shown.ledger.book.entries + 3 * c + 64 * (1 + 3 * c)) (most (length s.shown.ledger.book.entries) c) s (heard_by s d) (omega arith) (heard-within c s d (reading_takes bytes d are read).0)
+    at (Some fault) = nothing-within c _ s
+datagram-within c s bytes (Err fault) read are = nothing-within c _ s
+
+taken-within : (c : ℕ) (s : GatewayAndOutput) (n : ℕ) → Within c (length s.shown.ledger.book.entries + 3 * c) s (word_taken s n)
+taken-within c s n =
+    let g = s.shown in let b = g.ledger.book in
+    let notes = retaken b.id g.moment (back_in b.entries) in
+    let mid = scene (record g { ledger = alone_ledger g.ledger; link = closed_at g.link n }) (with_notes s.told notes) in
+    within-then c (length b.entries) (3 * c) s mid (word_taken s n)
+    (within-adds c (length b.entries) s mid (adds-noted (length b.entries) s mid notes (few-retaken b.id g.moment b.entries) refl refl))
+    (released-within c mid AllPairs)
+
+word-within : (c : ℕ) (s : GatewayAndOutput) (n : ℕ) (o : Option Reason) → Within c (most (length s.shown.ledger.book.entries) c) s (word_by s n o)
+word-within c s n None = within-fewer c (length s.shown.ledger.book.entries + 3 * c) (most (length s.shown.ledger.book.entries) c) s (word_taken s n) (omega arith) (taken-within c s n)
+word-within c s n (Some reason) = nothing-within c _ s
+
+-- ---- ticks
+
+few-idle : (now : ℕ) (es : List Entry) (ls : List Activity) → length (idle_keys_in now es ls) ≤ length es
+few-idle now [] ls = omega arith
+few-idle now (e ∷ es) [] = omega arith
+few-idle now (e ∷ es) (l ∷ ls) = at (is_idle_row now e l) (idle_keys_in now es ls) (few-idle now es ls)
+  where
+    at : (b : Bool) (ks : List Key) → length ks ≤ length es → length (let xs : List Key = cond b (e.pair.key ∷ ks) ks in xs) ≤ suc (length es)
+    at true ks few = omega (arith, few)
+    at false ks few = omega (arith, few)
+
+all-idle-adds : (s : GatewayAndOutput) (ks : List Key) → Adds (length ks) 0 s (all_idle_done s ks)
+all-idle-adds s [] = adds-none s s refl refl
+all-idle-adds s (k ∷ ks) =
+    let one = row-adds s (idle_row s.shown.ledger.book (may_ask s.shown.moment s.shown.link) k) in
+    let rest = all-idle-adds (idle_done s k) ks in
+    record { notes = omega (arith, one.notes, rest.notes); kept = omega (arith, one.kept, rest.kept) }
+
+idle-adds : (s : GatewayAndOutput) → Adds (length s.shown.ledger.book.entries) 0 s (idle_taken s)
+idle-adds s =
+    let l = s.shown.ledger in
+    let ks = idle_keys_in s.shown.moment l.book.entries l.lives in
+    adds-fewer (length ks) 0 (length l.book.entries) 0 s _ (few-idle s.shown.moment l.book.entries l.lives) (omega arith) (all-idle-adds s ks)
+
+old-adds : (s : GatewayAndOutput) → Adds 0 0 s (old_dropped s)
+old-adds s = record {
+  notes = omega arith;
+  kept = omega (
+    arith,
+    length-filter_both (is_young s.shown.moment) (λ (w : HeldPacket). not (is_young s.shown.moment w)) (λ w. refl) s.shown.kept,
+  );
+}
+
+-- ---- an event's own parts
+
+bounded : (s x done : GatewayAndOutput) → Within (length s.shown.kept) (most (length s.shown.ledger.book.entries) (length s.shown.kept)) s x → done ≡ x → length done.told.notes ≤ length s.told.notes + most_notes s.shown
+bounded s x done is same =
+    let few = is (omega arith) in
+    omega (arith, few.0, ap (λ (z : GatewayAndOutput). length z.told.notes) same)
+
+does-few : (s : GatewayAndOutput) (event : Event) (done : GatewayAndOutput) → Does s event done → HasBytes event → length done.told.notes ≤ length s.told.notes + most_notes s.shown
+does-few s (Frame side bytes) done does has = at (reading_on s.shown side bytes.now) does
+  where
+    at : (r : Result Reading Reason) → FrameDoes s side bytes.now r done → length done.told.notes ≤ length s.told.notes + most_notes s.shown
+    at (Ok (Arp p)) is =
+        let x = arp-within (length s.shown.kept) s side p (omega arith) in
+        omega (arith, x.0, ap (λ (z : GatewayAndOutput). length z.told.notes) is)
+    at (Ok (Advert a from)) is = omega (arith, (router-adds s side _ done is).notes)
+    at (Ok (Packet packet)) is = omega (arith, (flow-adds s side bytes.now packet.flow).notes, ap (λ (z : GatewayAndOutput). length z.told.notes) is)
+    at (Err reason) is = omega (arith, ap (λ (z : GatewayAndOutput). length z.told.notes) is)
+does-few s (Comes bytes) done does has =
+    let x = datagram-within (length s.shown.kept) s bytes.now (reading bytes.now) refl has in
+    bounded s _ done x does
+does-few s (Tick now) done does has =
+    let start = ticked s now in
+    let middle = does.0 in
+    let young = old_dropped middle in
+    let idle = idle-adds young in
+    let book = ap (λ (l : Ledger). length l.book.entries) (both-book start table.Tick middle does.1) in
+    omega (arith, (both-add start table.Tick middle does.1).notes, idle.notes, book, ap (λ (z : GatewayAndOutput). length z.told.notes) does.2)
+does-few s Stop done does has =
+    let middle = does.0 in
+    omega (arith, (both-add s table.Stop middle does.1).notes, ap (λ (z : GatewayAndOutput). length z.told.notes) does.2)
+does-few s (PeerOff n) done does has =
+    bounded s _ done (word-within (length s.shown.kept) s n (word_refusal s.shown n)) does
+
+-- ---- the datagram at the end
+
+answered-ends : (s : GatewayAndOutput) → (link_answered s).told.notes ≡ s.told.notes
+answered-ends s = at (handed_in s.shown) (handed_in s.shown).link.due
+  where
+    at : (g : Shown) (due : Bool) → (let t : Output = cond due (with_datagram s.told (datagram_in g)) s.told in t).notes ≡ s.told.notes
+    at g true = refl
+    at g false = refl
+
+ticked-ends : (s : GatewayAndOutput) → (link_ticked s).told.notes ≡ s.told.notes
+ticked-ends s = at (handed_in s.shown) (is_due_on_tick (handed_in s.shown).link s.shown.moment)
+  where
+    at : (g : Shown) (due : Bool) → (let t : GatewayAndOutput = cond due (scene (record g { link = sent_on_tick g.link g.moment }) (with_datagram s.told (datagram_in g))) (scene g s.told) in t).told.notes ≡ s.told.notes
+    at g true = refl
+    at g false = refl
+
+end-notes : (event : Event) (done : GatewayAndOutput) → (ended_on event done).told.notes ≡ done.told.notes
+end-notes (Frame side bytes) done = answered-ends done
+end-notes (Comes bytes) done = answered-ends done
+end-notes (Tick now) done = ticked-ends done
+end-notes Stop done = answered-ends done
+end-notes (PeerOff n) done = answered-ends done
+
+-- ---- a whole step
+
+pub step-notes : (s : GatewayAndOutput) (event : Event) (s2 : GatewayAndOutput) → IsStepOn s event s2 → HasBytes event → length s2.told.notes ≤ length s.told.notes + most_notes s.shown
+step-notes s event s2 step has =
+    let few = does-few s event step.done step.does has in
+    let same = ap (λ (z : GatewayAndOutput). length z.told.notes) step.sends ∙ ap (λ (ns : List Note). length ns) (end-notes event step.done) in
+    omega (arith, few, same)

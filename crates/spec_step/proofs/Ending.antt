@@ -1,0 +1,140 @@
+-- The datagram at a step's end, as the machine sees it.
+use Rattle.std.proofs.Common.{◌≡◌, ◌⊎◌, inl, inr, ℕ, ◌+◌, min, Bool, true, false, cond, List, [], ◌∷◌, ◌++◌, length, drop, reverse, take, Option, Some, refl, sym, ap, subst, ◌∙◌, arith}
+use Rattle.std.proofs.lemmas.List.{append-nil, length-append, length-take, take-append-drop}
+use Rattle.nat_types.specs.declared.records.Record.{Record}
+use Rattle.link.specs.Grammar.{spelling}
+use Rattle.link.specs.Link.{Link, Agrees, datagram_of, is_due_on_tick, sent_on_answer, sent_on_tick, wanted, with_fed}
+use Rattle.link.proofs.Offered.{within_handed, is_letter}
+use Rattle.spec_pair.specs.Box.{Letter}
+use Rattle.spec_pair.specs.Step.{IsStep}
+use Rattle.spec_binding.specs.Books.{Book, is_synced}
+use Rattle.spec_binding.specs.Machine.{box_at, letter_of, ranges_of}
+use Rattle.spec_binding.proofs.Offered.{fed-keeps, feed-works, works-sent}
+use Rattle.output.specs.Output.{Output, with_datagram}
+use Rattle.spec_step.specs.Machine.{Goes, IsAlone}
+use Rattle.spec_step.specs.Parts.{datagram_in, handed_in, link_answered, link_ticked}
+use Rattle.spec_step.specs.Shown.{GatewayAndOutput, Shown, scene}
+use Rattle.spec_step.proofs.Hearing.{Arrives}
+use Rattle.spec_step.proofs.Passing.{IsSound, Passes, given, passes-then}
+
+-- what is wanted is handed in, and nothing more is
+wanted-none : (e : Link) (coming : List Record) → length coming ≡ e.promised → wanted (with_fed e (take (wanted e) coming)) ≡ 0
+wanted-none e coming all =
+    let n = wanted e in
+    let taken : length (take n coming) ≡ n = let l = length-take n coming in omega (arith, l, all) in
+    let fed = length-append e.fed (take n coming) in
+    omega (arith, taken, fed)
+
+module _ (letters : List Letter) (words : List ℕ) (s : GatewayAndOutput) (h : List Record) where
+  -- what is wanted of a promised batch is handed in
+  fed-passes : (done : GatewayAndOutput) → Arrives letters words s done h → Passes letters words s s.shown.link.taken (scene (handed_in done.shown) done.told) done.shown.link.taken h
+  fed-passes done a =
+      let g = done.shown in let b = g.ledger.book in let e = g.link in
+      let n = wanted e in
+      let x = a.passes in
+      let split : b.coming ≡ take n b.coming ++ drop n b.coming = sym (take-append-drop n b.coming) in
+      let b2 : Book = record b { coming = drop n b.coming } in
+      let e2 = with_fed e (take n b.coming) in
+      let second : Passes letters words done e.taken (scene (handed_in g) done.told) e.taken x.works.history = record {
+        notes = [];
+        notes_are = sym (append-nil done.told.notes);
+        datagrams = refl;
+        moment = refl;
+        works = given letters words g.moment b b2 e e2 e.taken e.taken [] x.works.history
+            (feed-works g.moment b e e.taken x.works.history (take n b.coming) (drop n b.coming) x.sound.book x.works.agrees split);
+        sound = record { book = fed-keeps b (take n b.coming) (drop n b.coming) x.sound.book split; kept = x.sound.kept };
+      } in
+      passes-then letters words s done (scene (handed_in g) done.told) s.shown.link.taken e.taken e.taken h x second
+
+  -- the end after a step
+  abbrev ended : Link → Option ℕ → Link
+  ended e ticked = record e { ticked = ticked; due = false }
+
+  ended-agrees : (e : Link) (ticked : Option ℕ) (hs rest : List Record) → Agrees hs rest e → Agrees hs rest (ended e ticked)
+  ended-agrees e ticked hs rest a = record { counted = a.counted; coming = a.coming; behind = a.behind }
+
+  -- with a datagram
+  sent-goes : (g : Shown) (told : Output) (ticked : Option ℕ) → wanted g.link ≡ 0 → Passes letters words s s.shown.link.taken (scene g told) g.link.taken h
+      → Goes letters words s (scene (record g { link = ended g.link ticked }) (with_datagram told (datagram_in g))) h
+  sent-goes g told ticked none x =
+      let b = s.shown.ledger.book in let b2 = g.ledger.book in let e = s.shown.link in let e2 = g.link in
+      let d = datagram_of (is_synced b2.stage) e2 in
+      let hs = x.works.history in
+      let is = is_letter hs b2.coming e2 (is_synced b2.stage) x.works.agrees none in
+      let step = works-sent s.shown.moment letters words b b2 e e2 (ended e2 ticked) e.taken e2.taken e2.acknowledged (min 64 (length e2.fed + length e2.waiting)) x.notes h d x.works is (within_handed e2 none) refl refl refl in
+      record {
+        history = hs;
+        pushed = ended-agrees e2 ticked hs b2.coming x.works.agrees;
+        notes = x.notes;
+        notes_are = x.notes_are;
+        sent = d ∷ [];
+        datagrams_are = ap (λ (ds : List (List ℕ)). ds ++ spelling d ∷ []) x.datagrams;
+        few = omega arith;
+        own = (refl, tt);
+        house = x.works.house;
+        step = subst (λ (m : ℕ). IsStep (ranges_of b) b.id m (box_at b e h e.taken) (box_at b2 (ended e2 ticked) hs e2.taken) letters words [] (reverse x.notes) [] (letter_of d ∷ [])) (sym x.moment) step;
+      }
+
+  -- without one
+  unsent-goes : (g : Shown) (told : Output) (ticked : Option ℕ) (due : Bool) → Passes letters words s s.shown.link.taken (scene g told) g.link.taken h
+      → Goes letters words s (scene (record g { link = record g.link { ticked = ticked; due = due } }) told) h
+  unsent-goes g told ticked due x =
+      let b = s.shown.ledger.book in let b2 = g.ledger.book in let e = s.shown.link in let e2 = g.link in
+      let hs = x.works.history in
+      let a = x.works.agrees in
+      record {
+        history = hs;
+        pushed = record { counted = a.counted; coming = a.coming; behind = a.behind };
+        notes = x.notes;
+        notes_are = x.notes_are;
+        sent = [];
+        datagrams_are = x.datagrams ∙ sym (append-nil s.told.datagrams);
+        few = omega arith;
+        own = tt;
+        house = x.works.house;
+        step = subst (λ (m : ℕ). IsStep (ranges_of b) b.id m (box_at b e h e.taken) (box_at b2 e2 hs e2.taken) letters words [] (reverse x.notes) [] []) (sym x.moment) x.works.step;
+      }
+
+  pub answered-goes : (done : GatewayAndOutput) → Arrives letters words s done h → Goes letters words s (link_answered done) h
+  answered-goes done a =
+      let g = handed_in done.shown in
+      let x = fed-passes done a in
+      at g x (wanted-none done.shown.link done.shown.ledger.book.coming a.passes.works.agrees.coming) g.link.due
+    where
+      at : (g : Shown) → Passes letters words s s.shown.link.taken (scene g done.told) g.link.taken h → wanted g.link ≡ 0 → (due : Bool)
+          → Goes letters words s (scene (record g { link = sent_on_answer g.link }) (let t : Output = cond due (with_datagram done.told (datagram_in g)) done.told in t)) h
+      at g x none true = sent-goes g done.told g.link.ticked none x
+      at g x none false = unsent-goes g done.told g.link.ticked false x
+
+  pub ticked-goes : (done : GatewayAndOutput) → Arrives letters words s done h → Goes letters words s (link_ticked done) h
+  ticked-goes done a =
+      let g = handed_in done.shown in
+      let x = fed-passes done a in
+      at g x (wanted-none done.shown.link done.shown.ledger.book.coming a.passes.works.agrees.coming) (is_due_on_tick g.link g.moment)
+    where
+      at : (g : Shown) → Passes letters words s s.shown.link.taken (scene g done.told) g.link.taken h → wanted g.link ≡ 0 → (due : Bool)
+          → Goes letters words s (let t : GatewayAndOutput = cond due (scene (record g { link = sent_on_tick g.link g.moment }) (with_datagram done.told (datagram_in g))) (scene g done.told) in t) h
+      at g x none true = sent-goes g done.told (Some g.moment) none x
+      at g x none false = unsent-goes g done.told g.link.ticked g.link.due x
+
+  -- what holds between steps holds afterwards
+  ended-keeps : (g : Shown) (told : Output) (e : Link) → IsSound g → IsAlone g → e.known ≡ g.link.known → e.closed ≡ g.link.closed → IsSound (record g { link = e }) × IsAlone (record g { link = e })
+  ended-keeps g told e is alone known closed = (record { book = is.book; kept = is.kept }, λ t. at (alone t))
+    where
+      at : (g.link.known ≡ 0) ⊎ (g.link.closed ≡ true) → (e.known ≡ 0) ⊎ (e.closed ≡ true)
+      at (inl none) = inl (known ∙ none)
+      at (inr over) = inr (closed ∙ over)
+
+  pub answered-keeps : (done : GatewayAndOutput) → Arrives letters words s done h → IsSound (link_answered done).shown × IsAlone (link_answered done).shown
+  answered-keeps done a =
+      let g = handed_in done.shown in
+      ended-keeps g done.told (sent_on_answer g.link) (fed-passes done a).sound a.alone refl refl
+
+  pub ticked-keeps : (done : GatewayAndOutput) → Arrives letters words s done h → IsSound (link_ticked done).shown × IsAlone (link_ticked done).shown
+  ticked-keeps done a =
+      let g = handed_in done.shown in
+      at g (fed-passes done a).sound a.alone (is_due_on_tick g.link g.moment)
+    where
+      at : (g : Shown) → IsSound g → IsAlone g → (due : Bool) → (let t : GatewayAndOutput = cond due (scene (record g { link = sent_on_tick g.link g.moment }) (with_datagram done.told (datagram_in g))) (scene g done.told) in IsSound t.shown × IsAlone t.shown)
+      at g is alone true = ended-keeps g done.told (sent_on_tick g.link g.moment) is alone refl refl
+      at g is alone false = (is, alone)

@@ -1,0 +1,244 @@
+-- What a step does with a whole datagram, with the operator's word and with idle pairs, as the machine sees it.
+use Rattle.std.proofs.Common.{◌≡◌, ◌<◌, ◌≤◌, ◌⊎◌, ◌==◌, ℕ, suc, ◌+◌, ◌++◌, Bool, true, false, cond, not, ◌||◌, nat_lt, List, [], ◌∷◌, length, Option, Some, None, Result, Ok, Err, inl, inr, refl, sym, ap, subst, ◌∙◌, arith}
+use Rattle.std.specs.List.{AllByRecursion, slice_get}
+use Rattle.std.proofs.lemmas.Bool.{ltb-false}
+use Rattle.nat_types.specs.declared.pairs.Key.{Key}
+use Rattle.nat_types.specs.declared.records.Record.{Record}
+use Rattle.link.specs.declared.datagrams.Datagram.{Datagram}
+use Rattle.link.specs.declared.faults.LinkFault.{LinkFault}
+use Rattle.link.specs.Grammar.{IsWellFormed, IsWellFormedRecord}
+use Rattle.link.specs.Link.{Link, IsTaken, after_take, closed_at, is_restart, met, records_taken, refusal, taken_of}
+use Rattle.link.specs.Reading.{reading}
+use Rattle.link.proofs.Offered.{all_taken, begins, boot_of, is_open, known_of, met_restart, met_same, restart_is, reading_takes}
+use Rattle.spec_pair.specs.Box.{Letter}
+use Rattle.spec_binding.specs.Books.{Book, is_lone, is_synced}
+use Rattle.spec_binding.specs.Ledgers.{alone_ledger, may_ask, restarted_ledger}
+use Rattle.spec_binding.specs.Machine.{IsTurn, Stands, letter_of}
+use Rattle.spec_binding.specs.Resets.{back_in, restart_link, restart_notes, restarted, retaken, begun_anew}
+use Rattle.spec_binding.specs.Books.{empty_book}
+use Rattle.spec_binding.specs.Rows.{idle_row}
+use Rattle.spec_binding.proofs.Offered.{turn-comes, alone-keeps, idle-keeps, restart-keeps, heard-works, works-more, restart-works, word-works, idle-works}
+use Rattle.waiting.specs.declared.waits.Ended.TheVariants.{AllPairs}
+use Rattle.packet_rules.specs.declared.reasons.Reason.{Reason}
+use Rattle.packet_rules.specs.declared.reasons.Reason.TheVariants.{NotUp, OldWord}
+use Rattle.spec_step.specs.Machine.{AreBytes, IsAlone, letter_in}
+use Rattle.spec_step.specs.Parts.{all_idle_done, datagram_read, heard_by, heard_unless, idle_done, records_done, reset, with_link, word_taken}
+use Rattle.spec_step.specs.Shown.{GatewayAndOutput, Shown, scene, with_notes}
+use Rattle.spec_step.specs.Steps.{word_by, word_refusal}
+use Rattle.spec_step.proofs.Passing.{Going, IsSound, Passes, Stays, going-then, passes-then, row-goes}
+use Rattle.spec_step.proofs.Packets.{Reads, here, released-goes}
+use Rattle.spec_step.proofs.Records.{AllCome, counted, counted-is, records-take, not-alone}
+
+-- From a scene to a later one, as many of the peer's records being taken as the link says.
+pub record Arrives (letters : List Letter) (words : List ℕ) (s s2 : GatewayAndOutput) (h : List Record) : Type 0 where
+  pub passes : Passes letters words s s.shown.link.taken s2 s2.shown.link.taken h
+  pub alone : IsAlone s2.shown
+
+pub alone-stays : (g g2 : Shown) → IsAlone g → Stays g g2 → IsAlone g2
+alone-stays g g2 alone stays = λ t. at (alone (stays.lone t))
+  where
+    at : (g.link.known ≡ 0) ⊎ (g.link.closed ≡ true) → (g2.link.known ≡ 0) ⊎ (g2.link.closed ≡ true)
+    at (inl none) = inl (stays.known ∙ none)
+    at (inr closed) = inr (stays.closed ∙ closed)
+
+module _ (letters : List Letter) (words : List ℕ) where
+  -- a part in which no record is taken
+  pub arrives-by : (s s2 : GatewayAndOutput) (h : List Record) → Going letters words s s2 → Stands s.shown.ledger.book s.shown.link h → IsSound s.shown → IsAlone s.shown → Arrives letters words s s2 h
+  arrives-by s s2 h going stands is alone =
+      let x = going s.shown.link.taken h stands is in
+      record {
+        passes = subst (λ (n : ℕ). Passes letters words s s.shown.link.taken s2 n h) (sym x.stays.taken) x.passes;
+        alone = alone-stays s.shown s2.shown alone x.stays;
+      }
+
+  -- ---- idle pairs
+
+  idle-goes : (s : GatewayAndOutput) (k : Key) → Going letters words s (idle_done s k)
+  idle-goes s k = λ n h stands is.
+      let g = s.shown in let b = g.ledger.book in
+      let ask = may_ask g.moment g.link in
+      row-goes letters words s (idle_row b ask k) n h is (idle-keeps b ask k is.book) (idle-works g.moment b g.link n h ask k stands)
+
+  pub all-idle-goes : (s : GatewayAndOutput) (ks : List Key) → Going letters words s (all_idle_done s ks)
+  all-idle-goes s [] = here letters words s
+  all-idle-goes s (k ∷ ks) = going-then letters words s (idle_done s k) _ (idle-goes s k) (all-idle-goes (idle_done s k) ks)
+
+  -- ---- the operator's word
+
+  word-synced : (b c : Bool) → (let o : Option Reason = cond (not b) (Some NotUp) (cond c (Some OldWord) None) in o) ≡ None → b ≡ true
+  word-synced true c is = refl
+  word-synced false c is = absurd (cc)
+
+-- the word is taken
+word-taken : Reads → (s : GatewayAndOutput) (number : ℕ) (h : List Record) → is_synced s.shown.ledger.book.stage ≡ true → Stands s.shown.ledger.book s.shown.link h → IsSound s.shown → Arrives [] (number ∷ []) s (word_taken s number) h
+word-taken reads s number h synced stands is =
+    let g = s.shown in let b = g.ledger.book in let e = g.link in
+    let notes = retaken b.id g.moment (back_in b.entries) in
+    let mid = scene (record g { ledger = alone_ledger g.ledger; link = closed_at e number }) (with_notes s.told notes) in
+    let first : Passes [] (number ∷ []) s e.taken mid 0 h = record {
+      notes = notes;
+      notes_are = refl;
+      datagrams = refl;
+      moment = refl;
+      works = word-works g.moment b e (closed_at e number) e.taken number h is.book synced (record { counted = omega arith; coming = refl; behind = refl }) refl refl;
+      sound = record { book = alone-keeps b is.book synced; kept = is.kept };
+    } in
+    let second = released-goes [] (number ∷ []) reads mid AllPairs 0 first.works.history first.works.agrees first.sound in
+    record {
+      passes = subst (λ (n : ℕ). Passes [] (number ∷ []) s e.taken (word_taken s number) n h) (sym second.stays.taken)
+          (passes-then [] (number ∷ []) s mid (word_taken s number) e.taken 0 0 h first second.passes);
+      alone = alone-stays mid.shown (word_taken s number).shown (λ t. inr refl) second.stays;
+    }
+
+pub word-arrives : Reads → (s : GatewayAndOutput) (number : ℕ) (h : List Record) (o : Option Reason) → word_refusal s.shown number ≡ o → Stands s.shown.ledger.book s.shown.link h → IsSound s.shown → IsAlone s.shown → Arrives [] (number ∷ []) s (word_by s number o) h
+word-arrives reads s number h None is_none stands is alone =
+    word-taken reads s number h (word-synced [] [] (is_synced s.shown.ledger.book.stage) ((number == 0) || nat_lt number s.shown.link.known) is_none) stands is
+word-arrives reads s number h (Some reason) is_none stands is alone = arrives-by [] (number ∷ []) s s h (here [] (number ∷ []) s) stands is alone
+
+-- ---- a datagram
+
+all-come : (l : Letter) (boot known n : ℕ) (rs : List Record) → ((e : Link) → e.boot ≡ boot → e.known ≡ known → (k : ℕ) (r : Record) → slice_get rs k ≡ Some r → (offset : ℕ) × IsTurn e (n + k) l offset r) → AllByRecursion IsWellFormedRecord rs → AllCome l boot known n rs
+all-come l boot known n [] turn formed = tt
+all-come l boot known n (r ∷ rs) turn formed = (
+  (
+    λ e b k. let t = turn e b k 0 r refl in (t.0, subst (λ (x : ℕ). IsTurn e x l t.0 r) (let same : n + 0 ≡ n = omega arith in same) t.1),
+    formed.0,
+  ),
+  all-come l boot known (suc n) rs (λ e b kn k q found. let t = turn e b kn (suc k) q found in (t.0, subst (λ (x : ℕ). IsTurn e x l t.0 q) (let same : n + suc k ≡ suc n + k = omega arith in same) t.1)) formed.1,
+)
+
+restarted-together : (b : Book) → is_lone (restarted b).stage ≡ false
+restarted-together b = at (is_synced b.stage)
+  where
+    at : (t : Bool) → is_lone (let x : Book = cond t (begun_anew b) (empty_book b.id b.zero b.one) in x).stage ≡ false
+    at true = refl
+    at false = refl
+
+pub record SameSession (e e2 : Link) : Type 0 where
+  pub boot : e2.boot ≡ e.boot
+  pub known : e2.known ≡ e.known
+  pub taken : e2.taken ≡ e.taken
+
+restart-session : (b : Book) (e : Link) → SameSession e (restart_link b e)
+restart-session b e = at (is_synced b.stage)
+  where
+    at : (t : Bool) → SameSession e (let x : Link = cond t (record e { promised = length (let rs : List Record = (begun_anew b).coming in rs); due = true }) e in x)
+    at true = record { boot = refl; known = refl; taken = refl }
+    at false = record { boot = refl; known = refl; taken = refl }
+
+-- without the peer's boot known, or with it closed, nothing but a greater one is let through
+heard-together : (g : Shown) (d : Datagram) → IsAlone g → IsWellFormed d → refusal g.link d ≡ None → is_restart g.link d ≡ false → is_lone g.ledger.book.stage ≡ false
+heard-together g d alone fits passed same = at (is_lone g.ledger.book.stage) refl
+  where
+    low : d.boot ≤ g.link.known
+    low = ltb-false g.link.known d.boot same
+
+    apart : (g.link.known ≡ 0) ⊎ (g.link.closed ≡ true) → ⊥
+    apart (inl none) = let boot = fits.boot.0 in let l = low in absurd (omega (arith, none, boot, l))
+    apart (inr closed) = let open_is = is_open g.link d passed low in let same : true ≡ false = sym closed ∙ open_is in absurd (cc)
+
+    at : (b : Bool) → is_lone g.ledger.book.stage ≡ b → b ≡ false
+    at true is = absurd (apart (alone is))
+    at false is = refl
+
+module _ (reads : Reads) (s : GatewayAndOutput) (h : List Record) (bytes : List ℕ) (d : Datagram) (stands : Stands s.shown.ledger.book s.shown.link h) (is : IsSound s.shown) (read : reading bytes ≡ Ok d) (fits : IsWellFormed d) (passed : refusal s.shown.link d ≡ None) where
+  abbrev e : Link
+  e = s.shown.link
+
+  abbrev e1 : Link
+  e1 = after_take e d s.shown.moment
+
+  abbrev after : GatewayAndOutput
+  after = with_link s e1
+
+  abbrev rs : List Record
+  rs = records_taken e d
+
+  abbrev l : Letter
+  l = letter_of d
+
+  taken-is : IsTaken bytes e s.shown.moment (taken_of e d) e1 d
+  taken-is = record { read = read; fits = fits; passed = passed; taken = refl; after = refl }
+
+  come : AllCome l e1.boot e1.known (met e d).taken rs
+  come = all-come l e1.boot e1.known (met e d).taken rs
+      (λ e2 boot known k r found. turn-comes bytes e e1 e2 s.shown.moment (taken_of e d) d taken-is boot known k r found)
+      (all_taken e d fits)
+
+  -- from the scene at which its records begin to be taken
+  from : (mid : GatewayAndOutput) (n : ℕ) → (first : Passes (l ∷ []) [] s e.taken mid n h) → n ≡ (met e d).taken → SameSession e1 mid.shown.link → is_lone mid.shown.ledger.book.stage ≡ false → Arrives (l ∷ []) [] s (records_done mid rs) h
+  from mid n first at same lone =
+      let there : AllCome l mid.shown.link.boot mid.shown.link.known n rs =
+      subst (λ (x : ℕ). AllCome l x mid.shown.link.known n rs) (sym same.boot)
+      (subst (λ (x : ℕ). AllCome l e1.boot x n rs) (sym same.known)
+      (subst (λ (x : ℕ). AllCome l e1.boot e1.known x rs) (sym at) come)) in
+      let second = records-take l [] reads mid n rs there first.works.history first.works.agrees first.sound lone in
+      let done = records_done mid rs in
+      let total : counted n rs ≡ done.shown.link.taken = counted-is n rs ∙ ap (λ (x : ℕ). x + length rs) at ∙ sym (second.stays.taken ∙ same.taken) in
+      record {
+        passes = subst (λ (x : ℕ). Passes (l ∷ []) [] s e.taken done x h) total
+            (passes-then (l ∷ []) [] s mid done e.taken n (counted n rs) h first second.passes);
+        alone = λ t. let none = not-alone l [] (is_lone done.shown.ledger.book.stage) (is_lone mid.shown.ledger.book.stage) second.stays.lone lone in let same : true ≡ false = sym t ∙ none in absurd (cc);
+      }
+
+  -- in the session that there is
+  on : is_restart e d ≡ false → IsAlone s.shown → Arrives (l ∷ []) [] s (records_done after rs) h
+  on same alone =
+      let b = s.shown.ledger.book in
+      let first : Passes (l ∷ []) [] s e.taken after e.taken h = record {
+        notes = [];
+        notes_are = sym (append-nothing s.told.notes);
+        datagrams = refl;
+        moment = refl;
+        works = works-more s.shown.moment [] (l ∷ []) [] [] b b e e1 e.taken e.taken [] h (λ x i. absurd i) (λ k i. i) (heard-works s.shown.moment b e e1 e.taken h bytes (taken_of e d) d stands taken-is same);
+        sound = record { book = is.book; kept = is.kept };
+      } in
+      from after e.taken first (sym (ap (λ (x : Link). x.taken) (met_same e d same))) (record { boot = refl; known = refl; taken = refl })
+      (heard-together s.shown d alone fits passed same)
+    where
+      append-nothing : {X : Type 0} (xs : List X) → xs ++ [] ≡ xs
+      append-nothing [] = refl
+      append-nothing (x ∷ xs) = ap (λ ys. x ∷ ys) (append-nothing xs)
+
+  -- of a greater boot
+  anew : is_restart e d ≡ true → Arrives (l ∷ []) [] s (records_done (reset after) rs) h
+  anew greater =
+      let g = after.shown in let b = g.ledger.book in
+      let boot_is = boot_of e d s.shown.moment in
+      let known_is = known_of e d s.shown.moment passed in
+      let less = (restart_is e d).0 greater in
+      let above : e.known < e1.known = omega (arith, known_is, less) in
+      let notes = restart_notes b g.moment in
+      let mid = scene (record g { ledger = restarted_ledger g.ledger; link = restart_link b e1 }) (with_notes s.told notes) in
+      let works = restart-works s.shown.moment b e e1 e.taken h l is.book (begins e d s.shown.moment greater) (sym boot_is) above (sym known_is) in
+      let first : Passes (l ∷ []) [] s e.taken mid 0 h = record {
+        notes = notes;
+        notes_are = refl;
+        datagrams = refl;
+        moment = refl;
+        works = works;
+        sound = record { book = restart-keeps b is.book; kept = is.kept };
+      } in
+      let second = released-goes (l ∷ []) [] reads mid AllPairs 0 first.works.history first.works.agrees first.sound in
+      let start = reset after in
+      let both = passes-then (l ∷ []) [] s mid start e.taken 0 0 h first second.passes in
+      let session = restart-session b e1 in
+      from start 0 both (sym (ap (λ (x : Link). x.taken) (met_restart e d greater)))
+      (record { boot = second.stays.boot ∙ session.boot; known = second.stays.known ∙ session.known; taken = second.stays.taken ∙ session.taken })
+      (not-alone l [] (is_lone start.shown.ledger.book.stage) (is_lone (restarted b).stage) second.stays.lone (restarted-together b))
+
+  heard-arrives : IsAlone s.shown → Arrives (l ∷ []) [] s (heard_by s d) h
+  heard-arrives alone = at (is_restart e d) refl
+    where
+      at : (z : Bool) → is_restart e d ≡ z → Arrives (l ∷ []) [] s (records_done (let x : GatewayAndOutput = cond z (reset after) after in x) rs) h
+      at true same = anew same
+      at false same = on same alone
+
+unless-arrives : Reads → (s : GatewayAndOutput) (h : List Record) (bytes : List ℕ) (d : Datagram) (o : Option LinkFault) → refusal s.shown.link d ≡ o → Stands s.shown.ledger.book s.shown.link h → IsSound s.shown → IsAlone s.shown → reading bytes ≡ Ok d → IsWellFormed d → Arrives (letter_of d ∷ []) [] s (heard_unless s d o) h
+unless-arrives reads s h bytes d None passed stands is alone read fits = heard-arrives reads s h bytes d stands is read fits passed alone
+unless-arrives reads s h bytes d (Some fault) passed stands is alone read fits = arrives-by (letter_of d ∷ []) [] s s h (here (letter_of d ∷ []) [] s) stands is alone
+
+pub datagram-arrives : Reads → (s : GatewayAndOutput) (h : List Record) (bytes : List ℕ) (r : Result Datagram LinkFault) → reading bytes ≡ r → AreBytes bytes → Stands s.shown.ledger.book s.shown.link h → IsSound s.shown → IsAlone s.shown → Arrives (letter_in r) [] s (datagram_read s r) h
+datagram-arrives reads s h bytes (Ok d) read are stands is alone =
+    unless-arrives reads s h bytes d (refusal s.shown.link d) refl stands is alone read (reading_takes bytes d are read).0
+datagram-arrives reads s h bytes (Err fault) read are stands is alone = arrives-by [] [] s s h (here [] [] s) stands is alone

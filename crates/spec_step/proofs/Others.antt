@@ -1,0 +1,474 @@
+-- The other frames of each part of a step, and so of a whole step.
+use Rattle.std.proofs.Common.{◌≡◌, ℕ, Bool, true, false, cond, not, ◌⊎◌, ◌&&◌, ◌||◌, List, [], ◌∷◌, ◌++◌, filter, length, Option, Some, None, Result, Ok, Err, refl, sym, ap, subst, ◌∙◌, append_assoc}
+use Rattle.std.specs.List.{AllByRecursion}
+use Rattle.std.proofs.lemmas.List.{append-nil}
+use Rattle.std.proofs.lemmas.List.Elements.{filter-append}
+use Rattle.std.proofs.lemmas.List.Sorted.{IsPermutation-refl}
+use Rattle.addresses.specs.declared.ethernet.Mac.{Mac}
+use Rattle.nat_types.specs.declared.gateways.Side.{Side}
+use Rattle.nat_types.specs.declared.gateways.Side.TheVariants.{Inside, Outside}
+use Rattle.nat_types.specs.declared.notes.Note.{Note}
+use Rattle.nat_types.specs.declared.pairs.Endpoint.{Endpoint}
+use Rattle.nat_types.specs.declared.pairs.Key.{Key}
+use Rattle.nat_types.specs.declared.pairs.Pair.{Pair}
+use Rattle.nat_types.specs.declared.records.Record.{Record}
+use Rattle.arp.specs.declared.packets.ArpPacket.{ArpPacket}
+use Rattle.bindings.specs.declared.entries.Entry.{Entry}
+use Rattle.bindings.specs.Lives.{idle_keys_in}
+use Rattle.link.specs.declared.datagrams.Datagram.{Datagram}
+use Rattle.link.specs.declared.faults.LinkFault.{LinkFault}
+use Rattle.link.specs.Link.{Link, sent_on_answer, after_take, closed_at, is_due_on_tick, is_restart, records_taken, refusal, sent_on_tick}
+use Rattle.link.specs.Reading.{reading}
+use Rattle.spec_pair.specs.Box.{In}
+use Rattle.spec_binding.specs.Books.{IsBook}
+use Rattle.spec_binding.specs.Uses.{IsTranslated}
+use Rattle.spec_binding.specs.Ledgers.{Ledger, alone_ledger, may_ask, restarted_ledger, rests_for, taken_ledger}
+use Rattle.spec_binding.specs.Resets.{back_in, restart_link, restart_notes, retaken}
+use Rattle.spec_binding.specs.Rows.{answered, idle_row, noted_by, taken_answer, taken_ended, taken_what}
+use Rattle.waiting.specs.declared.waits.Ended.TheVariants.{AllPairs, One}
+use Rattle.waiting.specs.declared.waits.WaitsFor.TheVariants as wait
+use Rattle.waiting.specs.Packets.{HeldPacket, is_young}
+use Rattle.waiting.specs.Waits.{ends}
+use Rattle.packet_rules.specs.declared.networks.Network.{Network}
+use Rattle.packet_rules.specs.declared.readings.Reading.{Reading}
+use Rattle.packet_rules.specs.declared.readings.Reading.TheVariants.{Arp, Advert, Packet}
+use Rattle.packet_rules.specs.declared.reasons.Reason.{Reason}
+use Rattle.packet_rules.specs.Arping.{answer_frame, answer_to, is_learnable}
+use Rattle.packet_rules.specs.Frames.{is_translation}
+use Rattle.interfaces.specs.Stations.{IsRouterStep, IsWired, Interface, after_arp, is_active, with_neighbour}
+use Rattle.output.specs.Output.{Sent, Output, with_datagram}
+use Rattle.vrrp_states.specs.Table as table
+use Rattle.vrrp_states.specs.Table.{Event as RouterEvent}
+use Rattle.spec_step.specs.declared.events.Event.{Event}
+use Rattle.spec_step.specs.declared.events.Event.TheVariants.{Frame, Datagram as Comes, Tick, Stop, PeerOff}
+use Rattle.spec_step.specs.Others.{AreOfBoth, AreOthers, FrameOwes, MayGoBy, IsNew, Owes, answers_by, free_by, frees_as, frees_for, frees_heard, frees_read, frees_unless, is_freed, is_old, other_frames, packet_as, packet_in, requests, retaken_pairs, sent_on}
+use Rattle.spec_step.specs.Parts.{acted, all_framed, all_idle_done, answered_by, arp_taken, datagram_in, datagram_read, datagram_taken, flow_taken, framed, frames_of, handed_in, has_synced, heard_by, heard_unless, idle_done, idle_taken, link_answered, link_ticked, old_dropped, record_done, record_shown, record_told, records_done, released, reset, started, wait_ended, with_link, word_taken}
+use Rattle.spec_step.specs.Shown.{GatewayAndOutput, Shown, id_of, scene, station_on, with_notes, with_station}
+use Rattle.spec_step.specs.Steps.{BothAct, Does, FrameDoes, IsStepOn, RouterActs, clock_after, ended_on, stopped, ticked, word_by, word_refusal}
+use Rattle.spec_step.specs.Truly.{AreWired, AtHand, Known, known_of, packets_of}
+use Rattle.spec_step.specs.Verdict.{reading_on}
+use Rattle.spec_step.proofs.Asking.{Ask-on, Asks, NetsStay, all-apart, asking-then, IsQuiet, net-stays, nobody, nothing-asks, one-apart, packet-asks, pairs-ask, quiet-asks, quiet-by, released-asks, requests-same}
+use Rattle.spec_step.proofs.Freeing.{Comes-of, filter-same}
+use Rattle.spec_step.proofs.Rooting.{Rooted, alone-rooted, restart-rooted, taken-roots}
+use Rattle.spec_step.proofs.Sending.{Frames, own-six}
+use Rattle.spec_step.proofs.Telling.{at_hand}
+use Rattle.spec_step.proofs.Truths.{AllOther, action-frames, after-wired, routed-wired, wired-on}
+
+-- From a scene to a later one: these frames were sent, none of which is a translation, nothing was noted, and nobody came to
+-- wait.
+pub record Gives (own : List Sent) (s s2 : GatewayAndOutput) : Type 0 where
+  pub frames_are : s2.told.frames ≡ s.told.frames ++ own
+  pub notes : s2.told.notes ≡ s.told.notes
+  pub entries : s2.shown.ledger.book.entries ≡ s.shown.ledger.book.entries
+  pub apart : other_frames own ≡ own
+  pub kept : s2.shown.kept ≡ s.shown.kept
+  pub moment : s2.shown.moment ≡ s.shown.moment
+  pub nets : NetsStay s.shown s2.shown
+  pub wired : AreWired s2.shown
+
+gives-then : (f h : List Sent) (a b c : GatewayAndOutput) → Gives f a b → Gives h b c → Gives (f ++ h) a c
+gives-then f h a b c x y = record {
+  frames_are = y.frames_are ∙ ap (λ (fs : List Sent). fs ++ h) x.frames_are ∙ append_assoc a.told.frames f h;
+  apart = filter-append (λ (z : Sent). not (is_translation z.bytes)) f h ∙ ap (λ (fs : List Sent). fs ++ other_frames h) x.apart ∙ ap (λ (fs : List Sent). f ++ fs) y.apart;
+  notes = y.notes ∙ x.notes;
+  entries = y.entries ∙ x.entries;
+  kept = y.kept ∙ x.kept;
+  moment = y.moment ∙ x.moment;
+  nets = (y.nets.0 ∙ x.nets.0, y.nets.1 ∙ x.nets.1);
+  wired = y.wired;
+}
+
+gives-nothing : (s s2 : GatewayAndOutput) → s2.told ≡ s.told → s2.shown.ledger ≡ s.shown.ledger → s2.shown.kept ≡ s.shown.kept → s2.shown.moment ≡ s.shown.moment → NetsStay s.shown s2.shown → AreWired s2.shown → Gives [] s s2
+gives-nothing s s2 told ledger kept moment nets wired = record {
+  frames_are = ap (λ (x : Output). x.frames) told ∙ sym (append-nil s.told.frames);
+  notes = ap (λ (x : Output). x.notes) told;
+  entries = ap (λ (l : Ledger). l.book.entries) ledger;
+  apart = refl;
+  kept = kept;
+  moment = moment;
+  nets = nets;
+  wired = wired;
+}
+
+gives-one : (s : GatewayAndOutput) (side : Side) (bytes : List ℕ) → is_translation bytes ≡ false → AreWired s.shown → Gives (let x : Sent = record { side = side; bytes = bytes } in x ∷ []) s (framed s side bytes)
+gives-one s side bytes none w = record { frames_are = refl; notes = refl; entries = refl; apart = rw none refl; kept = refl; moment = refl; nets = (refl, refl); wired = w }
+
+-- what is sent by itself, and the requests behind
+pub record Sends-others (owes : List Sent → Type 0) (hand : List AtHand) (over : HeldPacket → Bool) (s s2 : GatewayAndOutput) : Type 0 where
+  pub frames : List Sent
+  pub frames_are : s2.told.frames ≡ s.told.frames ++ frames
+  pub notes : List Note
+  pub notes_are : s2.told.notes ≡ s.told.notes ++ notes
+  pub own : List Sent
+  pub owed : owes own
+  pub came : List HeldPacket
+  pub kept_are : s2.shown.kept ≡ filter (λ w. not (over w)) s.shown.kept ++ came
+  pub gone : List AtHand
+  pub of_hand : Comes-of hand (filter over s.shown.kept) came gone
+  pub new : AllByRecursion (IsNew (known_of s2.shown) (MayGoBy s.shown notes)) came
+  pub others : other_frames frames ≡ own ++ requests s.shown came
+
+others-then : (owes : List Sent → Type 0) (hand : List AtHand) (over : HeldPacket → Bool) (own : List Sent) (a b c : GatewayAndOutput) → owes own → Gives own a b → Asks hand over b c → Sends-others owes hand over a c
+others-then owes hand over own a b c owed x y = record {
+  frames = own ++ y.frames;
+  frames_are = y.frames_are ∙ ap (λ (fs : List Sent). fs ++ y.frames) x.frames_are ∙ append_assoc a.told.frames own y.frames;
+  notes = y.notes;
+  notes_are = y.notes_are ∙ ap (λ (ns : List Note). ns ++ y.notes) x.notes;
+  own = own;
+  owed = owed;
+  came = y.came;
+  kept_are = y.kept_are ∙ ap (λ (ws : List HeldPacket). filter (λ w. not (over w)) ws ++ y.came) x.kept;
+  gone = y.gone;
+  of_hand = subst (λ (ws : List HeldPacket). Comes-of hand (filter over ws) y.came y.gone) x.kept y.of_hand;
+  new = subst (λ (es : List Entry). AllByRecursion (IsNew (known_of c.shown) (λ (p : Pair). IsTranslated es p ⊎ In p (retaken_pairs y.notes))) y.came) x.entries y.new;
+  others = filter-append (λ (z : Sent). not (is_translation z.bytes)) own y.frames
+      ∙ ap (λ (fs : List Sent). fs ++ other_frames y.frames) x.apart
+      ∙ ap (λ (fs : List Sent). own ++ fs) (y.others ∙ requests-same a.shown b.shown x.nets y.came);
+}
+
+-- ---- ARP
+
+after-net : (station : Interface) (p : ArpPacket) (now : ℕ) → (after_arp station p now).network ≡ station.network
+unfolding after_arp
+after-net station p now = at (is_learnable station.network p)
+  where
+    at : (b : Bool) → (let x : Interface = cond b (with_neighbour station p now) station in x.network) ≡ station.network
+    at true = refl
+    at false = refl
+
+station-gives : (s : GatewayAndOutput) (side : Side) (station : Interface) → station.network ≡ (station_on s.shown side).network → IsWired station → AreWired s.shown → Gives [] s (scene (with_station s.shown side station) s.told)
+station-gives s Inside station same wired w = gives-nothing s (scene (with_station s.shown Inside station) s.told) refl refl refl refl (same, refl) (w.0, (wired, w.1.1))
+station-gives s Outside station same wired w = gives-nothing s (scene (with_station s.shown Outside station) s.told) refl refl refl refl (refl, same) (w.0, (w.1.0, wired))
+
+answered-gives : Frames → (s : GatewayAndOutput) (station : Interface) (side : Side) (p : ArpPacket) (o : Option Mac) → length p.sender_mac.0 ≡ 6 → (station_on s.shown side).network ≡ station.network → AreWired s.shown
+    → Gives (sent_on side (answers_by station p o)) s (answered_by s side p o)
+answered-gives frames s station side p (Some mac) six same w =
+    subst (λ (n : Network). Gives (sent_on side (answer_frame n p mac ∷ [])) s (answered_by s side p (Some mac))) same
+    (gives-one s side (answer_frame (station_on s.shown side).network p mac) (frames.answer (station_on s.shown side).network p mac (own-six s.shown w side) six) w)
+answered-gives frames s station side p None six same w = gives-nothing s s refl refl refl refl (refl, refl) w
+
+arp-others : Frames → (s : GatewayAndOutput) (side : Side) (p : ArpPacket) → length p.sender_mac.0 ≡ 6 → AreWired s.shown
+    → Sends-others (FrameOwes s.shown side (Ok (Arp p))) [] (frees_as s.shown side (Ok (Arp p))) s (arp_taken s side p)
+arp-others frames s side p six w =
+    let station = station_on s.shown side in
+    let after = after_arp station p s.shown.moment in
+    let heard = scene (with_station s.shown side after) s.told in
+    let o = answer_to station.network (is_active station) p in
+    let told = answered_by heard side p o in
+    let own = sent_on side (answers_by station p o) in
+    let first = station-gives s side after (after-net station p s.shown.moment) (after-wired station p s.shown.moment six (wired-on s.shown w side)) w in
+    let second = answered-gives frames heard station side p o six (net-stays s.shown heard.shown first.nets side) first.wired in
+    others-then (FrameOwes s.shown side (Ok (Arp p))) [] (frees_as s.shown side (Ok (Arp p))) own s told (arp_taken s side p) refl
+    (gives-then [] own s heard told first second) (at (is_learnable station.network p) told second.wired)
+  where
+    at : (b : Bool) (told : GatewayAndOutput) → AreWired told.shown → Asks [] (λ w. b && ends (One (wait.Hop side p.sender_ip)) w.wait) told (let x : GatewayAndOutput = cond b (released told (One (wait.Hop side p.sender_ip))) told in x)
+    at true told v = released-asks frames told (One (wait.Hop side p.sender_ip)) v
+    at false told v = (nothing-asks [] told v).asks
+
+-- ---- routers
+
+all-framed-gives : (s : GatewayAndOutput) (side : Side) (fs : List (List ℕ)) → AllOther fs → AreWired s.shown → Gives (sent_on side fs) s (all_framed s side fs)
+all-framed-gives s side [] all w = gives-nothing s s refl refl refl refl (refl, refl) w
+all-framed-gives s side (f ∷ fs) all w =
+    gives-then (let x : Sent = record { side = side; bytes = f } in x ∷ []) (sent_on side fs) s (framed s side f) (all_framed s side (f ∷ fs)) (gives-one s side f all.0 w) (all-framed-gives (framed s side f) side fs all.1 w)
+
+router-gives : Frames → (s : GatewayAndOutput) (side : Side) (event : RouterEvent) (s2 : GatewayAndOutput) → (a : RouterActs s side event s2) → AreWired s.shown → Gives (sent_on side (frames_of a.station a.action)) s s2
+router-gives frames s side event s2 a w =
+    let station = a.station in
+    let mid = scene (with_station s.shown side station) s.told in
+    let own = sent_on side (frames_of station a.action) in
+    let wired : IsWired station = subst IsWired (sym a.step.rest) (routed-wired (station_on s.shown side) station.router (wired-on s.shown w side)) in
+    let first = station-gives s side station (ap (λ (x : Interface). x.network) a.step.rest) wired w in
+    subst (λ (x : GatewayAndOutput). Gives own s x) (sym a.is)
+    (gives-then [] own s mid (acted s side station a.action) first (all-framed-gives mid side (frames_of station a.action) (action-frames frames station a.action) first.wired))
+
+pub all-framed-shown : (s : GatewayAndOutput) (side : Side) (fs : List (List ℕ)) → (all_framed s side fs).shown ≡ s.shown
+all-framed-shown s side [] = refl
+all-framed-shown s side (f ∷ fs) = all-framed-shown (framed s side f) side fs
+
+-- the frames of both routers, by the interfaces before
+pub record BothGive (s : GatewayAndOutput) (event : RouterEvent) (s2 : GatewayAndOutput) : Type 0 where
+  pub own : List Sent
+  pub owed : AreOfBoth s.shown event s.shown.moment own
+  pub gives : Gives own s s2
+
+both-give : Frames → (s : GatewayAndOutput) (event : RouterEvent) (s2 : GatewayAndOutput) → BothAct s event s2 → AreWired s.shown → BothGive s event s2
+both-give frames s event s2 both w =
+    let mid = both.between in
+    let one = sent_on Inside (frames_of both.inside.station both.inside.action) in
+    let two = sent_on Outside (frames_of both.outside.station both.outside.action) in
+    let first = router-gives frames s Inside event mid both.inside w in
+    let second = router-gives frames mid Outside event s2 both.outside first.wired in
+    let same : mid.shown ≡ with_station s.shown Inside both.inside.station =
+    ap (λ (x : GatewayAndOutput). x.shown) both.inside.is ∙ all-framed-shown (scene (with_station s.shown Inside both.inside.station) s.told) Inside (frames_of both.inside.station both.inside.action) in
+    let step : IsRouterStep s.shown.outside event s.shown.moment both.outside.action both.outside.station =
+    subst (λ (g : Shown). IsRouterStep g.outside event g.moment both.outside.action both.outside.station) same both.outside.step in
+    record {
+      own = one ++ two;
+      owed = record {
+        one = one;
+        two = two;
+        inside = record { station = both.inside.station; action = both.inside.action; step = both.inside.step; are = refl };
+        outside = record { station = both.outside.station; action = both.outside.action; step = step; are = refl };
+        are = refl;
+      };
+      gives = gives-then one two s mid s2 first second;
+    }
+
+-- ---- a frame
+
+frame-others : Frames → (s : GatewayAndOutput) (side : Side) (bytes : List ℕ) (r : Result Reading Reason) (s2 : GatewayAndOutput) → reading_on s.shown side bytes ≡ r → AreWired s.shown → FrameDoes s side bytes r s2
+    → Sends-others (FrameOwes s.shown side r) (packet_as side bytes r) (frees_as s.shown side r) s s2
+frame-others frames s side bytes (Ok (Arp p)) s2 read w does =
+    let at = station_on s.shown side in
+    let six = frames.reads at.network (is_active at) _ bytes (Arp p) read in
+    subst (λ (x : GatewayAndOutput). Sends-others (FrameOwes s.shown side (Ok (Arp p))) [] (frees_as s.shown side (Ok (Arp p))) s x) (sym does)
+    (arp-others frames s side p six w)
+frame-others frames s side bytes (Ok (Advert a from)) s2 read w does =
+    let own = sent_on side (frames_of does.station does.action) in
+    let gives = router-gives frames s side (table.Heard a.priority a.interval from.0) s2 does w in
+    others-then (FrameOwes s.shown side (Ok (Advert a from))) [] (frees_as s.shown side (Ok (Advert a from))) own s s2 s2
+    (record { station = does.station; action = does.action; step = does.step; are = refl }) gives (nothing-asks [] s2 gives.wired).asks
+frame-others frames s side bytes (Ok (Packet packet)) s2 read w does =
+    subst (λ (x : GatewayAndOutput). Sends-others (FrameOwes s.shown side (Ok (Packet packet))) (at_hand side bytes ∷ []) (frees_as s.shown side (Ok (Packet packet))) s x) (sym does)
+    (others-then (FrameOwes s.shown side (Ok (Packet packet))) (at_hand side bytes ∷ []) (frees_as s.shown side (Ok (Packet packet))) [] s s (flow_taken s side bytes packet.flow) refl
+    (gives-nothing s s refl refl refl refl (refl, refl) w) (packet-asks frames s side bytes packet read w).asks)
+frame-others frames s side bytes (Err reason) s2 read w does =
+    subst (λ (x : GatewayAndOutput). Sends-others (FrameOwes s.shown side (Err reason)) [] (frees_as s.shown side (Err reason)) s x) (sym does)
+    (others-then (FrameOwes s.shown side (Err reason)) [] (frees_as s.shown side (Err reason)) [] s s s refl
+    (gives-nothing s s refl refl refl refl (refl, refl) w) (nothing-asks [] s w).asks)
+
+-- ---- records
+
+routed-asks : (now : ℕ) (g : Shown) (told : Output) (b : Bool) → Ask-on [] nobody (scene g told) (scene (let x : Shown = cond b (record g { inside = started g.inside now; outside = started g.outside now }) g in x) told)
+routed-asks now g told true =
+    let s2 = scene (record g { inside = started g.inside now; outside = started g.outside now }) told in
+    quiet-asks [] (scene g told) s2
+    (quiet-by (scene g told) s2 refl refl refl refl refl (refl, refl) (λ w. (w.0, (record { own = w.1.0.own; known = w.1.0.known }, record { own = w.1.1.own; known = w.1.1.known }))))
+routed-asks now g told false = nothing-asks [] (scene g told)
+
+ended-asks : Frames → (s : GatewayAndOutput) (o : Option Endpoint) → Ask-on [] (frees_for o) s (wait_ended o s)
+ended-asks frames s None = nothing-asks [] s
+ended-asks frames s (Some e) = pairs-ask frames s (One (wait.Pair e)) (one-apart e)
+
+-- the table is another, and this is noted
+table-quiet : (s : GatewayAndOutput) (l : Ledger) (e : Link) (notes : List Note) → Rooted s.shown.ledger.book.entries l.book.entries (retaken_pairs notes) → IsQuiet s (scene (record s.shown { ledger = l; link = e }) (with_notes s.told notes))
+table-quiet s l e notes roots = record { frames = refl; notes = notes; notes_are = refl; roots = roots; kept = refl; known = refl; nets = (refl, refl); wired = λ w. w }
+
+record-asks : Frames → (s : GatewayAndOutput) (r : Record) → Ask-on [] (frees_for (taken_ended s.shown.ledger.book (rests_for s.shown.moment s.shown.ledger r) r)) s (record_done s r)
+record-asks frames s r =
+    let g = s.shown in let b = g.ledger.book in
+    let rests = rests_for g.moment g.ledger r in
+    let g2 : Shown = record g { ledger = taken_ledger g.moment g.ledger r; link = answered g.link (taken_answer b rests r) } in
+    let told = record_told g r s.told in
+    let s2 = scene g2 told in
+    let s3 = scene (record_shown g r) told in
+    let o = taken_ended b rests r in
+    let notes = noted_by b.id g.moment (taken_what b rests r) in
+    asking-then [] [] nobody (frees_for o) s s3 (record_done s r)
+    (asking-then [] [] nobody nobody s s2 s3 (quiet-asks [] s s2 (table-quiet s (taken_ledger g.moment g.ledger r) (answered g.link (taken_answer b rests r)) notes (taken-roots b rests r b.id g.moment))) (routed-asks g2.moment g2 told (has_synced g g2 && not g2.stopped)))
+    (ended-asks frames s3 o)
+
+records-ask : Frames → (s : GatewayAndOutput) (rs : List Record) → Ask-on [] (free_by s rs) s (records_done s rs)
+records-ask frames s [] = nothing-asks [] s
+records-ask frames s (r ∷ rs) =
+    let g = s.shown in
+    asking-then [] [] (frees_for (taken_ended g.ledger.book (rests_for g.moment g.ledger r) r)) (free_by (record_done s r) rs) s (record_done s r) (records_done s (r ∷ rs))
+    (record-asks frames s r) (records-ask frames (record_done s r) rs)
+
+-- ---- datagrams, and the operator's word
+
+abbrev of_pairs : HeldPacket → Bool
+of_pairs w = ends AllPairs w.wait
+
+reset-asks : Frames → (s : GatewayAndOutput) → IsBook s.shown.ledger.book → Ask-on [] of_pairs s (reset s)
+reset-asks frames s is =
+    let g = s.shown in let b = g.ledger.book in
+    let mid = scene (record g { ledger = restarted_ledger g.ledger; link = restart_link b g.link }) (with_notes s.told (restart_notes b g.moment)) in
+    asking-then [] [] nobody of_pairs s mid (reset s)
+    (quiet-asks [] s mid (table-quiet s (restarted_ledger g.ledger) (restart_link b g.link) (restart_notes b g.moment) (restart-rooted b g.moment is.keys))) (pairs-ask frames mid AllPairs all-apart)
+
+heard-asks : Frames → (s : GatewayAndOutput) (d : Datagram) → IsBook s.shown.ledger.book → Ask-on [] (frees_heard s d None) s (heard_by s d)
+heard-asks frames s d is = at (is_restart s.shown.link d)
+  where
+    after : Ask-on [] nobody s (with_link s (after_take s.shown.link d s.shown.moment))
+    after =
+        let x = with_link s (after_take s.shown.link d s.shown.moment) in
+        quiet-asks [] s x (quiet-by s x refl refl refl refl refl (refl, refl) (λ w. w))
+
+    at : (b : Bool)
+        → (let x = with_link s (after_take s.shown.link d s.shown.moment) in let rs = records_taken s.shown.link d in
+        Ask-on [] (λ w. cond b (ends AllPairs w.wait || free_by (reset x) rs w) (free_by x rs w)) s (records_done (let y : GatewayAndOutput = cond b (reset x) x in y) rs))
+    at true =
+        let x = with_link s (after_take s.shown.link d s.shown.moment) in
+        let rs = records_taken s.shown.link d in
+        asking-then [] [] of_pairs (free_by (reset x) rs) s (reset x) (records_done (reset x) rs)
+        (asking-then [] [] nobody of_pairs s x (reset x) after (reset-asks frames x is)) (records-ask frames (reset x) rs)
+    at false =
+        let x = with_link s (after_take s.shown.link d s.shown.moment) in
+        let rs = records_taken s.shown.link d in
+        asking-then [] [] nobody (free_by x rs) s x (records_done x rs) after (records-ask frames x rs)
+
+datagram-asks : Frames → (s : GatewayAndOutput) (r : Result Datagram LinkFault) → IsBook s.shown.ledger.book → Ask-on [] (frees_read s r) s (datagram_read s r)
+datagram-asks frames s (Ok d) is = at (refusal s.shown.link d)
+  where
+    at : (o : Option LinkFault) → Ask-on [] (frees_heard s d o) s (heard_unless s d o)
+    at None = heard-asks frames s d is
+    at (Some fault) = nothing-asks [] s
+datagram-asks frames s (Err fault) is = nothing-asks [] s
+
+word-asks : Frames → (s : GatewayAndOutput) (n : ℕ) (o : Option Reason) → IsBook s.shown.ledger.book → Ask-on [] (frees_unless o) s (word_by s n o)
+word-asks frames s n None is =
+    let g = s.shown in let b = g.ledger.book in
+    let mid = scene (record g { ledger = alone_ledger g.ledger; link = closed_at g.link n }) (with_notes s.told (retaken (id_of g) g.moment (back_in b.entries))) in
+    asking-then [] [] nobody of_pairs s mid (word_taken s n)
+    (quiet-asks [] s mid (table-quiet s (alone_ledger g.ledger) (closed_at g.link n) (retaken (id_of g) g.moment (back_in b.entries)) (alone-rooted b (id_of g) g.moment is.keys))) (pairs-ask frames mid AllPairs all-apart)
+word-asks frames s n (Some reason) is = nothing-asks [] s
+
+-- ---- ticks
+
+-- idle pairs that are let go leave the frames and the packets that wait
+pub record Leaves (s s2 : GatewayAndOutput) : Type 0 where
+  pub frames : s2.told.frames ≡ s.told.frames
+  pub notes : List Note
+  pub notes_are : s2.told.notes ≡ s.told.notes ++ notes
+  pub kept : s2.shown.kept ≡ s.shown.kept
+
+all-idle-leave : (s : GatewayAndOutput) (ks : List Key) → Leaves s (all_idle_done s ks)
+all-idle-leave s [] = record { frames = refl; notes = []; notes_are = sym (append-nil s.told.notes); kept = refl }
+all-idle-leave s (k ∷ ks) =
+    let g = s.shown in
+    let noted = noted_by (id_of g) g.moment (idle_row g.ledger.book (may_ask g.moment g.link) k).what in
+    let rest = all-idle-leave (idle_done s k) ks in
+    record { frames = rest.frames; notes = noted ++ rest.notes; notes_are = rest.notes_are ∙ append_assoc s.told.notes noted rest.notes; kept = rest.kept }
+
+-- nobody comes to wait, and the old ones leave
+tick-others : Frames → (s : GatewayAndOutput) (now : ℕ) (middle : GatewayAndOutput) → BothAct (ticked s now) table.Tick middle → AreWired s.shown → AreOthers s (Tick now) (idle_taken (old_dropped middle))
+tick-others frames s now middle acts w =
+    let both = both-give frames (ticked s now) table.Tick middle acts w in
+    let o = both.owed in
+    let x = both.gives in
+    let young = old_dropped middle in
+    let l = young.shown.ledger in
+    let idle = all-idle-leave young (idle_keys_in young.shown.moment l.book.entries l.lives) in
+    let keeps : filter (is_young middle.shown.moment) middle.shown.kept ≡ filter (λ w. not (is_old s.shown (Tick now) w || false)) s.shown.kept =
+    ap (λ (m : ℕ). filter (is_young m) middle.shown.kept) x.moment
+    ∙ ap (filter (is_young (clock_after s.shown.moment now))) x.kept
+    ∙ filter-same (is_young (clock_after s.shown.moment now)) (λ w. not (is_old s.shown (Tick now) w || false)) (λ w. twice (is_young (clock_after s.shown.moment now) w)) s.shown.kept in
+    record {
+      frames = both.own;
+      frames_are = idle.frames ∙ x.frames_are;
+      notes = idle.notes;
+      notes_are = idle.notes_are ∙ ap (λ (ns : List Note). ns ++ idle.notes) x.notes;
+      own = both.own;
+      owed = record {
+        one = o.one;
+        two = o.two;
+        inside = record { station = o.inside.station; action = o.inside.action; step = o.inside.step; are = o.inside.are };
+        outside = record { station = o.outside.station; action = o.outside.action; step = o.outside.step; are = o.outside.are };
+        are = o.are;
+      };
+      came = [];
+      kept_are = idle.kept ∙ keeps ∙ sym (append-nil (filter (λ w. not (is_old s.shown (Tick now) w || false)) s.shown.kept));
+      gone = packets_of (filter (is_freed s (Tick now)) s.shown.kept);
+      of_hand = IsPermutation-refl (packets_of (filter (is_freed s (Tick now)) s.shown.kept));
+      new = tt;
+      others = x.apart ∙ sym (append-nil both.own);
+    }
+  where
+    twice : (b : Bool) → b ≡ not (not b || false)
+    twice true = refl
+    twice false = refl
+
+-- ---- an event's own parts
+
+-- an event at which packets don't become old
+others-at : (s : GatewayAndOutput) (event : Event) (done : GatewayAndOutput) → ((w : HeldPacket) → is_old s.shown event w ≡ false) → Sends-others (Owes s.shown event) (packet_in s.shown event) (is_freed s event) s done → AreOthers s event done
+others-at s event done young x = record {
+  frames = x.frames;
+  frames_are = x.frames_are;
+  notes = x.notes;
+  notes_are = x.notes_are;
+  own = x.own;
+  owed = x.owed;
+  came = x.came;
+  kept_are = x.kept_are
+      ∙ ap (λ (ws : List HeldPacket). ws ++ x.came)
+      (filter-same (λ w. not (is_freed s event w)) (λ w. not (is_old s.shown event w || is_freed s event w)) (λ w. ap (λ b. not (b || is_freed s event w)) (sym (young w))) s.shown.kept);
+  gone = x.gone;
+  of_hand = x.of_hand;
+  new = x.new;
+  others = x.others;
+}
+
+-- one that has the gateway send nothing by itself
+asks-alone : (s : GatewayAndOutput) (event : Event) (done : GatewayAndOutput) → Owes s.shown event [] → AreWired s.shown → Asks (packet_in s.shown event) (is_freed s event) s done → Sends-others (Owes s.shown event) (packet_in s.shown event) (is_freed s event) s done
+asks-alone s event done owed w asks = others-then (Owes s.shown event) (packet_in s.shown event) (is_freed s event) [] s s done owed (gives-nothing s s refl refl refl refl (refl, refl) w) asks
+
+does-others : Frames → (s : GatewayAndOutput) (event : Event) (done : GatewayAndOutput) → Does s event done → IsBook s.shown.ledger.book → AreWired s.shown → AreOthers s event done
+does-others frames s (Frame side bytes) done does is w =
+    others-at s (Frame side bytes) done (λ p. refl) (frame-others frames s side bytes.now (reading_on s.shown side bytes.now) done refl w does)
+does-others frames s (Comes bytes) done does is w =
+    subst (λ (x : GatewayAndOutput). AreOthers s (Comes bytes) x) (sym does)
+    (others-at s (Comes bytes) (datagram_taken s bytes.now) (λ p. refl) (asks-alone s (Comes bytes) (datagram_taken s bytes.now) refl w (datagram-asks frames s (reading bytes.now) is w).asks))
+does-others frames s (Tick now) done does is w = subst (λ (x : GatewayAndOutput). AreOthers s (Tick now) x) (sym does.2) (tick-others frames s now does.0 does.1 w)
+does-others frames s Stop done does is w =
+    let middle = does.0 in
+    let both = both-give frames s table.Stop middle does.1 w in
+    let asks = (quiet-asks [] middle (stopped middle) (quiet-by middle (stopped middle) refl refl refl refl refl (refl, refl) (λ v. v)) both.gives.wired).asks in
+    subst (λ (x : GatewayAndOutput). AreOthers s Stop x) (sym does.2)
+    (others-at s Stop (stopped middle) (λ p. refl) (others-then (Owes s.shown Stop) [] nobody both.own s middle (stopped middle) both.owed both.gives asks))
+does-others frames s (PeerOff n) done does is w =
+    subst (λ (x : GatewayAndOutput). AreOthers s (PeerOff n) x) (sym does)
+    (others-at s (PeerOff n) (word_by s n (word_refusal s.shown n)) (λ p. refl) (asks-alone s (PeerOff n) (word_by s n (word_refusal s.shown n)) refl w (word-asks frames s n (word_refusal s.shown n) is w).asks))
+
+-- ---- the datagram at the end
+
+-- what it leaves
+pub record Ends (done end : GatewayAndOutput) : Type 0 where
+  pub frames : end.told.frames ≡ done.told.frames
+  pub notes : end.told.notes ≡ done.told.notes
+  pub kept : end.shown.kept ≡ done.shown.kept
+  pub known : known_of end.shown ≡ known_of done.shown
+
+others-end : (s : GatewayAndOutput) (event : Event) (done end : GatewayAndOutput) → Ends done end → AreOthers s event done → AreOthers s event end
+others-end s event done end e x = record {
+  frames = x.frames;
+  frames_are = e.frames ∙ x.frames_are;
+  notes = x.notes;
+  notes_are = e.notes ∙ x.notes_are;
+  own = x.own;
+  owed = x.owed;
+  came = x.came;
+  kept_are = e.kept ∙ x.kept_are;
+  gone = x.gone;
+  of_hand = x.of_hand;
+  new = subst (λ (k : Known). AllByRecursion (IsNew k (MayGoBy s.shown x.notes)) x.came) (sym e.known) x.new;
+  others = x.others;
+}
+
+answered-ends : (s : GatewayAndOutput) → Ends s (link_answered s)
+answered-ends s = at (handed_in s.shown).link.due
+  where
+    at : (b : Bool) → Ends s (let g = handed_in s.shown in scene (record g { link = sent_on_answer g.link }) (let t : Output = cond b (with_datagram s.told (datagram_in g)) s.told in t))
+    at true = record { frames = refl; notes = refl; kept = refl; known = refl }
+    at false = record { frames = refl; notes = refl; kept = refl; known = refl }
+
+ticked-ends : (s : GatewayAndOutput) → Ends s (link_ticked s)
+ticked-ends s = at (is_due_on_tick (handed_in s.shown).link s.shown.moment)
+  where
+    at : (b : Bool) → Ends s (let x : GatewayAndOutput = (let g = handed_in s.shown in cond b (scene (record g { link = sent_on_tick g.link g.moment }) (with_datagram s.told (datagram_in g))) (scene g s.told)) in x)
+    at true = record { frames = refl; notes = refl; kept = refl; known = refl }
+    at false = record { frames = refl; notes = refl; kept = refl; known = refl }
+
+end-others : (s : GatewayAndOutput) (event : Event) (done : GatewayAndOutput) → AreOthers s event done → AreOthers s event (ended_on event done)
+end-others s (Frame side bytes) done x = others-end s (Frame side bytes) done (link_answered done) (answered-ends done) x
+end-others s (Comes bytes) done x = others-end s (Comes bytes) done (link_answered done) (answered-ends done) x
+end-others s (Tick now) done x = others-end s (Tick now) done (link_ticked done) (ticked-ends done) x
+end-others s Stop done x = others-end s Stop done (link_answered done) (answered-ends done) x
+end-others s (PeerOff n) done x = others-end s (PeerOff n) done (link_answered done) (answered-ends done) x
+
+-- a whole step
+pub step-others : Frames → (s : GatewayAndOutput) (event : Event) (s2 : GatewayAndOutput) → IsStepOn s event s2 → IsBook s.shown.ledger.book → AreWired s.shown → AreOthers s event s2
+step-others frames s event s2 step is w =
+    subst (λ (x : GatewayAndOutput). AreOthers s event x) (sym step.sends) (end-others s event step.done (does-others frames s event step.done step.does is w))

@@ -1,0 +1,284 @@
+-- What a step does with one packet, and with those whose wait is over, as the machine sees it.
+use Rattle.std.proofs.Common.{◌≡◌, ◌<◌, ◌-◌, ℕ, Bool, true, false, cond, List, [], ◌∷◌, ◌++◌, drop, Option, Some, None, Result, Ok, Err, inl, inr, refl, sym, subst, arith}
+use Rattle.std.specs.List.{AllByRecursion, filter}
+use Rattle.byteorder.specs.Numbers.{big_from-lt}
+use Rattle.addresses.specs.declared.ethernet.Mac.{Mac}
+use Rattle.addresses.specs.declared.internet.Ip.{Ip}
+use Rattle.addresses.specs.declared.transport.TcpFlags.{TcpFlags}
+use Rattle.nat_types.specs.declared.gateways.Side.{Side}
+use Rattle.nat_types.specs.declared.pairs.Endpoint.{Endpoint}
+use Rattle.nat_types.specs.declared.pairs.EntryState.{EntryState}
+use Rattle.nat_types.specs.declared.pairs.EntryState.TheVariants as state
+use Rattle.nat_types.specs.declared.pairs.Key.{Key}
+use Rattle.nat_types.specs.declared.pairs.Pair.{Pair}
+use Rattle.bindings.specs.declared.entries.Entry.{Entry}
+use Rattle.bindings.specs.Entries.{slot_of}
+use Rattle.frames.specs.Frame.{frame_of}
+use Rattle.ipv4.specs.declared.flows.Flow.{Flow}
+use Rattle.ipv4.specs.Carried.{IsTransport}
+use Rattle.ipv4.specs.Header.{header_of, payload_of, word_at}
+use Rattle.ipv4.specs.declared.packets.Packet.{Packet as PacketRead}
+use Rattle.activity.specs.declared.packets.Packet.{Packet as Carried}
+use Rattle.activity.specs.declared.packets.Way.TheVariants as goes
+use Rattle.link.specs.Link.{Link}
+use Rattle.link.proofs.Offered.{IsBytes-drop, IsBytes-take}
+use Rattle.spec_pair.specs.Box.{Letter}
+use Rattle.spec_binding.specs.declared.changes.Transition.{Transition}
+use Rattle.spec_binding.specs.declared.changes.Want.{Want as Wanted}
+use Rattle.spec_binding.specs.declared.changes.Want.TheVariants as want
+use Rattle.spec_binding.specs.Books.{Book, is_synced}
+use Rattle.spec_binding.specs.WellFormed.{IsWellFormedEndpoint}
+use Rattle.spec_binding.specs.Machine.{Works}
+use Rattle.spec_binding.specs.Rows.{after, answered, carry_row, is_full, noted_by, quiet, use_row, used_row, wish_of}
+use Rattle.spec_binding.proofs.Offered.{wish-keeps, carry-works, wish-works}
+use Rattle.waiting.specs.declared.waits.Ended.{Ended}
+use Rattle.waiting.specs.declared.waits.WaitsFor.{WaitsFor}
+use Rattle.waiting.specs.Packets.{HeldPacket, ended_by, left_by}
+use Rattle.packet_rules.specs.declared.networks.Direction.{Direction}
+use Rattle.packet_rules.specs.declared.networks.Direction.TheVariants as way
+use Rattle.packet_rules.specs.declared.networks.Network.{Network}
+use Rattle.packet_rules.specs.declared.readings.Reading.{Reading}
+use Rattle.packet_rules.specs.declared.readings.Reading.TheVariants.{Arp, Advert, Packet}
+use Rattle.packet_rules.specs.declared.reasons.Reason.{Reason}
+use Rattle.packet_rules.specs.declared.reasons.Reason.TheVariants.{ShortFrame, NotMine, BadHeader, BadLength, BadHeaderSum, Fragment, TtlOver, NotUdpTcp, BadTransport, BadArp, BadAdvert, NotUp, NoBinding, NoPort, CannotWait, BadDatagram, OldWord}
+use Rattle.packet_rules.specs.declared.translations.Translation.{Translation}
+use Rattle.packet_rules.specs.declared.translations.Translation.TheVariants.{Outward, Inward, Hairpin}
+use Rattle.packet_rules.specs.Flows.{flow_in, source_of}
+use Rattle.packet_rules.specs.Networks.{direction_of}
+use Rattle.packet_rules.specs.Steps.{Carries, IsForwardable, reading_of, and_then}
+use Rattle.interfaces.specs.Stations.{is_active}
+use Rattle.spec_step.specs.declared.plans.Plan.{Plan}
+use Rattle.spec_step.specs.declared.plans.Plan.TheVariants.{Send, Ask, Wait as WaitFor}
+use Rattle.spec_step.specs.Machine.{AreBytes}
+use Rattle.spec_step.specs.Parts.{all_taken, by_plan, by_refusal, by_verdict, carried, carried_all, carried_by, flags_in, flow_taken, framed, keeping, released, remote, retaken_by, taken_again, wanted_by, wanted_for}
+use Rattle.spec_step.specs.Shown.{GatewayAndOutput, Shown, is_up, scene, station_on}
+use Rattle.spec_step.specs.Verdict.{look_for, plan_by, plan_from, plan_of, plan_on, plan_to, reading_on, target_pair}
+use Rattle.spec_step.proofs.Passing.{Going, given, going-then, going-unseen, nothing, row-goes}
+
+-- ---- the endpoint of a packet's source
+
+pub source-formed : (bytes : List ℕ) → AreBytes bytes → IsForwardable bytes → IsWellFormedEndpoint (source_of (flow_in bytes))
+unfolding flow_in
+source-formed bytes are is =
+    let body = (frame_of bytes).body in
+    let of_body : AreBytes body = IsBytes-drop 14 bytes are in
+    let header = header_of body in
+    let of_payload : AreBytes (payload_of body) = IsBytes-take (header.total_length - header.header_length) (drop header.header_length body) (IsBytes-drop header.header_length body of_body) in
+    let low = big_from-lt 0 4 (drop 12 body) (IsBytes-drop 12 body of_body) in
+    let port = big_from-lt 0 2 (drop 0 (payload_of body)) (IsBytes-drop 0 (payload_of body) of_payload) in
+    record { address = omega (arith, low); port = (above body is.transport, omega (arith, port)) }
+  where
+    above : (body : List ℕ) → IsTransport body → 0 < word_at 0 (payload_of body)
+    above body (inl udp) = udp.datagram.from
+    above body (inr tcp) = tcp.segment.from
+
+-- a plan waits for an endpoint that a pair can have
+abbrev pub PlanFits : Result Plan Reason → Type 0
+PlanFits (Ok (Send by next)) = Unit {0}
+PlanFits (Ok (Ask by hop)) = Unit {0}
+PlanFits (Ok (WaitFor e)) = IsWellFormedEndpoint e
+PlanFits (Err reason) = Unit {0}
+
+to-fits : (g : Shown) (by : Translation) (hop : Ip) (next : Option Mac) → PlanFits (plan_to g by hop next)
+to-fits g by hop (Some next) = tt
+to-fits g by hop None = at _
+  where
+    at : (b : Bool) → PlanFits (let r : Result Plan Reason = cond b (Ok (Ask by hop)) (Err CannotWait) in r)
+    at true = tt
+    at false = tt
+
+by-fits : (g : Shown) (flow : Flow) (by : Translation) → PlanFits (plan_by g flow by)
+by-fits g flow by = to-fits g by _ _
+
+from-fits : (g : Shown) (flow : Flow) (by : Pair → Translation) (w : Wanted) → IsWellFormedEndpoint (source_of flow) → PlanFits (plan_from g flow by w)
+from-fits g flow by (want.Port port) formed = by-fits g flow _
+from-fits g flow by want.Wait formed = at _
+  where
+    at : (b : Bool) → PlanFits (let r : Result Plan Reason = cond b (Ok (WaitFor (source_of flow))) (Err CannotWait) in r)
+    at true = formed
+    at false = tt
+from-fits g flow by want.NoPort formed = tt
+from-fits g flow by want.NotNow formed = tt
+
+on-fits : (g : Shown) (flow : Flow) (w : Direction) → IsWellFormedEndpoint (source_of flow) → PlanFits (plan_on g flow w)
+on-fits g flow way.Outward formed = from-fits g flow Outward (look_for g flow) formed
+on-fits g flow way.Inward formed = at (target_pair g flow)
+  where
+    at : (r : Result Pair Reason) → PlanFits (and_then r (λ p. plan_by g flow (Inward p)))
+    at (Ok p) = by-fits g flow (Inward p)
+    at (Err reason) = tt
+on-fits g flow way.Hairpin formed = at (target_pair g flow)
+  where
+    at : (r : Result Pair Reason) → PlanFits (and_then r (λ p. plan_from g flow (λ own. Hairpin own p) (look_for g flow)))
+    at (Ok p) = from-fits g flow (λ own. Hairpin own p) (look_for g flow) formed
+    at (Err reason) = tt
+
+pub plan-fits : (g : Shown) (side : Side) (flow : Flow) → IsWellFormedEndpoint (source_of flow) → PlanFits (plan_of g side flow)
+plan-fits g side flow formed = at (direction_of g.networks side flow.source.0 flow.destination.0)
+  where
+    at : (r : Result Direction Reason) → PlanFits (and_then r (plan_on g flow))
+    at (Ok w) = on-fits g flow w formed
+    at (Err reason) = tt
+
+-- ---- a packet that a pair carries
+
+abbrev IsStill : Book → Transition → Type 0
+IsStill b row = (after b row ≡ b) × ((e : Link) → answered e row.answer ≡ e)
+
+used-still : (b : Book) (p : Pair) (s : EntryState) → IsStill b (used_row p s)
+used-still b p state.Pending = (refl, λ e. refl)
+used-still b p state.Doomed = (refl, λ e. refl)
+used-still b p state.Live = (refl, λ e. refl)
+used-still b p state.Closing = (refl, λ e. refl)
+used-still b p state.Held = (refl, λ e. refl)
+
+carry-still : (b : Book) (k : Key) → IsStill b (carry_row b k)
+carry-still b k = at (is_synced b.stage) (slot_of b.entries k)
+  where
+    at : (t : Bool) (o : Option Entry) → IsStill b (let r : Transition = cond t (use_row o) quiet in r)
+    at true None = (refl, λ e. refl)
+    at true (Some x) = used-still b x.pair x.state
+    at false o = (refl, λ e. refl)
+
+-- ---- packets that are kept
+
+pub kept-filter : (p : HeldPacket → Bool) (ws : List HeldPacket) → AllByRecursion (λ (w : HeldPacket). AreBytes w.bytes) ws → AllByRecursion (λ (w : HeldPacket). AreBytes w.bytes) (filter p ws)
+kept-filter p [] all = tt
+kept-filter p (w ∷ ws) all = at (p w) (kept-filter p ws all.1)
+  where
+    at : (b : Bool) → AllByRecursion (λ (x : HeldPacket). AreBytes x.bytes) (filter p ws) → AllByRecursion (λ (x : HeldPacket). AreBytes x.bytes) (let xs : List HeldPacket = cond b (w ∷ filter p ws) (filter p ws) in xs)
+    at true rest = (all.0, rest)
+    at false rest = rest
+
+pub kept-more : (ws : List HeldPacket) (x : HeldPacket) → AllByRecursion (λ (w : HeldPacket). AreBytes w.bytes) ws → AreBytes x.bytes → AllByRecursion (λ (w : HeldPacket). AreBytes w.bytes) (ws ++ x ∷ [])
+kept-more [] x all one = (one, tt)
+kept-more (w ∷ ws) x all one = (all.0, kept-more ws x all.1 one)
+
+-- a packet that is refused leaves the scene, or wants a port
+pub refusal-leaves : (P : GatewayAndOutput → Type 0) (s : GatewayAndOutput) (flow : Flow) (reason : Reason) → P s → P (wanted_by s (source_of flow)) → P (by_refusal s flow reason)
+refusal-leaves P s flow NoPort same wanted = wanted
+refusal-leaves P s flow ShortFrame same wanted = same
+refusal-leaves P s flow NotMine same wanted = same
+refusal-leaves P s flow BadHeader same wanted = same
+refusal-leaves P s flow BadLength same wanted = same
+refusal-leaves P s flow BadHeaderSum same wanted = same
+refusal-leaves P s flow Fragment same wanted = same
+refusal-leaves P s flow TtlOver same wanted = same
+refusal-leaves P s flow NotUdpTcp same wanted = same
+refusal-leaves P s flow BadTransport same wanted = same
+refusal-leaves P s flow BadArp same wanted = same
+refusal-leaves P s flow BadAdvert same wanted = same
+refusal-leaves P s flow NotUp same wanted = same
+refusal-leaves P s flow NoBinding same wanted = same
+refusal-leaves P s flow CannotWait same wanted = same
+refusal-leaves P s flow BadDatagram same wanted = same
+refusal-leaves P s flow OldWord same wanted = same
+
+-- what is known of a frame by what it is read as
+abbrev pub Reads : Type 0
+Reads = (network : Network) (active up : Bool) (bytes : List ℕ) (reading : Reading) → reading_of network active up bytes ≡ Ok reading → Carries bytes reading
+
+module _ (letters : List Letter) (words : List ℕ) where
+  pub wanted-goes : (s : GatewayAndOutput) (e : Endpoint) → IsWellFormedEndpoint e → Going letters words s (wanted_by s e)
+  wanted-goes s e formed = λ n h stands is.
+      let b = s.shown.ledger.book in
+      let full = is_full s.shown.link in
+      row-goes letters words s (wish_of b full e).row n h is (wish-keeps b full e is.book formed) (wish-works s.shown.moment b s.shown.link n h full e stands)
+
+  pub carried-goes : (s : GatewayAndOutput) (k : Key) (p : Carried) → Going letters words s (carried_by s k p)
+  carried-goes s k p = λ n h stands is.
+      let b = s.shown.ledger.book in
+      let e = s.shown.link in
+      let row = carry_row b k in
+      let still = carry-still b k in
+      let ns = noted_by b.id s.shown.moment row.what in
+      let works = given letters words s.shown.moment b (after b row) e (answered e row.answer) n n ns h (carry-works s.shown.moment b e n h k stands) in
+      record {
+        passes = record {
+          notes = ns;
+          notes_are = refl;
+          datagrams = refl;
+          moment = refl;
+          works = subst (λ (x : Book). Works s.shown.moment letters words b e n x e n ns h) still.0
+              (subst (λ (x : Link). Works s.shown.moment letters words b e n (after b row) x n ns h) (still.1 e) works);
+          sound = record { book = is.book; kept = is.kept };
+        };
+        stays = record { boot = refl; known = refl; closed = refl; taken = refl; lone = λ t. t };
+      }
+
+  pub here : (s : GatewayAndOutput) → Going letters words s s
+  here s = λ n h stands is. nothing letters words s n h stands is
+
+  pub carried-all-goes : (s : GatewayAndOutput) (flow : Flow) (flags : TcpFlags) (by : Translation) → Going letters words s (carried_all s flow flags by)
+  carried-all-goes s flow flags (Outward p) = carried-goes s p.key _
+  carried-all-goes s flow flags (Inward p) = carried-goes s p.key _
+  carried-all-goes s flow flags (Hairpin own other) =
+      let address = s.shown.networks.outside.interface.virtual_ip in
+      let first = carried (remote address flow.destination_port) goes.Outward flags s.shown.moment in
+      going-then letters words s (carried_by s own.key first) _ (carried-goes s own.key first) (carried-goes (carried_by s own.key first) other.key _)
+
+  pub wanted-for-goes : (s : GatewayAndOutput) (flow : Flow) (by : Translation) → IsWellFormedEndpoint (source_of flow) → Going letters words s (wanted_for s flow by)
+  wanted-for-goes s flow (Outward p) formed = wanted-goes s (source_of flow) formed
+  wanted-for-goes s flow (Inward p) formed = here s
+  wanted-for-goes s flow (Hairpin own other) formed = wanted-goes s (source_of flow) formed
+
+  pub framed-goes : (s : GatewayAndOutput) (side : Side) (bytes : List ℕ) → Going letters words s (framed s side bytes)
+  framed-goes s side bytes = going-unseen letters words s (framed s side bytes) refl refl refl refl refl (λ k. k)
+
+  pub keeping-goes : (s : GatewayAndOutput) (side : Side) (bytes : List ℕ) (w : WaitsFor) → AreBytes bytes → Going letters words s (keeping s side bytes w)
+  keeping-goes s side bytes w are = going-unseen letters words s (keeping s side bytes w) refl refl refl refl refl (λ k. kept-more s.shown.kept _ k are)
+
+  plan-goes : (s : GatewayAndOutput) (side : Side) (bytes : List ℕ) (flow : Flow) (plan : Plan) → AreBytes bytes → IsWellFormedEndpoint (source_of flow) → PlanFits (Ok plan) → Going letters words s (by_plan s side bytes flow plan)
+  plan-goes s side bytes flow (Send by next) are formed fits =
+      let one = wanted_for s flow by in
+      going-then letters words s (framed one _ _) _
+      (going-then letters words s one (framed one _ _) (wanted-for-goes s flow by formed) (framed-goes one _ _))
+      (carried-all-goes (framed one _ _) flow (flags_in bytes) by)
+  plan-goes s side bytes flow (Ask by hop) are formed fits =
+      let one = wanted_for s flow by in
+      let two = keeping one side bytes _ in
+      going-then letters words s two _
+      (going-then letters words s one two (wanted-for-goes s flow by formed) (keeping-goes one side bytes _ are))
+      (framed-goes two _ _)
+  plan-goes s side bytes flow (WaitFor e) are formed fits =
+      let one = wanted_by s e in
+      going-then letters words s one _ (wanted-goes s e fits) (keeping-goes one side bytes _ are)
+
+  refusal-goes : (s : GatewayAndOutput) (flow : Flow) (reason : Reason) → IsWellFormedEndpoint (source_of flow) → Going letters words s (by_refusal s flow reason)
+  refusal-goes s flow reason formed = refusal-leaves (λ x. Going letters words s x) s flow reason (here s) (wanted-goes s (source_of flow) formed)
+
+  verdict-goes : (s : GatewayAndOutput) (side : Side) (bytes : List ℕ) (flow : Flow) (plan : Result Plan Reason) → AreBytes bytes → IsWellFormedEndpoint (source_of flow) → PlanFits plan → Going letters words s (by_verdict s side bytes flow plan)
+  verdict-goes s side bytes flow (Ok plan) are formed fits = plan-goes s side bytes flow plan are formed fits
+  verdict-goes s side bytes flow (Err reason) are formed fits = refusal-goes s flow reason formed
+
+  pub flow-goes : (s : GatewayAndOutput) (side : Side) (bytes : List ℕ) (flow : Flow) → AreBytes bytes → IsWellFormedEndpoint (source_of flow) → Going letters words s (flow_taken s side bytes flow)
+  flow-goes s side bytes flow are formed = verdict-goes s side bytes flow (plan_of s.shown side flow) are formed (plan-fits s.shown side flow formed)
+
+  -- ---- those whose wait is over
+
+  pub read-formed : Reads → (g : Shown) (side : Side) (bytes : List ℕ) (packet : PacketRead) → AreBytes bytes → reading_on g side bytes ≡ Ok (Packet packet) → IsWellFormedEndpoint (source_of packet.flow)
+  read-formed reads g side bytes packet are read =
+      let at = station_on g side in
+      let known = reads at.network (is_active at) (is_up g) bytes (Packet packet) read in
+      subst (λ (p : PacketRead). IsWellFormedEndpoint (source_of p.flow)) (sym known.1) (source-formed bytes are known.0)
+
+  retaken-goes : Reads → (s : GatewayAndOutput) (side : Side) (bytes : List ℕ) (r : Result Reading Reason) → reading_on s.shown side bytes ≡ r → AreBytes bytes → Going letters words s (retaken_by s side bytes r)
+  retaken-goes reads s side bytes (Ok (Packet packet)) read are = flow-goes s side bytes packet.flow are (read-formed reads s.shown side bytes packet are read)
+  retaken-goes reads s side bytes (Ok (Arp p)) read are = here s
+  retaken-goes reads s side bytes (Ok (Advert a from)) read are = here s
+  retaken-goes reads s side bytes (Err reason) read are = here s
+
+  all-goes : Reads → (s : GatewayAndOutput) (ws : List HeldPacket) → AllByRecursion (λ (w : HeldPacket). AreBytes w.bytes) ws → Going letters words s (all_taken s ws)
+  all-goes reads s [] all = here s
+  all-goes reads s (w ∷ ws) all =
+      going-then letters words s (taken_again s w) _
+      (retaken-goes reads s w.side w.bytes (reading_on s.shown w.side w.bytes) refl all.0)
+      (all-goes reads (taken_again s w) ws all.1)
+
+  pub released-goes : Reads → (s : GatewayAndOutput) (ended : Ended) → Going letters words s (released s ended)
+  released-goes reads s ended = λ n h stands is.
+      let start = scene (record s.shown { kept = left_by ended s.shown.kept }) s.told in
+      going-then letters words s start _
+      (going-unseen letters words s start refl refl refl refl refl (λ k. kept-filter _ s.shown.kept k))
+      (all-goes reads start (ended_by ended s.shown.kept) (kept-filter _ s.shown.kept is.kept))
+      n h stands is

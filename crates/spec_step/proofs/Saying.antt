@@ -1,0 +1,262 @@
+-- One packet, and those whose wait is over: what is told of them is true, and what that rests on holds again.
+use Rattle.std.proofs.Common.{◌≡◌, ℕ, Bool, true, false, not, ◌&&◌, List, [], ◌∷◌, ◌++◌, Option, Some, None, Result, Ok, Err, refl, sym, ap, subst, ◌∙◌}
+use Rattle.std.specs.List.{AllByRecursion}
+use Rattle.addresses.specs.declared.ethernet.Mac.{Mac}
+use Rattle.nat_types.specs.declared.gateways.Side.{Side}
+use Rattle.nat_types.specs.declared.pairs.Endpoint.{Endpoint}
+use Rattle.ipv4.specs.declared.flows.Flow.{Flow}
+use Rattle.ipv4.specs.declared.packets.Packet.{Packet as PacketRead}
+use Rattle.spec_binding.specs.declared.changes.Transition.{Transition}
+use Rattle.spec_binding.specs.Books.{IsBook, is_synced}
+use Rattle.spec_binding.specs.WellFormed.{IsWellFormedEndpoint}
+use Rattle.spec_binding.specs.Rows.{after, is_full, noted_by, wish_of}
+use Rattle.spec_binding.proofs.Offered.{wish-keeps}
+use Rattle.waiting.specs.declared.waits.Ended.{Ended}
+use Rattle.waiting.specs.declared.waits.WaitsFor.{WaitsFor}
+use Rattle.waiting.specs.declared.waits.WaitsFor.TheVariants as wait
+use Rattle.waiting.specs.Packets.{HeldPacket, ended_by, left_by}
+use Rattle.packet_rules.specs.declared.readings.Reading.{Reading}
+use Rattle.packet_rules.specs.declared.readings.Reading.TheVariants.{Arp, Advert, Packet}
+use Rattle.packet_rules.specs.declared.reasons.Reason.{Reason}
+use Rattle.packet_rules.specs.declared.translations.Translation.{Translation}
+use Rattle.packet_rules.specs.declared.translations.Translation.TheVariants.{Outward, Inward, Hairpin}
+use Rattle.packet_rules.specs.Arping.{request_frame}
+use Rattle.packet_rules.specs.Flows.{flow_in, source_of}
+use Rattle.packet_rules.specs.Frames.{is_translation, sent_frame}
+use Rattle.packet_rules.specs.Steps.{IsForwardable, unless, up_refusal}
+use Rattle.interfaces.specs.Stations.{is_active}
+use Rattle.output.specs.Output.{Sent}
+use Rattle.spec_step.specs.declared.plans.Plan.{Plan}
+use Rattle.spec_step.specs.declared.plans.Plan.TheVariants.{Send, Ask, Wait as WaitFor}
+use Rattle.spec_step.specs.Machine.{AreBytes}
+use Rattle.spec_step.specs.Parts.{all_taken, by_plan, by_refusal, by_row, by_verdict, carried_all, flags_in, flow_taken, framed, keeping, released, retaken_by, taken_again, wanted_by, wanted_for}
+use Rattle.spec_step.specs.Shown.{GatewayAndOutput, Shown, id_of, is_up, scene, station_on}
+use Rattle.spec_step.specs.Truly.{AreWired, AtHand, IsSentBy, Known, Tells, known_of, packets_of}
+use Rattle.spec_step.specs.Verdict.{exit_by, plan_of, reading_on}
+use Rattle.spec_step.proofs.Packets.{PlanFits, kept-filter, kept-more, plan-fits, refusal-leaves, source-formed}
+use Rattle.spec_step.proofs.Passing.{IsSound}
+use Rattle.spec_step.proofs.Sending.{AllTranslate, Frames, carried-leaves, found-translate, is-sent, next-six, own-six, sending-tells}
+use Rattle.spec_step.proofs.Sends.{plan-sends}
+use Rattle.spec_step.proofs.Takings.{IsUseless, keeping-tells, wanted-for-known, wish-useless}
+use Rattle.spec_step.proofs.Telling.{at_hand, framed-tells, split-kept, tells-nothing, tells-quietly, tells-then}
+use Rattle.std.proofs.lemmas.List.Sorted.{IsPermutation-sym, IsPermutation-trans}
+
+-- what is told from one scene to another is true, and what that rests on holds afterwards
+pub record Says (hand : List AtHand) (s s2 : GatewayAndOutput) : Type 0 where
+  pub tells : Tells hand s s2
+  pub sound : IsSound s2.shown
+  pub wired : AreWired s2.shown
+
+abbrev pub Speaks : List AtHand → GatewayAndOutput → GatewayAndOutput → Type 0
+Speaks hand s s2 = IsSound s.shown → AreWired s.shown → Says hand s s2
+
+-- a part that leaves what decides where packets go
+abbrev pub Saying : List AtHand → GatewayAndOutput → GatewayAndOutput → Type 0
+Saying hand s s2 = IsSound s.shown → AreWired s.shown → Says hand s s2 × (known_of s2.shown ≡ known_of s.shown)
+
+-- one part behind the other
+pub speaks-then : (h h2 : List AtHand) (a b c : GatewayAndOutput) → Speaks h a b → Saying h2 b c → Speaks (h ++ h2) a c
+speaks-then h h2 a b c x y = λ is w.
+    let one = x is w in
+    let two = y one.sound one.wired in
+    record { tells = tells-then h h2 a b c two.1 one.tells two.0.tells; sound = two.0.sound; wired = two.0.wired }
+
+pub saying-then : (h h2 : List AtHand) (a b c : GatewayAndOutput) → Saying h a b → Saying h2 b c → Saying (h ++ h2) a c
+saying-then h h2 a b c x y = λ is w.
+    let one = x is w in
+    let two = y one.0.sound one.0.wired in (
+      record { tells = tells-then h h2 a b c two.1 one.0.tells two.0.tells; sound = two.0.sound; wired = two.0.wired },
+      two.1 ∙ one.1,
+    )
+
+-- packets are dropped
+pub saying-nothing : (s : GatewayAndOutput) (hand : List AtHand) → Saying hand s s
+saying-nothing s hand = λ is w. (record { tells = tells-nothing s hand; sound = is; wired = w }, refl)
+
+-- a row that uses no pair
+pub row-says : (s : GatewayAndOutput) (row : Transition) → IsUseless row → (IsBook s.shown.ledger.book → IsBook (after s.shown.ledger.book row)) → Saying [] s (by_row s row)
+row-says s row useless keeps = λ is w. (
+  record {
+    tells = tells-quietly s (by_row s row) (noted_by (id_of s.shown) s.shown.moment row.what) refl refl (useless (id_of s.shown) s.shown.moment) refl;
+    sound = record { book = keeps is.book; kept = is.kept };
+    wired = w;
+  },
+  refl,
+)
+
+pub wanted-says : (s : GatewayAndOutput) (e : Endpoint) → IsWellFormedEndpoint e → Saying [] s (wanted_by s e)
+wanted-says s e formed =
+    let b = s.shown.ledger.book in
+    let full = is_full s.shown.link in
+    row-says s (wish_of b full e).row (wish-useless b full e) (λ is. wish-keeps b full e is formed)
+
+wanted-for-says : (s : GatewayAndOutput) (flow : Flow) (by : Translation) → IsWellFormedEndpoint (source_of flow) → Saying [] s (wanted_for s flow by)
+wanted-for-says s flow (Outward p) formed = wanted-says s (source_of flow) formed
+wanted-for-says s flow (Inward p) formed = saying-nothing s []
+wanted-for-says s flow (Hairpin own other) formed = wanted-says s (source_of flow) formed
+
+-- a frame of another sort
+pub framed-says : (s : GatewayAndOutput) (side : Side) (bytes : List ℕ) → (AreWired s.shown → is_translation bytes ≡ false) → Saying [] s (framed s side bytes)
+framed-says s side bytes none = λ is w. (
+  record { tells = framed-tells s side bytes (none w); sound = record { book = is.book; kept = is.kept }; wired = w },
+  refl,
+)
+
+-- a packet is kept
+keeping-says : (s : GatewayAndOutput) (side : Side) (bytes : List ℕ) (w : WaitsFor) → AreBytes bytes → Saying (at_hand side bytes ∷ []) s (keeping s side bytes w)
+keeping-says s side bytes w are = λ is wired. (
+  record {
+    tells = keeping-tells s side bytes w;
+    sound = record { book = is.book; kept = kept-more s.shown.kept _ is.kept are };
+    wired = wired;
+  },
+  refl,
+)
+
+-- what a packet is read with
+record IsRead (s : GatewayAndOutput) (bytes : List ℕ) (flow : Flow) : Type 0 where
+  are : AreBytes bytes
+  synced : is_synced s.shown.ledger.book.stage ≡ true
+  passes : IsForwardable bytes
+  flow_is : flow ≡ flow_in bytes
+
+read-from : (s : GatewayAndOutput) (bytes : List ℕ) (flow : Flow) → IsRead s bytes flow → IsWellFormedEndpoint (source_of flow)
+read-from s bytes flow read = subst (λ (f : Flow). IsWellFormedEndpoint (source_of f)) (sym read.flow_is) (source-formed bytes read.are read.passes)
+
+-- ---- a packet that is sent on
+
+-- from the scene at which its pairs are there
+sending-says : Frames → (s one : GatewayAndOutput) (side : Side) (bytes : List ℕ) (by : Translation) (next : Mac) → IsRead s bytes (flow_in bytes) → plan_of s.shown side (flow_in bytes) ≡ Ok (Send by next)
+    → one ≡ wanted_for s (flow_in bytes) by → IsBook s.shown.ledger.book → AreWired s.shown
+    → Saying (at_hand side bytes ∷ []) one (carried_all (framed one (exit_by by) (sent_frame s.shown.networks by next bytes)) (flow_in bytes) (flags_in bytes) by)
+sending-says frames s one side bytes by next read plan at book wired = λ is w.
+    let flow = flow_in bytes in
+    let planned = plan-sends s.shown side flow by next plan in
+    let found = found-translate s flow by book read.synced planned.pairs in
+    let frame = sent_frame s.shown.networks by next bytes in
+    let same : known_of one.shown ≡ known_of s.shown = ap (λ (x : GatewayAndOutput). known_of x.shown) at ∙ wanted-for-known s flow by in
+    let sent = is-sent s.shown side bytes by next planned found.1 in
+    let c = carried-leaves (framed one (exit_by by) frame) flow (flags_in bytes) by in (
+      record {
+        tells = sending-tells one side bytes flow (flags_in bytes) by frame
+            (subst (λ (k : Known). IsSentBy k (at_hand side bytes) by (let x : Sent = record { side = exit_by by; bytes = frame } in x)) (sym same) sent)
+            (frames.sent s.shown.networks by next bytes wired.0 (next-six s.shown flow by next wired planned.next_is) read.passes)
+            (subst (λ (x : GatewayAndOutput). AllTranslate x.shown.ledger.book by) (sym at) found.0);
+        sound = record {
+          book = subst IsBook (sym c.book) is.book;
+          kept = subst (λ (ws : List HeldPacket). AllByRecursion (λ (x : HeldPacket). AreBytes x.bytes) ws) (sym c.kept) is.kept;
+        };
+        wired = c.wired w;
+      },
+      c.known,
+    )
+
+sent-says : Frames → (s : GatewayAndOutput) (side : Side) (bytes : List ℕ) (by : Translation) (next : Mac) → IsRead s bytes (flow_in bytes) → plan_of s.shown side (flow_in bytes) ≡ Ok (Send by next)
+    → Saying (at_hand side bytes ∷ []) s (by_plan s side bytes (flow_in bytes) (Send by next))
+sent-says frames s side bytes by next read plan =
+    let flow = flow_in bytes in
+    let one = wanted_for s flow by in
+    let frame = sent_frame s.shown.networks by next bytes in
+    let first = wanted-for-says s flow by (read-from s bytes flow read) in
+    λ is w. saying-then [] (at_hand side bytes ∷ []) s one (by_plan s side bytes flow (Send by next)) first (sending-says frames s one side bytes by next read plan refl is.book w) is w
+
+-- ---- any plan, and none
+
+plan-says : Frames → (s : GatewayAndOutput) (side : Side) (bytes : List ℕ) (flow : Flow) (plan : Plan) → IsRead s bytes flow → plan_of s.shown side flow ≡ Ok plan → PlanFits (Ok plan)
+    → Saying (at_hand side bytes ∷ []) s (by_plan s side bytes flow plan)
+plan-says frames s side bytes flow (Send by next) read plan fits =
+    let same = read.flow_is in
+    let read2 : IsRead s bytes (flow_in bytes) = record { are = read.are; synced = read.synced; passes = read.passes; flow_is = refl } in
+    subst (λ (f : Flow). Saying (at_hand side bytes ∷ []) s (by_plan s side bytes f (Send by next))) (sym same)
+    (sent-says frames s side bytes by next read2 (ap (plan_of s.shown side) (sym same) ∙ plan))
+plan-says frames s side bytes flow (Ask by hop) read plan fits =
+    let hand = at_hand side bytes ∷ [] in
+    let one = wanted_for s flow by in
+    let two = keeping one side bytes (wait.Hop (exit_by by) hop) in
+    let network = (station_on s.shown (exit_by by)).network in
+    let first = saying-then [] hand s one two (wanted-for-says s flow by (read-from s bytes flow read)) (keeping-says one side bytes (wait.Hop (exit_by by) hop) read.are) in
+    λ is w. saying-then hand [] s two (framed two (exit_by by) (request_frame network hop)) first
+    (framed-says two (exit_by by) (request_frame network hop) (λ x. frames.request network hop (own-six s.shown w (exit_by by)))) is w
+plan-says frames s side bytes flow (WaitFor e) read plan fits =
+    saying-then [] (at_hand side bytes ∷ []) s (wanted_by s e) (by_plan s side bytes flow (WaitFor e)) (wanted-says s e fits) (keeping-says (wanted_by s e) side bytes (wait.Pair e) read.are)
+
+refusal-says : (s : GatewayAndOutput) (flow : Flow) (reason : Reason) → IsWellFormedEndpoint (source_of flow) → Saying [] s (by_refusal s flow reason)
+refusal-says s flow reason formed = refusal-leaves (λ x. Saying [] s x) s flow reason (saying-nothing s []) (wanted-says s (source_of flow) formed)
+
+flow-says : Frames → (s : GatewayAndOutput) (side : Side) (bytes : List ℕ) (flow : Flow) → IsRead s bytes flow → Saying (at_hand side bytes ∷ []) s (flow_taken s side bytes flow)
+flow-says frames s side bytes flow read = at (plan_of s.shown side flow) refl (plan-fits s.shown side flow (read-from s bytes flow read))
+  where
+    at : (r : Result Plan Reason) → plan_of s.shown side flow ≡ r → PlanFits r → Saying (at_hand side bytes ∷ []) s (by_verdict s side bytes flow r)
+    at (Ok plan) is fits = plan-says frames s side bytes flow plan read is fits
+    at (Err reason) is fits =
+        saying-then (at_hand side bytes ∷ []) [] s s (by_refusal s flow reason) (saying-nothing s (at_hand side bytes ∷ [])) (refusal-says s flow reason (read-from s bytes flow read))
+
+-- ---- frames as they are read
+
+unless-none : (o : Option Reason) (r : Result Reading Reason) (x : Reading) → unless o r ≡ Ok x → (o ≡ None) × (r ≡ Ok x)
+unless-none None r x is = (refl, is)
+unless-none (Some reason) r x is = absurd (cc)
+
+up-none : (up : Bool) → up_refusal up ≡ None → up ≡ true
+unfolding up_refusal
+up-none true is = refl
+up-none false is = absurd (cc)
+
+and-first : (a b : Bool) → (a && b) ≡ true → a ≡ true
+and-first true b is = refl
+and-first false b is = absurd (cc)
+
+-- a gateway that reads a frame is up
+pub reading-synced : (g : Shown) (side : Side) (bytes : List ℕ) (x : Reading) → reading_on g side bytes ≡ Ok x → is_synced g.ledger.book.stage ≡ true
+reading-synced g side bytes x is =
+    let one = unless-none _ _ x is in
+    let two = unless-none (up_refusal (is_up g)) _ x one.1 in
+    and-first (is_synced g.ledger.book.stage) (not g.stopped) (up-none (is_up g) two.0)
+
+pub packet-says : Frames → (s : GatewayAndOutput) (side : Side) (bytes : List ℕ) (packet : PacketRead) → reading_on s.shown side bytes ≡ Ok (Packet packet) → AreBytes bytes
+    → Saying (at_hand side bytes ∷ []) s (flow_taken s side bytes packet.flow)
+packet-says frames s side bytes packet is are =
+    let at = station_on s.shown side in
+    let carries = frames.reads at.network (is_active at) (is_up s.shown) bytes (Packet packet) is in
+    flow-says frames s side bytes packet.flow (record { are = are; synced = reading-synced s.shown side bytes (Packet packet) is; passes = carries.0; flow_is = ap (λ (p : PacketRead). p.flow) carries.1 })
+
+retaken-says : Frames → (s : GatewayAndOutput) (side : Side) (bytes : List ℕ) (r : Result Reading Reason) → reading_on s.shown side bytes ≡ r → AreBytes bytes → Saying (at_hand side bytes ∷ []) s (retaken_by s side bytes r)
+retaken-says frames s side bytes (Ok (Packet packet)) is are = packet-says frames s side bytes packet is are
+retaken-says frames s side bytes (Ok (Arp p)) is are = saying-nothing s (at_hand side bytes ∷ [])
+retaken-says frames s side bytes (Ok (Advert a from)) is are = saying-nothing s (at_hand side bytes ∷ [])
+retaken-says frames s side bytes (Err reason) is are = saying-nothing s (at_hand side bytes ∷ [])
+
+-- ---- those whose wait is over
+
+all-say : Frames → (s : GatewayAndOutput) (ws : List HeldPacket) → AllByRecursion (λ (w : HeldPacket). AreBytes w.bytes) ws → Saying (packets_of ws) s (all_taken s ws)
+all-say frames s [] all = saying-nothing s []
+all-say frames s (w ∷ ws) all =
+    saying-then (at_hand w.side w.bytes ∷ []) (packets_of ws) s (taken_again s w) (all_taken s (w ∷ ws))
+    (retaken-says frames s w.side w.bytes (reading_on s.shown w.side w.bytes) refl all.0) (all-say frames (taken_again s w) ws all.1)
+
+module _ (frames : Frames) (s : GatewayAndOutput) (ended : Ended) where
+  abbrev start : GatewayAndOutput
+  start = scene (record s.shown { kept = left_by ended s.shown.kept }) s.told
+
+  -- from the packets off the list to the list that they were on
+  on-list : Tells (packets_of (ended_by ended s.shown.kept)) start (released s ended) → Tells [] s (released s ended)
+  on-list x = record {
+    frames = x.frames;
+    frames_are = x.frames_are;
+    notes = x.notes;
+    notes_are = x.notes_are;
+    done = x.done;
+    translated = x.translated;
+    used = x.used;
+    each = x.each;
+    dropped = x.dropped;
+    once = IsPermutation-trans _ _ _ (IsPermutation-sym _ _ (split-kept ended s.shown.kept)) x.once;
+  }
+
+  released-by : AllByRecursion (λ (w : HeldPacket). AreBytes w.bytes) s.shown.kept → Saying (packets_of (ended_by ended s.shown.kept)) start (released s ended)
+  released-by all = all-say frames start (ended_by ended s.shown.kept) (kept-filter _ s.shown.kept all)
+
+  pub released-says : Saying [] s (released s ended)
+  released-says = λ is w.
+      let x = released-by is.kept (record { book = is.book; kept = kept-filter _ s.shown.kept is.kept }) w in
+      (record { tells = on-list x.0.tells; sound = x.0.sound; wired = x.0.wired }, x.1)

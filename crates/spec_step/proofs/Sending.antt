@@ -1,0 +1,165 @@
+-- A packet that is sent on is told of truly.
+use Rattle.std.proofs.Common.{◌≡◌, ℕ, true, false, Some, List, [], ◌∷◌, ◌++◌, length, IsPermutation, refl, sym, ap, subst, ◌∙◌, append_assoc}
+use Rattle.std.proofs.lemmas.List.{append-nil}
+use Rattle.std.proofs.lemmas.Grind.{flat_map-append}
+use Rattle.std.proofs.lemmas.List.Sorted.{IsPermutation-refl}
+use Rattle.addresses.specs.declared.ethernet.Mac.{Mac}
+use Rattle.addresses.specs.declared.internet.Ip.{Ip}
+use Rattle.addresses.specs.declared.transport.TcpFlags.{TcpFlags}
+use Rattle.nat_types.specs.declared.gateways.Side.{Side}
+use Rattle.nat_types.specs.declared.gateways.Side.TheVariants.{Inside, Outside}
+use Rattle.nat_types.specs.declared.notes.Note.{Note}
+use Rattle.nat_types.specs.declared.pairs.Pair.{Pair}
+use Rattle.arp.specs.declared.packets.ArpPacket.{ArpPacket}
+use Rattle.arp.specs.Macs.{KnowsMacs}
+use Rattle.arp.specs.Neighbours.{mac_at}
+use Rattle.arp.proofs.Offered.{near-six}
+use Rattle.ipv4.specs.declared.flows.Flow.{Flow}
+use Rattle.spec_binding.specs.Books.{Book, IsBook, is_synced}
+use Rattle.spec_binding.specs.Rows.{carry_row, is_full, noted_by}
+use Rattle.waiting.specs.Packets.{HeldPacket}
+use Rattle.packet_rules.specs.declared.networks.Network.{Network}
+use Rattle.packet_rules.specs.declared.networks.Networks.{Networks}
+use Rattle.packet_rules.specs.declared.translations.Translation.{Translation}
+use Rattle.packet_rules.specs.declared.translations.Translation.TheVariants.{Outward, Inward, Hairpin}
+use Rattle.packet_rules.specs.Adverts.{advert_frame}
+use Rattle.packet_rules.specs.Arping.{answer_frame, gratuitous_frame, request_frame}
+use Rattle.packet_rules.specs.Flows.{flow_in, source_of}
+use Rattle.packet_rules.specs.Frames.{hop_of, is_translation, pairs_of, sent_frame}
+use Rattle.packet_rules.specs.Networks.{IsWired}
+use Rattle.packet_rules.specs.Steps.{IsForwardable}
+use Rattle.output.specs.Output.{Sent}
+use Rattle.spec_step.specs.Parts.{carried_all, framed, wanted_for}
+use Rattle.spec_step.specs.Shown.{GatewayAndOutput, Shown, id_of, station_on}
+use Rattle.spec_step.specs.Truly.{AreItsPairs, AreWired, IsSentBy, Known, Sending, Tells, known_of, near_on, packets_of, used_in, used_pairs}
+use Rattle.spec_step.specs.Verdict.{exit_by, hop_by, next_by}
+use Rattle.spec_step.proofs.Packets.{Reads}
+use Rattle.spec_step.proofs.Sends.{AreFound, IsOwn, IsPlanned}
+use Rattle.spec_step.proofs.Telling.{at_hand}
+use Rattle.spec_step.proofs.Translating.{Translates, carry-note, target-translates, wish-owns, wish-still}
+
+-- what is known of frames: what they are read as, and which of those that are sent are translations
+pub record Frames : Type 0 where
+  pub reads : Reads
+  pub sent : (networks : Networks) (t : Translation) (next : Mac) (bytes : List ℕ) → IsWired networks → length next.0 ≡ 6 → IsForwardable bytes → is_translation (sent_frame networks t next bytes) ≡ true
+  pub answer : (network : Network) (p : ArpPacket) (mac : Mac) → length network.own_mac.0 ≡ 6 → length p.sender_mac.0 ≡ 6 → is_translation (answer_frame network p mac) ≡ false
+  pub request : (network : Network) (ip : Ip) → length network.own_mac.0 ≡ 6 → is_translation (request_frame network ip) ≡ false
+  pub gratuitous : (network : Network) → is_translation (gratuitous_frame network) ≡ false
+  pub advert : (network : Network) (priority interval : ℕ) → is_translation (advert_frame network priority interval) ≡ false
+
+pub near-is : (g : Shown) (side : Side) → near_on (known_of g) side ≡ (station_on g side).neighbours
+near-is g Inside = refl
+near-is g Outside = refl
+
+pub known-on : (g : Shown) → AreWired g → (side : Side) → KnowsMacs (station_on g side).neighbours
+known-on g w Inside = w.1.0.known
+known-on g w Outside = w.1.1.known
+
+pub own-six : (g : Shown) → AreWired g → (side : Side) → length (station_on g side).network.own_mac.0 ≡ 6
+own-six g w Inside = w.1.0.own
+own-six g w Outside = w.1.1.own
+
+-- ---- the pairs of a plan
+
+-- each of them translates
+abbrev pub AllTranslate : Book → Translation → Type 0
+AllTranslate b (Outward p) = Translates b p
+AllTranslate b (Inward p) = Translates b p
+AllTranslate b (Hairpin own other) = Translates b own × Translates b other
+
+own-translates : (s : GatewayAndOutput) (flow : Flow) (p : Pair) → IsBook s.shown.ledger.book → IsOwn s.shown flow p
+    → Translates (wanted_for s flow (Outward p)).shown.ledger.book p × (p.endpoint ≡ source_of flow)
+own-translates s flow p is own = (
+  subst (λ (q : Pair). Translates (wanted_for s flow (Outward p)).shown.ledger.book q) (sym own.1.1)
+      (wish-owns s.shown.ledger.book (is_full s.shown.link) (source_of flow) is own.0 own.1.0),
+  ap (λ (q : Pair). q.endpoint) own.1.1,
+)
+
+pub found-translate : (s : GatewayAndOutput) (flow : Flow) (by : Translation) → IsBook s.shown.ledger.book → is_synced s.shown.ledger.book.stage ≡ true → AreFound s.shown flow by
+    → AllTranslate (wanted_for s flow by).shown.ledger.book by × AreItsPairs flow by
+found-translate s flow (Outward p) is synced found = own-translates s flow p is found
+found-translate s flow (Inward p) is synced found = target-translates s.shown flow p synced found
+found-translate s flow (Hairpin own other) is synced found =
+    let first = own-translates s flow own is found.0 in
+    let second = target-translates s.shown flow other synced found.1 in (
+      (first.0, wish-still s.shown.ledger.book (is_full s.shown.link) (source_of flow) is other second.0),
+      (first.1, second.1),
+    )
+
+-- ---- their notes
+
+abbrev pub carry_notes : Shown → Pair → List Note
+carry_notes g p = noted_by (id_of g) g.moment (carry_row g.ledger.book p.key).what
+
+abbrev pub all_notes : Shown → Translation → List Note
+all_notes g (Outward p) = carry_notes g p
+all_notes g (Inward p) = carry_notes g p
+all_notes g (Hairpin own other) = carry_notes g own ++ carry_notes g other
+
+all-used : (g : Shown) (by : Translation) → AllTranslate g.ledger.book by → used_pairs (all_notes g by) ≡ pairs_of by
+all-used g (Outward p) t = carry-note g.ledger.book p (id_of g) g.moment t
+all-used g (Inward p) t = carry-note g.ledger.book p (id_of g) g.moment t
+all-used g (Hairpin own other) t =
+    flat_map-append (λ (n : Note). used_in n.what) (carry_notes g own) (carry_notes g other)
+    ∙ ap (λ (ps : List Pair). ps ++ used_pairs (carry_notes g other)) (carry-note g.ledger.book own (id_of g) g.moment t.0)
+    ∙ ap (λ (ps : List Pair). own ∷ ps) (carry-note g.ledger.book other (id_of g) g.moment t.1)
+
+-- what the carrying leaves, and what it notes
+pub record Carries-on (s s2 : GatewayAndOutput) (by : Translation) : Type 0 where
+  pub frames : s2.told.frames ≡ s.told.frames
+  pub notes : s2.told.notes ≡ s.told.notes ++ all_notes s.shown by
+  pub kept : s2.shown.kept ≡ s.shown.kept
+  pub known : known_of s2.shown ≡ known_of s.shown
+  pub book : s2.shown.ledger.book ≡ s.shown.ledger.book
+  pub wired : AreWired s.shown → AreWired s2.shown
+  pub nets : (s2.shown.inside.network ≡ s.shown.inside.network) × (s2.shown.outside.network ≡ s.shown.outside.network)
+
+pub carried-leaves : (s : GatewayAndOutput) (flow : Flow) (flags : TcpFlags) (by : Translation) → Carries-on s (carried_all s flow flags by) by
+carried-leaves s flow flags (Outward p) = record { frames = refl; notes = refl; kept = refl; known = refl; book = refl; wired = λ w. w; nets = (refl, refl) }
+carried-leaves s flow flags (Inward p) = record { frames = refl; notes = refl; kept = refl; known = refl; book = refl; wired = λ w. w; nets = (refl, refl) }
+carried-leaves s flow flags (Hairpin own other) = record {
+  frames = refl;
+  notes = append_assoc s.told.notes (carry_notes s.shown own) (carry_notes s.shown other);
+  kept = refl;
+  known = refl;
+  book = refl;
+  wired = λ w. w;
+  nets = (refl, refl);
+}
+
+-- ---- the frame
+
+pub is-sent : (g : Shown) (side : Side) (bytes : List ℕ) (by : Translation) (next : Mac) → IsPlanned g side (flow_in bytes) by next → AreItsPairs (flow_in bytes) by
+    → IsSentBy (known_of g) (at_hand side bytes) by (let x : Sent = record { side = exit_by by; bytes = sent_frame g.networks by next bytes } in x)
+is-sent g side bytes by next plan pairs = record {
+  way = plan.way;
+  pairs = pairs;
+  side = refl;
+  next = next;
+  hop = ap (mac_at (hop_of g.networks by (flow_in bytes).destination.0) g.moment) (near-is g (exit_by by)) ∙ plan.next_is;
+  bytes_are = refl;
+}
+
+pub next-six : (g : Shown) (flow : Flow) (by : Translation) (next : Mac) → AreWired g → next_by g by flow ≡ Some next → length next.0 ≡ 6
+next-six g flow by next wired is = near-six (hop_by g by flow).0 g.moment (station_on g (exit_by by)).neighbours next (known-on g wired (exit_by by)) is
+
+-- the frame of a packet, and the notes of its pairs
+pub sending-tells : (s : GatewayAndOutput) (side : Side) (bytes : List ℕ) (flow : Flow) (flags : TcpFlags) (by : Translation) (frame : List ℕ)
+    → IsSentBy (known_of s.shown) (at_hand side bytes) by (let x : Sent = record { side = exit_by by; bytes = frame } in x) → is_translation frame ≡ true → AllTranslate s.shown.ledger.book by
+    → Tells (at_hand side bytes ∷ []) s (carried_all (framed s (exit_by by) frame) flow flags by)
+sending-tells s side bytes flow flags by frame sent is all =
+    let c = carried-leaves (framed s (exit_by by) frame) flow flags by in
+    let x : Sent = record { side = exit_by by; bytes = frame } in
+    let d : Sending = record { packet = at_hand side bytes; by = by; sent = x } in
+    record {
+      frames = x ∷ [];
+      frames_are = c.frames;
+      notes = all_notes s.shown by;
+      notes_are = c.notes;
+      done = d ∷ [];
+      translated = rw is refl;
+      used = all-used s.shown by all ∙ sym (append-nil (pairs_of by));
+      each = (subst (λ (k : Known). IsSentBy k (at_hand side bytes) by x) (sym c.known) sent, tt);
+      dropped = [];
+      once = subst (λ (ws : List HeldPacket). IsPermutation (at_hand side bytes ∷ packets_of s.shown.kept) (at_hand side bytes ∷ packets_of ws)) (sym c.kept) (IsPermutation-refl (at_hand side bytes ∷ packets_of s.shown.kept));
+    }

@@ -1,0 +1,101 @@
+-- A whole step as a step of the machine.
+use Rattle.std.proofs.Common.{◌≡◌, ℕ, List, [], ◌∷◌, Result, Ok, Err, refl, sym, subst}
+use Rattle.nat_types.specs.declared.gateways.Side.{Side}
+use Rattle.nat_types.specs.declared.records.Record.{Record}
+use Rattle.link.specs.Reading.{reading}
+use Rattle.spec_binding.specs.Books.{IsBook}
+use Rattle.bindings.specs.Lives.{idle_keys_in}
+use Rattle.packet_rules.specs.declared.readings.Reading.{Reading}
+use Rattle.packet_rules.specs.declared.readings.Reading.TheVariants.{Arp, Advert, Packet}
+use Rattle.packet_rules.specs.declared.reasons.Reason.{Reason}
+use Rattle.vrrp_states.specs.Table as table
+use Rattle.spec_step.specs.declared.events.Event.{Event}
+use Rattle.spec_step.specs.declared.events.Event.TheVariants.{Frame, Datagram as Comes, Tick, Stop, PeerOff}
+use Rattle.spec_step.specs.Machine.{AreBytes, Goes, HasBytes, HasPushed, IsAlone, IsStanding, KeepsBytes, letter_in, letters_in, words_in}
+use Rattle.spec_step.specs.Parts.{idle_taken, old_dropped}
+use Rattle.spec_step.specs.Shown.{GatewayAndOutput}
+use Rattle.spec_step.specs.Steps.{Does, FrameDoes, IsStepOn, ended_on, stopped, ticked, word_refusal}
+use Rattle.spec_step.specs.Verdict.{reading_on}
+use Rattle.spec_step.proofs.Ending.{answered-goes, answered-keeps, ticked-goes, ticked-keeps}
+use Rattle.spec_step.proofs.Hearing.{Arrives, all-idle-goes, arrives-by, datagram-arrives, word-arrives}
+use Rattle.spec_step.proofs.Packets.{Reads, flow-goes, here, read-formed}
+use Rattle.spec_step.proofs.Passing.{Going, IsSound, going-then}
+use Rattle.spec_step.proofs.Sides.{arp-goes, both-go, old-goes, router-goes, stopped-goes}
+
+frame-goes : Reads → (s : GatewayAndOutput) (side : Side) (bytes : List ℕ) (r : Result Reading Reason) (s2 : GatewayAndOutput) → reading_on s.shown side bytes ≡ r → AreBytes bytes → FrameDoes s side bytes r s2 → Going [] [] s s2
+frame-goes reads s side bytes (Ok (Arp p)) s2 read are does = subst (λ (x : GatewayAndOutput). Going [] [] s x) (sym does) (arp-goes [] [] reads s side p)
+frame-goes reads s side bytes (Ok (Advert a from)) s2 read are does = router-goes [] [] s side _ s2 does
+frame-goes reads s side bytes (Ok (Packet packet)) s2 read are does = subst (λ (x : GatewayAndOutput). Going [] [] s x) (sym does) (flow-goes [] [] s side bytes packet.flow are (read-formed [] [] reads s.shown side bytes packet are read))
+frame-goes reads s side bytes (Err reason) s2 read are does = subst (λ (x : GatewayAndOutput). Going [] [] s x) (sym does) (here [] [] s)
+
+-- where the event's own parts begin: a tick moves the clock first
+abbrev pub begun_on : GatewayAndOutput → Event → GatewayAndOutput
+begun_on s (Frame side bytes) = s
+begun_on s (Comes bytes) = s
+begun_on s (Tick now) = ticked s now
+begun_on s Stop = s
+begun_on s (PeerOff n) = s
+
+pub does-arrives : Reads → (s : GatewayAndOutput) (event : Event) (done : GatewayAndOutput) (h : List Record) → Does s event done → HasBytes event → HasPushed s.shown h → IsSound s.shown → IsAlone s.shown → Arrives (letters_in event) (words_in event) (begun_on s event) done h
+does-arrives reads s (Frame side bytes) done h does has stands is alone =
+    arrives-by [] [] s done h (frame-goes reads s side bytes.now (reading_on s.shown side bytes.now) done refl has does) stands is alone
+does-arrives reads s (Comes bytes) done h does has stands is alone =
+    subst (λ (x : GatewayAndOutput). Arrives (letter_in (reading bytes.now)) [] s x h) (sym does) (datagram-arrives reads s h bytes.now (reading bytes.now) refl has stands is alone)
+does-arrives reads s (Tick now) done h does has stands is alone =
+    let start = ticked s now in
+    let middle = does.0 in
+    let young = old_dropped middle in
+    let ledger = young.shown.ledger in
+    let going = going-then [] [] start middle (idle_taken young) (both-go [] [] start table.Tick middle does.1)
+    (going-then [] [] middle young (idle_taken young) (old-goes [] [] middle)
+    (all-idle-goes [] [] young (idle_keys_in young.shown.moment ledger.book.entries ledger.lives))) in
+    arrives-by [] [] start done h (subst (λ (x : GatewayAndOutput). Going [] [] start x) (sym does.2) going) stands (record { book = is.book; kept = is.kept }) alone
+does-arrives reads s Stop done h does has stands is alone =
+    let middle = does.0 in
+    let going = going-then [] [] s middle (stopped middle) (both-go [] [] s table.Stop middle does.1) (stopped-goes [] [] middle) in
+    arrives-by [] [] s done h (subst (λ (x : GatewayAndOutput). Going [] [] s x) (sym does.2) going) stands is alone
+does-arrives reads s (PeerOff n) done h does has stands is alone =
+    subst (λ (x : GatewayAndOutput). Arrives [] (n ∷ []) s x h) (sym does) (word-arrives reads s n h (word_refusal s.shown n) refl stands is alone)
+
+ended-goes : (s : GatewayAndOutput) (event : Event) (done : GatewayAndOutput) (h : List Record) → Arrives (letters_in event) (words_in event) (begun_on s event) done h → Goes (letters_in event) (words_in event) s (ended_on event done) h
+ended-goes s (Frame side bytes) done h a = answered-goes [] [] s h done a
+ended-goes s (Comes bytes) done h a = answered-goes (letter_in (reading bytes.now)) [] s h done a
+ended-goes s (Tick now) done h a =
+    let g = ticked-goes [] [] (ticked s now) h done a in
+    record {
+      history = g.history;
+      pushed = g.pushed;
+      notes = g.notes;
+      notes_are = g.notes_are;
+      sent = g.sent;
+      datagrams_are = g.datagrams_are;
+      few = g.few;
+      own = g.own;
+      house = g.house;
+      step = g.step;
+    }
+ended-goes s Stop done h a = answered-goes [] [] s h done a
+ended-goes s (PeerOff n) done h a = answered-goes [] (n ∷ []) s h done a
+
+ended-keeps : (s : GatewayAndOutput) (event : Event) (done : GatewayAndOutput) (h : List Record) → Arrives (letters_in event) (words_in event) (begun_on s event) done h → IsSound (ended_on event done).shown × IsAlone (ended_on event done).shown
+ended-keeps s (Frame side bytes) done h a = answered-keeps [] [] s h done a
+ended-keeps s (Comes bytes) done h a = answered-keeps (letter_in (reading bytes.now)) [] s h done a
+ended-keeps s (Tick now) done h a = ticked-keeps [] [] (ticked s now) h done a
+ended-keeps s Stop done h a = answered-keeps [] [] s h done a
+ended-keeps s (PeerOff n) done h a = answered-keeps [] (n ∷ []) s h done a
+
+pub step-goes : Reads → (s : GatewayAndOutput) (event : Event) (s2 : GatewayAndOutput) (h : List Record) → IsStepOn s event s2 → HasBytes event → IsBook s.shown.ledger.book → IsAlone s.shown → KeepsBytes s.shown → HasPushed s.shown h → Goes (letters_in event) (words_in event) s s2 h
+step-goes reads s event s2 h step has book alone kept pushed =
+    let a = does-arrives reads s event step.done h step.does has pushed (record { book = book; kept = kept }) alone in
+    subst (λ (x : GatewayAndOutput). Goes (letters_in event) (words_in event) s x h) (sym step.sends) (ended-goes s event step.done h a)
+
+pub step-keeps : Reads → (s : GatewayAndOutput) (event : Event) (s2 : GatewayAndOutput) (h : List Record) → IsStepOn s event s2 → HasBytes event → IsBook s.shown.ledger.book → IsAlone s.shown → KeepsBytes s.shown → HasPushed s.shown h → IsBook s2.shown.ledger.book × (IsAlone s2.shown × KeepsBytes s2.shown)
+step-keeps reads s event s2 h step has book alone kept pushed =
+    let a = does-arrives reads s event step.done h step.does has pushed (record { book = book; kept = kept }) alone in
+    let k = ended-keeps s event step.done h a in
+    subst (λ (x : GatewayAndOutput). IsBook x.shown.ledger.book × (IsAlone x.shown × KeepsBytes x.shown)) (sym step.sends) (k.0.book, (k.1, k.0.kept))
+
+pub parts-stand : Reads → (s : GatewayAndOutput) (event : Event) (done : GatewayAndOutput) (h : List Record) → Does s event done → HasBytes event → IsBook s.shown.ledger.book → IsAlone s.shown → KeepsBytes s.shown → HasPushed s.shown h → (h2 : List Record) × IsStanding done.shown h2
+parts-stand reads s event done h does has book alone kept pushed =
+    let a = does-arrives reads s event done h does has pushed (record { book = book; kept = kept }) alone in
+    (a.passes.works.history, record { book = a.passes.sound.book; alone = a.alone; kept = a.passes.sound.kept; pushed = a.passes.works.agrees })

@@ -1,0 +1,91 @@
+-- A wish for a port uses no pair, and a packet that is kept is told of truly.
+use Rattle.std.proofs.Common.{◌≡◌, ℕ, Bool, true, false, cond, List, [], ◌∷◌, Option, Some, None, IsPermutation, refl, sym, subst}
+use Rattle.std.proofs.lemmas.List.{append-nil, map-append}
+use Rattle.std.proofs.lemmas.List.Sorted.{IsPermutation-append_comm}
+use Rattle.addresses.specs.declared.transport.Port.{Port}
+use Rattle.nat_types.specs.declared.gateways.GatewayId.{GatewayId}
+use Rattle.nat_types.specs.declared.gateways.Side.{Side}
+use Rattle.nat_types.specs.declared.notes.NoteKind.TheVariants.{Retaken}
+use Rattle.nat_types.specs.declared.pairs.Endpoint.{Endpoint}
+use Rattle.nat_types.specs.declared.pairs.EntryState.{EntryState}
+use Rattle.nat_types.specs.declared.pairs.EntryState.TheVariants as state
+use Rattle.nat_types.specs.declared.pairs.Pair.{Pair}
+use Rattle.nat_types.specs.declared.records.Record.TheVariants as record_of
+use Rattle.bindings.specs.declared.entries.Entry.{Entry}
+use Rattle.bindings.specs.Entries.{entry_in, entry_of}
+use Rattle.ipv4.specs.declared.flows.Flow.{Flow}
+use Rattle.spec_binding.specs.declared.changes.Change.TheVariants.{Add}
+use Rattle.spec_binding.specs.declared.changes.Change.TheVariants as change_of
+use Rattle.spec_binding.specs.declared.changes.Transition.{Transition}
+use Rattle.spec_binding.specs.declared.changes.PortRequest.{PortRequest}
+use Rattle.spec_binding.specs.declared.changes.Want.TheVariants as want
+use Rattle.spec_binding.specs.Books.{Book, is_lone, is_synced}
+use Rattle.spec_binding.specs.Rows.{known_wish, may_want, new_pair, new_wish, none_row, noted_by, port_for, proposal, quiet, row, wish, wish_by, wish_of}
+use Rattle.waiting.specs.declared.waits.WaitsFor.{WaitsFor}
+use Rattle.waiting.specs.Packets.{HeldPacket}
+use Rattle.packet_rules.specs.declared.translations.Translation.{Translation}
+use Rattle.packet_rules.specs.declared.translations.Translation.TheVariants.{Outward, Inward, Hairpin}
+use Rattle.spec_step.specs.Parts.{keeping, wanted_for}
+use Rattle.spec_step.specs.Shown.{GatewayAndOutput}
+use Rattle.spec_step.specs.Truly.{Tells, known_of, packets_of, used_pairs}
+use Rattle.spec_step.proofs.Telling.{at_hand}
+
+-- ---- what decides where packets go
+
+pub wanted-for-known : (s : GatewayAndOutput) (flow : Flow) (by : Translation) → known_of (wanted_for s flow by).shown ≡ known_of s.shown
+wanted-for-known s flow (Outward p) = refl
+wanted-for-known s flow (Inward p) = refl
+wanted-for-known s flow (Hairpin own other) = refl
+
+-- ---- a wish uses no pair
+
+abbrev pub IsUseless : Transition → Type 0
+IsUseless r = (i : GatewayId) (now : ℕ) → used_pairs (noted_by i now r.what) ≡ []
+
+known-useless : (p : Pair) (s : EntryState) → IsUseless (known_wish p s).row
+known-useless p state.Pending = λ i now. refl
+known-useless p state.Doomed = λ i now. refl
+known-useless p state.Live = λ i now. refl
+known-useless p state.Closing = λ i now. refl
+known-useless p state.Held = λ i now. refl
+
+pub either-row : (t : Bool) (x y : Transition) → IsUseless x → IsUseless y → IsUseless (cond t x y)
+either-row true x y a b = a
+either-row false x y a b = b
+
+either-wish : (t : Bool) (x y : PortRequest) → IsUseless x.row → IsUseless y.row → IsUseless (let w : PortRequest = cond t x y in w.row)
+either-wish true x y a b = a
+either-wish false x y a b = b
+
+none-useless : (b : Book) (full : Bool) → IsUseless (none_row b full)
+none-useless b full = either-row (may_want b full) (row change_of.Want (Some record_of.Want) None) quiet (λ i now. refl) (λ i now. refl)
+
+new-useless : (b : Book) (full : Bool) (e : Endpoint) (o : Option Port) → IsUseless (new_wish b full e o).row
+new-useless b full e None = none-useless b full
+new-useless b full e (Some port) =
+    either-wish (is_lone b.stage) (wish (want.Port port) (row (Add (entry_in state.Live (new_pair e port))) None (Some (Retaken (new_pair e port))))) (cond full (wish want.NotNow quiet) (wish want.Wait (proposal (new_pair e port)))) (λ i now. refl)
+    (either-wish full (wish want.NotNow quiet) (wish want.Wait (proposal (new_pair e port))) (λ i now. refl) (λ i now. refl))
+
+by-useless : (b : Book) (full : Bool) (e : Endpoint) (o : Option Entry) → IsUseless (wish_by b full e o).row
+by-useless b full e (Some x) = known-useless x.pair x.state
+by-useless b full e None = new-useless b full e (port_for b e)
+
+pub wish-useless : (b : Book) (full : Bool) (e : Endpoint) → IsUseless (wish_of b full e).row
+wish-useless b full e = either-wish (is_synced b.stage) (wish_by b full e (entry_of b.entries e)) (wish want.NotNow quiet) (by-useless b full e (entry_of b.entries e)) (λ i now. refl)
+
+-- a packet is kept
+pub keeping-tells : (s : GatewayAndOutput) (side : Side) (bytes : List ℕ) (w : WaitsFor) → Tells (at_hand side bytes ∷ []) s (keeping s side bytes w)
+keeping-tells s side bytes w =
+    let view = λ (x : HeldPacket). at_hand x.side x.bytes in
+    record {
+      frames = [];
+      frames_are = sym (append-nil s.told.frames);
+      notes = [];
+      notes_are = sym (append-nil s.told.notes);
+      done = [];
+      translated = refl;
+      used = refl;
+      each = tt;
+      dropped = [];
+      once = subst (λ ps. IsPermutation (at_hand side bytes ∷ packets_of s.shown.kept) ps) (sym (map-append view s.shown.kept _)) (IsPermutation-append_comm (at_hand side bytes ∷ []) (packets_of s.shown.kept));
+    }

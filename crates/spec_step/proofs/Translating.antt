@@ -1,0 +1,220 @@
+-- The pairs that a packet is sent by translate: the note of each names it.
+use Rattle.std.proofs.Common.{◌≡◌, ℕ, Bool, true, false, cond, Option, Some, None, Ok, [], ◌∷◌, refl, sym, ap, subst, ◌∙◌}
+use Rattle.std.proofs.lemmas.Bool.{cond-false, cond-true}
+use Rattle.addresses.specs.declared.transport.Port.{Port}
+use Rattle.addresses.specs.declared.transport.Protocol.{Protocol}
+use Rattle.nat_types.specs.declared.gateways.GatewayId.{GatewayId}
+use Rattle.nat_types.specs.declared.pairs.Endpoint.{Endpoint}
+use Rattle.nat_types.specs.declared.pairs.EntryState.{EntryState}
+use Rattle.nat_types.specs.declared.pairs.EntryState.TheVariants as state
+use Rattle.nat_types.specs.declared.pairs.Key.{Key}
+use Rattle.nat_types.specs.declared.pairs.Pair.{Pair}
+use Rattle.nat_types.specs.declared.records.Record.TheVariants as record_of
+use Rattle.nat_types.specs.declared.notes.NoteKind.TheVariants.{Retaken}
+use Rattle.nat_types.specs.Same.{same_key}
+use Rattle.nat_types.proofs.Offered.{key-false, key-self}
+use Rattle.bindings.specs.declared.entries.Entry.{Entry}
+use Rattle.bindings.specs.Entries.{entry_in, entry_of, serves, slot_of, translates}
+use Rattle.bindings.specs.Lists.{put_in}
+use Rattle.bindings.proofs.Offered.{entry-serves, found-slot, slot-key, slot-put}
+use Rattle.ipv4.specs.declared.flows.Flow.{Flow}
+use Rattle.spec_binding.specs.declared.changes.Change.TheVariants.{Add}
+use Rattle.spec_binding.specs.declared.changes.Change.TheVariants as change_of
+use Rattle.spec_binding.specs.declared.changes.Transition.{Transition}
+use Rattle.spec_binding.specs.declared.changes.Want.TheVariants as want
+use Rattle.spec_binding.specs.declared.changes.PortRequest.{PortRequest}
+use Rattle.spec_binding.specs.Books.{Book, IsBook, is_lone, is_synced}
+use Rattle.spec_binding.specs.Rows.{after, carry_row, known_wish, may_want, new_pair, new_wish, none_row, noted_by, port_for, proposal, quiet, row, use_row, used_row, wish, wish_by, wish_of}
+use Rattle.spec_binding.proofs.Offered.{at-key, chosen-says}
+use Rattle.packet_rules.specs.Flows.{target_of}
+use Rattle.spec_step.specs.Shown.{Shown}
+use Rattle.spec_step.specs.Truly.{used_pairs}
+use Rattle.spec_step.specs.Verdict.{pair_at, pair_in, target_pair}
+
+-- packets are translated by this pair
+pub record Translates (b : Book) (p : Pair) : Type 0 where
+  pub synced : is_synced b.stage ≡ true
+  pub entry : Entry
+  pub found : slot_of b.entries p.key ≡ Some entry
+  pub pair : entry.pair ≡ p
+  pub live : translates entry.state ≡ true
+
+state-note : (i : GatewayId) (now : ℕ) (q : Pair) (s : EntryState) → translates s ≡ true → used_pairs (noted_by i now (used_row q s).what) ≡ q ∷ []
+state-note i now q state.Pending is = absurd (cc)
+state-note i now q state.Doomed is = absurd (cc)
+state-note i now q state.Live is = refl
+state-note i now q state.Closing is = absurd (cc)
+state-note i now q state.Held is = refl
+
+-- a packet that it carries is noted as its use
+pub carry-note : (b : Book) (p : Pair) (i : GatewayId) (now : ℕ) → Translates b p → used_pairs (noted_by i now (carry_row b p.key).what) ≡ p ∷ []
+carry-note b p i now t = at (is_synced b.stage) (slot_of b.entries p.key) t.synced t.found
+  where
+    at : (s : Bool) (o : Option Entry) → s ≡ true → o ≡ Some t.entry → used_pairs (noted_by i now (let r : Transition = cond s (use_row o) quiet in r.what)) ≡ p ∷ []
+    at true (Some x) synced is =
+        let same : x ≡ t.entry = cc in
+        subst (λ (y : Entry). used_pairs (noted_by i now (used_row y.pair y.state).what) ≡ p ∷ []) (sym same)
+        (state-note i now t.entry.pair t.entry.state t.live ∙ ap (λ (q : Pair). q ∷ []) t.pair)
+    at true None synced is = absurd (cc)
+    at false o synced is = absurd (cc)
+
+pair-is : (p : Pair) (e : Endpoint) (port : Port) → p.endpoint ≡ e → e.protocol ≡ p.key.protocol → p.key.port ≡ port → p ≡ new_pair e port
+pair-is p e port a b c =
+    ap (λ (x : Endpoint). let q : Pair = record { key = p.key; endpoint = x } in q) a
+    ∙ (ap (λ (x : Protocol). let q : Pair = record { key = record { protocol = x; port = p.key.port }; endpoint = e } in q) (sym b)
+    ∙ ap (λ (x : Port). let q : Pair = record { key = record { protocol = e.protocol; port = x }; endpoint = e } in q) c)
+
+-- ---- the pair of an endpoint whose packet is translated at once
+
+module _ (b : Book) (full : Bool) (e : Endpoint) (is : IsBook b) where
+  -- a pair that was there
+  known-owns : is_synced b.stage ≡ true → (x : Entry) → entry_of b.entries e ≡ Some x → (port : Port) → x.pair.key.port ≡ port → translates x.state ≡ true → Translates b (new_pair e port)
+  known-owns synced x there port at live =
+      let found = found-slot (serves e) b.entries x is.keys there in
+      let formed = is.formed x.pair.key x found in
+      let serving = (entry-serves b.entries e x there).1 in
+      let same = pair-is x.pair e port serving (ap (λ (q : Endpoint). q.protocol) (sym serving) ∙ formed.protocol) at in
+      record {
+        synced = synced;
+        entry = x;
+        found = ap (λ (q : Pair). slot_of b.entries q.key) (sym same) ∙ found;
+        pair = same;
+        live = live;
+      }
+
+  known-says : is_synced b.stage ≡ true → (x : Entry) → entry_of b.entries e ≡ Some x → (p : Pair) (s : EntryState) → x.pair ≡ p → x.state ≡ s → (port : Port) → (known_wish p s).answer ≡ want.Port port
+      → Translates (after b (known_wish p s).row) (new_pair e port)
+  known-says synced x there p state.Pending pair st port says = absurd (cc)
+  known-says synced x there p state.Doomed pair st port says = absurd (cc)
+  known-says synced x there p state.Live pair st port says = let one : p.key.port ≡ port = cc in known-owns synced x there port (ap (λ (q : Pair). q.key.port) pair ∙ one) (ap translates st)
+  known-says synced x there p state.Closing pair st port says = absurd (cc)
+  known-says synced x there p state.Held pair st port says = let one : p.key.port ≡ port = cc in known-owns synced x there port (ap (λ (q : Pair). q.key.port) pair ∙ one) (ap translates st)
+
+  -- one that is added
+  new-owns : is_synced b.stage ≡ true → (q port : Port) → port_for b e ≡ Some q → q ≡ port → Translates (after b (row (Add (entry_in state.Live (new_pair e q))) None (Some (Retaken (new_pair e q))))) (new_pair e port)
+  new-owns synced q port chosen same =
+      let fresh = chosen-says b e q chosen in
+      let there : Translates (after b (row (Add (entry_in state.Live (new_pair e q))) None (Some (Retaken (new_pair e q))))) (new_pair e q) = record {
+        synced = synced;
+        entry = entry_in state.Live (new_pair e q);
+        found = slot-put (entry_in state.Live (new_pair e q)) b.entries (new_pair e q).key fresh.free ∙ self (new_pair e q).key;
+        pair = refl;
+        live = refl;
+      } in
+      subst (λ (x : Port). Translates (after b (row (Add (entry_in state.Live (new_pair e q))) None (Some (Retaken (new_pair e q))))) (new_pair e x)) same there
+    where
+      self : (k : Key) → cond (same_key k k) (Some (entry_in state.Live (new_pair e q))) (slot_of b.entries k) ≡ Some (entry_in state.Live (new_pair e q))
+      self k = cond-true (same_key k k) _ _ (key-self k)
+
+  new-says : is_synced b.stage ≡ true → (o : Option Port) → port_for b e ≡ o → (port : Port) → (new_wish b full e o).answer ≡ want.Port port → Translates (after b (new_wish b full e o).row) (new_pair e port)
+  new-says synced None there port says = absurd (cc)
+  new-says synced (Some q) there port says = at (is_lone b.stage) says
+    where
+      second : (t : Bool) → (let w : PortRequest = cond t (wish want.NotNow quiet) (wish want.Wait (proposal (new_pair e q))) in w.answer) ≡ want.Port port → ⊥
+      second true says = absurd (cc)
+      second false says = absurd (cc)
+
+      at : (t : Bool) → (let w : PortRequest = cond t (wish (want.Port q) (row (Add (entry_in state.Live (new_pair e q))) None (Some (Retaken (new_pair e q))))) (cond full (wish want.NotNow quiet) (wish want.Wait (proposal (new_pair e q)))) in w.answer) ≡ want.Port port
+          → Translates (after b (let w : PortRequest = cond t (wish (want.Port q) (row (Add (entry_in state.Live (new_pair e q))) None (Some (Retaken (new_pair e q))))) (cond full (wish want.NotNow quiet) (wish want.Wait (proposal (new_pair e q)))) in w.row)) (new_pair e port)
+      at true says = let same : q ≡ port = cc in new-owns synced q port there same
+      at false says = absurd (second full says)
+
+  by-says : is_synced b.stage ≡ true → (o : Option Entry) → entry_of b.entries e ≡ o → (port : Port) → (wish_by b full e o).answer ≡ want.Port port → Translates (after b (wish_by b full e o).row) (new_pair e port)
+  by-says synced (Some x) there port says = known-says synced x there x.pair x.state refl refl port says
+  by-says synced None there port says = new-says synced (port_for b e) refl port says
+
+  -- an endpoint that is answered with a port has a pair that translates then
+  pub wish-owns : (port : Port) → (wish_of b full e).answer ≡ want.Port port → Translates (after b (wish_of b full e).row) (new_pair e port)
+  wish-owns port says = at (is_synced b.stage) refl says
+    where
+      at : (t : Bool) → is_synced b.stage ≡ t → (let w : PortRequest = cond t (wish_by b full e (entry_of b.entries e)) (wish want.NotNow quiet) in w.answer) ≡ want.Port port
+          → Translates (after b (let w : PortRequest = cond t (wish_by b full e (entry_of b.entries e)) (wish want.NotNow quiet) in w.row)) (new_pair e port)
+      at true synced says = by-says synced (entry_of b.entries e) refl port says
+      at false synced says = absurd (cc)
+
+  -- ---- a pair that translates goes on doing so, whatever an endpoint wishes
+
+  module _ (p : Pair) (t : Translates b p) where
+    same-still : Translates (after b quiet) p
+    same-still = record { synced = t.synced; entry = t.entry; found = t.found; pair = t.pair; live = t.live }
+
+    put-still : (n : Entry) → slot_of b.entries n.pair.key ≡ None → Translates (record b { entries = put_in n b.entries }) p
+    put-still n free =
+        record {
+          synced = t.synced;
+          entry = t.entry;
+          found = slot-put n b.entries p.key free ∙ (cond-false (same_key n.pair.key p.key) (Some n) (slot_of b.entries p.key) (key-false n.pair.key p.key other) ∙ t.found);
+          pair = t.pair;
+          live = t.live;
+        }
+      where
+        other : n.pair.key ≡ p.key → ⊥
+        other same = let clash : None ≡ Some t.entry = sym free ∙ (ap (slot_of b.entries) same ∙ t.found) in absurd (cc)
+
+    known-still : (q : Pair) (s : EntryState) → Translates (after b (known_wish q s).row) p
+    known-still q state.Pending = same-still
+    known-still q state.Doomed = same-still
+    known-still q state.Live = same-still
+    known-still q state.Closing = same-still
+    known-still q state.Held = same-still
+
+    none-still : Translates (after b (none_row b full)) p
+    none-still = at (may_want b full)
+      where
+        at : (c : Bool) → Translates (after b (let r : Transition = cond c (row change_of.Want (Some record_of.Want) None) quiet in r)) p
+        at true = record { synced = t.synced; entry = t.entry; found = t.found; pair = t.pair; live = t.live }
+        at false = same-still
+
+    new-still : (o : Option Port) → port_for b e ≡ o → Translates (after b (new_wish b full e o).row) p
+    new-still None there = none-still
+    new-still (Some port) there = at (is_lone b.stage) full
+      where
+        free : slot_of b.entries (new_pair e port).key ≡ None
+        free = (chosen-says b e port there).free
+
+        at : (c d : Bool) → Translates (after b (let w : PortRequest = cond c (wish (want.Port port) (row (Add (entry_in state.Live (new_pair e port))) None (Some (Retaken (new_pair e port))))) (cond d (wish want.NotNow quiet) (wish want.Wait (proposal (new_pair e port)))) in w.row)) p
+        at true d = put-still (entry_in state.Live (new_pair e port)) free
+        at false true = same-still
+        at false false = put-still (entry_in state.Pending (new_pair e port)) free
+
+    pub wish-still : Translates (after b (wish_of b full e).row) p
+    wish-still = at (is_synced b.stage)
+      where
+        by : (o : Option Entry) → entry_of b.entries e ≡ o → Translates (after b (wish_by b full e o).row) p
+        by (Some x) there = known-still x.pair x.state
+        by None there = new-still (port_for b e) refl
+
+        at : (c : Bool) → Translates (after b (let w : PortRequest = cond c (wish_by b full e (entry_of b.entries e)) (wish want.NotNow quiet) in w.row)) p
+        at true = by (entry_of b.entries e) refl
+        at false = same-still
+
+-- ---- the pair of the port that a packet goes to
+
+abbrev pub IsThere : Shown → Flow → Pair → Type 0
+IsThere g flow p = Translates g.ledger.book p × (p.key ≡ target_of flow)
+
+pub target-translates : (g : Shown) (flow : Flow) (p : Pair) → is_synced g.ledger.book.stage ≡ true → target_pair g flow ≡ Ok p → IsThere g flow p
+target-translates g flow p synced is = at (slot_of g.ledger.book.entries (target_of flow)) refl is
+  where
+    made : (x : Entry) → slot_of g.ledger.book.entries (target_of flow) ≡ Some x → x.pair ≡ p → translates x.state ≡ true → IsThere g flow p
+    made x there same live = (
+      record {
+        synced = synced;
+        entry = x;
+        found = ap (λ (q : Pair). slot_of g.ledger.book.entries q.key) (sym same) ∙ at-key g.ledger.book.entries (target_of flow) x there;
+        pair = same;
+        live = live;
+      },
+      ap (λ (q : Pair). q.key) (sym same) ∙ slot-key g.ledger.book.entries (target_of flow) x there,
+    )
+
+    state-of : (x : Entry) → slot_of g.ledger.book.entries (target_of flow) ≡ Some x → (s : EntryState) → x.state ≡ s → pair_in s x.pair ≡ Ok p → IsThere g flow p
+    state-of x there state.Pending st is = absurd (cc)
+    state-of x there state.Doomed st is = absurd (cc)
+    state-of x there state.Live st is = let same : x.pair ≡ p = cc in made x there same (ap translates st)
+    state-of x there state.Closing st is = absurd (cc)
+    state-of x there state.Held st is = let same : x.pair ≡ p = cc in made x there same (ap translates st)
+
+    at : (o : Option Entry) → slot_of g.ledger.book.entries (target_of flow) ≡ o → pair_at o ≡ Ok p → IsThere g flow p
+    at None there is = absurd (cc)
+    at (Some x) there is = state-of x there x.state refl is

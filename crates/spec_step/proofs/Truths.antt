@@ -1,0 +1,359 @@
+-- What each part of a step tells is true: interfaces, datagrams, the operator's word, ticks; and so what a whole step tells.
+use Rattle.std.proofs.Common.{◌≡◌, ℕ, Bool, true, false, cond, not, ◌&&◌, List, [], ◌∷◌, ◌++◌, length, Option, Some, None, Result, Ok, Err, refl, sym, ap, subst}
+use Rattle.std.specs.List.{AllByRecursion}
+use Rattle.std.proofs.lemmas.List.{append-nil}
+use Rattle.addresses.specs.declared.ethernet.Mac.{Mac}
+use Rattle.nat_types.specs.declared.gateways.Side.{Side}
+use Rattle.nat_types.specs.declared.gateways.Side.TheVariants.{Inside, Outside}
+use Rattle.nat_types.specs.declared.pairs.Endpoint.{Endpoint}
+use Rattle.nat_types.specs.declared.pairs.Key.{Key}
+use Rattle.nat_types.specs.declared.records.Record.{Record}
+use Rattle.arp.specs.declared.packets.ArpPacket.{ArpPacket}
+use Rattle.arp.specs.Neighbours.{Neighbours}
+use Rattle.arp.proofs.Offered.{learn-six}
+use Rattle.bindings.specs.Lives.{idle_keys_in}
+use Rattle.link.specs.declared.datagrams.Datagram.{Datagram}
+use Rattle.link.specs.declared.faults.LinkFault.{LinkFault}
+use Rattle.link.specs.Grammar.{IsWellFormed, IsWellFormedRecord}
+use Rattle.link.specs.Link.{Link, after_take, closed_at, is_due_on_tick, is_restart, records_taken, refusal, sent_on_answer, sent_on_tick}
+use Rattle.link.specs.Reading.{reading}
+use Rattle.link.proofs.Offered.{all_taken, reading_takes}
+use Rattle.spec_binding.specs.Books.{is_synced}
+use Rattle.spec_binding.specs.Ledgers.{alone_ledger, may_ask, restarted_ledger, rests_for, taken_ledger}
+use Rattle.spec_binding.specs.Resets.{back_in, restart_link, restart_notes, retaken}
+use Rattle.spec_binding.specs.Rows.{answered, idle_row, noted_by, taken_answer, taken_ended, taken_what}
+use Rattle.spec_binding.proofs.Offered.{alone-keeps, idle-keeps, restart-keeps, taken-keeps}
+use Rattle.waiting.specs.declared.waits.Ended.TheVariants.{AllPairs, One}
+use Rattle.waiting.specs.declared.waits.WaitsFor.TheVariants as wait
+use Rattle.packet_rules.specs.declared.readings.Reading.{Reading}
+use Rattle.packet_rules.specs.declared.readings.Reading.TheVariants.{Arp, Advert, Packet}
+use Rattle.packet_rules.specs.declared.reasons.Reason.{Reason}
+use Rattle.packet_rules.specs.declared.reasons.Reason.TheVariants.{NotUp, OldWord}
+use Rattle.packet_rules.specs.Arping.{answer_frame, answer_to, is_learnable}
+use Rattle.packet_rules.specs.Frames.{is_translation}
+use Rattle.interfaces.specs.Stations.{IsWired, Interface, after_arp, is_active, with_neighbour}
+use Rattle.output.specs.Output.{Output, with_datagram}
+use Rattle.vrrp_states.specs.declared.Action.{Action}
+use Rattle.vrrp_states.specs.declared.Action.TheVariants.{Nothing, Advertise, AdvertiseAndArp}
+use Rattle.vrrp_states.specs.Table as table
+use Rattle.vrrp_states.specs.Table.{Event as RouterEvent, Router}
+use Rattle.spec_step.specs.declared.events.Event.{Event}
+use Rattle.spec_step.specs.declared.events.Event.TheVariants.{Frame, Datagram as Comes, Tick, Stop, PeerOff}
+use Rattle.spec_step.specs.Machine.{AreBytes, HasBytes}
+use Rattle.spec_step.specs.Parts.{acted, all_framed, all_idle_done, answered_by, arp_taken, datagram_in, datagram_read, flow_taken, framed, frames_of, handed_in, has_synced, heard_by, heard_unless, idle_done, idle_taken, link_answered, link_ticked, old_dropped, record_done, record_shown, record_told, records_done, released, reset, started, wait_ended, with_link, word_taken}
+use Rattle.spec_step.specs.Shown.{GatewayAndOutput, Shown, id_of, scene, station_on, with_notes, with_station}
+use Rattle.spec_step.specs.Steps.{BothAct, Does, FrameDoes, IsStepOn, RouterActs, ended_on, stopped, ticked, word_by, word_refusal}
+use Rattle.spec_step.specs.Truly.{AreWired, AtHand, Known, Tells, hand_of, known_of}
+use Rattle.spec_step.specs.Verdict.{reading_on}
+use Rattle.spec_step.proofs.Packets.{kept-filter}
+use Rattle.spec_step.proofs.Passing.{IsSound}
+use Rattle.spec_step.proofs.Saying.{Saying, Speaks, framed-says, packet-says, released-says, row-says, saying-nothing, saying-then, speaks-then}
+use Rattle.spec_step.proofs.Sending.{Frames, own-six}
+use Rattle.spec_step.proofs.Telling.{at_hand, old-tells, tells-quietly, tells-then}
+use Rattle.spec_step.proofs.Unused.{idle-useless, restart-useless, retaken-useless, taken-useless}
+
+-- a part that leaves what decides where packets go
+pub speaks-of : (h : List AtHand) (s s2 : GatewayAndOutput) → Saying h s s2 → Speaks h s s2
+speaks-of h s s2 x = λ is w. (x is w).0
+
+-- ---- interfaces
+
+same-notes : (told : Output) → told.notes ≡ told.notes ++ []
+same-notes told = sym (append-nil told.notes)
+
+station-speaks : (s : GatewayAndOutput) (side : Side) (station : Interface) → (AreWired s.shown → IsWired station) → Speaks [] s (scene (with_station s.shown side station) s.told)
+station-speaks s Inside station wired = λ is w. record {
+  tells = tells-quietly s (scene (with_station s.shown Inside station) s.told) [] refl (same-notes s.told) refl refl;
+  sound = record { book = is.book; kept = is.kept };
+  wired = (w.0, (wired w, w.1.1));
+}
+station-speaks s Outside station wired = λ is w. record {
+  tells = tells-quietly s (scene (with_station s.shown Outside station) s.told) [] refl (same-notes s.told) refl refl;
+  sound = record { book = is.book; kept = is.kept };
+  wired = (w.0, (w.1.0, wired w));
+}
+
+station-known : (g : Shown) (side : Side) (station : Interface) → station.neighbours ≡ (station_on g side).neighbours → known_of (with_station g side station) ≡ known_of g
+station-known g Inside station same = ap (λ (n : Neighbours). let k : Known = record (known_of g) { near_inside = n } in k) same
+station-known g Outside station same = ap (λ (n : Neighbours). let k : Known = record (known_of g) { near_outside = n } in k) same
+
+pub wired-on : (g : Shown) → AreWired g → (side : Side) → IsWired (station_on g side)
+wired-on g w Inside = w.1.0
+wired-on g w Outside = w.1.1
+
+-- ---- ARP
+
+pub after-wired : (station : Interface) (p : ArpPacket) (now : ℕ) → length p.sender_mac.0 ≡ 6 → IsWired station → IsWired (after_arp station p now)
+unfolding after_arp
+after-wired station p now six w = at (is_learnable station.network p)
+  where
+    at : (b : Bool) → IsWired (let x : Interface = cond b (with_neighbour station p now) station in x)
+    at true = record { own = w.own; known = learn-six station.neighbours (record { address = p.sender_ip; mac = p.sender_mac; at = now }) w.known six }
+    at false = w
+
+answered-says : Frames → (s : GatewayAndOutput) (side : Side) (p : ArpPacket) (o : Option Mac) → length p.sender_mac.0 ≡ 6 → Saying [] s (answered_by s side p o)
+answered-says frames s side p (Some mac) six =
+    framed-says s side (answer_frame (station_on s.shown side).network p mac) (λ w. frames.answer (station_on s.shown side).network p mac (own-six s.shown w side) six)
+answered-says frames s side p None six = saying-nothing s []
+
+arp-speaks : Frames → (s : GatewayAndOutput) (side : Side) (p : ArpPacket) → length p.sender_mac.0 ≡ 6 → Speaks [] s (arp_taken s side p)
+arp-speaks frames s side p six =
+    let station = station_on s.shown side in
+    let heard = scene (with_station s.shown side (after_arp station p s.shown.moment)) s.told in
+    let told = answered_by heard side p (answer_to station.network (is_active station) p) in
+    speaks-then [] [] s told (arp_taken s side p)
+    (speaks-then [] [] s heard told
+    (station-speaks s side (after_arp station p s.shown.moment) (λ w. after-wired station p s.shown.moment six (wired-on s.shown w side)))
+    (answered-says frames heard side p (answer_to station.network (is_active station) p) six))
+    (at (is_learnable station.network p) told)
+  where
+    at : (b : Bool) (told : GatewayAndOutput) → Saying [] told (let x : GatewayAndOutput = cond b (released told (One (wait.Hop side p.sender_ip))) told in x)
+    at true told = released-says frames told (One (wait.Hop side p.sender_ip))
+    at false told = saying-nothing told []
+
+-- ---- routers
+
+abbrev pub AllOther : List (List ℕ) → Type 0
+AllOther fs = AllByRecursion (λ f. is_translation f ≡ false) fs
+
+all-framed-says : (s : GatewayAndOutput) (side : Side) (fs : List (List ℕ)) → AllOther fs → Saying [] s (all_framed s side fs)
+all-framed-says s side [] all = saying-nothing s []
+all-framed-says s side (f ∷ fs) all =
+    saying-then [] [] s (framed s side f) (all_framed s side (f ∷ fs)) (framed-says s side f (λ w. all.0)) (all-framed-says (framed s side f) side fs all.1)
+
+pub action-frames : Frames → (station : Interface) (action : Action) → AllOther (frames_of station action)
+action-frames frames station Nothing = tt
+action-frames frames station (Advertise priority) = (frames.advert station.network priority station.interval, tt)
+action-frames frames station (AdvertiseAndArp priority) = (frames.advert station.network priority station.interval, (frames.gratuitous station.network, tt))
+
+pub routed-wired : (station : Interface) (router : Router) → IsWired station → IsWired (record station { router = router })
+routed-wired station router w = record { own = w.own; known = w.known }
+
+acted-says : Frames → (s : GatewayAndOutput) (side : Side) (station : Interface) (action : Action) → station ≡ record (station_on s.shown side) { router = station.router } → Saying [] s (acted s side station action)
+acted-says frames s side station action rest =
+    let mid = scene (with_station s.shown side station) s.told in
+    let first : Speaks [] s mid = station-speaks s side station (λ w. subst IsWired (sym rest) (routed-wired (station_on s.shown side) station.router (wired-on s.shown w side))) in
+    saying-then [] [] s mid (acted s side station action)
+    (λ is w. (first is w, station-known s.shown side station (ap (λ (x : Interface). x.neighbours) rest)))
+    (all-framed-says mid side (frames_of station action) (action-frames frames station action))
+
+router-says : Frames → (s : GatewayAndOutput) (side : Side) (event : RouterEvent) (s2 : GatewayAndOutput) → RouterActs s side event s2 → Saying [] s s2
+router-says frames s side event s2 acts = subst (λ (x : GatewayAndOutput). Saying [] s x) (sym acts.is) (acted-says frames s side acts.station acts.action acts.step.rest)
+
+both-say : Frames → (s : GatewayAndOutput) (event : RouterEvent) (s2 : GatewayAndOutput) → BothAct s event s2 → Saying [] s s2
+both-say frames s event s2 both =
+    saying-then [] [] s both.between s2 (router-says frames s Inside event both.between both.inside) (router-says frames both.between Outside event s2 both.outside)
+
+-- ---- a frame
+
+frame-speaks : Frames → (s : GatewayAndOutput) (side : Side) (bytes : List ℕ) (r : Result Reading Reason) (s2 : GatewayAndOutput) → reading_on s.shown side bytes ≡ r → AreBytes bytes → FrameDoes s side bytes r s2 → Speaks (at_hand side bytes ∷ []) s s2
+frame-speaks frames s side bytes (Ok (Arp p)) s2 read are does =
+    let at = station_on s.shown side in
+    let six = frames.reads at.network (is_active at) _ bytes (Arp p) read in
+    let done = arp_taken s side p in
+    let hand = at_hand side bytes ∷ [] in
+    subst (λ (x : GatewayAndOutput). Speaks hand s x) (sym does) (speaks-then [] hand s done done (arp-speaks frames s side p six) (saying-nothing done hand))
+frame-speaks frames s side bytes (Ok (Advert a from)) s2 read are does =
+    let hand = at_hand side bytes ∷ [] in
+    speaks-then [] hand s s2 s2 (speaks-of [] s s2 (router-says frames s side _ s2 does)) (saying-nothing s2 hand)
+frame-speaks frames s side bytes (Ok (Packet packet)) s2 read are does =
+    let hand = at_hand side bytes ∷ [] in
+    subst (λ (x : GatewayAndOutput). Speaks hand s x) (sym does) (speaks-of hand s (flow_taken s side bytes packet.flow) (packet-says frames s side bytes packet read are))
+frame-speaks frames s side bytes (Err reason) s2 read are does =
+    let hand = at_hand side bytes ∷ [] in
+    subst (λ (x : GatewayAndOutput). Speaks hand s x) (sym does) (speaks-of hand s s (saying-nothing s hand))
+
+-- ---- records
+
+routed-says : (now : ℕ) (g : Shown) (told : Output) (b : Bool) → Saying [] (scene g told) (scene (let x : Shown = cond b (record g { inside = started g.inside now; outside = started g.outside now }) g in x) told)
+routed-says now g told true = λ is w. (
+  record {
+    tells = tells-quietly (scene g told) (scene (record g { inside = started g.inside now; outside = started g.outside now }) told) [] refl (same-notes told) refl refl;
+    sound = record { book = is.book; kept = is.kept };
+    wired = (w.0, (record { own = w.1.0.own; known = w.1.0.known }, record { own = w.1.1.own; known = w.1.1.known }));
+  },
+  refl,
+)
+routed-says now g told false = saying-nothing (scene g told) []
+
+ended-says : Frames → (s : GatewayAndOutput) (o : Option Endpoint) → Saying [] s (wait_ended o s)
+ended-says frames s None = saying-nothing s []
+ended-says frames s (Some e) = released-says frames s (One (wait.Pair e))
+
+record-says : Frames → (s : GatewayAndOutput) (r : Record) → IsWellFormedRecord r → Saying [] s (record_done s r)
+record-says frames s r formed =
+    let g = s.shown in let b = g.ledger.book in
+    let rests = rests_for g.moment g.ledger r in
+    let g2 : Shown = record g { ledger = taken_ledger g.moment g.ledger r; link = answered g.link (taken_answer b rests r) } in
+    let told = record_told g r s.told in
+    let s2 = scene g2 told in
+    let s3 = scene (record_shown g r) told in
+    let first : Saying [] s s2 = λ is w. (
+      record {
+        tells = tells-quietly s s2 (noted_by (id_of g) g.moment (taken_what b rests r)) refl refl (taken-useless b rests r (id_of g) g.moment) refl;
+        sound = record { book = taken-keeps b rests r is.book formed; kept = is.kept };
+        wired = w;
+      },
+      refl,
+    ) in
+    saying-then [] [] s s3 (record_done s r)
+    (saying-then [] [] s s2 s3 first (routed-says g2.moment g2 told (has_synced g g2 && not g2.stopped)))
+    (ended-says frames s3 (taken_ended b rests r))
+
+records-say : Frames → (s : GatewayAndOutput) (rs : List Record) → AllByRecursion IsWellFormedRecord rs → Saying [] s (records_done s rs)
+records-say frames s [] all = saying-nothing s []
+records-say frames s (r ∷ rs) all = saying-then [] [] s (record_done s r) (records_done s (r ∷ rs)) (record-says frames s r all.0) (records-say frames (record_done s r) rs all.1)
+
+-- ---- datagrams, and the operator's word
+
+link-says : (s : GatewayAndOutput) (e : Link) → Saying [] s (with_link s e)
+link-says s e = λ is w. (
+  record { tells = tells-quietly s (with_link s e) [] refl (same-notes s.told) refl refl; sound = record { book = is.book; kept = is.kept }; wired = w },
+  refl,
+)
+
+reset-says : Frames → (s : GatewayAndOutput) → Saying [] s (reset s)
+reset-says frames s =
+    let g = s.shown in let b = g.ledger.book in
+    let notes = restart_notes b g.moment in
+    let mid = scene (record g { ledger = restarted_ledger g.ledger; link = restart_link b g.link }) (with_notes s.told notes) in
+    let first : Saying [] s mid = λ is w. (
+      record {
+        tells = tells-quietly s mid notes refl refl (restart-useless b g.moment) refl;
+        sound = record { book = restart-keeps b is.book; kept = is.kept };
+        wired = w;
+      },
+      refl,
+    ) in
+    saying-then [] [] s mid (reset s) first (released-says frames mid AllPairs)
+
+heard-says : Frames → (s : GatewayAndOutput) (d : Datagram) → IsWellFormed d → Saying [] s (heard_by s d)
+heard-says frames s d fits = at (is_restart s.shown.link d)
+  where
+    at : (b : Bool) → Saying [] s (let e = s.shown.link in let after = with_link s (after_take e d s.shown.moment) in records_done (let x : GatewayAndOutput = cond b (reset after) after in x) (records_taken e d))
+    at true =
+        let after = with_link s (after_take s.shown.link d s.shown.moment) in
+        saying-then [] [] s (reset after) _
+        (saying-then [] [] s after (reset after) (link-says s (after_take s.shown.link d s.shown.moment)) (reset-says frames after))
+        (records-say frames (reset after) (records_taken s.shown.link d) (all_taken s.shown.link d fits))
+    at false =
+        let after = with_link s (after_take s.shown.link d s.shown.moment) in
+        saying-then [] [] s after _ (link-says s (after_take s.shown.link d s.shown.moment))
+        (records-say frames after (records_taken s.shown.link d) (all_taken s.shown.link d fits))
+
+datagram-says : Frames → (s : GatewayAndOutput) (bytes : List ℕ) (r : Result Datagram LinkFault) → reading bytes ≡ r → AreBytes bytes → Saying [] s (datagram_read s r)
+datagram-says frames s bytes (Ok d) read are = at (refusal s.shown.link d)
+  where
+    at : (o : Option LinkFault) → Saying [] s (heard_unless s d o)
+    at None = heard-says frames s d (reading_takes bytes d are read).0
+    at (Some fault) = saying-nothing s []
+datagram-says frames s bytes (Err fault) read are = saying-nothing s []
+
+taken-says : Frames → (s : GatewayAndOutput) (n : ℕ) → is_synced s.shown.ledger.book.stage ≡ true → Saying [] s (word_taken s n)
+taken-says frames s n synced =
+    let g = s.shown in let b = g.ledger.book in
+    let notes = retaken (id_of g) g.moment (back_in b.entries) in
+    let mid = scene (record g { ledger = alone_ledger g.ledger; link = closed_at g.link n }) (with_notes s.told notes) in
+    let first : Saying [] s mid = λ is w. (
+      record {
+        tells = tells-quietly s mid notes refl refl (retaken-useless (id_of g) g.moment (back_in b.entries)) refl;
+        sound = record { book = alone-keeps b is.book synced; kept = is.kept };
+        wired = w;
+      },
+      refl,
+    ) in
+    saying-then [] [] s mid (word_taken s n) first (released-says frames mid AllPairs)
+
+word-says : Frames → (s : GatewayAndOutput) (n : ℕ) (o : Option Reason) → word_refusal s.shown n ≡ o → Saying [] s (word_by s n o)
+word-says frames s n None is = taken-says frames s n (at (is_synced s.shown.ledger.book.stage) _ is)
+  where
+    at : (b c : Bool) → (let o : Option Reason = cond (not b) (Some NotUp) (cond c (Some OldWord) None) in o) ≡ None → b ≡ true
+    at true c is = refl
+    at false c is = absurd (cc)
+word-says frames s n (Some reason) is = saying-nothing s []
+
+-- ---- ticks
+
+idle-says : (s : GatewayAndOutput) (k : Key) → Saying [] s (idle_done s k)
+idle-says s k =
+    let b = s.shown.ledger.book in
+    let ask = may_ask s.shown.moment s.shown.link in
+    row-says s (idle_row b ask k) (idle-useless b ask k) (λ is. idle-keeps b ask k is)
+
+all-idle-say : (s : GatewayAndOutput) (ks : List Key) → Saying [] s (all_idle_done s ks)
+all-idle-say s [] = saying-nothing s []
+all-idle-say s (k ∷ ks) = saying-then [] [] s (idle_done s k) (all_idle_done s (k ∷ ks)) (idle-says s k) (all-idle-say (idle_done s k) ks)
+
+old-says : (s : GatewayAndOutput) → Saying [] s (old_dropped s)
+old-says s = λ is w. (
+  record { tells = old-tells s; sound = record { book = is.book; kept = kept-filter _ s.shown.kept is.kept }; wired = w },
+  refl,
+)
+
+stopped-says : (s : GatewayAndOutput) → Saying [] s (stopped s)
+stopped-says s = λ is w. (
+  record { tells = tells-quietly s (stopped s) [] refl (same-notes s.told) refl refl; sound = record { book = is.book; kept = is.kept }; wired = w },
+  refl,
+)
+
+ticked-speaks : (s : GatewayAndOutput) (now : ℕ) → Speaks [] s (ticked s now)
+ticked-speaks s now = λ is w. record {
+  tells = tells-quietly s (ticked s now) [] refl (same-notes s.told) refl refl;
+  sound = record { book = is.book; kept = is.kept };
+  wired = w;
+}
+
+-- ---- an event's own parts
+
+pub does-speak : Frames → (s : GatewayAndOutput) (event : Event) (done : GatewayAndOutput) → Does s event done → HasBytes event → Speaks (hand_of event) s done
+does-speak frames s (Frame side bytes) done does has = frame-speaks frames s side bytes.now (reading_on s.shown side bytes.now) done refl has does
+does-speak frames s (Comes bytes) done does has =
+    subst (λ (x : GatewayAndOutput). Speaks [] s x) (sym does) (speaks-of [] s _ (datagram-says frames s bytes.now (reading bytes.now) refl has))
+does-speak frames s (Tick now) done does has =
+    let start = ticked s now in
+    let middle = does.0 in
+    let young = old_dropped middle in
+    let l = young.shown.ledger in
+    let parts = saying-then [] [] start middle (idle_taken young) (both-say frames start table.Tick middle does.1)
+    (saying-then [] [] middle young (idle_taken young) (old-says middle) (all-idle-say young (idle_keys_in young.shown.moment l.book.entries l.lives))) in
+    subst (λ (x : GatewayAndOutput). Speaks [] s x) (sym does.2) (speaks-then [] [] s start (idle_taken young) (ticked-speaks s now) parts)
+does-speak frames s Stop done does has =
+    let middle = does.0 in
+    subst (λ (x : GatewayAndOutput). Speaks [] s x) (sym does.2)
+    (speaks-of [] s (stopped middle) (saying-then [] [] s middle (stopped middle) (both-say frames s table.Stop middle does.1) (stopped-says middle)))
+does-speak frames s (PeerOff n) done does has =
+    subst (λ (x : GatewayAndOutput). Speaks [] s x) (sym does) (speaks-of [] s _ (word-says frames s n (word_refusal s.shown n) refl))
+
+-- ---- the datagram at the end
+
+answered-tells : (s : GatewayAndOutput) → Tells [] s (link_answered s)
+answered-tells s = at (handed_in s.shown).link.due
+  where
+    at : (b : Bool) → Tells [] s (let g = handed_in s.shown in scene (record g { link = sent_on_answer g.link }) (let t : Output = cond b (with_datagram s.told (datagram_in g)) s.told in t))
+    at true = tells-quietly s _ [] refl (same-notes s.told) refl refl
+    at false = tells-quietly s _ [] refl (same-notes s.told) refl refl
+
+ticked-tells : (s : GatewayAndOutput) → Tells [] s (link_ticked s) × ((known_of (link_ticked s).shown ≡ known_of s.shown) × (AreWired s.shown → AreWired (link_ticked s).shown))
+ticked-tells s = at (is_due_on_tick (handed_in s.shown).link s.shown.moment)
+  where
+    at : (b : Bool) → (let x : GatewayAndOutput = (let g = handed_in s.shown in cond b (scene (record g { link = sent_on_tick g.link g.moment }) (with_datagram s.told (datagram_in g))) (scene g s.told)) in Tells [] s x × ((known_of x.shown ≡ known_of s.shown) × (AreWired s.shown → AreWired x.shown)))
+    at true = (tells-quietly s _ [] refl (same-notes s.told) refl refl, (refl, λ w. w))
+    at false = (tells-quietly s _ [] refl (same-notes s.told) refl refl, (refl, λ w. w))
+
+answered-ends : (h : List AtHand) (s done : GatewayAndOutput) → Tells h s done → AreWired done.shown → Tells (h ++ []) s (link_answered done) × AreWired (link_answered done).shown
+answered-ends h s done x w = (tells-then h [] s done (link_answered done) refl x (answered-tells done), w)
+
+end-tells : (s : GatewayAndOutput) (event : Event) (done : GatewayAndOutput) → Tells (hand_of event) s done → AreWired done.shown → Tells (hand_of event) s (ended_on event done) × AreWired (ended_on event done).shown
+end-tells s (Frame side bytes) done x w = answered-ends (at_hand side bytes.now ∷ []) s done x w
+end-tells s (Comes bytes) done x w = answered-ends [] s done x w
+end-tells s (Tick now) done x w =
+    let t = ticked-tells done in
+    (tells-then [] [] s done (link_ticked done) t.1.0 x t.0, t.1.1 w)
+end-tells s Stop done x w = answered-ends [] s done x w
+end-tells s (PeerOff n) done x w = answered-ends [] s done x w
+
+-- a whole step
+pub step-tells : Frames → (s : GatewayAndOutput) (event : Event) (s2 : GatewayAndOutput) → IsStepOn s event s2 → HasBytes event → IsSound s.shown → AreWired s.shown → Tells (hand_of event) s s2 × AreWired s2.shown
+step-tells frames s event s2 step has is w =
+    let said = does-speak frames s event step.done step.does has is w in
+    subst (λ (x : GatewayAndOutput). Tells (hand_of event) s x × AreWired x.shown) (sym step.sends) (end-tells s event step.done said.tells said.wired)

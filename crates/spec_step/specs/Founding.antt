@@ -1,0 +1,58 @@
+-- A gateway as it begins.
+use Rattle.std.specs.Prelude.{ℕ, ◌+◌, ◌*◌, false, []}
+use Rattle.nat_types.specs.declared.gateways.GatewayId.{GatewayId}
+use Rattle.nat_types.specs.declared.gateways.GatewayId.TheVariants.{Zero}
+use Rattle.nat_types.specs.declared.gateways.Side.TheVariants.{Inside, Outside}
+use Rattle.nat_types.specs.Granted.{IsPort}
+use Rattle.settings.specs.declared.ranges.PortRange.{PortRange}
+use Rattle.settings.specs.declared.whole.Settings.{Settings}
+use Rattle.bindings.specs.declared.entries.PortBounds.{PortBounds}
+use Rattle.bindings.specs.Ports.{AreBounds, key_count}
+use Rattle.spec_binding.specs.Books.{empty_book, founded_book}
+use Rattle.link.specs.Link.{fresh}
+use Rattle.packet_rules.specs.Networks.{networks_of}
+use Rattle.interfaces.specs.Stations.{new_station}
+use Rattle.spec_step.specs.Parts.{started}
+use Rattle.spec_step.specs.Shown.{Shown}
+
+-- the ports of a range
+abbrev pub bounds_of : PortRange → PortBounds
+bounds_of range = record { lowest = range.lowest; highest = range.highest }
+
+-- A whole table's batch finds room in the link, and 64 answers beside it: Begin, Done, an Owner and a Put for each key.
+abbrev pub link_places : PortBounds → PortBounds → ℕ
+link_places zero one = 2 * key_count zero one + 66
+
+-- A gateway in the life of this number, without a table; its routers stand in Initialize.
+unfoldable pub begun : Settings → GatewayId → ℕ → Shown
+begun settings id boot =
+    let zero = bounds_of settings.ports.zero in
+    let one = bounds_of settings.ports.one in
+    record {
+      networks = networks_of settings id;
+      moment = 0;
+      stopped = false;
+      ledger = record { book = empty_book id zero one; lives = [] };
+      link = fresh id boot (link_places zero one);
+      inside = new_station settings id Inside;
+      outside = new_station settings id Outside;
+      kept = [];
+    }
+
+-- Gateway 0 as it is founded in the life of this number: alone, with its range of ports, and its routers started.
+unfoldable pub founded : Settings → ℕ → Shown
+founded settings boot =
+    let g = begun settings Zero boot in
+    let book = founded_book (bounds_of settings.ports.zero) (bounds_of settings.ports.one) in
+    record g {
+      ledger = record { book = book; lives = [] };
+      inside = started g.inside 0;
+      outside = started g.outside 0;
+    }
+
+-- what a gateway's beginning asks of the settings: both ranges go from a lowest to a highest port
+pub record HasRanges (settings : Settings) : Type 0 where
+  pub zero : AreBounds (bounds_of settings.ports.zero)
+  pub one : AreBounds (bounds_of settings.ports.one)
+  pub highest_zero : IsPort settings.ports.zero.highest.0
+  pub highest_one : IsPort settings.ports.one.highest.0

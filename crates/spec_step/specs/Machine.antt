@@ -1,0 +1,91 @@
+-- A step as the pair machine sees it.
+use Rattle.std.specs.Prelude.{◌≡◌, ◌<◌, ◌≤◌, ℕ, true, List, [], ◌∷◌, ◌++◌, get_or, length, map, reverse, Result, Ok, Err, ◌⊎◌}
+use Rattle.std.specs.List.{AllByRecursion}
+use Rattle.nat_types.specs.declared.notes.Note.{Note}
+use Rattle.nat_types.specs.declared.records.Record.{Record}
+use Rattle.link.specs.declared.datagrams.Datagram.{Datagram as Letters}
+use Rattle.link.specs.declared.faults.LinkFault.{LinkFault}
+use Rattle.link.specs.Grammar.{spelling}
+use Rattle.link.specs.Link.{datagram_of}
+use Rattle.link.specs.Reading.{reading}
+use Rattle.spec_pair.specs.Box.{Box, Letter}
+use Rattle.spec_pair.specs.Step.{IsStep}
+use Rattle.spec_binding.specs.Books.{IsBook, is_lone, is_synced}
+use Rattle.spec_binding.specs.Machine.{IsSameHouse, Stands, box_at, letter_of, ranges_of}
+use Rattle.spec_step.specs.declared.events.Event.{Event}
+use Rattle.spec_step.specs.declared.events.Event.TheVariants.{Frame, Datagram, Tick, Stop, PeerOff}
+use Rattle.spec_step.specs.Shown.{GatewayAndOutput, Shown, id_of}
+
+-- the box of a gateway, where h is what was pushed or promised in the session
+abbrev pub box_of : Shown → List Record → Box
+box_of g h = box_at g.ledger.book g.link h g.link.taken
+
+-- h is the list of all records that it pushed or promised in the session
+abbrev pub HasPushed : Shown → List Record → Type 0
+HasPushed g h = Stands g.ledger.book g.link h
+
+-- a gateway is lone only while no boot of the peer is known, or the known one was closed
+abbrev pub IsAlone : Shown → Type 0
+IsAlone g = is_lone g.ledger.book.stage ≡ true → (g.link.known ≡ 0) ⊎ (g.link.closed ≡ true)
+
+-- each is a byte
+abbrev pub AreBytes : List ℕ → Type 0
+AreBytes bytes = (place : ℕ) → get_or bytes place 0 < 256
+
+-- each packet that it keeps is bytes
+abbrev pub KeepsBytes : Shown → Type 0
+KeepsBytes g = AllByRecursion (λ w. AreBytes w.bytes) g.kept
+
+-- What holds of a gateway that has pushed or promised h in the session: its book's facts, that it is lone only by right,
+-- that it keeps bytes.
+pub record IsStanding (g : Shown) (h : List Record) : Type 0 where
+  pub book : IsBook g.ledger.book
+  pub alone : IsAlone g
+  pub kept : KeepsBytes g
+  pub pushed : HasPushed g h
+
+-- the frame or the datagram of an event is bytes
+abbrev pub HasBytes : Event → Type 0
+HasBytes (Frame side bytes) = AreBytes bytes.now
+HasBytes (Datagram bytes) = AreBytes bytes.now
+HasBytes (Tick now) = Unit {0}
+HasBytes Stop = Unit {0}
+HasBytes (PeerOff n) = Unit {0}
+
+-- the letters that an event hands in: the datagram's, where the bytes are one
+abbrev pub letter_in : Result Letters LinkFault → List Letter
+letter_in (Ok d) = letter_of d ∷ []
+letter_in (Err fault) = []
+
+abbrev pub letters_in : Event → List Letter
+letters_in (Frame side bytes) = []
+letters_in (Datagram bytes) = letter_in (reading bytes.now)
+letters_in (Tick now) = []
+letters_in Stop = []
+letters_in (PeerOff n) = []
+
+-- the operator's word
+abbrev pub words_in : Event → List ℕ
+words_in (Frame side bytes) = []
+words_in (Datagram bytes) = []
+words_in (Tick now) = []
+words_in Stop = []
+words_in (PeerOff n) = n ∷ []
+
+-- From a scene to a later one, of a gateway that had pushed h: there is a list that it has pushed then, and acts of the
+-- machine with just the notes and the letters that were told more.
+pub record Goes (letters : List Letter) (words : List ℕ) (old new : GatewayAndOutput) (h : List Record) : Type 0 where
+  pub history : List Record
+  pub pushed : HasPushed new.shown history
+  pub notes : List Note
+  pub notes_are : new.told.notes ≡ old.told.notes ++ notes
+  pub sent : List Letters
+  pub datagrams_are : new.told.datagrams ≡ old.told.datagrams ++ map spelling sent
+  -- at most one, which is that of its link as it stands then
+  pub few : length sent ≤ 1
+  pub own : AllByRecursion (λ d. d ≡ datagram_of (is_synced new.shown.ledger.book.stage) new.shown.link) sent
+  -- and it is still who it was
+  pub house : IsSameHouse old.shown.ledger.book new.shown.ledger.book
+  pub step : let g = old.shown in
+      IsStep (ranges_of g.ledger.book) (id_of g) new.shown.moment (box_of g h) (box_of new.shown history)
+      letters words [] (reverse notes) [] (reverse (map letter_of sent))

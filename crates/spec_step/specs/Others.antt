@@ -1,0 +1,233 @@
+-- The other frames of a step, whose packet wasn't translated: an answer to an ARP request, requests for next hops, and the
+-- frames of the routers' actions.
+use Rattle.std.specs.Prelude.{◌≡◌, ◌⊎◌, ℕ, Bool, false, not, ◌&&◌, ◌||◌, Option, Some, None, Result, Ok, Err, List, [], ◌∷◌, ◌++◌, map, if◌then◌else◌}
+use Rattle.std.specs.List.{AllByRecursion, filter, flat_map}
+use Rattle.std.specs.List.Sorted.{IsPermutation}
+use Rattle.addresses.specs.declared.ethernet.Mac.{Mac}
+use Rattle.addresses.specs.declared.internet.Ip.{Ip}
+use Rattle.nat_types.specs.declared.gateways.Side.{Side}
+use Rattle.nat_types.specs.declared.gateways.Side.TheVariants.{Inside, Outside}
+use Rattle.nat_types.specs.declared.notes.NoteKind.{NoteKind}
+use Rattle.nat_types.specs.declared.notes.NoteKind.TheVariants.{Used, Released, Retaken, Synced, Crashed, Booted}
+use Rattle.nat_types.specs.declared.notes.Note.{Note}
+use Rattle.nat_types.specs.declared.pairs.Endpoint.{Endpoint}
+use Rattle.nat_types.specs.declared.pairs.Pair.{Pair}
+use Rattle.nat_types.specs.declared.records.Record.{Record}
+use Rattle.arp.specs.declared.packets.ArpPacket.{ArpPacket}
+use Rattle.arp.specs.Neighbours.{mac_at}
+use Rattle.link.specs.declared.datagrams.Datagram.{Datagram as Letters}
+use Rattle.link.specs.declared.faults.LinkFault.{LinkFault}
+use Rattle.link.specs.Link.{after_take, is_restart, records_taken, refusal}
+use Rattle.link.specs.Reading.{reading}
+use Rattle.spec_pair.specs.Box.{In}
+use Rattle.spec_binding.specs.Ledgers.{rests_for}
+use Rattle.spec_binding.specs.Rows.{taken_ended}
+use Rattle.spec_binding.specs.Uses.{IsTranslated}
+use Rattle.waiting.specs.declared.waits.Ended.TheVariants.{AllPairs, One}
+use Rattle.waiting.specs.declared.waits.WaitsFor.{WaitsFor}
+use Rattle.waiting.specs.declared.waits.WaitsFor.TheVariants as wait
+use Rattle.waiting.specs.Packets.{HeldPacket, is_young}
+use Rattle.waiting.specs.Waits.{ends}
+use Rattle.packet_rules.specs.declared.readings.Reading.{Reading}
+use Rattle.packet_rules.specs.declared.readings.Reading.TheVariants.{Arp, Advert, Packet}
+use Rattle.packet_rules.specs.declared.reasons.Reason.{Reason}
+use Rattle.packet_rules.specs.declared.translations.Translation.{Translation}
+use Rattle.packet_rules.specs.declared.translations.Translation.TheVariants.{Outward, Inward, Hairpin}
+use Rattle.packet_rules.specs.Arping.{answer_frame, answer_to, is_learnable, request_frame}
+use Rattle.packet_rules.specs.Flows.{flow_in, source_of}
+use Rattle.packet_rules.specs.Frames.{hop_of, is_translation, way_of}
+use Rattle.packet_rules.specs.Networks.{direction_of}
+use Rattle.interfaces.specs.Stations.{IsRouterStep, Interface, is_active}
+use Rattle.output.specs.Output.{Sent}
+use Rattle.vrrp_states.specs.declared.Action.{Action}
+use Rattle.vrrp_states.specs.Table as table
+use Rattle.vrrp_states.specs.Table.{Event as RouterEvent}
+use Rattle.spec_step.specs.declared.events.Event.{Event}
+use Rattle.spec_step.specs.declared.events.Event.TheVariants.{Frame, Datagram, Tick, Stop, PeerOff}
+use Rattle.spec_step.specs.Parts.{frames_of, record_done, reset, with_link}
+use Rattle.spec_step.specs.Shown.{GatewayAndOutput, Shown, station_on}
+use Rattle.spec_step.specs.Steps.{clock_after, word_refusal}
+use Rattle.spec_step.specs.Truly.{AreItsPairs, AtHand, Known, known_of, near_on, packets_of}
+use Rattle.spec_step.specs.Verdict.{exit_by, reading_on}
+
+abbrev pub other_frames : List Sent → List Sent
+other_frames frames = filter (λ f. not (is_translation f.bytes)) frames
+
+abbrev pub sent_on : Side → List (List ℕ) → List Sent
+sent_on side frames = map (λ bytes. record { side = side; bytes = bytes }) frames
+
+-- the answer to an ARP packet, where it asks for an address of the interface
+abbrev pub answers_by : Interface → ArpPacket → Option Mac → List (List ℕ)
+answers_by station p (Some mac) = answer_frame station.network p mac ∷ []
+answers_by station p None = []
+
+abbrev pub answers : Interface → ArpPacket → List (List ℕ)
+answers station p = answers_by station p (answer_to station.network (is_active station) p)
+
+-- the frames of an action that the state table has for the router on a side
+pub record AreOfAction (g : Shown) (side : Side) (event : RouterEvent) (moment : ℕ) (frames : List Sent) : Type 0 where
+  pub station : Interface
+  pub action : Action
+  pub step : IsRouterStep (station_on g side) event moment action station
+  pub are : frames ≡ sent_on side (frames_of station action)
+
+-- those of both routers, that of the inside first
+pub record AreOfBoth (g : Shown) (event : RouterEvent) (moment : ℕ) (frames : List Sent) : Type 0 where
+  pub one : List Sent
+  pub two : List Sent
+  pub inside : AreOfAction g Inside event moment one
+  pub outside : AreOfAction g Outside event moment two
+  pub are : frames ≡ one ++ two
+
+-- what an event has the gateway send by itself
+abbrev pub FrameOwes : Shown → Side → Result Reading Reason → List Sent → Type 0
+FrameOwes g side (Ok (Arp p)) own = own ≡ sent_on side (answers (station_on g side) p)
+FrameOwes g side (Ok (Advert a from)) own = AreOfAction g side (table.Heard a.priority a.interval from.0) g.moment own
+FrameOwes g side (Ok (Packet packet)) own = own ≡ []
+FrameOwes g side (Err reason) own = own ≡ []
+
+abbrev pub Owes : Shown → Event → List Sent → Type 0
+Owes g (Frame side bytes) own = FrameOwes g side (reading_on g side bytes.now) own
+Owes g (Datagram bytes) own = own ≡ []
+Owes g (Tick now) own = AreOfBoth g table.Tick (clock_after g.moment now) own
+Owes g Stop own = AreOfBoth g table.Stop g.moment own
+Owes g (PeerOff n) own = own ≡ []
+
+-- the request for a next hop
+abbrev pub request_for : Shown → WaitsFor → List Sent
+request_for g (wait.Hop side host) = record { side = side; bytes = request_frame (station_on g side).network host } ∷ []
+request_for g (wait.Pair endpoint) = []
+
+abbrev pub requests : Shown → List HeldPacket → List Sent
+requests g waiting = flat_map (λ w. request_for g w.wait) waiting
+
+-- ---- the packets whose wait an event ends
+
+-- an ARP packet: those that wait for its sender, where that may be learnt
+abbrev pub frees_as : Shown → Side → Result Reading Reason → HeldPacket → Bool
+frees_as g side (Ok (Arp p)) w = is_learnable (station_on g side).network p && ends (One (wait.Hop side p.sender_ip)) w.wait
+frees_as g side (Ok (Advert a from)) w = false
+frees_as g side (Ok (Packet packet)) w = false
+frees_as g side (Err reason) w = false
+
+-- a record: those that wait for the pair of the endpoint that it answers
+abbrev pub frees_for : Option Endpoint → HeldPacket → Bool
+frees_for None w = false
+frees_for (Some e) w = ends (One (wait.Pair e)) w.wait
+
+-- records, one after another
+abbrev pub free_by : GatewayAndOutput → List Record → HeldPacket → Bool
+free_by s [] w = false
+free_by s (r ∷ rs) w = let g = s.shown in
+    frees_for (taken_ended g.ledger.book (rests_for g.moment g.ledger r) r) w || free_by (record_done s r) rs w
+
+-- a datagram that is let through: of a greater boot all that wait for pairs, then by its records
+abbrev pub frees_heard : GatewayAndOutput → Letters → Option LinkFault → HeldPacket → Bool
+frees_heard s d None w = let e = s.shown.link in
+    let after = with_link s (after_take e d s.shown.moment) in
+    if is_restart e d then ends AllPairs w.wait || free_by (reset after) (records_taken e d) w
+    else free_by after (records_taken e d) w
+frees_heard s d (Some fault) w = false
+
+abbrev pub frees_read : GatewayAndOutput → Result Letters LinkFault → HeldPacket → Bool
+frees_read s (Ok d) w = frees_heard s d (refusal s.shown.link d) w
+frees_read s (Err fault) w = false
+
+-- the operator's word, where it is taken: all that wait for pairs
+abbrev pub frees_unless : Option Reason → HeldPacket → Bool
+frees_unless None w = ends AllPairs w.wait
+frees_unless (Some reason) w = false
+
+abbrev pub is_freed : GatewayAndOutput → Event → HeldPacket → Bool
+is_freed s (Frame side bytes) w = frees_as s.shown side (reading_on s.shown side bytes.now) w
+is_freed s (Datagram bytes) w = frees_read s (reading bytes.now) w
+is_freed s (Tick now) w = false
+is_freed s Stop w = false
+is_freed s (PeerOff n) w = frees_unless (word_refusal s.shown n) w
+
+-- one that a tick finds too old
+abbrev pub is_old : Shown → Event → HeldPacket → Bool
+is_old g (Frame side bytes) w = false
+is_old g (Datagram bytes) w = false
+is_old g (Tick now) w = not (is_young (clock_after g.moment now) w)
+is_old g Stop w = false
+is_old g (PeerOff n) w = false
+
+-- ---- the packets that come to wait
+
+-- the packet of an event, where the frame is read as one
+abbrev pub packet_as : Side → List ℕ → Result Reading Reason → List AtHand
+packet_as side bytes (Ok (Arp p)) = []
+packet_as side bytes (Ok (Advert a from)) = []
+packet_as side bytes (Ok (Packet packet)) = record { side = side; bytes = bytes } ∷ []
+packet_as side bytes (Err reason) = []
+
+abbrev pub packet_in : Shown → Event → List AtHand
+packet_in g (Frame side bytes) = packet_as side bytes.now (reading_on g side bytes.now)
+packet_in g (Datagram bytes) = []
+packet_in g (Tick now) = []
+packet_in g Stop = []
+packet_in g (PeerOff n) = []
+
+-- the pair that was taken up, if the note says so
+abbrev pub retaken_in : NoteKind → List Pair
+retaken_in (Used pair) = []
+retaken_in (Released pair) = []
+retaken_in (Retaken pair) = pair ∷ []
+retaken_in Synced = []
+retaken_in Crashed = []
+retaken_in (Booted number) = []
+
+abbrev pub retaken_pairs : List Note → List Pair
+retaken_pairs notes = flat_map (λ note. retaken_in note.what) notes
+
+-- packets may go by the pair: the gateway translated by it, or has taken it up since, as these notes say
+abbrev pub MayGoBy : Shown → List Note → Pair → Type 0
+MayGoBy g notes pair = IsTranslated g.ledger.book.entries pair ⊎ In pair (retaken_pairs notes)
+
+-- the pair of the port that a packet goes to
+abbrev pub targets : Translation → List Pair
+targets (Outward pair) = []
+targets (Inward pair) = pair ∷ []
+targets (Hairpin own other) = other ∷ []
+
+-- The host is the next hop of a packet, at the side at which it leaves: it goes the way that the rules say, by its pairs, and
+-- it may go by that of the port that it goes to; and no hardware address is known for that host.
+pub record IsAskedBy (k : Known) (may : Pair → Type 0) (packet : AtHand) (by : Translation) (exit : Side) (host : Ip)
+    : Type 0 where
+  pub way : let flow = flow_in packet.bytes in
+      direction_of k.networks packet.side flow.source.0 flow.destination.0 ≡ Ok (way_of by)
+  pub pairs : AreItsPairs (flow_in packet.bytes) by
+  pub target : AllByRecursion may (targets by)
+  pub exit_is : exit ≡ exit_by by
+  pub hop : host.0 ≡ hop_of k.networks by (flow_in packet.bytes).destination.0
+  pub unknown : mac_at host.0 k.moment (near_on k exit) ≡ None
+
+-- a packet waits for the pair of its own endpoint, or for its own next hop
+abbrev pub IsItsWait : Known → (Pair → Type 0) → AtHand → WaitsFor → Type 0
+IsItsWait k may packet (wait.Pair e) = e ≡ source_of (flow_in packet.bytes)
+IsItsWait k may packet (wait.Hop exit host) = (by : Translation) × IsAskedBy k may packet by exit host
+
+-- it does so since now
+pub record IsNew (k : Known) (may : Pair → Type 0) (w : HeldPacket) : Type 0 where
+  pub since : w.since ≡ k.moment
+  pub wait : IsItsWait k may (record { side = w.side; bytes = w.bytes }) w.wait
+
+-- The other frames in their order: what the event has the gateway send by itself, then a request for each packet that comes
+-- to wait for its next hop. The packets that waited before still do, but for those whose wait the event ends and for old
+-- ones; behind them wait those that came. These are, each once at most, of the event's own packet and of those whose wait
+-- it ended.
+pub record AreOthers (s : GatewayAndOutput) (event : Event) (s2 : GatewayAndOutput) : Type 0 where
+  pub frames : List Sent
+  pub frames_are : s2.told.frames ≡ s.told.frames ++ frames
+  pub notes : List Note
+  pub notes_are : s2.told.notes ≡ s.told.notes ++ notes
+  pub own : List Sent
+  pub owed : Owes s.shown event own
+  pub came : List HeldPacket
+  pub kept_are : s2.shown.kept ≡ filter (λ w. not (is_old s.shown event w || is_freed s event w)) s.shown.kept ++ came
+  pub gone : List AtHand
+  pub of_hand : let freed = filter (is_freed s event) s.shown.kept in
+      IsPermutation (packet_in s.shown event ++ packets_of freed) (packets_of came ++ gone)
+  pub new : AllByRecursion (IsNew (known_of s2.shown) (MayGoBy s.shown notes)) came
+  pub others : other_frames frames ≡ own ++ requests s.shown came

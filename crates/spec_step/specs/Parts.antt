@@ -1,0 +1,344 @@
+-- The parts of a step: what each does to a gateway and to what it has told, and the takings of the packets whose wait it
+-- ended.
+use Rattle.std.specs.Prelude.{ℕ, ◌+◌, Bool, not, ◌&&◌, Option, Some, None, Result, Ok, Err, List, [], ◌∷◌, ◌++◌, take, drop, if◌then◌else◌}
+use Rattle.std.specs.List.{filter}
+use Rattle.addresses.specs.declared.ethernet.Mac.{Mac}
+use Rattle.addresses.specs.declared.internet.Ip.{Ip}
+use Rattle.addresses.specs.declared.transport.Port.{Port}
+use Rattle.addresses.specs.declared.transport.TcpFlags.{TcpFlags}
+use Rattle.nat_types.specs.declared.gateways.Side.{Side}
+use Rattle.nat_types.specs.declared.pairs.Endpoint.{Endpoint}
+use Rattle.nat_types.specs.declared.pairs.Key.{Key}
+use Rattle.nat_types.specs.declared.records.Record.{Record}
+use Rattle.arp.specs.declared.packets.ArpPacket.{ArpPacket}
+use Rattle.frames.specs.Frame.{frame_of}
+use Rattle.ipv4.specs.declared.flows.Flow.{Flow}
+use Rattle.ipv4.specs.Header.{payload_of}
+use Rattle.ipv4.specs.Segment.{segment_of}
+use Rattle.activity.specs.declared.packets.Packet.{Packet as Carried}
+use Rattle.activity.specs.declared.packets.Remote.{Remote}
+use Rattle.activity.specs.declared.packets.Way.{Way}
+use Rattle.activity.specs.declared.packets.Way.TheVariants as goes
+use Rattle.bindings.specs.Lives.{idle_keys_in}
+use Rattle.link.specs.declared.datagrams.Datagram.{Datagram}
+use Rattle.link.specs.declared.faults.LinkFault.{LinkFault}
+use Rattle.link.specs.Grammar.{spelling}
+use Rattle.link.specs.Link.{Link, after_take, closed_at, datagram_of, is_due_on_tick, is_restart, records_taken, refusal, sent_on_answer, sent_on_tick, wanted, with_fed}
+use Rattle.link.specs.Reading.{reading}
+use Rattle.spec_binding.specs.declared.changes.Transition.{Transition}
+use Rattle.spec_binding.specs.Books.{is_synced}
+use Rattle.spec_binding.specs.Ledgers.{alone_ledger, carried_ledger, ledger_after, may_ask, rests_for, restarted_ledger, taken_ledger}
+use Rattle.spec_binding.specs.Resets.{back_in, restart_link, restart_notes, retaken}
+use Rattle.spec_binding.specs.Rows.{answered, carry_row, idle_row, is_full, noted_by, taken_answer, taken_ended, taken_what, wish_of}
+use Rattle.waiting.specs.declared.waits.Ended.{Ended}
+use Rattle.waiting.specs.declared.waits.Ended.TheVariants.{One, AllPairs}
+use Rattle.waiting.specs.declared.waits.WaitsFor.{WaitsFor}
+use Rattle.waiting.specs.declared.waits.WaitsFor.TheVariants as wait
+use Rattle.waiting.specs.Packets.{HeldPacket, ended_by, is_young, left_by}
+use Rattle.packet_rules.specs.declared.readings.Reading.{Reading}
+use Rattle.packet_rules.specs.declared.readings.Reading.TheVariants.{Arp, Advert, Packet}
+use Rattle.packet_rules.specs.declared.reasons.Reason.{Reason}
+use Rattle.packet_rules.specs.declared.reasons.Reason.TheVariants.{ShortFrame, NotMine, BadHeader, BadLength, BadHeaderSum, Fragment, TtlOver, NotUdpTcp, BadTransport, BadArp, BadAdvert, NotUp, NoBinding, NoPort, CannotWait, BadDatagram, OldWord}
+use Rattle.packet_rules.specs.declared.translations.Translation.{Translation}
+use Rattle.packet_rules.specs.declared.translations.Translation.TheVariants.{Outward, Inward, Hairpin}
+use Rattle.packet_rules.specs.Adverts.{advert_frame}
+use Rattle.packet_rules.specs.Arping.{answer_frame, answer_to, gratuitous_frame, is_learnable, request_frame}
+use Rattle.packet_rules.specs.Flows.{source_of}
+use Rattle.packet_rules.specs.Frames.{sent_frame}
+use Rattle.interfaces.specs.Stations.{Interface, after_arp, is_active}
+use Rattle.vrrp_states.specs.declared.Action.{Action}
+use Rattle.vrrp_states.specs.declared.Action.TheVariants.{Nothing, Advertise, AdvertiseAndArp}
+use Rattle.vrrp_states.specs.declared.State.{State}
+use Rattle.vrrp_states.specs.declared.State.TheVariants.{Initialize, Backup, Active}
+use Rattle.vrrp_states.specs.Table.{Router, active_down_interval}
+use Rattle.output.specs.Output.{Output, with_datagram, with_frame}
+use Rattle.spec_step.specs.declared.plans.Plan.{Plan}
+use Rattle.spec_step.specs.declared.plans.Plan.TheVariants.{Send, Ask, Wait as WaitFor}
+use Rattle.spec_step.specs.Shown.{GatewayAndOutput, Shown, id_of, scene, station_on, with_notes, with_station}
+use Rattle.spec_step.specs.Verdict.{exit_by, plan_of, reading_on}
+
+-- ---- rows of the binding protocol
+
+-- a row is done: the book and its lives change, a record may be pushed, and a note is made
+abbrev pub by_row : GatewayAndOutput → Transition → GatewayAndOutput
+by_row s row = let g = s.shown in
+    scene (record g { ledger = ledger_after g.moment row.change g.ledger; link = answered g.link row.answer })
+    (with_notes s.told (noted_by (id_of g) g.moment row.what))
+
+-- the endpoint of a packet's source wants a port
+abbrev pub wanted_by : GatewayAndOutput → Endpoint → GatewayAndOutput
+wanted_by s e = by_row s (wish_of s.shown.ledger.book (is_full s.shown.link) e).row
+
+-- the pair of a key carries a packet
+abbrev pub carried_by : GatewayAndOutput → Key → Carried → GatewayAndOutput
+carried_by s k p = let g = s.shown in
+    scene (record g { ledger = carried_ledger k p g.ledger })
+    (with_notes s.told (noted_by (id_of g) g.moment (carry_row g.ledger.book k).what))
+
+-- ---- one packet
+
+-- the flags of a TCP segment; those of a UDP datagram aren't read
+abbrev pub flags_in : List ℕ → TcpFlags
+flags_in bytes = (segment_of (payload_of (frame_of bytes).body)).flags
+
+abbrev pub remote : Ip → Port → Remote
+remote address port = record { address = address; port = port }
+
+abbrev pub carried : Remote → Way → TcpFlags → ℕ → Carried
+carried r way flags now = record { remote = r; way = way; flags = flags; at = now }
+
+-- The packet as the sessions of its pairs see it. Of a hairpin the sender's pair sees the outside virtual address and the
+-- port that it goes to, the other pair that address and the sender's outside port.
+abbrev pub carried_all : GatewayAndOutput → Flow → TcpFlags → Translation → GatewayAndOutput
+carried_all s flow flags (Outward p) =
+    carried_by s p.key (carried (remote flow.destination flow.destination_port) goes.Outward flags s.shown.moment)
+carried_all s flow flags (Inward p) =
+    carried_by s p.key (carried (remote flow.source flow.source_port) goes.Inward flags s.shown.moment)
+carried_all s flow flags (Hairpin own other) =
+    let here = s.shown.networks.outside.interface.virtual_ip in
+    carried_by
+    (carried_by s own.key (carried (remote here flow.destination_port) goes.Outward flags s.shown.moment))
+    other.key (carried (remote here own.key.port) goes.Inward flags s.shown.moment)
+
+-- a packet of the inside has its endpoint's pair made, or proposed, or a port wanted for it
+abbrev pub wanted_for : GatewayAndOutput → Flow → Translation → GatewayAndOutput
+wanted_for s flow (Outward p) = wanted_by s (source_of flow)
+wanted_for s flow (Inward p) = s
+wanted_for s flow (Hairpin own other) = wanted_by s (source_of flow)
+
+abbrev pub framed : GatewayAndOutput → Side → List ℕ → GatewayAndOutput
+framed s side bytes = scene s.shown (with_frame s.told side bytes)
+
+-- a packet is kept as it came
+abbrev pub keeping : GatewayAndOutput → Side → List ℕ → WaitsFor → GatewayAndOutput
+keeping s side bytes what =
+    scene (record s.shown { kept = s.shown.kept ++ (record { side = side; bytes = bytes; since = s.shown.moment; wait = what }) ∷ [] }) s.told
+
+-- a plan is done
+abbrev pub by_plan : GatewayAndOutput → Side → List ℕ → Flow → Plan → GatewayAndOutput
+by_plan s side bytes flow (Send by next) =
+    carried_all
+    (framed (wanted_for s flow by) (exit_by by) (sent_frame s.shown.networks by next bytes))
+    flow (flags_in bytes) by
+by_plan s side bytes flow (Ask by hop) =
+    framed
+    (keeping (wanted_for s flow by) side bytes (wait.Hop (exit_by by) hop))
+    (exit_by by) (request_frame (station_on s.shown (exit_by by)).network hop)
+by_plan s side bytes flow (WaitFor endpoint) =
+    keeping (wanted_by s endpoint) side bytes (wait.Pair endpoint)
+
+-- a packet is dropped, and where no port was free ports may be asked for
+abbrev pub by_refusal : GatewayAndOutput → Flow → Reason → GatewayAndOutput
+by_refusal s flow NoPort = wanted_by s (source_of flow)
+by_refusal s flow ShortFrame = s
+by_refusal s flow NotMine = s
+by_refusal s flow BadHeader = s
+by_refusal s flow BadLength = s
+by_refusal s flow BadHeaderSum = s
+by_refusal s flow Fragment = s
+by_refusal s flow TtlOver = s
+by_refusal s flow NotUdpTcp = s
+by_refusal s flow BadTransport = s
+by_refusal s flow BadArp = s
+by_refusal s flow BadAdvert = s
+by_refusal s flow NotUp = s
+by_refusal s flow NoBinding = s
+by_refusal s flow CannotWait = s
+by_refusal s flow BadDatagram = s
+by_refusal s flow OldWord = s
+
+abbrev pub by_verdict : GatewayAndOutput → Side → List ℕ → Flow → Result Plan Reason → GatewayAndOutput
+by_verdict s side bytes flow (Ok plan) = by_plan s side bytes flow plan
+by_verdict s side bytes flow (Err reason) = by_refusal s flow reason
+
+abbrev pub flow_taken : GatewayAndOutput → Side → List ℕ → Flow → GatewayAndOutput
+flow_taken s side bytes flow = by_verdict s side bytes flow (plan_of s.shown side flow)
+
+-- a kept packet is read again from the first step on
+abbrev pub retaken_by : GatewayAndOutput → Side → List ℕ → Result Reading Reason → GatewayAndOutput
+retaken_by s side bytes (Ok (Packet packet)) = flow_taken s side bytes packet.flow
+retaken_by s side bytes (Ok (Arp p)) = s
+retaken_by s side bytes (Ok (Advert a from)) = s
+retaken_by s side bytes (Err reason) = s
+
+abbrev pub taken_again : GatewayAndOutput → HeldPacket → GatewayAndOutput
+taken_again s w = retaken_by s w.side w.bytes (reading_on s.shown w.side w.bytes)
+
+-- one after another, in the order of keeping
+abbrev pub all_taken : GatewayAndOutput → List HeldPacket → GatewayAndOutput
+all_taken s [] = s
+all_taken s (w ∷ ws) = all_taken (taken_again s w) ws
+
+-- the packets whose wait is over go off the list, and are taken again
+abbrev pub released : GatewayAndOutput → Ended → GatewayAndOutput
+released s ended =
+    all_taken (scene (record s.shown { kept = left_by ended s.shown.kept }) s.told) (ended_by ended s.shown.kept)
+
+-- ---- ARP and VRRP
+
+abbrev pub answered_by : GatewayAndOutput → Side → ArpPacket → Option Mac → GatewayAndOutput
+answered_by s side p (Some mac) = framed s side (answer_frame (station_on s.shown side).network p mac)
+answered_by s side p None = s
+
+-- the sender may be learnt, a request is answered, and whoever waited for that host waits no more
+abbrev pub arp_taken : GatewayAndOutput → Side → ArpPacket → GatewayAndOutput
+arp_taken s side p =
+    let station = station_on s.shown side in
+    let heard = scene (with_station s.shown side (after_arp station p s.shown.moment)) s.told in
+    let told = answered_by heard side p (answer_to station.network (is_active station) p) in
+    if is_learnable station.network p then released told (One (wait.Hop side p.sender_ip)) else told
+
+abbrev pub all_framed : GatewayAndOutput → Side → List (List ℕ) → GatewayAndOutput
+all_framed s side [] = s
+all_framed s side (frame ∷ frames) = all_framed (framed s side frame) side frames
+
+-- the frames that an action sends, in order
+abbrev pub frames_of : Interface → Action → List (List ℕ)
+frames_of station Nothing = []
+frames_of station (Advertise priority) =
+    advert_frame station.network priority station.interval ∷ []
+frames_of station (AdvertiseAndArp priority) =
+    advert_frame station.network priority station.interval
+    ∷ gratuitous_frame station.network
+    ∷ []
+
+-- a router moved: its interface is this one, and its action's frames are sent
+abbrev pub acted : GatewayAndOutput → Side → Interface → Action → GatewayAndOutput
+acted s side station action = all_framed (scene (with_station s.shown side station) s.told) side (frames_of station action)
+
+-- the router of an interface begins (RFC 9568, section 6.4.1)
+abbrev pub started_in : State → Router → ℕ → Router
+started_in Initialize r now = record r {
+  state = Backup;
+  active_interval = r.interval;
+  active_down_timer = Some (now + active_down_interval r.priority r.interval);
+}
+started_in Backup r now = r
+started_in Active r now = r
+
+abbrev pub started : Interface → ℕ → Interface
+started s now = record s { router = started_in s.router.state s.router now }
+
+-- ---- the link
+
+-- a greater boot of the peer was heard: the reset, its batch, and the packets that waited for pairs
+abbrev pub reset : GatewayAndOutput → GatewayAndOutput
+reset s = let g = s.shown in let book = g.ledger.book in
+    released
+    (scene (record g { ledger = restarted_ledger g.ledger; link = restart_link book g.link })
+    (with_notes s.told (restart_notes book g.moment)))
+    AllPairs
+
+-- the gateway became synced by this record
+abbrev pub has_synced : Shown → Shown → Bool
+has_synced g g2 = not (is_synced g.ledger.book.stage) && is_synced g2.ledger.book.stage
+
+-- a gateway that has become synced starts its routers, where it wasn't stopped
+abbrev pub with_routers : Shown → Shown → Shown
+with_routers g g2 =
+    if has_synced g g2 && not g2.stopped
+    then record g2 { inside = started g2.inside g2.moment; outside = started g2.outside g2.moment }
+    else g2
+
+-- a record is taken
+abbrev pub record_shown : Shown → Record → Shown
+record_shown g r = let book = g.ledger.book in
+    with_routers g (record g {
+      ledger = taken_ledger g.moment g.ledger r;
+      link = answered g.link (taken_answer book (rests_for g.moment g.ledger r) r);
+    })
+
+abbrev pub record_told : Shown → Record → Output → Output
+record_told g r told = let book = g.ledger.book in
+    with_notes told (noted_by (id_of g) g.moment (taken_what book (rests_for g.moment g.ledger r) r))
+
+abbrev pub wait_ended : Option Endpoint → GatewayAndOutput → GatewayAndOutput
+wait_ended None s = s
+wait_ended (Some e) s = released s (One (wait.Pair e))
+
+abbrev pub record_done : GatewayAndOutput → Record → GatewayAndOutput
+record_done s r = let g = s.shown in
+    wait_ended (taken_ended g.ledger.book (rests_for g.moment g.ledger r) r)
+    (scene (record_shown g r) (record_told g r s.told))
+
+abbrev pub records_done : GatewayAndOutput → List Record → GatewayAndOutput
+records_done s [] = s
+records_done s (r ∷ rs) = records_done (record_done s r) rs
+
+abbrev pub with_link : GatewayAndOutput → Link → GatewayAndOutput
+with_link s e = scene (record s.shown { link = e }) s.told
+
+-- a datagram is heard: a greater boot's reset, then each record
+abbrev pub heard_by : GatewayAndOutput → Datagram → GatewayAndOutput
+heard_by s d = let e = s.shown.link in
+    let after = with_link s (after_take e d s.shown.moment) in
+    records_done (if is_restart e d then reset after else after) (records_taken e d)
+
+abbrev pub heard_unless : GatewayAndOutput → Datagram → Option LinkFault → GatewayAndOutput
+heard_unless s d None = heard_by s d
+heard_unless s d (Some fault) = s
+
+abbrev pub datagram_read : GatewayAndOutput → Result Datagram LinkFault → GatewayAndOutput
+datagram_read s (Ok d) = heard_unless s d (refusal s.shown.link d)
+datagram_read s (Err fault) = s
+
+abbrev pub datagram_taken : GatewayAndOutput → List ℕ → GatewayAndOutput
+datagram_taken s bytes = datagram_read s (reading bytes)
+
+-- the operator's word is taken: the session ends, pairs are revived, and the gateway is alone
+abbrev pub word_taken : GatewayAndOutput → ℕ → GatewayAndOutput
+word_taken s n = let g = s.shown in let book = g.ledger.book in
+    released
+    (scene (record g { ledger = alone_ledger g.ledger; link = closed_at g.link n })
+    (with_notes s.told (retaken (id_of g) g.moment (back_in book.entries))))
+    AllPairs
+
+-- ---- a tick's own parts
+
+-- an idle pair is let go: alone it is dropped, else its owner asks, where the peer was heard lately and the link isn't full
+abbrev pub idle_done : GatewayAndOutput → Key → GatewayAndOutput
+idle_done s k = let g = s.shown in
+    by_row s (idle_row g.ledger.book (may_ask g.moment g.link) k)
+
+abbrev pub all_idle_done : GatewayAndOutput → List Key → GatewayAndOutput
+all_idle_done s [] = s
+all_idle_done s (k ∷ ks) = all_idle_done (idle_done s k) ks
+
+-- the idle pairs of a moment, by protocol (tcp first) and port
+abbrev pub idle_taken : GatewayAndOutput → GatewayAndOutput
+idle_taken s = let l = s.shown.ledger in all_idle_done s (idle_keys_in s.shown.moment l.book.entries l.lives)
+
+-- kept packets of 300 centiseconds and more are dropped
+abbrev pub old_dropped : GatewayAndOutput → GatewayAndOutput
+old_dropped s = scene (record s.shown { kept = filter (is_young s.shown.moment) s.shown.kept }) s.told
+
+-- ---- the datagram at a step's end
+
+-- what the link wants of a promised batch is handed in
+abbrev pub handed_in : Shown → Shown
+handed_in g = let book = g.ledger.book in let n = wanted g.link in
+    record g {
+      ledger = record g.ledger { book = record book { coming = drop n book.coming } };
+      link = with_fed g.link (take n book.coming);
+    }
+
+abbrev pub datagram_in : Shown → List ℕ
+datagram_in g = spelling (datagram_of (is_synced g.ledger.book.stage) g.link)
+
+-- the datagram that is due at the end of a step
+abbrev pub answer_sent : Shown → Output → GatewayAndOutput
+answer_sent g told =
+    scene (record g { link = sent_on_answer g.link }) (if g.link.due then with_datagram told (datagram_in g) else told)
+
+abbrev pub link_answered : GatewayAndOutput → GatewayAndOutput
+link_answered s = answer_sent (handed_in s.shown) s.told
+
+-- and at the end of a tick
+abbrev pub tick_sent : Shown → Output → GatewayAndOutput
+tick_sent g told =
+    if is_due_on_tick g.link g.moment
+    then scene (record g { link = sent_on_tick g.link g.moment }) (with_datagram told (datagram_in g))
+    else scene g told
+
+abbrev pub link_ticked : GatewayAndOutput → GatewayAndOutput
+link_ticked s = tick_sent (handed_in s.shown) s.told

@@ -1,0 +1,53 @@
+-- What a gateway shows, and what it has told.
+use Rattle.std.specs.Prelude.{ℕ, Bool, not, ◌&&◌, List, ◌++◌}
+use Rattle.nat_types.specs.declared.gateways.GatewayId.{GatewayId}
+use Rattle.nat_types.specs.declared.gateways.Side.{Side}
+use Rattle.nat_types.specs.declared.gateways.Side.TheVariants.{Inside, Outside}
+use Rattle.nat_types.specs.declared.notes.Note.{Note}
+use Rattle.link.specs.Link.{Link}
+use Rattle.spec_binding.specs.Books.{is_synced}
+use Rattle.spec_binding.specs.Ledgers.{Ledger}
+use Rattle.packet_rules.specs.declared.networks.Networks.{Networks}
+use Rattle.interfaces.specs.Stations.{Interface}
+use Rattle.waiting.specs.Packets.{HeldPacket}
+use Rattle.output.specs.Output.{Output}
+
+-- Its networks, its clock's moment, whether it was stopped, its book with what the pairs carried, its end of the link,
+-- its two interfaces, and the packets that wait.
+pub record Shown : Type 0 where
+  pub networks : Networks
+  pub moment : ℕ
+  pub stopped : Bool
+  pub ledger : Ledger
+  pub link : Link
+  pub inside : Interface
+  pub outside : Interface
+  pub kept : List HeldPacket
+
+abbrev pub id_of : Shown → GatewayId
+id_of g = g.ledger.book.id
+
+-- frames are taken by a gateway that is synced and wasn't stopped
+abbrev pub is_up : Shown → Bool
+is_up g = is_synced g.ledger.book.stage && not g.stopped
+
+-- the interface on a side
+abbrev pub station_on : Shown → Side → Interface
+station_on g Inside = g.inside
+station_on g Outside = g.outside
+
+abbrev pub with_station : Shown → Side → Interface → Shown
+with_station g Inside s = record g { inside = s }
+with_station g Outside s = record g { outside = s }
+
+-- a gateway and what it has told
+pub record GatewayAndOutput : Type 0 where
+  pub shown : Shown
+  pub told : Output
+
+abbrev pub scene : Shown → Output → GatewayAndOutput
+scene g told = record { shown = g; told = told }
+
+-- notes more
+abbrev pub with_notes : Output → List Note → Output
+with_notes told notes = record told { notes = told.notes ++ notes }

@@ -1,0 +1,127 @@
+-- Told truly: the translated frames of a step are, one for one and in order, translations of different packets at hand, by
+-- the pairs that the step's Used notes name.
+use Rattle.std.specs.Prelude.{◌≡◌, ℕ, List, [], ◌∷◌, ◌++◌, map, Some, Ok}
+use Rattle.std.specs.List.{filter, flat_map}
+use Rattle.std.specs.List.Sorted.{IsPermutation}
+use Rattle.addresses.specs.declared.ethernet.Mac.{Mac}
+use Rattle.nat_types.specs.declared.gateways.Side.{Side}
+use Rattle.nat_types.specs.declared.gateways.Side.TheVariants.{Inside, Outside}
+use Rattle.nat_types.specs.declared.notes.NoteKind.{NoteKind}
+use Rattle.nat_types.specs.declared.notes.NoteKind.TheVariants.{Used, Released, Retaken, Synced, Crashed, Booted}
+use Rattle.nat_types.specs.declared.notes.Note.{Note}
+use Rattle.nat_types.specs.declared.pairs.Pair.{Pair}
+use Rattle.arp.specs.Neighbours.{Neighbours, mac_at}
+use Rattle.ipv4.specs.declared.flows.Flow.{Flow}
+use Rattle.waiting.specs.Packets.{HeldPacket}
+use Rattle.packet_rules.specs.declared.networks.Networks.{Networks}
+use Rattle.packet_rules.specs.declared.translations.Translation.{Translation}
+use Rattle.packet_rules.specs.declared.translations.Translation.TheVariants.{Outward, Inward, Hairpin}
+use Rattle.packet_rules.specs.Flows.{flow_in, source_of, target_of}
+use Rattle.packet_rules.specs.Frames.{hop_of, is_translation, pairs_of, sent_frame, way_of}
+use Rattle.packet_rules.specs.Networks.{IsWired, direction_of}
+use Rattle.interfaces.specs.Stations.{IsWired as IsWiredStation}
+use Rattle.output.specs.Output.{Sent}
+use Rattle.spec_step.specs.declared.events.Event.{Event}
+use Rattle.spec_step.specs.declared.events.Event.TheVariants.{Frame, Datagram, Tick, Stop, PeerOff}
+use Rattle.spec_step.specs.Shown.{GatewayAndOutput, Shown}
+use Rattle.spec_step.specs.Verdict.{exit_by}
+
+-- the pair that was used, if the note says so
+abbrev pub used_in : NoteKind → List Pair
+used_in (Used pair) = pair ∷ []
+used_in (Released pair) = []
+used_in (Retaken pair) = []
+used_in Synced = []
+used_in Crashed = []
+used_in (Booted number) = []
+
+-- the pairs of the Used notes, in order
+abbrev pub used_pairs : List Note → List Pair
+used_pairs notes = flat_map (λ note. used_in note.what) notes
+
+-- a packet at hand: where it came in, and as it came
+pub record AtHand : Type 0 where
+  pub side : Side
+  pub bytes : List ℕ
+
+-- the packet of an event
+abbrev pub hand_of : Event → List AtHand
+hand_of (Frame side bytes) = record { side = side; bytes = bytes.now } ∷ []
+hand_of (Datagram bytes) = []
+hand_of (Tick now) = []
+hand_of Stop = []
+hand_of (PeerOff n) = []
+
+-- kept packets, as they came
+abbrev pub packets_of : List HeldPacket → List AtHand
+packets_of kept = map (λ w. record { side = w.side; bytes = w.bytes }) kept
+
+-- what decides where a translated packet goes
+pub record Known : Type 0 where
+  pub networks : Networks
+  pub moment : ℕ
+  pub near_inside : Neighbours
+  pub near_outside : Neighbours
+
+abbrev pub known_of : Shown → Known
+known_of g = record {
+  networks = g.networks;
+  moment = g.moment;
+  near_inside = g.inside.neighbours;
+  near_outside = g.outside.neighbours;
+}
+
+abbrev pub near_on : Known → Side → Neighbours
+near_on k Inside = k.near_inside
+near_on k Outside = k.near_outside
+
+-- Outward it is the pair whose endpoint is the packet's source, inward the one whose key is its protocol and destination
+-- port; for a hairpin both, in this order.
+abbrev pub AreItsPairs : Flow → Translation → Type 0
+AreItsPairs flow (Outward p) = p.endpoint ≡ source_of flow
+AreItsPairs flow (Inward p) = p.key ≡ target_of flow
+AreItsPairs flow (Hairpin own other) = (own.endpoint ≡ source_of flow) × (other.key ≡ target_of flow)
+
+-- The frame is the packet's translation: it goes the way that the rules say, by its pairs, to its next hop, at the side
+-- at which it leaves.
+pub record IsSentBy (k : Known) (packet : AtHand) (by : Translation) (sent : Sent) : Type 0 where
+  pub way : let flow = flow_in packet.bytes in
+      direction_of k.networks packet.side flow.source.0 flow.destination.0 ≡ Ok (way_of by)
+  pub pairs : AreItsPairs (flow_in packet.bytes) by
+  pub side : sent.side ≡ exit_by by
+  pub next : Mac
+  pub hop : mac_at (hop_of k.networks by (flow_in packet.bytes).destination.0) k.moment (near_on k (exit_by by)) ≡ Some next
+  pub bytes_are : sent.bytes ≡ sent_frame k.networks by next packet.bytes
+
+-- one sending: of which packet, by what, and the frame
+pub record Sending : Type 0 where
+  pub packet : AtHand
+  pub by : Translation
+  pub sent : Sent
+
+abbrev pub AreSent : Known → List Sending → Type 0
+AreSent k [] = Unit {0}
+AreSent k (d ∷ ds) = IsSentBy k d.packet d.by d.sent × AreSent k ds
+
+-- those of the frames whose packet was translated
+abbrev pub translated_frames : List Sent → List Sent
+translated_frames frames = filter (λ f. is_translation f.bytes) frames
+
+-- From a scene to a later one, with these packets in hand: what was told more. Each packet at hand or kept before is sent
+-- once, or dropped, or kept afterwards.
+pub record Tells (hand : List AtHand) (old new : GatewayAndOutput) : Type 0 where
+  pub frames : List Sent
+  pub frames_are : new.told.frames ≡ old.told.frames ++ frames
+  pub notes : List Note
+  pub notes_are : new.told.notes ≡ old.told.notes ++ notes
+  pub done : List Sending
+  pub translated : translated_frames frames ≡ map (λ d. d.sent) done
+  pub used : used_pairs notes ≡ flat_map (λ d. pairs_of d.by) done
+  pub each : AreSent (known_of new.shown) done
+  pub dropped : List AtHand
+  pub once : IsPermutation (hand ++ packets_of old.shown.kept)
+      (map (λ d. d.packet) done ++ (dropped ++ packets_of new.shown.kept))
+
+-- all hardware addresses that a gateway knows have six bytes
+abbrev pub AreWired : Shown → Type 0
+AreWired g = IsWired g.networks × (IsWiredStation g.inside × IsWiredStation g.outside)

@@ -1,0 +1,113 @@
+-- Verdict: what a packet is to do, as a function of the packet and the gateway.
+use Rattle.std.specs.Prelude.{ℕ, Option, Some, None, Result, Ok, Err, List, if◌then◌else◌}
+use Rattle.addresses.specs.declared.ethernet.Mac.{Mac}
+use Rattle.addresses.specs.declared.internet.Ip.{Ip}
+use Rattle.nat_types.specs.declared.gateways.Side.{Side}
+use Rattle.nat_types.specs.declared.pairs.EntryState.{EntryState}
+use Rattle.nat_types.specs.declared.pairs.EntryState.TheVariants.{Pending, Doomed, Live, Closing, Held}
+use Rattle.nat_types.specs.declared.pairs.Pair.{Pair}
+use Rattle.arp.specs.Neighbours.{mac_at}
+use Rattle.ipv4.specs.declared.flows.Flow.{Flow}
+use Rattle.bindings.specs.declared.entries.Entry.{Entry}
+use Rattle.bindings.specs.Entries.{slot_of}
+use Rattle.spec_binding.specs.declared.changes.Want as want
+use Rattle.spec_binding.specs.declared.changes.Want.{Want}
+use Rattle.spec_binding.specs.Rows.{is_full, new_pair, wish_of}
+use Rattle.waiting.specs.declared.waits.WaitsFor as wait
+use Rattle.waiting.specs.Packets.{has_place}
+use Rattle.packet_rules.specs.declared.networks.Direction.{Direction}
+use Rattle.packet_rules.specs.declared.networks.Direction.TheVariants as way
+use Rattle.packet_rules.specs.declared.readings.Reading.{Reading}
+use Rattle.packet_rules.specs.declared.readings.Reading.TheVariants.{Arp, Advert, Packet}
+use Rattle.packet_rules.specs.declared.reasons.Reason.{Reason}
+use Rattle.packet_rules.specs.declared.reasons.Reason.TheVariants.{NoBinding, NoPort, CannotWait}
+use Rattle.packet_rules.specs.declared.translations.Translation.{Translation}
+use Rattle.packet_rules.specs.declared.translations.Translation.TheVariants.{Outward, Inward, Hairpin}
+use Rattle.packet_rules.specs.Flows.{source_of, target_of}
+use Rattle.packet_rules.specs.Frames.{hop_of, way_of}
+use Rattle.packet_rules.specs.Networks.{direction_of, exit_of}
+use Rattle.packet_rules.specs.Steps.{reading_of, and_then}
+use Rattle.interfaces.specs.Stations.{is_active}
+use Rattle.spec_step.specs.declared.events.Outcome.{Outcome}
+use Rattle.spec_step.specs.declared.events.Outcome.TheVariants.{Sent, Waiting, Done, Dropped}
+use Rattle.spec_step.specs.declared.plans.Plan.{Plan}
+use Rattle.spec_step.specs.declared.plans.Plan.TheVariants.{Send, Ask, Wait}
+use Rattle.spec_step.specs.Shown.{Shown, is_up, station_on}
+
+-- the side at which a translated packet leaves
+abbrev pub exit_by : Translation → Side
+exit_by by = exit_of (way_of by)
+
+-- the next hop of a packet, and its hardware address where it is known
+abbrev pub hop_by : Shown → Translation → Flow → Ip
+hop_by g by flow = record { 0 = hop_of g.networks by flow.destination.0 }
+
+abbrev pub next_by : Shown → Translation → Flow → Option Mac
+next_by g by flow = mac_at (hop_by g by flow).0 g.moment (station_on g (exit_by by)).neighbours
+
+-- a packet whose pairs are known goes on, or waits for its next hop where there is a place
+abbrev pub plan_to : Shown → Translation → Ip → Option Mac → Result Plan Reason
+plan_to g by hop (Some next) = Ok (Send by next)
+plan_to g by hop None = (if has_place g.kept (wait.TheVariants.Hop (exit_by by) hop) then Ok (Ask by hop) else Err CannotWait)
+
+abbrev pub plan_by : Shown → Flow → Translation → Result Plan Reason
+plan_by g flow by = plan_to g by (hop_by g by flow) (next_by g by flow)
+
+-- a packet of the inside, by what its endpoint's pair is: it is translated so, waits for an answer, or is refused
+abbrev pub plan_from : Shown → Flow → (Pair → Translation) → Want → Result Plan Reason
+plan_from g flow by (want.TheVariants.Port port) = plan_by g flow (by (new_pair (source_of flow) port))
+plan_from g flow by want.TheVariants.Wait =
+    (if has_place g.kept (wait.TheVariants.Pair (source_of flow)) then Ok (Wait (source_of flow)) else Err CannotWait)
+plan_from g flow by want.TheVariants.NoPort = Err NoPort
+plan_from g flow by want.TheVariants.NotNow = Err CannotWait
+
+-- what the endpoint of a packet's source is given
+abbrev pub look_for : Shown → Flow → Want
+look_for g flow = (wish_of g.ledger.book (is_full g.link) (source_of flow)).answer
+
+-- the pair of an outside port: a free or Doomed one has none, and one that doesn't translate yet can't be waited for
+abbrev pub pair_in : EntryState → Pair → Result Pair Reason
+pair_in Pending p = Err CannotWait
+pair_in Doomed p = Err NoBinding
+pair_in Live p = Ok p
+pair_in Closing p = Err CannotWait
+pair_in Held p = Ok p
+
+abbrev pub pair_at : Option Entry → Result Pair Reason
+pair_at None = Err NoBinding
+pair_at (Some x) = pair_in x.state x.pair
+
+abbrev pub target_pair : Shown → Flow → Result Pair Reason
+target_pair g flow = pair_at (slot_of g.ledger.book.entries (target_of flow))
+
+-- a packet by its way; of a hairpin the destination's port is looked at first
+abbrev pub plan_on : Shown → Flow → Direction → Result Plan Reason
+plan_on g flow way.Outward = plan_from g flow Outward (look_for g flow)
+plan_on g flow way.Inward = and_then (target_pair g flow) (λ p. plan_by g flow (Inward p))
+plan_on g flow way.Hairpin =
+    and_then (target_pair g flow) (λ p. plan_from g flow (λ own. Hairpin own p) (look_for g flow))
+
+abbrev pub plan_of : Shown → Side → Flow → Result Plan Reason
+plan_of g side flow = and_then (direction_of g.networks side flow.source.0 flow.destination.0) (plan_on g flow)
+
+-- what a frame is read as
+abbrev pub reading_on : Shown → Side → List ℕ → Result Reading Reason
+reading_on g side bytes =
+    let s = station_on g side in reading_of s.network (is_active s) (is_up g) bytes
+
+-- ---- the outcome of a frame
+
+abbrev pub outcome_by : Result Plan Reason → Outcome
+outcome_by (Ok (Send by next)) = Sent
+outcome_by (Ok (Ask by hop)) = Waiting
+outcome_by (Ok (Wait endpoint)) = Waiting
+outcome_by (Err reason) = Dropped reason
+
+abbrev pub outcome_read : Shown → Side → Result Reading Reason → Outcome
+outcome_read g side (Ok (Arp p)) = Done
+outcome_read g side (Ok (Advert a from)) = Done
+outcome_read g side (Ok (Packet packet)) = outcome_by (plan_of g side packet.flow)
+outcome_read g side (Err reason) = Dropped reason
+
+abbrev pub verdict : Shown → Side → List ℕ → Outcome
+verdict g side bytes = outcome_read g side (reading_on g side bytes)

@@ -1,0 +1,162 @@
+//! What holds of a step of a gateway. Each law is the contract of a function that does nothing.
+
+ghost use Rattle.std.specs.Prelude.{◌≡◌, ◌≤◌, ◌+◌, ◌∷◌, ◌++◌, ℕ, false, [], List, length, reverse};
+ghost use Rattle.nat_types.specs.declared.gateways.GatewayId.{GatewayId};
+ghost use Rattle.nat_types.specs.declared.notes.NoteKind.TheVariants.{Booted, Crashed};
+ghost use Rattle.nat_types.specs.declared.notes.Note.{Note};
+ghost use Rattle.nat_types.specs.declared.pairs.Key.{Key};
+ghost use Rattle.nat_types.specs.declared.records.Record.{Record};
+ghost use Rattle.nat_types.specs.Same.{same};
+ghost use Rattle.settings.specs.declared.whole.Settings.{Settings};
+ghost use Rattle.spec_trace.specs.Past.{Idle};
+ghost use Rattle.spec_pair.specs.Talk.{note};
+ghost use Rattle.spec_binding.specs.Books.{IsBook};
+ghost use Rattle.spec_binding.specs.Ledgers.{let_go};
+ghost use Rattle.spec_step.specs.declared.events.Event.{Event};
+ghost use Rattle.spec_step.specs.Founding.{HasRanges, begun, bounds_of, founded, link_places};
+ghost use Rattle.spec_step.specs.Machine.{Goes, HasBytes, HasPushed, IsAlone, IsStanding, KeepsBytes};
+ghost use Rattle.spec_step.specs.Machine.{letters_in, words_in};
+ghost use Rattle.spec_step.specs.Others.{AreOthers};
+ghost use Rattle.spec_step.specs.Parts.{all_idle_done};
+ghost use Rattle.spec_step.specs.Rests.{AccountsOn, Rests, most_notes};
+ghost use Rattle.spec_step.specs.Settled.{IsSettled};
+ghost use Rattle.spec_step.specs.Shown.{GatewayAndOutput, Shown, id_of, scene, with_notes};
+ghost use Rattle.spec_step.specs.Steps.{Does, IsStepOn};
+ghost use Rattle.spec_step.specs.Truly.{AreWired, Tells, hand_of};
+
+use packet_rules::{frames_law, readings_law};
+
+/// A step is a step of the pair machine: it reads the letters and the words that the event hands in,
+/// makes just the notes and sends just the letters that were told more.
+pub fn steps_go()
+    ensures { (s : GatewayAndOutput) (event : Event) (s2 : GatewayAndOutput) (h : List Record) → IsStepOn s event s2
+        → HasBytes event → IsBook s.shown.ledger.book → IsAlone s.shown → KeepsBytes s.shown
+        → HasPushed s.shown h → Goes (letters_in event) (words_in event) s s2 h }
+{
+    readings_law();
+}
+
+/// What a step asks for holds after it again.
+pub fn steps_keep()
+    ensures { (s : GatewayAndOutput) (event : Event) (s2 : GatewayAndOutput) (h : List Record) → IsStepOn s event s2
+        → HasBytes event → IsBook s.shown.ledger.book → IsAlone s.shown → KeepsBytes s.shown
+        → HasPushed s.shown h
+        → IsBook s2.shown.ledger.book × (IsAlone s2.shown × KeepsBytes s2.shown) }
+{
+    readings_law();
+}
+
+/// A step tells truly: the translated frames that it sends are, one for one and in order,
+/// translations of different packets, by the pairs that its Used notes name, each on its packet's way
+/// and to its next hop. And the hardware addresses that the gateway knows have six bytes afterwards,
+/// too.
+pub fn steps_tell()
+    ensures truly { (s : GatewayAndOutput) (event : Event) (s2 : GatewayAndOutput) → IsStepOn s event s2
+        → HasBytes event → IsBook s.shown.ledger.book → KeepsBytes s.shown → AreWired s.shown
+        → Tells (hand_of event) s s2 }
+    ensures wired { (s : GatewayAndOutput) (event : Event) (s2 : GatewayAndOutput) → IsStepOn s event s2
+        → HasBytes event → IsBook s.shown.ledger.book → KeepsBytes s.shown → AreWired s.shown
+        → AreWired s2.shown }
+{
+    readings_law();
+    frames_law();
+}
+
+/// All other frames of a step are, in their order: an answer to the ARP request that came in, or the
+/// frames of the routers' actions; then a request for each packet that comes to wait for its next
+/// hop. It says which packets wait on, which may come to wait, and for which host each asks.
+pub fn other_frames()
+    ensures { (s : GatewayAndOutput) (event : Event) (s2 : GatewayAndOutput) → IsStepOn s event s2
+        → IsBook s.shown.ledger.book → AreWired s.shown → AreOthers s event s2 }
+{
+    readings_law();
+    frames_law();
+}
+
+/// What a step asks for holds already before the datagram at a step's end, of a list of all records
+/// that were pushed or promised by then.
+pub fn parts_stand()
+    ensures { (s : GatewayAndOutput) (event : Event) (done : GatewayAndOutput) (h : List Record) → Does s event done
+        → HasBytes event → IsBook s.shown.ledger.book → IsAlone s.shown → KeepsBytes s.shown
+        → HasPushed s.shown h → (h2 : List Record) × IsStanding done.shown h2 }
+{
+    readings_law();
+}
+
+/// The sentence on uses and releases through a whole step. All that a step notes is noted by the
+/// gateway itself, at the moment of its clock after the step. Whatever trace its ledger accounted for
+/// before (the newest note first), it does so after the step, with what was noted put in front; and so
+/// each release of the step comes where its pair is idle.
+pub fn steps_account()
+    ensures { (s : GatewayAndOutput) (event : Event) (s2 : GatewayAndOutput) → IsStepOn s event s2 → HasBytes event
+        → IsBook s.shown.ledger.book → KeepsBytes s.shown → Rests s s2 }
+{
+    readings_law();
+}
+
+/// What the other gateway notes leaves a gateway's account as it is: at a step of the other one whose
+/// own ledger accounts for the trace, at its crash and at its boot.
+pub fn others_account()
+    ensures step { (s s2 : GatewayAndOutput) (g : Shown) (before : List Note) (x : Rests s s2)
+        → same (id_of g) (id_of s.shown) ≡ false → AccountsOn s.shown before → AccountsOn g before
+        → AccountsOn g (reverse x.notes ++ before) }
+    ensures crashed { (g : Shown) (by : GatewayId) (at : ℕ) (before : List Note)
+        → same (id_of g) by ≡ false → AccountsOn g before
+        → AccountsOn g (note by at Crashed ∷ before) }
+    ensures booted { (g : Shown) (by : GatewayId) (at number : ℕ) (before : List Note)
+        → same (id_of g) by ≡ false → AccountsOn g before
+        → AccountsOn g (note by at (Booted number) ∷ before) }
+{}
+
+/// A gateway's ledger accounts for the trace as it begins: once its boot is noted, for each trace whose
+/// releases came where their pairs were idle, and as gateway 0 is founded, when nothing is noted.
+pub fn beginnings_account()
+    ensures begun { (settings : Settings) (id : GatewayId) (boot at : ℕ) (before : List Note)
+        → Idle before
+        → AccountsOn (begun settings id boot) (note id at (Booted boot) ∷ before) }
+    ensures founded { (settings : Settings) (boot : ℕ) → AccountsOn (founded settings boot) [] }
+{}
+
+/// What a step asks for holds of a gateway as it begins, and of the founded one; nothing was pushed by
+/// then. And its link has room for a whole table.
+pub fn beginnings()
+    ensures begun { (settings : Settings) (id : GatewayId) (boot : ℕ) → HasRanges settings
+        → IsStanding (begun settings id boot) [] }
+    ensures founded { (settings : Settings) (boot : ℕ) → HasRanges settings
+        → IsStanding (founded settings boot) [] }
+    ensures begun_room { (settings : Settings) (id : GatewayId) (boot : ℕ)
+        → (begun settings id boot).link.capacity
+        ≡ link_places (bounds_of settings.ports.zero) (bounds_of settings.ports.one) }
+    ensures founded_room { (settings : Settings) (boot : ℕ)
+        → (founded settings boot).link.capacity
+        ≡ link_places (bounds_of settings.ports.zero) (bounds_of settings.ports.one) }
+{}
+
+/// What holds of a gateway between steps holds after each step again: its routers are in Initialize
+/// where it isn't up, its link owes no datagram, and the packets that it keeps have their places.
+pub fn steps_settle()
+    ensures { (s : GatewayAndOutput) (event : Event) (s2 : GatewayAndOutput) → IsStepOn s event s2
+        → IsSettled s.shown → IsSettled s2.shown }
+{}
+
+/// It holds of a gateway as it begins, and of the founded one.
+pub fn beginnings_settle()
+    ensures begun { (settings : Settings) (id : GatewayId) (boot : ℕ)
+        → IsSettled (begun settings id boot) }
+    ensures founded { (settings : Settings) (boot : ℕ) → IsSettled (founded settings boot) }
+{}
+
+/// Idle pairs let go one after another change the book, its lives, the link and the notes as one fold
+/// of the ledger says, and nothing else.
+pub fn idle_at_once()
+    ensures { (s : GatewayAndOutput) (keys : List Key) → let g = s.shown in
+        let gone = let_go g.moment keys g.ledger g.link in
+        all_idle_done s keys ≡ scene (record g { ledger = gone.ledger; link = gone.link })
+        (with_notes s.told gone.notes) }
+{}
+
+/// No step makes more notes than `most_notes` says.
+pub fn steps_note()
+    ensures { (s : GatewayAndOutput) (event : Event) (s2 : GatewayAndOutput) → IsStepOn s event s2 → HasBytes event
+        → length s2.told.notes ≤ length s.told.notes + most_notes s.shown }
+{}

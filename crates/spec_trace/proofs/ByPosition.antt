@@ -1,0 +1,42 @@
+-- The laws for traces with the oldest note first.
+use Rattle.std.proofs.Common.{Bool, List, IsTrue, ◌↔◌, reverse, subst}
+use Rattle.std.proofs.lemmas.List.{reverse-reverse}
+use Rattle.nat_types.specs.declared.gateways.GatewayId.{GatewayId}
+use Rattle.nat_types.specs.declared.pairs.Pair.{Pair}
+use Rattle.nat_types.specs.declared.notes.Note.{Note}
+use Rattle.spec_trace.specs.Trace.{IsSynced, HasLetGo, IsAgreed, IsOpen, GoesOnWith, Fits, Silent, Kept, GoesOn, Idle}
+use Rattle.spec_trace.specs.Position.{SyncedSays, LetGoSays, AgreedSays, OpenSays, GoesOnSays, TranslatesSays, FitsSays, SilentSays, KeptSays, IdleSays}
+use Rattle.spec_trace.proofs.Sentences.{synced_so, let_go_so, agreed_so, open_so, goes_so, fits_so, silent_so, kept_so, idle_so}
+
+pub synced_law : (i : GatewayId) (t : List Note) → IsSynced i t ↔ SyncedSays i t
+synced_law i t = subst (λ (x : List Note). IsSynced i t ↔ SyncedSays i x) (reverse-reverse t) (synced_so i (reverse t))
+
+pub let_go_law : (i : GatewayId) (p : Pair) (t : List Note) → HasLetGo i p t ↔ LetGoSays i p t
+let_go_law i p t = subst (λ (x : List Note). HasLetGo i p t ↔ LetGoSays i p x) (reverse-reverse t) (let_go_so i p (reverse t))
+
+pub agreed_law : (i : GatewayId) (p : Pair) (t : List Note) → IsAgreed i p t ↔ AgreedSays i p t
+agreed_law i p t = subst (λ (x : List Note). IsAgreed i p t ↔ AgreedSays i p x) (reverse-reverse t) (agreed_so i p (reverse t))
+
+pub open_law : (p : Pair) (t : List Note) → IsOpen p t ↔ OpenSays p t
+open_law p t = subst (λ (x : List Note). IsOpen p t ↔ OpenSays p x) (reverse-reverse t) (open_so p (reverse t))
+
+pub goes_law : (i : GatewayId) (p : Pair) (t : List Note) → GoesOnWith i p t ↔ GoesOnSays i p t
+goes_law i p t = subst (λ (x : List Note). GoesOnWith i p t ↔ GoesOnSays i p x) (reverse-reverse t) (goes_so i p (reverse t))
+
+pub fits_law : (t : List Note) → Fits t ↔ FitsSays t
+fits_law t = subst (λ (x : List Note). Fits t ↔ FitsSays x) (reverse-reverse t) (fits_so (reverse t))
+
+pub silent_law : (t : List Note) → Silent t ↔ SilentSays t
+silent_law t = subst (λ (x : List Note). Silent t ↔ SilentSays x) (reverse-reverse t) (silent_so (reverse t))
+
+pub kept_law : (holds : GatewayId → Pair → Bool) (t : List Note) → Kept (λ i p. IsTrue (holds i p)) t ↔ KeptSays (λ i p. IsTrue (holds i p)) t
+kept_law holds t = subst (λ (x : List Note). Kept (λ i p. IsTrue (holds i p)) t ↔ KeptSays (λ i p. IsTrue (holds i p)) x) (reverse-reverse t) (kept_so (λ i p. IsTrue (holds i p)) (reverse t))
+
+pub idle_law : (t : List Note) → Idle t ↔ IdleSays t
+idle_law t = subst (λ (x : List Note). Idle t ↔ IdleSays x) (reverse-reverse t) (idle_so (reverse t))
+
+pub translates_law : (translates : GatewayId → Pair → Bool) (t : List Note) → GoesOn (λ i p. IsTrue (translates i p)) t ↔ TranslatesSays (λ i p. IsTrue (translates i p)) t
+translates_law translates t = (
+  λ h i s p. (λ g. (h i ((synced_law i t).1 s) p).0 ((goes_law i p t).1 g), λ b. (goes_law i p t).0 ((h i ((synced_law i t).1 s) p).1 b)),
+  λ h i s p. (λ g. (h i ((synced_law i t).0 s) p).0 ((goes_law i p t).0 g), λ b. (goes_law i p t).1 ((h i ((synced_law i t).0 s) p).1 b)),
+)

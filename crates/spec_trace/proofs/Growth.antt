@@ -1,0 +1,32 @@
+-- One more note at the end of a trace: it is the newest, and each word changes by one step.
+use Rattle.std.proofs.Common.{◌≡◌, List, [], ◌∷◌, ◌++◌, reverse, ◌↔◌, ap, sym, subst}
+use Rattle.std.proofs.lemmas.List.{reverse-append}
+use Rattle.nat_types.specs.declared.gateways.GatewayId.{GatewayId}
+use Rattle.nat_types.specs.declared.pairs.Pair.{Pair}
+use Rattle.nat_types.specs.declared.notes.Note.{Note}
+use Rattle.spec_trace.specs.Past as past
+use Rattle.spec_trace.specs.Trace.{Fits, Silent, Idle}
+
+pub reverse-push : (t : List Note) (n : Note) → reverse (t ++ n ∷ []) ≡ n ∷ reverse t
+reverse-push t n = reverse-append t (n ∷ [])
+
+pub is_synced-push : (i : GatewayId) (t : List Note) (n : Note) → past.is_synced i (reverse (t ++ n ∷ [])) ≡ past.synced_after i n.by n.what (past.is_synced i (reverse t))
+is_synced-push i t n = ap (past.is_synced i) (reverse-push t n)
+
+pub has_let_go-push : (i : GatewayId) (p : Pair) (t : List Note) (n : Note) → past.has_let_go i p (reverse (t ++ n ∷ [])) ≡ past.let_go_after i p n.by n.what (past.has_let_go i p (reverse t))
+has_let_go-push i p t n = ap (past.has_let_go i p) (reverse-push t n)
+
+pub is_open-push : (p : Pair) (t : List Note) (n : Note) → past.is_open p (reverse (t ++ n ∷ [])) ≡ past.open_after p n.what (past.is_agreed n.by p (reverse t)) (past.is_open p (reverse t))
+is_open-push p t n = ap (past.is_open p) (reverse-push t n)
+
+pub goes_on-push : (i : GatewayId) (p : Pair) (t : List Note) (n : Note) → past.goes_on i p (reverse (t ++ n ∷ [])) ≡ past.goes_after i p n.by n.what (past.goes_on i p (reverse t))
+goes_on-push i p t n = ap (past.goes_on i p) (reverse-push t n)
+
+pub Fits-push : (t : List Note) (n : Note) → Fits (t ++ n ∷ []) ↔ past.FitsAt n.what (reverse t) × Fits t
+Fits-push t n = (λ h. subst past.Fits (reverse-push t n) h, λ h. subst past.Fits (sym (reverse-push t n)) h)
+
+pub Silent-push : (t : List Note) (n : Note) → Silent (t ++ n ∷ []) ↔ past.SilentAt n.by n.what (reverse t) × Silent t
+Silent-push t n = (λ h. subst past.Silent (reverse-push t n) h, λ h. subst past.Silent (sym (reverse-push t n)) h)
+
+pub Idle-push : (t : List Note) (n : Note) → Idle (t ++ n ∷ []) ↔ past.IdleAt n.by n.at n.what (reverse t) × Idle t
+Idle-push t n = (λ h. subst past.Idle (reverse-push t n) h, λ h. subst past.Idle (sym (reverse-push t n)) h)

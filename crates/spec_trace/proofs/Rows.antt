@@ -1,0 +1,104 @@
+-- Rows by which the definitions are checked: each list has the newest note first.
+use Rattle.std.proofs.Common.{◌≡◌, ℕ, ◌+◌, ◌≤◌, true, false, cond, [], ◌∷◌, Some, refl, subst, inl, inr, arith}
+use Rattle.nat_types.specs.declared.gateways.GatewayId.{GatewayId}
+use Rattle.nat_types.specs.declared.gateways.GatewayId.TheVariants.{Zero, One}
+use Rattle.addresses.specs.declared.transport.Protocol.TheVariants.{Tcp, Udp}
+use Rattle.nat_types.specs.declared.pairs.Pair.{Pair}
+use Rattle.nat_types.specs.declared.notes.NoteKind.{NoteKind}
+use Rattle.nat_types.specs.declared.notes.NoteKind.TheVariants.{Used, Released, Retaken, Synced, Crashed, Booted}
+use Rattle.nat_types.specs.declared.notes.Note.{Note}
+use Rattle.nat_types.specs.Same.{same_key, same_endpoint, same_pair}
+use Rattle.spec_trace.specs.Past.{is_open, goes_on, Idle}
+use Rattle.spec_trace.specs.OneBox.{Map, Allot, Use, Drop, moves_at, AreTimely, IsRun}
+use Rattle.spec_trace.proofs.Box.{run_open}
+
+abbrev pair_p : Pair
+pair_p = record { key = record { protocol = Udp; port = record { 0 = 20000 } }; endpoint = record { protocol = Udp; address = record { 0 = 7 }; port = record { 0 = 4000 } } }
+
+abbrev pair_q : Pair
+pair_q = record { key = record { protocol = Udp; port = record { 0 = 20000 } }; endpoint = record { protocol = Udp; address = record { 0 = 8 }; port = record { 0 = 4000 } } }
+
+abbrev tcp_pair : Pair
+tcp_pair = record { key = record { protocol = Tcp; port = record { 0 = 20000 } }; endpoint = record { protocol = Tcp; address = record { 0 = 7 }; port = record { 0 = 4000 } } }
+
+abbrev note : GatewayId → ℕ → NoteKind → Note
+note i at w = record { by = i; at = at; what = w }
+
+-- used and released by the lone founder: closed
+row_lone : is_open pair_p (note Zero 2 (Released pair_p) ∷ note Zero 1 (Used pair_p) ∷ []) ≡ false
+unfolding same_pair same_key same_endpoint
+row_lone = refl
+
+-- another pair of the same port doesn't close it
+row_other : is_open pair_p (note Zero 2 (Released pair_q) ∷ note Zero 1 (Used pair_p) ∷ []) ≡ true
+unfolding same_pair same_key same_endpoint
+row_other = refl
+
+-- with the other synced, one release doesn't close it, and the second does
+row_asked : is_open pair_p (note Zero 2 (Released pair_p) ∷ note One 0 Synced ∷ note One 0 (Booted 1) ∷ note Zero 1 (Used pair_p) ∷ []) ≡ true
+unfolding same_pair same_key same_endpoint
+row_asked = refl
+
+row_agreed : is_open pair_p (note One 3 (Released pair_p) ∷ note Zero 2 (Released pair_p) ∷ note One 0 Synced ∷ note One 0 (Booted 1) ∷ note Zero 1 (Used pair_p) ∷ []) ≡ false
+unfolding same_pair same_key same_endpoint
+row_agreed = refl
+
+-- what was taken over goes on, but not in the next life
+row_goes_on : goes_on One pair_p (note One 1 (Retaken pair_p) ∷ note One 0 Synced ∷ note One 0 (Booted 1) ∷ []) ≡ true
+unfolding same_pair same_key same_endpoint
+row_goes_on = refl
+
+row_next_life : goes_on One pair_p (note One 2 (Booted 2) ∷ note One 2 Crashed ∷ note One 1 (Retaken pair_p) ∷ []) ≡ false
+unfolding same_pair same_key same_endpoint
+row_next_life = refl
+
+-- a rest after its last use a pair is idle, and one centisecond less isn't enough
+row_idle : Idle (note Zero 30000 (Released pair_p) ∷ note Zero 0 (Used pair_p) ∷ [])
+row_idle = (λ u h. elim h [ inl a ↦ let e : u ≡ 0 = a.2 in omega arith | inr b ↦ absurd b ], (tt, tt))
+
+row_early : Idle (note Zero 29999 (Released pair_p) ∷ note Zero 0 (Used pair_p) ∷ []) → ⊥
+row_early h = let le : 0 + 30000 ≤ 29999 = h.0 0 (inl (refl, refl, refl)) in omega arith
+
+row_tcp_idle : Idle (note Zero 24000 (Released tcp_pair) ∷ note Zero 0 (Used tcp_pair) ∷ [])
+row_tcp_idle = (λ u h. elim h [ inl a ↦ let e : u ≡ 0 = a.2 in omega arith | inr b ↦ absurd b ], (tt, tt))
+
+row_tcp_early : Idle (note Zero 23999 (Released tcp_pair) ∷ note Zero 0 (Used tcp_pair) ∷ []) → ⊥
+row_tcp_early h = let le : 0 + 24000 ≤ 23999 = h.0 0 (inl (refl, refl, refl)) in omega arith
+
+-- a release after each packet isn't idle
+row_after_each_packet : Idle (note Zero 0 (Released pair_p) ∷ note Zero 0 (Used pair_p) ∷ []) → ⊥
+row_after_each_packet h = let le : 0 + 30000 ≤ 0 = h.0 0 (inl (refl, refl, refl)) in omega arith
+
+-- a use of an earlier life doesn't count
+row_earlier_life : Idle (note Zero 5 (Released pair_p) ∷ note Zero 2 (Booted 2) ∷ note Zero 1 (Used pair_p) ∷ [])
+row_earlier_life = (λ u h. absurd (h.0 refl), (tt, (tt, tt)))
+
+-- nor does a use by the other gateway
+row_other_gateway : Idle (note Zero 5 (Released pair_p) ∷ note One 1 (Used pair_p) ∷ [])
+row_other_gateway = (λ u h. elim h [ inl a ↦ absurd (let e : Zero ≡ One = a.0 in cc) | inr b ↦ absurd b ], (tt, tt))
+
+-- the moves of one box
+abbrev nothing : Map
+nothing q = false
+
+row_allots : moves_at nothing Zero (Used pair_p) [] ≡ Allot pair_p ∷ Use pair_p ∷ []
+row_allots = refl
+
+row_drops : moves_at (λ q. true) Zero (Released pair_p) (note Zero 1 (Used pair_p) ∷ []) ≡ Drop pair_p ∷ []
+row_drops = refl
+
+-- one box doesn't drop a pair that early
+some_moment : (a b : ℕ) → Some a ≡ Some b → a ≡ b
+some_moment a b h = cc
+
+row_no_early_drop : (m : Map) → IsRun m (note Zero 29999 (Released pair_p) ∷ note Zero 0 (Used pair_p) ∷ []) → ⊥
+unfolding same_pair same_key same_endpoint
+row_no_early_drop m run =
+    let was : Map = run.0 in
+    let had : was pair_p ≡ true = run_open was (note Zero 0 (Used pair_p) ∷ []) run.1 pair_p in
+    let timely : AreTimely (cond (was pair_p) (Drop pair_p ∷ []) []) (note Zero 29999 (Released pair_p) ∷ note Zero 0 (Used pair_p) ∷ []) = run.3 in
+    let dropped : AreTimely (Drop pair_p ∷ []) (note Zero 29999 (Released pair_p) ∷ note Zero 0 (Used pair_p) ∷ []) = subst (λ b. AreTimely (cond b (Drop pair_p ∷ []) []) (note Zero 29999 (Released pair_p) ∷ note Zero 0 (Used pair_p) ∷ [])) had timely in
+    let rested = dropped.0 Zero refl 0 (inl (refl, refl, refl)) in
+    let at : 29999 ≡ rested.0 = some_moment 29999 rested.0 rested.1 in
+    let le : 0 + 30000 ≤ rested.0 = rested.2 in
+    omega arith

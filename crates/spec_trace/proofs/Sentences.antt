@@ -1,0 +1,416 @@
+-- The words as they are worked out are those by position.
+use Rattle.std.proofs.Common.{◌≡◌, ℕ, ◌+◌, ◌<◌, ◌≤◌, ◌⊎◌, inl, inr, Bool, true, false, not, ◌&&◌, ◌||◌, cond, List, [], ◌∷◌, ◌++◌, length, Option, Some, None, IsTrue, ◌↔◌, reverse, refl, sym, ap, subst, ◌∙◌, arith}
+use Rattle.std.proofs.lemmas.Bool.{both_ways, and_parts, and_from, or_cases, or_left, or_right, not-true, not_from_false, false_from_ne_true}
+use Rattle.nat_types.specs.declared.gateways.GatewayId.{GatewayId}
+use Rattle.nat_types.specs.declared.gateways.GatewayId.TheVariants.{Zero}
+use Rattle.nat_types.specs.declared.pairs.Pair.{Pair}
+use Rattle.nat_types.specs.declared.notes.NoteKind.{NoteKind}
+use Rattle.nat_types.specs.declared.notes.NoteKind.TheVariants.{Used, Released, Retaken, Synced, Crashed, Booted}
+use Rattle.nat_types.specs.declared.notes.Note.{Note}
+use Rattle.nat_types.specs.Same.{same, other, same_pair}
+use Rattle.spec_trace.specs.Past.{synced_after, is_synced, let_go_after, has_let_go, is_agreed, open_after, is_open, goes_after, goes_on, DoFit, FitsAt, Fits, SilentAt, Silent, rest_of, UsesAt, UsedInLife, IdleAt, Idle}
+use Rattle.spec_trace.specs.Position.{is_state_word, is_state, SyncedSays, is_pair_word, is_on_pair, LetGoSays, AgreedSays, Deletes, OpenSays, Each, FitsHere, FitsSays, SilentHere, SilentSays, KeptSays, is_boot_word, is_of_life, GoesOnSays, UseSays, IdleHere, IdleSays}
+use Rattle.nat_types.proofs.Offered.{same-eq, same-true, pair-eq, pair-true}
+use Rattle.spec_trace.proofs.Places.{at_within, at_old, at_last, at_cases, take_old, take_here, last_of, Says, says, last_unique, none_unique, reverse_more}
+
+-- what the last note among Synced, Crashed and Booted says
+abbrev is_synced_word : NoteKind → Bool
+is_synced_word (Used p) = false
+is_synced_word (Released p) = false
+is_synced_word (Retaken p) = false
+is_synced_word Synced = true
+is_synced_word Crashed = false
+is_synced_word (Booted n) = false
+
+abbrev synced_of : GatewayId → Option Note → Bool
+synced_of i None = same i Zero
+synced_of i (Some n) = is_synced_word n.what
+
+and_no : (b : Bool) → (b && false) ≡ false
+and_no true = refl
+and_no false = refl
+
+and_yes : (b : Bool) → (b && true) ≡ b
+and_yes true = refl
+and_yes false = refl
+
+quiet : {A : Type 0} (b : Bool) (x y : A) → y ≡ cond (b && false) x y
+quiet b x y = ap (λ c. cond c x y) (sym (and_no b))
+
+synced_step : (i j : GatewayId) (at : ℕ) (w : NoteKind) (b : Bool) (o : Option Note) → same i j ≡ b → synced_after i j w (synced_of i o) ≡ synced_of i (cond (same i j && is_state_word w) (Some (record { by = j; at = at; what = w })) o)
+synced_step i j at (Used p) b o e = ap (synced_of i) (quiet (same i j) (Some (record { by = j; at = at; what = Used p })) o)
+synced_step i j at (Released p) b o e = ap (synced_of i) (quiet (same i j) (Some (record { by = j; at = at; what = Released p })) o)
+synced_step i j at (Retaken p) b o e = ap (synced_of i) (quiet (same i j) (Some (record { by = j; at = at; what = Retaken p })) o)
+synced_step i j at Synced true o e = rw e refl
+synced_step i j at Synced false o e = rw e refl
+synced_step i j at Crashed true o e = rw e refl
+synced_step i j at Crashed false o e = rw e refl
+synced_step i j at (Booted n) true o e = rw e refl
+synced_step i j at (Booted n) false o e = rw e refl
+
+synced_last : (i : GatewayId) (t : List Note) → is_synced i t ≡ synced_of i (last_of (is_state i) t)
+synced_last i [] = refl
+synced_last i (n ∷ t) = ap (synced_after i n.by n.what) (synced_last i t) ∙ synced_step i n.by n.at n.what (same i n.by) (last_of (is_state i) t) refl
+
+synced_word : (w : NoteKind) → is_synced_word w ≡ true → w ≡ Synced
+synced_word (Used p) e = absurd (cc)
+synced_word (Released p) e = absurd (cc)
+synced_word (Retaken p) e = absurd (cc)
+synced_word Synced e = refl
+synced_word Crashed e = absurd (cc)
+synced_word (Booted n) e = absurd (cc)
+
+synced_to : (i : GatewayId) (t : List Note) (o : Option Note) → Says (is_state i) t o → synced_of i o ≡ true → SyncedSays i t
+synced_to i t None s e = inr (s, same-eq i Zero e)
+synced_to i t (Some n) s e = inl (n, s, synced_word n.what e)
+
+pub synced_so : (i : GatewayId) (t : List Note) → IsTrue (is_synced i t) ↔ SyncedSays i (reverse t)
+synced_so i t = (
+  λ h. synced_to i (reverse t) (last_of (is_state i) t) (says (is_state i) t) (sym (synced_last i t) ∙ h),
+  λ h. synced_last i t ∙ elim h [
+    | inl a ↦ ap (synced_of i) (last_unique (is_state i) t a.0 a.1) ∙ ap is_synced_word a.2
+    | inr b ↦ ap (synced_of i) (none_unique (is_state i) t b.0) ∙ same-true i Zero b.1
+  ],
+)
+
+-- what the last note of a gateway on a pair says
+abbrev is_released : NoteKind → Bool
+is_released (Used p) = false
+is_released (Released p) = true
+is_released (Retaken p) = false
+is_released Synced = false
+is_released Crashed = false
+is_released (Booted n) = false
+
+abbrev let_go_of : Option Note → Bool
+let_go_of None = false
+let_go_of (Some n) = is_released n.what
+
+let_go_step : (i : GatewayId) (p : Pair) (j : GatewayId) (at : ℕ) (w : NoteKind) (b : Bool) (o : Option Note) → (same i j && is_pair_word p w) ≡ b → let_go_after i p j w (let_go_of o) ≡ let_go_of (cond (same i j && is_pair_word p w) (Some (record { by = j; at = at; what = w })) o)
+let_go_step i p j at (Used q) true o e = rw e refl
+let_go_step i p j at (Used q) false o e = rw e refl
+let_go_step i p j at (Released q) true o e = rw e refl
+let_go_step i p j at (Released q) false o e = rw e refl
+let_go_step i p j at (Retaken q) true o e = rw e refl
+let_go_step i p j at (Retaken q) false o e = rw e refl
+let_go_step i p j at Synced b o e = ap let_go_of (quiet (same i j) (Some (record { by = j; at = at; what = Synced })) o)
+let_go_step i p j at Crashed b o e = ap let_go_of (quiet (same i j) (Some (record { by = j; at = at; what = Crashed })) o)
+let_go_step i p j at (Booted n) b o e = ap let_go_of (quiet (same i j) (Some (record { by = j; at = at; what = Booted n })) o)
+
+let_go_last : (i : GatewayId) (p : Pair) (t : List Note) → has_let_go i p t ≡ let_go_of (last_of (is_on_pair i p) t)
+let_go_last i p [] = refl
+let_go_last i p (n ∷ t) = ap (let_go_after i p n.by n.what) (let_go_last i p t) ∙ let_go_step i p n.by n.at n.what (same i n.by && is_pair_word p n.what) (last_of (is_on_pair i p) t) refl
+
+released_word : (p : Pair) (w : NoteKind) → is_pair_word p w ≡ true → is_released w ≡ true → w ≡ Released p
+released_word p (Used q) s e = absurd (cc)
+released_word p (Released q) s e = ap (λ (x : Pair). Released x) (sym (pair-eq p q s))
+released_word p (Retaken q) s e = absurd (cc)
+released_word p Synced s e = absurd (cc)
+released_word p Crashed s e = absurd (cc)
+released_word p (Booted n) s e = absurd (cc)
+
+let_go_to : (i : GatewayId) (p : Pair) (t : List Note) (o : Option Note) → Says (is_on_pair i p) t o → let_go_of o ≡ true → LetGoSays i p t
+let_go_to i p t None s e = absurd (cc)
+let_go_to i p t (Some n) s e = (n, s, released_word p n.what (and_parts (same i n.by) (is_pair_word p n.what) s.2).1 e)
+
+pub let_go_so : (i : GatewayId) (p : Pair) (t : List Note) → IsTrue (has_let_go i p t) ↔ LetGoSays i p (reverse t)
+let_go_so i p t = (
+  λ h. let_go_to i p (reverse t) (last_of (is_on_pair i p) t) (says (is_on_pair i p) t) (sym (let_go_last i p t) ∙ h),
+  λ h. let_go_last i p t ∙ ap let_go_of (last_unique (is_on_pair i p) t h.0 h.1) ∙ ap is_released h.2,
+)
+
+pub agreed_so : (i : GatewayId) (p : Pair) (t : List Note) → IsTrue (is_agreed i p t) ↔ AgreedSays i p (reverse t)
+agreed_so i p t = (
+  λ h. elim (or_cases (not (is_synced (other i) t)) (has_let_go (other i) p t) h) [
+    | inl a ↦ inl (λ s. both_ways (is_synced (other i) t) (not-true (is_synced (other i) t) a) ((synced_so (other i) t).1 s))
+    | inr a ↦ inr ((let_go_so (other i) p t).0 a)
+  ],
+  λ h. elim h [
+    | inl a ↦ or_left (not (is_synced (other i) t)) (has_let_go (other i) p t) (not_from_false (is_synced (other i) t) (false_from_ne_true (is_synced (other i) t) (λ e. a ((synced_so (other i) t).0 e))))
+    | inr a ↦ or_right (not (is_synced (other i) t)) (has_let_go (other i) p t) ((let_go_so (other i) p t).1 a)
+  ],
+)
+
+-- what the last note of a gateway on a pair, or on its lives, says
+abbrev is_on_word : NoteKind → Bool
+is_on_word (Used p) = true
+is_on_word (Released p) = false
+is_on_word (Retaken p) = true
+is_on_word Synced = false
+is_on_word Crashed = false
+is_on_word (Booted n) = false
+
+abbrev goes_of : Option Note → Bool
+goes_of None = false
+goes_of (Some n) = is_on_word n.what
+
+abbrev of_life_word : Pair → NoteKind → Bool
+of_life_word p w = is_pair_word p w || is_boot_word w
+
+or_no : (b : Bool) → (b || false) ≡ b
+or_no true = refl
+or_no false = refl
+
+goes_step : (i : GatewayId) (p : Pair) (j : GatewayId) (at : ℕ) (w : NoteKind) (b : Bool) (o : Option Note) → (same i j && (is_pair_word p w || is_boot_word w)) ≡ b → goes_after i p j w (goes_of o) ≡ goes_of (cond b (Some (record { by = j; at = at; what = w })) o)
+goes_step i p j at (Used q) true o e = ap (λ c. cond c true (goes_of o)) (ap (λ x. same i j && x) (sym (or_no (same_pair p q))) ∙ e)
+goes_step i p j at (Used q) false o e = ap (λ c. cond c true (goes_of o)) (ap (λ x. same i j && x) (sym (or_no (same_pair p q))) ∙ e)
+goes_step i p j at (Released q) true o e = ap (λ c. cond c false (goes_of o)) (ap (λ x. same i j && x) (sym (or_no (same_pair p q))) ∙ e)
+goes_step i p j at (Released q) false o e = ap (λ c. cond c false (goes_of o)) (ap (λ x. same i j && x) (sym (or_no (same_pair p q))) ∙ e)
+goes_step i p j at (Retaken q) true o e = ap (λ c. cond c true (goes_of o)) (ap (λ x. same i j && x) (sym (or_no (same_pair p q))) ∙ e)
+goes_step i p j at (Retaken q) false o e = ap (λ c. cond c true (goes_of o)) (ap (λ x. same i j && x) (sym (or_no (same_pair p q))) ∙ e)
+goes_step i p j at Synced true o e = absurd (both_ways (same i j && false) (and_no (same i j)) e)
+goes_step i p j at Synced false o e = refl
+goes_step i p j at Crashed true o e = absurd (both_ways (same i j && false) (and_no (same i j)) e)
+goes_step i p j at Crashed false o e = refl
+goes_step i p j at (Booted n) true o e = ap (λ c. cond c false (goes_of o)) (sym (and_yes (same i j)) ∙ e)
+goes_step i p j at (Booted n) false o e = ap (λ c. cond c false (goes_of o)) (sym (and_yes (same i j)) ∙ e)
+
+goes_last : (i : GatewayId) (p : Pair) (t : List Note) → goes_on i p t ≡ goes_of (last_of (is_of_life i p) t)
+goes_last i p [] = refl
+goes_last i p (n ∷ t) = ap (goes_after i p n.by n.what) (goes_last i p t) ∙ goes_step i p n.by n.at n.what (same i n.by && (is_pair_word p n.what || is_boot_word n.what)) (last_of (is_of_life i p) t) refl
+
+on_word : (p : Pair) (w : NoteKind) → (is_pair_word p w || is_boot_word w) ≡ true → is_on_word w ≡ true → (w ≡ Used p) ⊎ (w ≡ Retaken p)
+on_word p (Used q) s e = inl (ap (λ (x : Pair). Used x) (sym (pair-eq p q (sym (or_no (same_pair p q)) ∙ s))))
+on_word p (Released q) s e = absurd (cc)
+on_word p (Retaken q) s e = inr (ap (λ (x : Pair). Retaken x) (sym (pair-eq p q (sym (or_no (same_pair p q)) ∙ s))))
+on_word p Synced s e = absurd (cc)
+on_word p Crashed s e = absurd (cc)
+on_word p (Booted n) s e = absurd (cc)
+
+goes_to : (i : GatewayId) (p : Pair) (t : List Note) (o : Option Note) → Says (is_of_life i p) t o → goes_of o ≡ true → GoesOnSays i p t
+goes_to i p t None s e = absurd (cc)
+goes_to i p t (Some n) s e = (n, s, on_word p n.what (and_parts (same i n.by) (is_pair_word p n.what || is_boot_word n.what) s.2).1 e)
+
+pub goes_so : (i : GatewayId) (p : Pair) (t : List Note) → IsTrue (goes_on i p t) ↔ GoesOnSays i p (reverse t)
+goes_so i p t = (
+  λ h. goes_to i p (reverse t) (last_of (is_of_life i p) t) (says (is_of_life i p) t) (sym (goes_last i p t) ∙ h),
+  λ h. goes_last i p t ∙ ap goes_of (last_unique (is_of_life i p) t h.0 h.1) ∙ elim h.2 [ inl a ↦ ap is_on_word a | inr a ↦ ap is_on_word a ],
+)
+
+-- words that stand after all notes, or before the last
+open_new : (p : Pair) (xs : List Note) (n : Note) → n.what ≡ Used p → OpenSays p (xs ++ n ∷ [])
+open_new p xs n e = (
+  length xs,
+  n,
+  at_last xs n,
+  e,
+  λ j m lt at d. elim (at_cases xs n j m at) [
+    | inl old ↦ let w : j < length xs = at_within xs j m old in omega arith
+    | inr new ↦ let w : j ≡ length xs = new.0 in omega arith
+  ],
+)
+
+open_old : (p : Pair) (xs : List Note) (n : Note) → OpenSays p xs → (Deletes p n xs → ⊥) → OpenSays p (xs ++ n ∷ [])
+open_old p xs n o never = (
+  o.0,
+  o.1,
+  at_old xs (n ∷ []) o.0 o.1 o.2,
+  o.3,
+  λ j m lt at d. elim (at_cases xs n j m at) [
+    | inl old ↦ o.4 j m lt old (subst (λ (x : List Note). Deletes p m x) (take_old xs n j m old) d)
+    | inr new ↦ never (subst (λ (x : Note). Deletes p x xs) (sym new.1) (subst (λ (x : List Note). Deletes p m x) (take_here xs n j new.0) d))
+  ],
+)
+
+open_less : (p : Pair) (xs : List Note) (n : Note) → OpenSays p (xs ++ n ∷ []) → (n.what ≡ Used p) ⊎ (OpenSays p xs × (Deletes p n xs → ⊥))
+open_less p xs n o = elim (at_cases xs n o.0 o.1 o.2) [
+  | inl old ↦ inr (
+    (o.0, o.1, old, o.3, λ j m lt at d. o.4 j m lt (at_old xs (n ∷ []) j m at) (subst (λ (x : List Note). Deletes p m x) (sym (take_old xs n j m at)) d)),
+    λ d. o.4 (length xs) n (at_within xs o.0 o.1 old) (at_last xs n) (subst (λ (x : List Note). Deletes p n x) (sym (take_here xs n (length xs) refl)) d),
+  )
+  | inr new ↦ inl (ap (λ (x : Note). x.what) new.1 ∙ o.3)
+]
+
+none_open : (p : Pair) → OpenSays p [] → ⊥
+none_open p o = let h : None ≡ Some o.1 = o.2 in cc
+
+cond_true : (b x : Bool) → x ≡ true → cond b true x ≡ true
+cond_true true x h = refl
+cond_true false x h = h
+
+used_same : (p q : Pair) → Used q ≡ Used p → p ≡ q
+used_same p q e = cc
+
+released_same : (p q : Pair) → Released q ≡ Released p → p ≡ q
+released_same p q e = cc
+
+-- a note decides by itself whether the pair is open: a use of it, or an agreed deletion
+abbrev is_about : Pair → GatewayId → NoteKind → List Note → Bool
+is_about p i (Used q) t = same_pair p q
+is_about p i (Released q) t = same_pair p q && is_agreed i p t
+is_about p i (Retaken q) t = false
+is_about p i Synced t = false
+is_about p i Crashed t = false
+is_about p i (Booted n) t = false
+
+open_to : (p : Pair) (i : GatewayId) (at : ℕ) (w : NoteKind) (t : List Note) (b : Bool) → (IsTrue (is_open p t) → OpenSays p (reverse t)) → is_about p i w t ≡ b → open_after p w (is_agreed i p t) (is_open p t) ≡ true → OpenSays p (reverse t ++ record { by = i; at = at; what = w } ∷ [])
+open_to p i at (Used q) t true was e h = open_new p (reverse t) (record { by = i; at = at; what = Used q }) (ap (λ (x : Pair). Used x) (sym (pair-eq p q e)))
+open_to p i at (Used q) t false was e h = open_old p (reverse t) (record { by = i; at = at; what = Used q }) (was (sym (ap (λ b. cond b true (is_open p t)) e) ∙ h)) (λ d. let x : Used q ≡ Released p = d.0 in cc)
+open_to p i at (Released q) t true was e h = absurd (let x : false ≡ true = sym (ap (λ b. cond b false (is_open p t)) e) ∙ h in cc)
+open_to p i at (Released q) t false was e h = open_old p (reverse t) (record { by = i; at = at; what = Released q }) (was (sym (ap (λ b. cond b false (is_open p t)) e) ∙ h)) (λ d. both_ways (same_pair p q && is_agreed i p t) e (and_from (same_pair p q) (is_agreed i p t) (pair-true p q (released_same p q d.0)) ((agreed_so i p t).1 d.1)))
+open_to p i at (Retaken q) t b was e h = open_old p (reverse t) (record { by = i; at = at; what = Retaken q }) (was h) (λ d. let x : Retaken q ≡ Released p = d.0 in cc)
+open_to p i at Synced t b was e h = open_old p (reverse t) (record { by = i; at = at; what = Synced }) (was h) (λ d. let x : Synced ≡ Released p = d.0 in cc)
+open_to p i at Crashed t b was e h = open_old p (reverse t) (record { by = i; at = at; what = Crashed }) (was h) (λ d. let x : Crashed ≡ Released p = d.0 in cc)
+open_to p i at (Booted n) t b was e h = open_old p (reverse t) (record { by = i; at = at; what = Booted n }) (was h) (λ d. let x : Booted n ≡ Released p = d.0 in cc)
+
+open_from : (p : Pair) (i : GatewayId) (w : NoteKind) (t : List Note) (b : Bool) → (OpenSays p (reverse t) → IsTrue (is_open p t)) → is_about p i w t ≡ b → (w ≡ Used p) ⊎ (OpenSays p (reverse t) × ((w ≡ Released p) × AgreedSays i p (reverse t) → ⊥)) → open_after p w (is_agreed i p t) (is_open p t) ≡ true
+open_from p i (Used q) t b was e (inl h) = ap (λ c. cond c true (is_open p t)) (pair-true p q (used_same p q h))
+open_from p i (Used q) t b was e (inr h) = cond_true (same_pair p q) (is_open p t) (was h.0)
+open_from p i (Released q) t b was e (inl h) = absurd (cc)
+open_from p i (Released q) t true was e (inr h) = let parts = and_parts (same_pair p q) (is_agreed i p t) e in absurd (h.1 (ap (λ (x : Pair). Released x) (sym (pair-eq p q parts.0)), (agreed_so i p t).0 parts.1))
+open_from p i (Released q) t false was e (inr h) = ap (λ c. cond c false (is_open p t)) e ∙ was h.0
+open_from p i (Retaken q) t b was e (inl h) = absurd (cc)
+open_from p i (Retaken q) t b was e (inr h) = was h.0
+open_from p i Synced t b was e (inl h) = absurd (cc)
+open_from p i Synced t b was e (inr h) = was h.0
+open_from p i Crashed t b was e (inl h) = absurd (cc)
+open_from p i Crashed t b was e (inr h) = was h.0
+open_from p i (Booted n) t b was e (inl h) = absurd (cc)
+open_from p i (Booted n) t b was e (inr h) = was h.0
+
+pub open_so : (p : Pair) (t : List Note) → IsTrue (is_open p t) ↔ OpenSays p (reverse t)
+open_so p [] = (λ h. absurd (cc), λ h. absurd (none_open p h))
+open_so p (n ∷ t) = (
+  λ h. subst (λ (x : List Note). OpenSays p x) (sym (reverse_more n t)) (open_to p n.by n.at n.what t (is_about p n.by n.what t) (open_so p t).0 refl h),
+  λ h. open_from p n.by n.what t (is_about p n.by n.what t) (open_so p t).1 refl (open_less p (reverse t) n (subst (λ (x : List Note). OpenSays p x) (reverse_more n t) h)),
+)
+
+each_more : (P : Note → List Note → Type 0) (xs : List Note) (n : Note) → Each P xs → P n xs → Each P (xs ++ n ∷ [])
+each_more P xs n all here = λ k m at. elim (at_cases xs n k m at) [
+  | inl old ↦ subst (λ (x : List Note). P m x) (sym (take_old xs n k m old)) (all k m old)
+  | inr new ↦ subst (λ (x : List Note). P m x) (sym (take_here xs n k new.0)) (subst (λ (x : Note). P x xs) new.1 here)
+]
+
+each_less : (P : Note → List Note → Type 0) (xs : List Note) (n : Note) → Each P (xs ++ n ∷ []) → P n xs × Each P xs
+each_less P xs n all = (
+  subst (λ (x : List Note). P n x) (take_here xs n (length xs) refl) (all (length xs) n (at_last xs n)),
+  λ k m at. subst (λ (x : List Note). P m x) (take_old xs n k m at) (all k m (at_old xs (n ∷ []) k m at)),
+)
+
+none_each : (P : Note → List Note → Type 0) → Each P []
+none_each P k m at = absurd (cc)
+
+pub fits_here : (i : GatewayId) (at : ℕ) (w : NoteKind) (t : List Note) → FitsAt w t ↔ FitsHere (record { by = i; at = at; what = w }) (reverse t)
+fits_here i at (Used r) t = (λ f p q e o. subst (λ (x : Pair). DoFit q x) (sym (used_same p r e)) (f q ((open_so q t).1 o)), λ f q o. f r q refl ((open_so q t).0 o))
+fits_here i at (Released r) t = (λ f p q e o. absurd (cc), λ f. tt)
+fits_here i at (Retaken r) t = (λ f p q e o. absurd (cc), λ f. tt)
+fits_here i at Synced t = (λ f p q e o. absurd (cc), λ f. tt)
+fits_here i at Crashed t = (λ f p q e o. absurd (cc), λ f. tt)
+fits_here i at (Booted n) t = (λ f p q e o. absurd (cc), λ f. tt)
+
+pub fits_so : (t : List Note) → Fits t ↔ FitsSays (reverse t)
+fits_so [] = (λ f. none_each FitsHere, λ f. tt)
+fits_so (n ∷ t) = (
+  λ f. subst (Each FitsHere) (sym (reverse_more n t)) (each_more FitsHere (reverse t) n ((fits_so t).0 f.1) ((fits_here n.by n.at n.what t).0 f.0)),
+  λ f. let parts : FitsHere n (reverse t) × Each FitsHere (reverse t) = each_less FitsHere (reverse t) n (subst (Each FitsHere) (reverse_more n t) f) in ((fits_here n.by n.at n.what t).1 parts.0, (fits_so t).1 parts.1),
+)
+
+pub silent_here : (i : GatewayId) (at : ℕ) (w : NoteKind) (t : List Note) → SilentAt i w t ↔ SilentHere (record { by = i; at = at; what = w }) (reverse t)
+silent_here i at (Used r) t = (λ f p e. (synced_so i t).0 f, λ f. (synced_so i t).1 (f r refl))
+silent_here i at (Released r) t = (λ f p e. absurd (cc), λ f. tt)
+silent_here i at (Retaken r) t = (λ f p e. absurd (cc), λ f. tt)
+silent_here i at Synced t = (λ f p e. absurd (cc), λ f. tt)
+silent_here i at Crashed t = (λ f p e. absurd (cc), λ f. tt)
+silent_here i at (Booted n) t = (λ f p e. absurd (cc), λ f. tt)
+
+pub silent_so : (t : List Note) → Silent t ↔ SilentSays (reverse t)
+silent_so [] = (λ f. none_each SilentHere, λ f. tt)
+silent_so (n ∷ t) = (
+  λ f. subst (Each SilentHere) (sym (reverse_more n t)) (each_more SilentHere (reverse t) n ((silent_so t).0 f.1) ((silent_here n.by n.at n.what t).0 f.0)),
+  λ f. let parts : SilentHere n (reverse t) × Each SilentHere (reverse t) = each_less SilentHere (reverse t) n (subst (Each SilentHere) (reverse_more n t) f) in ((silent_here n.by n.at n.what t).1 parts.0, (silent_so t).1 parts.1),
+)
+
+pub kept_so : (Holds : GatewayId → Pair → Type 0) (t : List Note) → ((p : Pair) → IsTrue (is_open p t) → (i : GatewayId) → IsTrue (is_synced i t) → Holds i p) ↔ KeptSays Holds (reverse t)
+kept_so Holds t = (
+  λ h p o i s. h p ((open_so p t).1 o) i ((synced_so i t).1 s),
+  λ h p o i s. h p ((open_so p t).0 o) i ((synced_so i t).0 s),
+)
+
+-- uses in the present life
+use_new : (i : GatewayId) (p : Pair) (u : ℕ) (xs : List Note) (n : Note) → n.by ≡ i → n.what ≡ Used p → n.at ≡ u → UseSays i p u (xs ++ n ∷ [])
+use_new i p u xs n a b c = (
+  length xs,
+  n,
+  at_last xs n,
+  a,
+  b,
+  c,
+  λ k m e lt at g w. elim (at_cases xs n k m at) [
+    | inl old ↦ let w : k < length xs = at_within xs k m old in omega arith
+    | inr new ↦ let w : k ≡ length xs = new.0 in omega arith
+  ],
+)
+
+use_old : (i : GatewayId) (p : Pair) (u : ℕ) (xs : List Note) (n : Note) → UseSays i p u xs → ((b : ℕ) → n.by ≡ i → n.what ≡ Booted b → ⊥) → UseSays i p u (xs ++ n ∷ [])
+use_old i p u xs n o never = (
+  o.0,
+  o.1,
+  at_old xs (n ∷ []) o.0 o.1 o.2,
+  o.3,
+  o.4,
+  o.5,
+  λ k m e lt at g w. elim (at_cases xs n k m at) [
+    | inl old ↦ o.6 k m e lt old g w
+    | inr new ↦ never e (ap (λ (x : Note). x.by) new.1 ∙ g) (ap (λ (x : Note). x.what) new.1 ∙ w)
+  ],
+)
+
+use_less : (i : GatewayId) (p : Pair) (u : ℕ) (xs : List Note) (n : Note) → UseSays i p u (xs ++ n ∷ []) → ((n.by ≡ i) × (n.what ≡ Used p) × (n.at ≡ u)) ⊎ (UseSays i p u xs × ((b : ℕ) → n.by ≡ i → n.what ≡ Booted b → ⊥))
+use_less i p u xs n o = elim (at_cases xs n o.0 o.1 o.2) [
+  | inl old ↦ inr (
+    (o.0, o.1, old, o.3, o.4, o.5, λ k m e lt at g w. o.6 k m e lt (at_old xs (n ∷ []) k m at) g w),
+    λ b g w. o.6 (length xs) n b (at_within xs o.0 o.1 old) (at_last xs n) g w,
+  )
+  | inr new ↦ inl (ap (λ (x : Note). x.by) new.1 ∙ o.3, ap (λ (x : Note). x.what) new.1 ∙ o.4, ap (λ (x : Note). x.at) new.1 ∙ o.5)
+]
+
+none_used : (i : GatewayId) (p : Pair) (u : ℕ) → UseSays i p u [] → ⊥
+none_used i p u o = let h : None ≡ Some o.1 = o.2 in cc
+
+use_to : (i : GatewayId) (p : Pair) (u : ℕ) (j : GatewayId) (at : ℕ) (w : NoteKind) (t : List Note) → (UsedInLife i p u t → UseSays i p u (reverse t)) → UsesAt i p u j at w (UsedInLife i p u t) → UseSays i p u (reverse t ++ record { by = j; at = at; what = w } ∷ [])
+use_to i p u j at (Used q) t was (inl h) = use_new i p u (reverse t) (record { by = j; at = at; what = Used q }) (sym h.0) (ap (λ (x : Pair). Used x) (sym h.1)) (sym h.2)
+use_to i p u j at (Used q) t was (inr h) = use_old i p u (reverse t) (record { by = j; at = at; what = Used q }) (was h) (λ b g w. absurd (cc))
+use_to i p u j at (Released q) t was h = use_old i p u (reverse t) (record { by = j; at = at; what = Released q }) (was h) (λ b g w. absurd (cc))
+use_to i p u j at (Retaken q) t was h = use_old i p u (reverse t) (record { by = j; at = at; what = Retaken q }) (was h) (λ b g w. absurd (cc))
+use_to i p u j at Synced t was h = use_old i p u (reverse t) (record { by = j; at = at; what = Synced }) (was h) (λ b g w. absurd (cc))
+use_to i p u j at Crashed t was h = use_old i p u (reverse t) (record { by = j; at = at; what = Crashed }) (was h) (λ b g w. absurd (cc))
+use_to i p u j at (Booted n) t was h = use_old i p u (reverse t) (record { by = j; at = at; what = Booted n }) (was h.1) (λ b g w. h.0 (sym g))
+
+use_from : (i : GatewayId) (p : Pair) (u : ℕ) (j : GatewayId) (at : ℕ) (w : NoteKind) (t : List Note) → (UseSays i p u (reverse t) → UsedInLife i p u t) → ((j ≡ i) × (w ≡ Used p) × (at ≡ u)) ⊎ (UseSays i p u (reverse t) × ((b : ℕ) → j ≡ i → w ≡ Booted b → ⊥)) → UsesAt i p u j at w (UsedInLife i p u t)
+use_from i p u j at (Used q) t was (inl h) = inl (sym h.0, used_same p q h.1, sym h.2)
+use_from i p u j at (Used q) t was (inr h) = inr (was h.0)
+use_from i p u j at (Released q) t was (inl h) = absurd (let x : Released q ≡ Used p = h.1 in cc)
+use_from i p u j at (Released q) t was (inr h) = was h.0
+use_from i p u j at (Retaken q) t was (inl h) = absurd (let x : Retaken q ≡ Used p = h.1 in cc)
+use_from i p u j at (Retaken q) t was (inr h) = was h.0
+use_from i p u j at Synced t was (inl h) = absurd (let x : Synced ≡ Used p = h.1 in cc)
+use_from i p u j at Synced t was (inr h) = was h.0
+use_from i p u j at Crashed t was (inl h) = absurd (let x : Crashed ≡ Used p = h.1 in cc)
+use_from i p u j at Crashed t was (inr h) = was h.0
+use_from i p u j at (Booted n) t was (inl h) = absurd (let x : Booted n ≡ Used p = h.1 in cc)
+use_from i p u j at (Booted n) t was (inr h) = (λ g. h.1 n (sym g) refl, was h.0)
+
+pub use_so : (i : GatewayId) (p : Pair) (u : ℕ) (t : List Note) → UsedInLife i p u t ↔ UseSays i p u (reverse t)
+use_so i p u [] = (λ h. absurd h, λ h. none_used i p u h)
+use_so i p u (n ∷ t) = (
+  λ h. subst (λ (x : List Note). UseSays i p u x) (sym (reverse_more n t)) (use_to i p u n.by n.at n.what t (use_so i p u t).0 h),
+  λ h. use_from i p u n.by n.at n.what t (use_so i p u t).1 (use_less i p u (reverse t) n (subst (λ (x : List Note). UseSays i p u x) (reverse_more n t) h)),
+)
+
+idle_here : (i : GatewayId) (at : ℕ) (w : NoteKind) (t : List Note) → IdleAt i at w t ↔ IdleHere (record { by = i; at = at; what = w }) (reverse t)
+idle_here i at (Used r) t = (λ f p u e o. absurd (cc), λ f. tt)
+idle_here i at (Released r) t = (
+  λ f p u e o. let h : u + rest_of r.key.protocol ≤ at = f u ((use_so i r u t).1 (subst (λ (x : Pair). UseSays i x u (reverse t)) (released_same p r e) o)) in subst (λ (x : Pair). u + rest_of x.key.protocol ≤ at) (sym (released_same p r e)) h,
+  λ f u o. f r u refl ((use_so i r u t).0 o),
+)
+idle_here i at (Retaken r) t = (λ f p u e o. absurd (cc), λ f. tt)
+idle_here i at Synced t = (λ f p u e o. absurd (cc), λ f. tt)
+idle_here i at Crashed t = (λ f p u e o. absurd (cc), λ f. tt)
+idle_here i at (Booted n) t = (λ f p u e o. absurd (cc), λ f. tt)
+
+pub idle_so : (t : List Note) → Idle t ↔ IdleSays (reverse t)
+idle_so [] = (λ f. none_each IdleHere, λ f. tt)
+idle_so (n ∷ t) = (
+  λ f. subst (Each IdleHere) (sym (reverse_more n t)) (each_more IdleHere (reverse t) n ((idle_so t).0 f.1) ((idle_here n.by n.at n.what t).0 f.0)),
+  λ f. let parts : IdleHere n (reverse t) × Each IdleHere (reverse t) = each_less IdleHere (reverse t) n (subst (Each IdleHere) (reverse_more n t) f) in ((idle_here n.by n.at n.what t).1 parts.0, (idle_so t).1 parts.1),
+)

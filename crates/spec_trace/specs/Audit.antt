@@ -1,0 +1,67 @@
+-- What is wrong with a trace and the tables of the two gateways.
+use Rattle.std.specs.Prelude.{◌≡◌, ℕ, ◌-◌, Bool, List, take, IsTrue, ◌↔◌, Contains}
+use Rattle.nat_types.specs.declared.gateways.GatewayId.{GatewayId}
+use Rattle.nat_types.specs.declared.gateways.GatewayId.TheVariants.{Zero, One}
+use Rattle.nat_types.specs.declared.pairs.Pair.{Pair}
+use Rattle.nat_types.specs.declared.notes.Note.{Note}
+use Rattle.spec_trace.specs.declared.checker.AuditFault.{AuditFault}
+use Rattle.spec_trace.specs.declared.checker.AuditFault.TheVariants.{NoMemory, NotFits, NotKept, NotSilent}
+use Rattle.spec_trace.specs.Past as past
+use Rattle.spec_trace.specs.Trace.{Fits, Silent, Kept}
+
+-- the pairs of the two tables
+abbrev pub ListsHold : List Pair → List Pair → GatewayId → Pair → Type 0
+ListsHold zero one Zero pair = Contains zero pair
+ListsHold zero one One pair = Contains one pair
+
+-- The notes before the position, which counts from 1, fit and are silent; with the note there they aren't silent.
+abbrev pub FirstNotSilent : List Note → ℕ → Type 0
+FirstNotSilent trace position =
+    Fits (take (position - 1) trace) × Silent (take (position - 1) trace)
+    × (Silent (take position trace) → ⊥)
+
+-- The notes before the position fit, and with the note there they are silent but don't fit.
+abbrev pub FirstNotFits : List Note → ℕ → Type 0
+FirstNotFits trace position =
+    Fits (take (position - 1) trace) × Silent (take position trace)
+    × (Fits (take position trace) → ⊥)
+
+-- what a fault says of a trace and two tables
+abbrev pub FaultSays : List Note → List Pair → List Pair → AuditFault → Type 0
+FaultSays trace zero one NoMemory = Unit {0}
+FaultSays trace zero one (NotFits position) = FirstNotFits trace position
+FaultSays trace zero one NotKept = Fits trace × Silent trace × (Kept (ListsHold zero one) trace → ⊥)
+FaultSays trace zero one (NotSilent position) = FirstNotSilent trace position
+
+-- a fault of the trace or of the tables
+abbrev pub IsFound : AuditFault → Type 0
+IsFound NoMemory = ⊥
+IsFound (NotFits position) = Unit {0}
+IsFound NotKept = Unit {0}
+IsFound (NotSilent position) = Unit {0}
+
+-- the list has exactly the open pairs
+abbrev pub AreOpen : List Pair → List Note → Type 0
+AreOpen opens notes = (q : Pair) → Contains opens q ↔ IsTrue (past.is_open q notes)
+
+-- what a fault says of one note after the others
+abbrev pub Judged : List Note → Note → ℕ → AuditFault → Type 0
+Judged notes note position NoMemory = ⊥
+Judged notes note position (NotFits at) =
+    (at ≡ position) × past.SilentAt note.by note.what notes × (past.FitsAt note.what notes → ⊥)
+Judged notes note position NotKept = ⊥
+Judged notes note position (NotSilent at) =
+    (at ≡ position) × (past.SilentAt note.by note.what notes → ⊥)
+
+-- what is kept for a gateway, of two values
+abbrev pub by_gateway : GatewayId → Bool → Bool → Bool
+by_gateway Zero zero one = zero
+by_gateway One zero one = one
+
+-- what is known after the notes
+pub record Going (opens : List Pair) (zero one : Bool) (notes : List Note) : Type 0 where
+  pub pairs : AreOpen opens notes
+  pub zero_is : zero ≡ past.is_synced Zero notes
+  pub one_is : one ≡ past.is_synced One notes
+  pub fits : past.Fits notes
+  pub silent : past.Silent notes

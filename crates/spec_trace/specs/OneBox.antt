@@ -1,0 +1,101 @@
+-- One box: a one-to-one map from keys to endpoints, carried along a run of moves. It knows nothing of two gateways but
+-- when they last released a pair.
+use Rattle.std.specs.Prelude.{◌≡◌, ℕ, ◌+◌, ◌≤◌, Bool, false, not, ◌&&◌, ◌||◌, cond, List, [], ◌∷◌, IsTrue, ◌↔◌, Option, Some, None, reverse}
+use Rattle.nat_types.specs.declared.gateways.GatewayId.{GatewayId}
+use Rattle.nat_types.specs.declared.pairs.Pair.{Pair}
+use Rattle.nat_types.specs.declared.notes.NoteKind.{NoteKind}
+use Rattle.nat_types.specs.declared.notes.NoteKind.TheVariants.{Used, Released, Retaken, Synced, Crashed, Booted}
+use Rattle.nat_types.specs.declared.notes.Note.{Note}
+use Rattle.nat_types.specs.Same.{same, same_pair}
+use Rattle.spec_trace.specs.Past.{is_synced, is_agreed, is_open, UsedInLife, rest_of}
+
+-- which pairs the map has
+abbrev pub Map : Type 0
+Map = Pair → Bool
+
+-- what the box does
+pub data Move : Type 0 where
+  Allot : (pair : Pair) → Move
+  Use : (pair : Pair) → Move
+  Drop : (pair : Pair) → Move
+
+-- key and endpoint are both new to the map
+abbrev pub IsNewTo : Pair → Map → Type 0
+IsNewTo pair map =
+    (q : Pair) → IsTrue (map q) → (q.key ≡ pair.key → ⊥) × (q.endpoint ≡ pair.endpoint → ⊥)
+
+-- a move may be made: what is allotted is new, and what is used or dropped is in the map
+abbrev pub MayMove : Map → Move → Type 0
+MayMove map (Allot pair) = IsNewTo pair map
+MayMove map (Use pair) = IsTrue (map pair)
+MayMove map (Drop pair) = IsTrue (map pair)
+
+-- the map after a move
+abbrev pub map_after : Map → Move → Map
+map_after map (Allot pair) q = same_pair q pair || map q
+map_after map (Use pair) q = map q
+map_after map (Drop pair) q = map q && not (same_pair q pair)
+
+-- moves that may be made one after another lead from a map to another
+abbrev pub Leads : Map → List Move → Map → Type 0
+Leads map [] last = (q : Pair) → last q ≡ map q
+Leads map (move ∷ moves) last = MayMove map move × Leads (map_after map move) moves last
+
+-- What the box does at a note: a use, with an Allot before it where the pair isn't in the map; a Drop at an agreed
+-- deletion of a pair that is in it.
+abbrev pub moves_at : Map → GatewayId → NoteKind → List Note → List Move
+moves_at map by (Used pair) notes = cond (map pair) (Use pair ∷ []) (Allot pair ∷ Use pair ∷ [])
+moves_at map by (Released pair) notes =
+    cond (is_agreed by pair notes && map pair) (Drop pair ∷ []) []
+moves_at map by (Retaken pair) notes = []
+moves_at map by Synced notes = []
+moves_at map by Crashed notes = []
+moves_at map by (Booted number) notes = []
+
+-- when the gateway last released the pair, after one more note
+abbrev pub release_after : GatewayId → Pair → GatewayId → ℕ → NoteKind → Option ℕ → Option ℕ
+release_after gateway pair by at (Used noted) last = last
+release_after gateway pair by at (Released noted) last =
+    cond (same gateway by && same_pair pair noted) (Some at) last
+release_after gateway pair by at (Retaken noted) last = last
+release_after gateway pair by at Synced last = last
+release_after gateway pair by at Crashed last = last
+release_after gateway pair by at (Booted number) last = last
+
+-- when the gateway last released the pair, the newest note first
+abbrev pub last_release : GatewayId → Pair → List Note → Option ℕ
+last_release gateway pair [] = None
+last_release gateway pair (note ∷ notes) =
+    release_after gateway pair note.by note.at note.what (last_release gateway pair notes)
+
+-- the gateway used the pair in its present life at the latest its rest before its own last release of it
+abbrev pub HasRested : GatewayId → Pair → List Note → Type 0
+HasRested gateway pair notes =
+    (use_at : ℕ) → UsedInLife gateway pair use_at notes →
+    (released_at : ℕ) × (last_release gateway pair notes ≡ Some released_at)
+    × (use_at + rest_of pair.key.protocol ≤ released_at)
+
+-- a Drop comes only where the pair has rested at each synced gateway; the release itself is among the notes
+abbrev pub AreTimely : List Move → List Note → Type 0
+AreTimely [] notes = Unit {0}
+AreTimely (Allot pair ∷ moves) notes = AreTimely moves notes
+AreTimely (Use pair ∷ moves) notes = AreTimely moves notes
+AreTimely (Drop pair ∷ moves) notes =
+    ((gateway : GatewayId) → IsTrue (is_synced gateway notes) → HasRested gateway pair notes)
+    × AreTimely moves notes
+
+-- One box: the notes, the newest first, are those of a run that begins with an empty map and ends with this one.
+abbrev pub IsRun : Map → List Note → Type 0
+IsRun map [] = (q : Pair) → map q ≡ false
+IsRun map (note ∷ notes) =
+    (was : Map) × IsRun was notes × Leads was (moves_at was note.by note.what notes) map
+    × AreTimely (moves_at was note.by note.what notes) (note ∷ notes)
+
+-- a map is one to one
+abbrev pub IsOneToOne : Map → Type 0
+IsOneToOne map =
+    (p q : Pair) → IsTrue (map p) → IsTrue (map q) → (p.key ≡ q.key) ↔ (p.endpoint ≡ q.endpoint)
+
+-- One box, of a trace with the oldest note first: it is a run of one box, whose map is what is open.
+abbrev pub IsOneBox : List Note → Type 0
+IsOneBox trace = IsRun (λ pair. is_open pair (reverse trace)) (reverse trace)

@@ -1,0 +1,150 @@
+-- What a reader says of a trace by position: the oldest note stands at 0, and `take k trace` is what stood before the
+-- note at k.
+use Rattle.std.specs.Prelude.{◌≡◌, ℕ, zero, suc, ◌+◌, ◌<◌, ◌≤◌, Bool, true, false, ◌&&◌, ◌||◌, List, [], ◌∷◌, take, Option, Some, None, IsTrue, ◌⊎◌, ◌↔◌}
+use Rattle.nat_types.specs.declared.gateways.GatewayId.{GatewayId}
+use Rattle.nat_types.specs.declared.gateways.GatewayId.TheVariants.{Zero}
+use Rattle.nat_types.specs.declared.pairs.Pair.{Pair}
+use Rattle.nat_types.specs.declared.notes.NoteKind.{NoteKind}
+use Rattle.nat_types.specs.declared.notes.NoteKind.TheVariants.{Used, Released, Retaken, Synced, Crashed, Booted}
+use Rattle.nat_types.specs.declared.notes.Note.{Note}
+use Rattle.nat_types.specs.Same.{same, other, same_pair}
+use Rattle.spec_trace.specs.Past.{DoFit, rest_of}
+
+-- the note at a position
+abbrev pub note_at : List Note → ℕ → Option Note
+note_at [] k = None
+note_at (note ∷ notes) zero = Some note
+note_at (note ∷ notes) (suc k) = note_at notes k
+
+-- the note is the last one that passes the test
+abbrev pub LastIs : (Note → Bool) → List Note → Note → Type 0
+LastIs test trace note =
+    (k : ℕ) × (note_at trace k ≡ Some note) × IsTrue (test note)
+    × ((j : ℕ) (later : Note) → k < j → note_at trace j ≡ Some later → test later ≡ false)
+
+-- no note passes the test
+abbrev pub NoneIs : (Note → Bool) → List Note → Type 0
+NoneIs test trace = (j : ℕ) (note : Note) → note_at trace j ≡ Some note → test note ≡ false
+
+-- Synced, Crashed or Booted
+abbrev pub is_state_word : NoteKind → Bool
+is_state_word (Used pair) = false
+is_state_word (Released pair) = false
+is_state_word (Retaken pair) = false
+is_state_word Synced = true
+is_state_word Crashed = true
+is_state_word (Booted number) = true
+
+-- a note of the gateway among Synced, Crashed and Booted
+abbrev pub is_state : GatewayId → Note → Bool
+is_state gateway note = same gateway note.by && is_state_word note.what
+
+-- Synced: the last note of the gateway among Synced, Crashed and Booted is Synced, or it has none and is gateway 0.
+abbrev pub SyncedSays : GatewayId → List Note → Type 0
+SyncedSays gateway trace =
+    ((note : Note) × LastIs (is_state gateway) trace note × (note.what ≡ Synced))
+    ⊎ (NoneIs (is_state gateway) trace × (gateway ≡ Zero))
+
+-- Used, Released or Retaken, of the pair
+abbrev pub is_pair_word : Pair → NoteKind → Bool
+is_pair_word pair (Used noted) = same_pair pair noted
+is_pair_word pair (Released noted) = same_pair pair noted
+is_pair_word pair (Retaken noted) = same_pair pair noted
+is_pair_word pair Synced = false
+is_pair_word pair Crashed = false
+is_pair_word pair (Booted number) = false
+
+-- a note of the gateway on the pair among Used, Released and Retaken
+abbrev pub is_on_pair : GatewayId → Pair → Note → Bool
+is_on_pair gateway pair note = same gateway note.by && is_pair_word pair note.what
+
+-- Let go: the last note of the gateway on the pair is Released.
+abbrev pub LetGoSays : GatewayId → Pair → List Note → Type 0
+LetGoSays gateway pair trace =
+    (note : Note) × LastIs (is_on_pair gateway pair) trace note × (note.what ≡ Released pair)
+
+-- the other gateway isn't synced, or has let the pair go
+abbrev pub AgreedSays : GatewayId → Pair → List Note → Type 0
+AgreedSays gateway pair trace =
+    (SyncedSays (other gateway) trace → ⊥) ⊎ LetGoSays (other gateway) pair trace
+
+-- Agreed deletion: the note, with those before it, is one of the pair.
+abbrev pub Deletes : Pair → Note → List Note → Type 0
+Deletes pair note before = (note.what ≡ Released pair) × AgreedSays note.by pair before
+
+-- Open: there is a Used note of the pair after which no agreed deletion of it stands.
+abbrev pub OpenSays : Pair → List Note → Type 0
+OpenSays pair trace =
+    (k : ℕ) × (note : Note) × (note_at trace k ≡ Some note) × (note.what ≡ Used pair)
+    × ((j : ℕ) (later : Note) → k < j → note_at trace j ≡ Some later →
+    Deletes pair later (take j trace) → ⊥)
+
+-- each note, with those before it
+abbrev pub Each : (Note → List Note → Type 0) → List Note → Type 0
+Each P trace = (k : ℕ) (note : Note) → note_at trace k ≡ Some note → P note (take k trace)
+
+-- a pair that the note uses shares its key with a pair that is open just before exactly where it shares its endpoint
+abbrev pub FitsHere : Note → List Note → Type 0
+FitsHere note before = (pair q : Pair) → note.what ≡ Used pair → OpenSays q before → DoFit q pair
+
+-- Fits, by position
+abbrev pub FitsSays : List Note → Type 0
+FitsSays trace = Each FitsHere trace
+
+-- a gateway that uses a pair is synced
+abbrev pub SilentHere : Note → List Note → Type 0
+SilentHere note before = (pair : Pair) → note.what ≡ Used pair → SyncedSays note.by before
+
+-- Silent, by position
+abbrev pub SilentSays : List Note → Type 0
+SilentSays trace = Each SilentHere trace
+
+-- Kept: each open pair is held by each synced gateway.
+abbrev pub KeptSays : (GatewayId → Pair → Type 0) → List Note → Type 0
+KeptSays Holds trace =
+    (pair : Pair) → OpenSays pair trace → (gateway : GatewayId) → SyncedSays gateway trace →
+    Holds gateway pair
+
+-- Booted
+abbrev pub is_boot_word : NoteKind → Bool
+is_boot_word (Used pair) = false
+is_boot_word (Released pair) = false
+is_boot_word (Retaken pair) = false
+is_boot_word Synced = false
+is_boot_word Crashed = false
+is_boot_word (Booted number) = true
+
+-- a note of the gateway on the pair, or one that begins a life of the gateway
+abbrev pub is_of_life : GatewayId → Pair → Note → Bool
+is_of_life gateway pair note =
+    same gateway note.by && (is_pair_word pair note.what || is_boot_word note.what)
+
+-- the last note of the gateway on the pair is Used or Retaken, and no life of the gateway began since
+abbrev pub GoesOnSays : GatewayId → Pair → List Note → Type 0
+GoesOnSays gateway pair trace =
+    (note : Note) × LastIs (is_of_life gateway pair) trace note
+    × ((note.what ≡ Used pair) ⊎ (note.what ≡ Retaken pair))
+
+-- Goes on: a synced gateway translates with exactly the pairs that go on there.
+abbrev pub TranslatesSays : (GatewayId → Pair → Type 0) → List Note → Type 0
+TranslatesSays Translates trace =
+    (gateway : GatewayId) → SyncedSays gateway trace → (pair : Pair) →
+    (GoesOnSays gateway pair trace ↔ Translates gateway pair)
+
+-- a Used note of the gateway and the pair has that moment, and no life of the gateway began since
+abbrev pub UseSays : GatewayId → Pair → ℕ → List Note → Type 0
+UseSays gateway pair use_at trace =
+    (j : ℕ) × (note : Note) × (note_at trace j ≡ Some note) × (note.by ≡ gateway)
+    × (note.what ≡ Used pair) × (note.at ≡ use_at)
+    × ((k : ℕ) (later : Note) (number : ℕ) → j < k → note_at trace k ≡ Some later →
+    later.by ≡ gateway → later.what ≡ Booted number → ⊥)
+
+-- a release of a pair comes at least its rest after each use of it by the same gateway in the same life
+abbrev pub IdleHere : Note → List Note → Type 0
+IdleHere note before =
+    (pair : Pair) (use_at : ℕ) → note.what ≡ Released pair → UseSays note.by pair use_at before →
+    use_at + rest_of pair.key.protocol ≤ note.at
+
+-- Idle, by position
+abbrev pub IdleSays : List Note → Type 0
+IdleSays trace = Each IdleHere trace

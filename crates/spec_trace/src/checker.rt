@@ -1,0 +1,227 @@
+//! The checker of traces: it goes through the notes once, and keeps the open pairs and who is synced.
+ghost use Rattle.std.specs.Prelude.{◌≡◌, ◌+◌, not, List, ◌∷◌, filter, reverse, ◌&&◌, IsTrue, ◌↔◌, OnOk, IfErr, All, Contains};
+ghost use Rattle.nat_types.specs.Same.{other, same, same_pair};
+ghost use Rattle.nat_types.specs.declared.notes.Note.{Note as Noted};
+ghost use Rattle.spec_trace.specs.Past as past;
+ghost use Rattle.spec_trace.specs.Trace.{Fits, Silent, Kept};
+ghost use Rattle.spec_trace.specs.Audit.{ListsHold, FaultSays, AreOpen, Judged, by_gateway};
+ghost use Rattle.spec_trace.specs.declared.checker.AuditFault.TheVariants as faults;
+
+use nat_types::{GatewayId, Note, NoteKind, Pair};
+use std::alloc::{AllocFailed, Global};
+use thiserror::Error;
+
+/// What is wrong with a trace and two tables. Positions in the trace count from 1.
+#[derive(Clone, Copy, Debug, PartialEq, Eq, Error)]
+pub enum AuditFault {
+    #[error("out of memory")]
+    NoMemory,
+    /// The pair used there shares its key or its endpoint alone with a pair that is open just before.
+    #[error("note {0} uses a pair that does not fit the open pairs")]
+    NotFits(usize),
+    #[error("a synced gateway does not hold an open pair")]
+    NotKept,
+    /// The gateway that uses a pair there isn't synced.
+    #[error("note {0} is a use by a gateway that is not synced")]
+    NotSilent(usize),
+}
+
+impl<T: Drop> From<AllocFailed<T>> for AuditFault {
+    ghost use Rattle.std.specs.Prelude.{◌≡◌};
+    ghost use Rattle.spec_trace.specs.declared.checker.AuditFault.TheVariants as faults;
+
+    ghost from_gives = { λ _ e. e ≡ faults.NoMemory };
+
+    fn from(_: AllocFailed<T>) -> AuditFault {
+        AuditFault::NoMemory
+    }
+}
+
+fn is_same(a: GatewayId, b: GatewayId) -> bool
+    ensures { result ≡ same a b }
+{
+    a == b
+}
+
+fn are_equal(a: Pair, b: Pair) -> bool
+    ensures { IsTrue result ↔ (a ≡ b) }
+{
+    a == b
+}
+
+fn is_same_pair(a: Pair, b: Pair) -> bool
+    ensures { result ≡ same_pair a b }
+{
+    are_equal(a, b)
+}
+
+/// Whether a note by a gateway on a pair is one of this gateway on this pair.
+fn is_on(gateway: GatewayId, pair: Pair, by: GatewayId, noted: Pair) -> bool
+    ensures { result ≡ (same gateway by && same_pair pair noted) }
+{
+    is_same(gateway, by) && is_same_pair(pair, noted)
+}
+
+/// Whether a gateway is synced after a note, if it was so or not before.
+fn synced_after(synced: bool, gateway: GatewayId, note: Note) -> bool
+    ensures { result ≡ past.synced_after gateway note.by note.what synced }
+{
+    if gateway != note.by {
+        return synced;
+    }
+    match note.what {
+        NoteKind::Synced => true,
+        NoteKind::Crashed | NoteKind::Booted(_) => false,
+        _ => synced,
+    }
+}
+
+/// Whether a gateway has let a pair go after a note, if it had or not before.
+fn let_go_after(gone: bool, gateway: GatewayId, pair: Pair, note: &Note) -> bool
+    ensures { result ≡ past.let_go_after gateway pair note.now.by note.now.what gone }
+{
+    match note.what {
+        NoteKind::Used(noted) | NoteKind::Retaken(noted) => {
+            gone && !is_on(gateway, pair, note.by, noted)
+        }
+        NoteKind::Released(noted) => gone || is_on(gateway, pair, note.by, noted),
+        _ => gone,
+    }
+}
+
+fn has_let_go(trace: &[Note], gateway: GatewayId, pair: Pair) -> bool
+    ensures { result ≡ past.has_let_go gateway pair (reverse trace.now) }
+{
+    let mut gone = false;
+    for note in trace {
+        gone = let_go_after(gone, gateway, pair, note);
+    }
+    gone
+}
+
+fn has(pairs: &[Pair], pair: Pair) -> bool
+    ensures { IsTrue result ↔ Contains pairs.now pair }
+{
+    pairs.contains(&pair)
+}
+
+/// Two pairs share their key exactly where they share their endpoint.
+fn do_fit(p: Pair, q: Pair) -> bool
+    ensures { IsTrue result ↔ past.DoFit p q }
+{
+    (p.key == q.key) == (p.endpoint == q.endpoint)
+}
+
+fn fits_all(opens: &[Pair], pair: Pair) -> bool
+    ensures { IsTrue result ↔ All (λ q. past.DoFit q pair) opens.now }
+{
+    opens.iter().all(|open| do_fit(*open, pair))
+}
+
+fn has_all(table: &[Pair], opens: &[Pair]) -> bool
+    ensures { IsTrue result ↔ All (Contains table.now) opens.now }
+{
+    opens.iter().all(|open| has(table, *open))
+}
+
+/// Whether each gateway that is synced has all open pairs in its table.
+fn are_kept(opens: &[Pair], synced: (bool, bool), zero: &[Pair], one: &[Pair]) -> bool
+    ensures { IsTrue result
+        ↔ ((IsTrue synced.0 → All (Contains zero.now) opens.now)
+        × (IsTrue synced.1 → All (Contains one.now) opens.now)) }
+{
+    (!synced.0 || has_all(zero, opens)) && (!synced.1 || has_all(one, opens))
+}
+
+fn remove(opens: &mut Vec<Pair>, pair: Pair)
+    ensures { opens.new.items ≡ filter (λ q. not (same_pair q pair)) opens.old.items }
+{
+    opens.retain(|open| !is_same_pair(*open, pair));
+}
+
+fn of_gateway(gateway: GatewayId, zero: bool, one: bool) -> bool
+    ensures { result ≡ by_gateway gateway zero one }
+{
+    match gateway {
+        GatewayId::Zero => zero,
+        GatewayId::One => one,
+    }
+}
+
+/// Judges one note after the others.
+fn judge(opens: &[Pair], synced: bool, note: &Note, position: usize) -> Result<(), AuditFault>
+    ensures ok { OnOk result
+        ((t : List Noted) → AreOpen opens.now t → synced ≡ past.is_synced note.now.by t →
+        past.FitsAt note.now.what t × past.SilentAt note.now.by note.now.what t) }
+    ensures err { IfErr result
+        (λ f. (t : List Noted) → AreOpen opens.now t → synced ≡ past.is_synced note.now.by t →
+        Judged t note.now position f) }
+{
+    match note.what {
+        NoteKind::Used(pair) => {
+            if !synced {
+                return Err(AuditFault::NotSilent(position));
+            }
+            if !fits_all(opens, pair) {
+                return Err(AuditFault::NotFits(position));
+            }
+            Ok(())
+        }
+        _ => Ok(()),
+    }
+}
+
+/// The open pairs after a note. `alone` says that the other gateway isn't synced.
+fn follow(
+    opens: &mut Vec<Pair>,
+    before: &[Note],
+    alone: bool,
+    note: &Note,
+) -> Result<(), AuditFault>
+    requires pairs { AreOpen opens.old.items (reverse before.now) }
+    requires alone { alone ≡ not (past.is_synced (other note.now.by) (reverse before.now)) }
+    ensures ok { OnOk result (AreOpen opens.new.items (note.now ∷ reverse before.now)) }
+    ensures err { IfErr result (λ f. f ≡ faults.NoMemory) }
+{
+    match note.what {
+        NoteKind::Used(pair) => {
+            if !has(opens, pair) {
+                opens.push(pair)?;
+            }
+            Ok(())
+        }
+        NoteKind::Released(pair) => {
+            if alone || has_let_go(before, note.by.other(), pair) {
+                remove(opens, pair);
+            }
+            Ok(())
+        }
+        _ => Ok(()),
+    }
+}
+
+/// Judges a trace, the oldest note first, and the pairs that gateway 0 and gateway 1 hold after it.
+/// The first fault by position counts; of two at one position it is silence, and the tables come last.
+pub fn audit(alloc: Global, trace: &[Note], zero: &[Pair], one: &[Pair]) -> Result<(), AuditFault>
+    ensures fits { OnOk result (Fits trace.now) }
+    ensures silent { OnOk result (Silent trace.now) }
+    ensures kept { OnOk result (Kept (ListsHold zero.now one.now) trace.now) }
+    ensures fault { IfErr result (FaultSays trace.now zero.now one.now) }
+{
+    let mut opens = Vec::new(alloc);
+    let mut zero_synced = true;
+    let mut one_synced = false;
+    for (i, note) in trace.iter().enumerate() {
+        let synced = of_gateway(note.by, zero_synced, one_synced);
+        let alone = !of_gateway(note.by.other(), zero_synced, one_synced);
+        judge(&opens, synced, note, i + 1)?;
+        follow(&mut opens, &trace[..i], alone, note)?;
+        zero_synced = synced_after(zero_synced, GatewayId::Zero, *note);
+        one_synced = synced_after(one_synced, GatewayId::One, *note);
+    }
+    if are_kept(&opens, (zero_synced, one_synced), zero, one) {
+        Ok(())
+    } else {
+        Err(AuditFault::NotKept)
+    }
+}

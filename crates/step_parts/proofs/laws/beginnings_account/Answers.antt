@@ -1,8 +1,0 @@
-use Rattle.step_parts.proofs.Apart.{boot-accounts, founded-accounts}
-use Rattle.step_parts.proofs.laws.beginnings_account.Goals as goal
-
-pub returns-clause-begun : goal.returns-clause-begun
-returns-clause-begun c = boot-accounts
-
-pub returns-clause-founded : goal.returns-clause-founded
-returns-clause-founded c = founded-accounts

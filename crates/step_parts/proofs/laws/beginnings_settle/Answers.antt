@@ -1,8 +1,0 @@
-use Rattle.step_parts.proofs.Settling.{begun-settles, founded-settles}
-use Rattle.step_parts.proofs.laws.beginnings_settle.Goals as goal
-
-pub returns-clause-begun : goal.returns-clause-begun
-returns-clause-begun c = begun-settles
-
-pub returns-clause-founded : goal.returns-clause-founded
-returns-clause-founded c = founded-settles

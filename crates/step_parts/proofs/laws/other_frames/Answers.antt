@@ -1,7 +1,0 @@
-use Rattle.step_parts.proofs.Others.{step-others}
-use Rattle.step_parts.proofs.laws.other_frames.Goals as goal
-
-pub returns : goal.returns
-returns c =
-    let f = c.frames_law.ensures in
-    step-others (record { reads = c.readings_law.ensures; sent = f.sent; answer = f.answer; request = f.request; gratuitous = f.gratuitous; advert = f.advert })

@@ -1,3 +1,0 @@
-pub mod Piles
-pub mod Readers
-pub mod Told

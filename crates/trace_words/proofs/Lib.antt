@@ -1,9 +1,0 @@
-pub mod Places
-pub mod Box
-pub mod Sentences
-pub mod ByPosition
-pub mod Lists
-pub mod Notes
-pub mod Exact
-pub mod Rows
-pub mod Growth

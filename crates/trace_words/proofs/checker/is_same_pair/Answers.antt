@@ -1,5 +1,0 @@
-use Rattle.trace_words.proofs.Lists.{pair_iff}
-use Rattle.trace_words.proofs.checker.is_same_pair.Goals as goal
-
-pub returns : goal.returns
-returns c = pair_iff _ _ _ c.are_equal.ensures

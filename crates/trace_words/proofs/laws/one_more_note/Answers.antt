@@ -1,5 +1,0 @@
-use Rattle.trace_words.proofs.Growth as laws
-use Rattle.trace_words.proofs.laws.one_more_note.Goals as goal
-
-pub returns : goal.returns
-returns c = record { newest = laws.reverse-push; synced = laws.is_synced-push; let_go = laws.has_let_go-push; opens = laws.is_open-push; goes_on = laws.goes_on-push; fits = laws.Fits-push; silent = laws.Silent-push; idle = laws.Idle-push }

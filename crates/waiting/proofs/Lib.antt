@@ -1,0 +1,4 @@
+mod Moving
+mod Places
+mod Singles
+pub mod Offered

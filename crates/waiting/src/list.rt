@@ -1,0 +1,265 @@
+//! The list of the packets that wait.
+ghost use Rattle.std.specs.Prelude.{◌≡◌, ◌≤◌, ◌+◌, ◌++◌, ◌∷◌, [], ◌==◌, length, IfOk, IsTrue, not};
+ghost use Rattle.std.specs.Prelude.{vec_len, vec_capacity, position};
+ghost use Rattle.std.specs.List.{filter, list_any, AllPass};
+ghost use Rattle.waiting.specs.Waits.{same_wait, ends};
+ghost use Rattle.waiting.specs.declared.waits.Ended.TheVariants.{One, AllPairs};
+ghost use Rattle.waiting.specs.Packets.{is_young, has_place, count_like, ended_by, left_by, IsKept};
+ghost use Rattle.waiting.specs.Packets.{AreApart, listed};
+
+use crate::{Ended, WaitsFor};
+use nat_types::Side;
+use std::alloc::{AllocError, Global};
+use std::marker::Model;
+
+/// How many packets may wait for pairs, and how many for next hops.
+const PLACES: usize = 64;
+
+/// How long a packet waits, in centiseconds.
+const LONGEST_WAIT: u64 = 300;
+
+/// A packet that waits.
+#[derive(Debug, Drop)]
+pub struct HeldPacket {
+    /// Where it came in.
+    pub side: Side,
+    /// The frame, as it came.
+    pub bytes: Vec<u8>,
+    /// The moment since which it waits, in centiseconds.
+    pub since: u64,
+    pub wait: WaitsFor,
+}
+
+impl Model for HeldPacket {
+    ghost use Rattle.waiting.specs.Packets.{HeldPacket as Packet};
+
+    ghost Value = { Packet };
+
+    ghost view = { λ w. record {
+      side = w.side;
+      bytes = w.bytes.items;
+      since = w.since;
+      wait = w.wait;
+    } };
+}
+
+impl HeldPacket {
+    /// A packet that waits from now on. It takes memory for the copy of its bytes.
+    pub fn copy_of(
+        alloc: Global,
+        side: Side,
+        bytes: &[u8],
+        since: u64,
+        wait: WaitsFor,
+    ) -> Result<HeldPacket, AllocError>
+        ensures { IfOk result (λ w. w
+            ≡ record { side = side; bytes = bytes.now; since = since; wait = wait }) }
+    {
+        let bytes = Vec::from_slice(alloc, bytes)?;
+        Ok(HeldPacket {
+            side,
+            bytes,
+            since,
+            wait,
+        })
+    }
+
+    /// The same packet, which waits from now on for something else.
+    pub fn again(self, since: u64, wait: WaitsFor) -> HeldPacket
+        ensures { result ≡ record self { since = since; wait = wait } }
+    {
+        let HeldPacket {
+            side,
+            bytes,
+            since: _,
+            wait: _,
+        } = self;
+        HeldPacket {
+            side,
+            bytes,
+            since,
+            wait,
+        }
+    }
+
+    fn is_young(&self, now: u64) -> bool
+        ensures { result ≡ is_young now self.now }
+    {
+        now.saturating_sub(self.since) < LONGEST_WAIT
+    }
+}
+
+/// The packets that wait, in the order of keeping: at most 64 for pairs, one an endpoint, and at
+/// most 64 for next hops, one a side and address.
+#[derive(Debug, Drop)]
+pub struct WaitingPackets {
+    packets: Vec<HeldPacket>,
+}
+
+impl Model for WaitingPackets {
+    ghost use Rattle.std.specs.Prelude.{List, ◌≤◌, vec_capacity};
+    ghost use Rattle.waiting.specs.Packets.{HeldPacket as Packet, IsKept};
+
+    ghost Value = { List Packet };
+
+    ghost view = { λ k. k.packets.items };
+
+    ghost invariant = { λ k. IsKept k.packets.items × (128 ≤ vec_capacity k.packets) };
+}
+
+/// How many packets wait for something of that kind.
+fn count_like(packets: &[HeldPacket], wait: WaitsFor) -> usize
+    ensures { result ≡ count_like wait packets.now }
+{
+    match wait {
+        WaitsFor::Pair(_) => {
+            packets
+                .iter()
+                .filter(|packet| packet.wait.is_for_pair())
+                .count()
+        }
+        WaitsFor::Hop(..) => {
+            packets
+                .iter()
+                .filter(|packet| !packet.wait.is_for_pair())
+                .count()
+        }
+    }
+}
+
+fn is_awaited(packets: &[HeldPacket], wait: WaitsFor) -> bool
+    ensures { result ≡ list_any (λ packet. same_wait packet.wait wait) packets.now }
+{
+    packets.iter().any(|packet| packet.wait.is_same(wait))
+}
+
+/// Where the first packet stands that waits for this.
+fn place_for(packets: &[HeldPacket], wait: WaitsFor) -> Option<usize>
+    ensures { result ≡ position (λ packet. same_wait wait packet.wait) packets.now }
+{
+    packets.iter().position(|packet| wait.is_same(packet.wait))
+}
+
+/// Moves the packets whose wait is over behind another list, which has room for them.
+fn move_ended(packets: &mut Vec<HeldPacket>, ended: Ended, list: &mut Vec<HeldPacket>)
+    requires room { vec_len list.old + vec_len packets.old ≤ vec_capacity list.old }
+    ensures left { packets.new.items ≡ left_by ended packets.old.items }
+    ensures taken { list.new.items ≡ list.old.items ++ ended_by ended packets.old.items }
+    ensures capacity { vec_capacity packets.new ≡ vec_capacity packets.old }
+    ensures room { vec_capacity list.new ≡ vec_capacity list.old }
+{
+    let mut at = 0;
+    while at < packets.len() {
+        if ended.ends(packets[at].wait) {
+            let packet = packets.remove(at);
+            list.push_reserved(packet);
+        } else {
+            at += 1;
+        }
+    }
+}
+
+/// Takes the packet that waits for this off a list in which no two wait for the same.
+fn remove_one(packets: &mut Vec<HeldPacket>, wait: WaitsFor) -> Option<HeldPacket>
+    requires once { AreApart packets.old.items }
+    ensures left { packets.new.items ≡ left_by (One wait) packets.old.items }
+    ensures taken { listed result ≡ ended_by (One wait) packets.old.items }
+    ensures capacity { vec_capacity packets.new ≡ vec_capacity packets.old }
+{
+    match place_for(packets, wait) {
+        Some(place) => Some(packets.remove(place)),
+        None => None,
+    }
+}
+
+fn retain_young(packets: &mut Vec<HeldPacket>, now: u64)
+    ensures items { packets.new.items ≡ filter (is_young now) packets.old.items }
+    ensures capacity { vec_capacity packets.new ≡ vec_capacity packets.old }
+{
+    packets.retain(|packet| packet.is_young(now));
+}
+
+impl WaitingPackets {
+    /// None yet. All its places take their memory here.
+    pub fn new(alloc: Global) -> Result<WaitingPackets, AllocError>
+        ensures { IfOk result (λ k. k ≡ []) }
+    {
+        let packets = Vec::with_capacity(alloc, 2 * PLACES)?;
+        Ok(WaitingPackets { packets })
+    }
+
+    /// The packets, in the order of keeping.
+    pub fn packets(&self) -> &[HeldPacket]
+        ensures { result.now ≡ self.now }
+    {
+        self.packets.as_slice()
+    }
+
+    /// How many wait.
+    pub fn len(&self) -> usize
+        ensures count { result ≡ length self.now }
+        ensures most { result ≤ 128 }
+    {
+        self.packets.len()
+    }
+
+    /// Whether none waits.
+    pub fn is_empty(&self) -> bool
+        ensures { result ≡ (length self.now == 0) }
+    {
+        self.packets.is_empty()
+    }
+
+    /// Whether a packet that waits for this can be kept: fewer than 64 of its kind wait, and none
+    /// for the same.
+    pub fn has_place(&self, wait: WaitsFor) -> bool
+        ensures { result ≡ has_place self.now wait }
+    {
+        count_like(&self.packets, wait) < PLACES && !is_awaited(&self.packets, wait)
+    }
+
+    /// Puts a packet behind the others.
+    pub fn keep(&mut self, packet: HeldPacket)
+        requires { IsTrue (has_place self.old packet.wait) }
+        ensures { self.new ≡ self.old ++ packet ∷ [] }
+    {
+        self.packets.push_reserved(packet);
+    }
+
+    /// Takes the packets off whose wait is over, and puts them behind a list with room for all that
+    /// wait, in the order of keeping.
+    pub fn take_ended(&mut self, ended: Ended, list: &mut Vec<HeldPacket>)
+        requires room { vec_len list.old + length self.old ≤ vec_capacity list.old }
+        ensures left { self.new ≡ left_by ended self.old }
+        ensures taken { list.new.items ≡ list.old.items ++ ended_by ended self.old }
+        ensures gone { AllPass (λ packet. not (ends ended packet.wait)) self.new }
+        ensures count { vec_len list.new + length self.new ≡ vec_len list.old + length self.old }
+        ensures capacity { vec_capacity list.new ≡ vec_capacity list.old }
+        // At most 64 wait for pairs.
+        ensures pairs { length (ended_by AllPairs self.old) ≤ 64 }
+    {
+        move_ended(&mut self.packets, ended, list);
+    }
+
+    /// Takes off the packet that waits for this, if one does.
+    pub fn take_one(&mut self, wait: WaitsFor) -> Option<HeldPacket>
+        ensures left { self.new ≡ left_by (One wait) self.old }
+        ensures taken { listed result ≡ ended_by (One wait) self.old }
+    {
+        remove_one(&mut self.packets, wait)
+    }
+
+    /// Drops the packets that were kept 300 centiseconds ago or earlier.
+    pub fn drop_old(&mut self, now: u64)
+        ensures young { self.new ≡ filter (is_young now) self.old }
+    {
+        retain_young(&mut self.packets, now);
+    }
+
+    /// Reminds the prover of what the list keeps; it does nothing when it runs.
+    pub fn recall(&self)
+        ensures { IsKept self.now }
+    {
+        let _ = &self.packets;
+    }
+}
