@@ -29,7 +29,8 @@ use packet_rules::{frames_law, readings_law};
 /// A step is a step of the pair machine: it reads the letters and the words that the event hands in,
 /// makes just the notes and sends just the letters that were told more.
 pub fn steps_go()
-    ensures { (s : GatewayAndOutput) (event : Event) (s2 : GatewayAndOutput) (h : List Record) → IsStepOn s event s2
+    ensures { (s : GatewayAndOutput) (event : Event) (s2 : GatewayAndOutput) (h : List Record)
+        → IsStepOn s event s2
         → HasBytes event → IsBook s.shown.ledger.book → IsAlone s.shown → KeepsBytes s.shown
         → HasPushed s.shown h → Goes (letters_in event) (words_in event) s s2 h }
 {
@@ -38,7 +39,8 @@ pub fn steps_go()
 
 /// What a step asks for holds after it again.
 pub fn steps_keep()
-    ensures { (s : GatewayAndOutput) (event : Event) (s2 : GatewayAndOutput) (h : List Record) → IsStepOn s event s2
+    ensures { (s : GatewayAndOutput) (event : Event) (s2 : GatewayAndOutput) (h : List Record)
+        → IsStepOn s event s2
         → HasBytes event → IsBook s.shown.ledger.book → IsAlone s.shown → KeepsBytes s.shown
         → HasPushed s.shown h
         → IsBook s2.shown.ledger.book × (IsAlone s2.shown × KeepsBytes s2.shown) }
@@ -51,10 +53,12 @@ pub fn steps_keep()
 /// and to its next hop. And the hardware addresses that the gateway knows have six bytes afterwards,
 /// too.
 pub fn steps_tell()
-    ensures truly { (s : GatewayAndOutput) (event : Event) (s2 : GatewayAndOutput) → IsStepOn s event s2
+    ensures truly { (s : GatewayAndOutput) (event : Event) (s2 : GatewayAndOutput)
+        → IsStepOn s event s2
         → HasBytes event → IsBook s.shown.ledger.book → KeepsBytes s.shown → AreWired s.shown
         → Tells (hand_of event) s s2 }
-    ensures wired { (s : GatewayAndOutput) (event : Event) (s2 : GatewayAndOutput) → IsStepOn s event s2
+    ensures wired { (s : GatewayAndOutput) (event : Event) (s2 : GatewayAndOutput)
+        → IsStepOn s event s2
         → HasBytes event → IsBook s.shown.ledger.book → KeepsBytes s.shown → AreWired s.shown
         → AreWired s2.shown }
 {
@@ -76,7 +80,8 @@ pub fn other_frames()
 /// What a step asks for holds already before the datagram at a step's end, of a list of all records
 /// that were pushed or promised by then.
 pub fn parts_stand()
-    ensures { (s : GatewayAndOutput) (event : Event) (done : GatewayAndOutput) (h : List Record) → Does s event done
+    ensures { (s : GatewayAndOutput) (event : Event) (done : GatewayAndOutput) (h : List Record)
+        → Does s event done
         → HasBytes event → IsBook s.shown.ledger.book → IsAlone s.shown → KeepsBytes s.shown
         → HasPushed s.shown h → (h2 : List Record) × IsStanding done.shown h2 }
 {
@@ -88,7 +93,8 @@ pub fn parts_stand()
 /// before (the newest note first), it does so after the step, with what was noted put in front; and so
 /// each release of the step comes where its pair is idle.
 pub fn steps_account()
-    ensures { (s : GatewayAndOutput) (event : Event) (s2 : GatewayAndOutput) → IsStepOn s event s2 → HasBytes event
+    ensures { (s : GatewayAndOutput) (event : Event) (s2 : GatewayAndOutput)
+        → IsStepOn s event s2 → HasBytes event
         → IsBook s.shown.ledger.book → KeepsBytes s.shown → Rests s s2 }
 {
     readings_law();
@@ -157,6 +163,7 @@ pub fn idle_at_once()
 
 /// No step makes more notes than `most_notes` says.
 pub fn steps_note()
-    ensures { (s : GatewayAndOutput) (event : Event) (s2 : GatewayAndOutput) → IsStepOn s event s2 → HasBytes event
+    ensures { (s : GatewayAndOutput) (event : Event) (s2 : GatewayAndOutput)
+        → IsStepOn s event s2 → HasBytes event
         → length s2.told.notes ≤ length s.told.notes + most_notes s.shown }
 {}
