@@ -5,7 +5,7 @@ use Rattle.nat_types.specs.declared.pairs.Key.{Key}
 use Rattle.activity.specs.declared.packets.Packet.{Packet}
 use Rattle.activity.specs.Lives.{History, came, with_packet, renewed, is_idle}
 use Rattle.activity.specs.Rests.{HaveRested, least_rest}
-use Rattle.activity.proofs.Offered.{looks-is, accounts-came, accounts-renewed, accounts-later, accounts-more, accounts-idle, accounts-unused}
+use Rattle.activity.proofs.Offered.{looks-is, accounts-came, accounts-renewed, accounts-anew, accounts-later, accounts-more, accounts-idle, accounts-unused}
 use Rattle.bindings.specs.declared.entries.Entry.{Entry}
 use Rattle.bindings.specs.Entries.{translates, slot_of}
 use Rattle.bindings.specs.Lives.{rests_by, rests_at, is_unused_by, is_unused_at, is_among}
@@ -21,6 +21,9 @@ uses-carried t u key since uses p goes h a = (with_packet p a.0, goes a.0 a.1, a
 
 pub uses-renewed : (t u : Table) (key : Key) (since now : ℕ) (uses : List ℕ) → ((past : History) → IsPast t key past → IsPast u key (renewed now past)) → HaveRested (least_rest key.protocol) now uses → Accounts t key since uses → Accounts u key now uses
 uses-renewed t u key since now uses goes rested a = (renewed now a.0, goes a.0 a.1, accounts-renewed key.protocol a.0 now uses rested)
+
+pub uses-anew : (t u : Table) (key : Key) (now : ℕ) (uses : List ℕ) → ((past : History) → IsPast t key past → IsPast u key (renewed now past)) → Accounts t key now uses → Accounts u key now uses
+uses-anew t u key now uses goes a = (renewed now a.0, goes a.0 a.1, accounts-anew key.protocol a.0 now uses a.2)
 
 pub uses-kept : (t u : Table) (key : Key) (since now : ℕ) (uses : List ℕ) → ((past : History) → IsPast t key past → IsPast u key past) → since ≤ now → Accounts t key since uses → Accounts u key now uses
 uses-kept t u key since now uses goes h a = (a.0, goes a.0 a.1, accounts-later key.protocol a.0 since now uses h a.2)

@@ -21,7 +21,7 @@ ghost use Rattle.activity.specs.Lives.{life_begun, life_carried, life_renewed};
 
 use crate::entries::key_of;
 use crate::ports::{Ports, highest_port, lowest_port};
-use crate::revivals::{drop_doomed, wake};
+use crate::revivals::{drop_doomed, renew_all, wake};
 use crate::rows::{count_idle, is_vacant_port, list_idle, pairs_of, refusal, translating_pairs_of};
 use crate::store::Store;
 use crate::{Entry, PortBounds, TableFault};
@@ -241,6 +241,18 @@ impl Table {
     {
         drop_doomed(&mut self.store, &mut self.ports);
         wake(&mut self.store);
+    }
+
+    /// The operator says that the peer is off. It may have carried packets until then, so that the life of every pair
+    /// begins anew: the lists of their packets begin empty.
+    pub fn renew_all(&mut self, now: u64)
+        ensures lives { self.new ≡ record self.old {
+          lives = map (life_renewed now) self.old.lives;
+        } }
+        ensures pasts { (q : OutsidePort) → (past : History) → IsPast self.old q past
+            → IsPast self.new q (renewed now past) }
+    {
+        renew_all(&mut self.store, now);
     }
 
     /// Takes all entries out, and gives all ports up. It stays ready for as many adds as it was.
