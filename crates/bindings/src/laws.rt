@@ -46,9 +46,9 @@ pub fn uses_law()
     ensures idle { (t : Seen) → (key : OutsidePort) → (now : ℕ) → (uses : List ℕ)
         → Accounts t key now uses → rests_at t.entries t.lives key now ≡ true
         → HaveRested (least_rest key.protocol) now uses }
-    ensures listed { (t : Seen) → (key : OutsidePort) → (entry : Row) → (now : ℕ)
+    ensures listed { (t : Seen) → (key : OutsidePort) → (entry : Row) → (lone : Bool) → (now : ℕ)
         → (uses : List ℕ) → IsTable t → slot_of t.entries key ≡ Some entry
-        → Accounts t key now uses → is_among key (idle_keys_of t now) ≡ true
+        → Accounts t key now uses → is_among key (idle_keys_of t lone now) ≡ true
         → HaveRested (least_rest key.protocol) now uses }
     ensures unused { (t : Seen) → (key : OutsidePort) → (now : ℕ) → (uses : List ℕ)
         → Accounts t key now uses → is_unused_at t.entries t.lives key ≡ true

@@ -10,7 +10,7 @@ ghost use Rattle.bindings.specs.Revivals.{revived_entries, revived_slot, lives_o
 ghost use Rattle.bindings.specs.Table.{empty_table};
 ghost use Rattle.bindings.specs.Runs.{own_in, without_port, all_ports, first_run, port_at};
 ghost use Rattle.addresses.specs.declared.transport.Protocol.TheVariants.{Tcp, Udp};
-ghost use Rattle.bindings.specs.Lives.{KeepsOthers, is_among, rests_at, is_unused_at};
+ghost use Rattle.bindings.specs.Lives.{KeepsOthers, is_among, may_go, rests_at, is_unused_at};
 ghost use Rattle.bindings.specs.Ports.{AreBounds, in_either, key_count, is_free_in, is_open_in, is_vacant, is_spare, chosen_port, ports_in};
 ghost use Rattle.bindings.specs.Table.{IsTable, IsPast, owns, idle_keys_of, with_entry_state, without_entry};
 ghost use Rattle.bindings.specs.Lives.{lives_with};
@@ -424,25 +424,26 @@ impl Table {
         self.store.is_unused(key)
     }
 
-    /// Appends the keys of the idle Live and Held entries, each once, by protocol (tcp first) and port.
-    /// Room for as many keys as there are entries is enough.
-    pub fn idle_keys(&mut self, now: u64, out: &mut Vec<Key>) -> Result<(), AllocError>
-        ensures keys { OnOk result (out.new.items ≡ out.old.items ++ idle_keys_of self.old now) }
+    /// Appends the keys of the idle entries that may be let go, each once, by protocol (tcp first) and port: of the Live
+    /// ones, and where the gateway is lone of the Held ones too. Room for as many keys as there are entries is enough.
+    pub fn idle_keys(&mut self, lone: bool, now: u64, keys: &mut Vec<Key>) -> Result<(), AllocError>
+        ensures keys { OnOk result (keys.new.items
+            ≡ keys.old.items ++ idle_keys_of self.old lone now) }
         ensures listed { (key : OutsidePort) → (entry : Row) → (past : History)
             → slot_of self.old.entries key ≡ Some entry → IsPast self.old key past
-            → is_among key (idle_keys_of self.old now)
-            ≡ (translates entry.state && is_idle key.protocol past now) }
+            → is_among key (idle_keys_of self.old lone now)
+            ≡ (may_go lone entry.state && is_idle key.protocol past now) }
         ensures same { self.new ≡ self.old }
-        ensures err { OnErr result (out.new.items ≡ out.old.items) }
-        ensures few { length (idle_keys_of self.old now) ≤ length self.old.entries }
-        ensures room { vec_len out.old + length (idle_keys_of self.old now) ≤ vec_capacity out.old
-            → IsOk result }
-        ensures capacity { vec_capacity out.old ≤ vec_capacity out.new }
+        ensures err { OnErr result (keys.new.items ≡ keys.old.items) }
+        ensures few { length (idle_keys_of self.old lone now) ≤ length self.old.entries }
+        ensures room { vec_len keys.old + length (idle_keys_of self.old lone now)
+            ≤ vec_capacity keys.old → IsOk result }
+        ensures capacity { vec_capacity keys.old ≤ vec_capacity keys.new }
     {
         self.found.clear();
-        self.store.list_due(now, &mut self.found);
-        out.reserve(count_idle(&self.store, &self.found, now))?;
-        list_idle(&self.store, &self.found, now, out);
+        self.store.list_due(lone, now, &mut self.found);
+        keys.reserve(count_idle(&self.store, &self.found, lone, now))?;
+        list_idle(&self.store, &self.found, lone, now, keys);
         Ok(())
     }
 }

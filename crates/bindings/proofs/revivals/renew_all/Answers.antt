@@ -21,7 +21,7 @@ loop-entry-preserved c =
     let g = life_renewed c.args.now in
     let new = c.renew.ensures.lives ∙ ap (λ (k : Key). record s { lives = lives_with g k s.entries s.lives }) c.key_of-key.ensures in
     rw (c.key_of-key.ensures, new) (record {
-      renewed = lives-next g 0 c.loop-entry.last s.entries s.lives e c.recall-2.ensures.order (sym c.in-Some.ensures) ∙ i.renewed;
+      renewed = lives-next g 0 c.loop-entry.last s.entries s.lives e c.recall-in-Some.ensures.order (sym c.in-Some.ensures) ∙ i.renewed;
       same = ap (λ (t : Store). record t { lives = lives_with g e.pair.key s.entries s.lives }) i.same;
     })
 
@@ -29,7 +29,7 @@ pub loop-entry-smaller : goal.loop-entry-smaller
 loop-entry-smaller c =
     let s = c.loop-entry.store in
     let e = c.in-Some.entry in
-    rw (c.renew.ensures.lives, c.key_of-key.ensures) (behind-less 0 c.loop-entry.last s.entries e c.recall-2.ensures.order (sym c.in-Some.ensures))
+    rw (c.renew.ensures.lives, c.key_of-key.ensures) (behind-less 0 c.loop-entry.last s.entries e c.recall-in-Some.ensures.order (sym c.in-Some.ensures))
 
 pub returns : goal.returns
 returns c =
