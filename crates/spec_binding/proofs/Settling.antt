@@ -299,5 +299,5 @@ let-go-rested now (k ∷ ks) l e h is a rest =
     (let-go-rested now ks l2 e2 h2 (idle-keeps l.book (may_ask now e) k is) here left)
 
 pub let-go-accounts : (now : ℕ) (l : Ledger) (e : Link) (h : List Note) → IsBook l.book → Accounts now l h
-    → Accounts now (let_go now (idle_keys_in now l.book.entries l.lives) l e).ledger (reverse (let_go now (idle_keys_in now l.book.entries l.lives) l e).notes ++ h)
-let-go-accounts now l e h is a = let-go-rested now (idle_keys_in now l.book.entries l.lives) l e h is a (λ k x among found. rested-listed now l h k x is a found among)
+    → Accounts now (let_go now (idle_keys_in (is_lone l.book.stage) now l.book.entries l.lives) l e).ledger (reverse (let_go now (idle_keys_in (is_lone l.book.stage) now l.book.entries l.lives) l e).notes ++ h)
+let-go-accounts now l e h is a = let-go-rested now (idle_keys_in (is_lone l.book.stage) now l.book.entries l.lives) l e h is a (λ k x among found. rested-listed now l h k x is a found among)

@@ -306,6 +306,7 @@ pub fn accounts_kept()
         (reverse (retaken l.book.id now (back_in l.book.entries)) ++ h) }
     // The idle pairs of a tick.
     ensures let_go { (now : ℕ) (l : Ledger) (e : Link) (h : List Note) → IsBook l.book
-        → Accounts now l h → let keys = idle_keys_in now l.book.entries l.lives in
+        → Accounts now l h
+        → let keys = idle_keys_in (is_lone l.book.stage) now l.book.entries l.lives in
         Accounts now (let_go now keys l e).ledger (reverse (let_go now keys l e).notes ++ h) }
 {}
