@@ -21,6 +21,7 @@ mod Stored
 mod Walks
 mod Dropping
 mod Lived
+mod Renewed
 mod Timed
 mod Merged
 pub mod Offered

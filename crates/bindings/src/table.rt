@@ -10,7 +10,7 @@ ghost use Rattle.bindings.specs.Revivals.{revived_entries, revived_slot, lives_o
 ghost use Rattle.bindings.specs.Table.{empty_table};
 ghost use Rattle.bindings.specs.Runs.{own_in, without_port, all_ports, first_run, port_at};
 ghost use Rattle.addresses.specs.declared.transport.Protocol.TheVariants.{Tcp, Udp};
-ghost use Rattle.bindings.specs.Lives.{KeepsOthers, is_among, rests_at, is_unused_at};
+ghost use Rattle.bindings.specs.Lives.{KeepsOthers, is_among, may_go, rests_at, is_unused_at};
 ghost use Rattle.bindings.specs.Ports.{AreBounds, in_either, key_count, is_free_in, is_open_in, is_vacant, is_spare, chosen_port, ports_in};
 ghost use Rattle.bindings.specs.Table.{IsTable, IsPast, owns, idle_keys_of, with_entry_state, without_entry};
 ghost use Rattle.bindings.specs.Lives.{lives_with};
@@ -21,7 +21,7 @@ ghost use Rattle.activity.specs.Lives.{life_begun, life_carried, life_renewed};
 
 use crate::entries::key_of;
 use crate::ports::{Ports, highest_port, lowest_port};
-use crate::revivals::{drop_doomed, wake};
+use crate::revivals::{drop_doomed, renew_all, wake};
 use crate::rows::{count_idle, is_vacant_port, list_idle, pairs_of, refusal, translating_pairs_of};
 use crate::store::Store;
 use crate::{Entry, PortBounds, TableFault};
@@ -243,6 +243,18 @@ impl Table {
         wake(&mut self.store);
     }
 
+    /// The operator says that the peer is off. It may have carried packets until then, so that the life of every pair
+    /// begins anew: the lists of their packets begin empty.
+    pub fn renew_all(&mut self, now: u64)
+        ensures lives { self.new ≡ record self.old {
+          lives = map (life_renewed now) self.old.lives;
+        } }
+        ensures pasts { (q : OutsidePort) → (past : History) → IsPast self.old q past
+            → IsPast self.new q (renewed now past) }
+    {
+        renew_all(&mut self.store, now);
+    }
+
     /// Takes all entries out, and gives all ports up. It stays ready for as many adds as it was.
     pub fn clear(&mut self)
         ensures { self.new ≡ record self.old { entries = []; lives = []; owned = [] } }
@@ -412,25 +424,26 @@ impl Table {
         self.store.is_unused(key)
     }
 
-    /// Appends the keys of the idle Live and Held entries, each once, by protocol (tcp first) and port.
-    /// Room for as many keys as there are entries is enough.
-    pub fn idle_keys(&mut self, now: u64, out: &mut Vec<Key>) -> Result<(), AllocError>
-        ensures keys { OnOk result (out.new.items ≡ out.old.items ++ idle_keys_of self.old now) }
+    /// Appends the keys of the idle entries that may be let go, each once, by protocol (tcp first) and port: of the Live
+    /// ones, and where the gateway is lone of the Held ones too. Room for as many keys as there are entries is enough.
+    pub fn idle_keys(&mut self, lone: bool, now: u64, keys: &mut Vec<Key>) -> Result<(), AllocError>
+        ensures keys { OnOk result (keys.new.items
+            ≡ keys.old.items ++ idle_keys_of self.old lone now) }
         ensures listed { (key : OutsidePort) → (entry : Row) → (past : History)
             → slot_of self.old.entries key ≡ Some entry → IsPast self.old key past
-            → is_among key (idle_keys_of self.old now)
-            ≡ (translates entry.state && is_idle key.protocol past now) }
+            → is_among key (idle_keys_of self.old lone now)
+            ≡ (may_go lone entry.state && is_idle key.protocol past now) }
         ensures same { self.new ≡ self.old }
-        ensures err { OnErr result (out.new.items ≡ out.old.items) }
-        ensures few { length (idle_keys_of self.old now) ≤ length self.old.entries }
-        ensures room { vec_len out.old + length (idle_keys_of self.old now) ≤ vec_capacity out.old
-            → IsOk result }
-        ensures capacity { vec_capacity out.old ≤ vec_capacity out.new }
+        ensures err { OnErr result (keys.new.items ≡ keys.old.items) }
+        ensures few { length (idle_keys_of self.old lone now) ≤ length self.old.entries }
+        ensures room { vec_len keys.old + length (idle_keys_of self.old lone now)
+            ≤ vec_capacity keys.old → IsOk result }
+        ensures capacity { vec_capacity keys.old ≤ vec_capacity keys.new }
     {
         self.found.clear();
-        self.store.list_due(now, &mut self.found);
-        out.reserve(count_idle(&self.store, &self.found, now))?;
-        list_idle(&self.store, &self.found, now, out);
+        self.store.list_due(lone, now, &mut self.found);
+        keys.reserve(count_idle(&self.store, &self.found, lone, now))?;
+        list_idle(&self.store, &self.found, lone, now, keys);
         Ok(())
     }
 }

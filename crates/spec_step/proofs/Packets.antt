@@ -40,7 +40,7 @@ use Rattle.packet_rules.specs.declared.networks.Network.{Network}
 use Rattle.packet_rules.specs.declared.readings.Reading.{Reading}
 use Rattle.packet_rules.specs.declared.readings.Reading.TheVariants.{Arp, Advert, Packet}
 use Rattle.packet_rules.specs.declared.reasons.Reason.{Reason}
-use Rattle.packet_rules.specs.declared.reasons.Reason.TheVariants.{ShortFrame, NotMine, BadHeader, BadLength, BadHeaderSum, Fragment, TtlOver, NotUdpTcp, BadTransport, BadArp, BadAdvert, NotUp, NoBinding, NoPort, CannotWait, BadDatagram, OldWord}
+use Rattle.packet_rules.specs.declared.reasons.Reason.TheVariants.{ShortFrame, NotMine, BadHeader, BadLength, BadHeaderSum, Fragment, TtlOver, NotUdpTcp, BadTransport, BadArp, BadAdvert, NotUp, NoBinding, NoPort, CannotWait, BadDatagram, OldWord, HostLimit}
 use Rattle.packet_rules.specs.declared.translations.Translation.{Translation}
 use Rattle.packet_rules.specs.declared.translations.Translation.TheVariants.{Outward, Inward, Hairpin}
 use Rattle.packet_rules.specs.Flows.{flow_in, source_of}
@@ -99,6 +99,7 @@ from-fits g flow by want.Wait formed = at _
     at false = tt
 from-fits g flow by want.NoPort formed = tt
 from-fits g flow by want.NotNow formed = tt
+from-fits g flow by want.HostLimit formed = tt
 
 on-fits : (g : Shown) (flow : Flow) (w : Direction) → IsWellFormedEndpoint (source_of flow) → PlanFits (plan_on g flow w)
 on-fits g flow way.Outward formed = from-fits g flow Outward (look_for g flow) formed
@@ -173,6 +174,7 @@ refusal-leaves P s flow NoBinding same wanted = same
 refusal-leaves P s flow CannotWait same wanted = same
 refusal-leaves P s flow BadDatagram same wanted = same
 refusal-leaves P s flow OldWord same wanted = same
+refusal-leaves P s flow HostLimit same wanted = same
 
 -- what is known of a frame by what it is read as
 abbrev pub Reads : Type 0

@@ -24,7 +24,7 @@ invariant_of-self c =
     let set = rw (rows, c.key_of-key.ensures) at c.set_in_time.ensures.timed in
     rw rows (
       added i.slots i.index c.list_pair.new.index r c.self.invariant.0 refl free c.list_pair.ensures.slots,
-      added-timed i.dues c.set_in_time.new.dues r i.slots.rows none own within keeps set c.self.invariant.1,
+      added-timed i.alone i.dues c.set_in_time.new.dues r i.slots.rows none own within keeps set c.self.invariant.1,
     )
 
 pub returns-clause-entries : goal.returns-clause-entries

@@ -14,7 +14,7 @@ invariant_of-self c =
     let held = held-by i.slots.rows c.args.key c.in-Some.item c.self.invariant.0.keyed item in
     let endpoints = rw (← c.self.view_is) at c.requires in
     let listed = rw c.entry_of_item-pair.ensures at c.unlist.ensures.slots in
-    rw rows (removed i.slots.rows i.index c.unlist.new.index c.args.key c.in-Some.item c.self.invariant.0 c.recall.ensures.order item (endpoints c.in-Some.item.entry held) listed, without-timed c.args.key i.dues i.slots.rows c.self.invariant.1)
+    rw rows (removed i.slots.rows i.index c.unlist.new.index c.args.key c.in-Some.item c.self.invariant.0 c.recall.ensures.order item (endpoints c.in-Some.item.entry held) listed, without-timed i.alone c.args.key i.dues i.slots.rows c.self.invariant.1)
 
 pub invariant_of-self-in_default : goal.invariant_of-self-in_default
 invariant_of-self-in_default c =

@@ -15,7 +15,7 @@ invariant_of-self c =
     let endpoints = rw (← c.self.view_is) at c.requires.endpoints in
     let rows = λ (s : PortSlots Item). s.rows in (
       (turned i.slots c.put_state.new.slots i.index c.unlist_turned.new.index c.args.key c.args.state c.in-Some.entry c.self.invariant.0 c.recall.ensures.order held (pair c.in-Some.entry held) (endpoints c.in-Some.entry held) c.put_state.ensures.some c.unlist_turned.ensures.slots).0,
-      changed-timed c.args.key (λ i. record i { entry = entry_in c.args.state c.in-Some.entry.pair }) i.dues c.set_in_time.new.dues i.slots.rows c.put_state.new.slots.rows c.recall.ensures.order
+      changed-timed i.alone c.args.key (λ i. record i { entry = entry_in c.args.state c.in-Some.entry.pair }) i.dues c.set_in_time.new.dues i.slots.rows c.put_state.new.slots.rows c.recall.ensures.order
           (λ i h. ap rows (c.put_state.ensures.some i h)) (λ h. ap rows (c.put_state.ensures.none h)) c.set_in_time.ensures.others c.set_in_time.ensures.timed c.self.invariant.1,
     )
 

@@ -1,14 +1,15 @@
 use Rattle.std.proofs.Common.{◌≡◌, [], Some, slice_get, length, sym, ap, ◌∙◌, arith}
 use Rattle.bindings.specs.Table.{idle_keys_of}
+use Rattle.spec_binding.specs.Books.{is_lone}
 use Rattle.spec_binding.specs.Ledgers.{Ledger, let_go}
 use Rattle.bind_core.specs.Cores.{Core, book_of, ledger_of}
 use Rattle.bind_core.proofs.Performing.{works-as}
 use Rattle.bind_core.proofs.Releasing.{few-idle, one-more-at, all-done, TickLaws, released-works}
-use Rattle.bind_core.proofs.cores.Core.tick.Goals as goal
+use Rattle.bind_core.proofs.cores.Core.release_idle.Goals as goal
 
 pub returns-clause-len : goal.returns-clause-len
 returns-clause-len c =
-    let few = few-idle c.args.now c.args.self.now.table.entries c.args.self.now.table.lives in
+    let few = few-idle (is_lone c.args.self.now.stage) c.args.now c.args.self.now.table.entries c.args.self.now.table.lives in
     let end = c.idle_count-i-end.ensures in
     let keys = ap (λ (k : Core). length k.idle) c.list_idle.ensures in
     let len = c.loop-i.invariant.len in
@@ -16,7 +17,7 @@ returns-clause-len c =
 
 pub release-requires : goal.release-requires
 release-requires c =
-    let few = few-idle c.args.now c.args.self.now.table.entries c.args.self.now.table.lives in
+    let few = few-idle (is_lone c.args.self.now.stage) c.args.now c.args.self.now.table.entries c.args.self.now.table.lives in
     let end = c.idle_count-i-end.ensures in
     let keys = ap (λ (k : Core). length k.idle) c.list_idle.ensures in
     let len = c.loop-i.invariant.len in
@@ -27,7 +28,7 @@ release-requires c =
 
 pub loop-i-preserved : goal.loop-i-preserved
 loop-i-preserved c =
-    let keys = idle_keys_of c.args.self.now.table c.args.now in
+    let keys = idle_keys_of c.args.self.now.table (is_lone c.args.self.now.stage) c.args.now in
     let found : slice_get keys c.loop-i.i ≡ Some c.idle_key_at-key.result = sym (ap (λ ks. slice_get ks c.loop-i.i) c.loop-i.invariant.idle) ∙ c.idle_key_at-key.ensures in
     let more = one-more-at c.args.now c.loop-i.i keys c.idle_key_at-key.result (ledger_of c.loop-i.self) c.loop-i.link c.loop-i.notes.items (ledger_of c.release.new.self) c.release.new.link c.release.new.notes.items found
     record { ledger = c.release.ensures.ledger; link = c.release.ensures.link; notes = c.release.ensures.notes } in
@@ -45,7 +46,7 @@ loop-i-preserved c =
 
 pub returns-clause-works : goal.returns-clause-works
 returns-clause-works c = λ h n stands.
-    let keys = idle_keys_of c.args.self.now.table c.args.now in
+    let keys = idle_keys_of c.args.self.now.table (is_lone c.args.self.now.stage) c.args.now in
     let sizes = ap (λ (k : Core). length k.idle) c.list_idle.ensures in
     let end = c.idle_count-i-end.ensures in
     let past = c.loop-i-test.false in
