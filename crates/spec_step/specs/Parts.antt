@@ -11,6 +11,7 @@ use Rattle.nat_types.specs.declared.pairs.Endpoint.{Endpoint}
 use Rattle.nat_types.specs.declared.pairs.Key.{Key}
 use Rattle.nat_types.specs.declared.records.Record.{Record}
 use Rattle.arp.specs.declared.packets.ArpPacket.{ArpPacket}
+use Rattle.arp.specs.Neighbours.{asked_at, asks_at}
 use Rattle.frames.specs.Frame.{frame_of}
 use Rattle.ipv4.specs.declared.flows.Flow.{Flow}
 use Rattle.ipv4.specs.Header.{payload_of}
@@ -34,7 +35,7 @@ use Rattle.waiting.specs.declared.waits.Ended.{Ended}
 use Rattle.waiting.specs.declared.waits.Ended.TheVariants.{One, AllPairs}
 use Rattle.waiting.specs.declared.waits.WaitsFor.{WaitsFor}
 use Rattle.waiting.specs.declared.waits.WaitsFor.TheVariants as wait
-use Rattle.waiting.specs.Packets.{HeldPacket, ended_by, is_young, left_by}
+use Rattle.waiting.specs.Packets.{HeldPacket, asks_again, ended_by, is_young, left_by, with_asked, with_room}
 use Rattle.packet_rules.specs.declared.readings.Reading.{Reading}
 use Rattle.packet_rules.specs.declared.readings.Reading.TheVariants.{Arp, Advert, Packet}
 use Rattle.packet_rules.specs.declared.reasons.Reason.{Reason}
@@ -53,9 +54,9 @@ use Rattle.vrrp_states.specs.declared.State.TheVariants.{Initialize, Backup, Act
 use Rattle.vrrp_states.specs.Table.{Router, active_down_interval}
 use Rattle.output.specs.Output.{Output, with_datagram, with_frame}
 use Rattle.spec_step.specs.declared.plans.Plan.{Plan}
-use Rattle.spec_step.specs.declared.plans.Plan.TheVariants.{Send, Ask, Wait as WaitFor}
+use Rattle.spec_step.specs.declared.plans.Plan.TheVariants.{Send, Ask, AskAgain, Wait as WaitFor}
 use Rattle.spec_step.specs.Shown.{GatewayAndOutput, Shown, id_of, scene, station_on, with_notes, with_station}
-use Rattle.spec_step.specs.Verdict.{exit_by, plan_of, reading_on}
+use Rattle.spec_step.specs.Verdict.{exit_by, hop_by, plan_of, reading_on}
 
 -- ---- rows of the binding protocol
 
@@ -109,21 +110,55 @@ wanted_for s flow (Hairpin own other) = wanted_by s (source_of flow)
 abbrev pub framed : GatewayAndOutput → Side → List ℕ → GatewayAndOutput
 framed s side bytes = scene s.shown (with_frame s.told side bytes)
 
--- a packet is kept as it came
+-- a packet as it came, which waits for this from a moment on
+abbrev pub waiting : Side → List ℕ → ℕ → WaitsFor → HeldPacket
+waiting side bytes now what = record { side = side; bytes = bytes; since = now; wait = what; asked = now }
+
+-- a packet is kept as it came; where it waits for a next hop and 64 do, the first of these makes room
 abbrev pub keeping : GatewayAndOutput → Side → List ℕ → WaitsFor → GatewayAndOutput
-keeping s side bytes what =
-    scene (record s.shown { kept = s.shown.kept ++ (record { side = side; bytes = bytes; since = s.shown.moment; wait = what }) ∷ [] }) s.told
+keeping s side bytes what = let g = s.shown in
+    scene (record g { kept = with_room what g.kept ++ waiting side bytes g.moment what ∷ [] }) s.told
+
+-- ---- requests for next hops
+
+-- the frame that asks for a next hop
+abbrev pub request_by : Shown → Side → Ip → List ℕ
+request_by g exit hop = request_frame (station_on g exit).network hop
+
+-- a neighbour on a side is asked for now
+abbrev pub neighbour_asked : Shown → Side → Ip → Shown
+neighbour_asked g exit hop = let station = station_on g exit in
+    with_station g exit (record station { neighbours = asked_at hop.0 g.moment station.neighbours })
+
+-- behind a packet that was sent to it, a neighbour learnt or renewed long ago is asked for, where it wasn't just now
+abbrev pub renewed_behind : GatewayAndOutput → Side → Ip → GatewayAndOutput
+renewed_behind s exit hop = let g = s.shown in
+    if asks_at hop.0 g.moment (station_on g exit).neighbours
+    then framed (scene (neighbour_asked g exit hop) s.told) exit (request_by g exit hop)
+    else s
+
+-- a next hop for which another packet waits is asked for again, where it wasn't just now
+abbrev pub asked_again : GatewayAndOutput → Side → Ip → GatewayAndOutput
+asked_again s exit hop = let g = s.shown in let what = wait.Hop exit hop in
+    if asks_again g.moment what g.kept
+    then framed (scene (record g { kept = with_asked g.moment what g.kept }) s.told) exit (request_by g exit hop)
+    else s
+
+-- ---- plans
 
 -- a plan is done
 abbrev pub by_plan : GatewayAndOutput → Side → List ℕ → Flow → Plan → GatewayAndOutput
 by_plan s side bytes flow (Send by next) =
-    carried_all
+    renewed_behind
+    (carried_all
     (framed (wanted_for s flow by) (exit_by by) (sent_frame s.shown.networks by next bytes))
-    flow (flags_in bytes) by
+    flow (flags_in bytes) by)
+    (exit_by by) (hop_by s.shown by flow)
 by_plan s side bytes flow (Ask by hop) =
     framed
     (keeping (wanted_for s flow by) side bytes (wait.Hop (exit_by by) hop))
-    (exit_by by) (request_frame (station_on s.shown (exit_by by)).network hop)
+    (exit_by by) (request_by s.shown (exit_by by) hop)
+by_plan s side bytes flow (AskAgain by hop) = asked_again s (exit_by by) hop
 by_plan s side bytes flow (WaitFor endpoint) =
     keeping (wanted_by s endpoint) side bytes (wait.Pair endpoint)
 
