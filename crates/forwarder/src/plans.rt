@@ -117,7 +117,7 @@ impl Forwarder {
                 if self.kept.has_place(WaitsFor::Hop(exit, hop)) {
                     Ok(Plan::Ask { by, hop })
                 } else {
-                    Err(Reason::CannotWait)
+                    Ok(Plan::AskAgain { by, hop })
                 }
             }
         }
