@@ -10,7 +10,7 @@ use Rattle.spec_binding.specs.Books.{is_synced}
 use Rattle.packet_rules.specs.declared.readings.Reading.{Reading}
 use Rattle.packet_rules.specs.declared.readings.Reading.TheVariants.{Arp, Advert, Packet}
 use Rattle.packet_rules.specs.declared.reasons.Reason.{Reason}
-use Rattle.packet_rules.specs.declared.reasons.Reason.TheVariants.{NotUp, BadDatagram, OldWord, HostLimit}
+use Rattle.packet_rules.specs.declared.reasons.Reason.TheVariants.{NotUp, BadDatagram, OldWord}
 use Rattle.interfaces.specs.Stations.{Interface, IsRouterStep}
 use Rattle.vrrp_states.specs.declared.Action.{Action}
 use Rattle.vrrp_states.specs.Table as table
