@@ -1,5 +1,5 @@
 -- The laws of the crates below on which a world stands.
-use Rattle.std.proofs.Common.{◌≡◌, ℕ, ◌&&◌, false, List, [], ◌∷◌, ◌++◌, reverse, Ok}
+use Rattle.std.proofs.Common.{◌≡◌, ℕ, ◌&&◌, false, Option, List, [], ◌∷◌, ◌++◌, reverse, Ok}
 use Rattle.nat_types.specs.Same.{other, same}
 use Rattle.nat_types.specs.declared.gateways.GatewayId.{GatewayId}
 use Rattle.nat_types.specs.declared.gateways.GatewayId.TheVariants.{Zero}
