@@ -1,5 +1,5 @@
 -- The idle pairs of a tick.
-use Rattle.std.proofs.Common.{◌≡◌, ℕ, zero, suc, ◌+◌, ◌<◌, ◌≤◌, Bool, true, false, cond, List, [], ◌∷◌, ◌++◌, length, get_or, drop, refl, sym, ap, subst, ◌∙◌, arith, append_assoc, slice_get, Option, Some, None}
+use Rattle.std.proofs.Common.{◌≡◌, ℕ, zero, suc, ◌+◌, ◌<◌, ◌≤◌, Bool, true, false, cond, ◌||◌, List, [], ◌∷◌, ◌++◌, length, get_or, drop, refl, sym, ap, subst, ◌∙◌, arith, append_assoc, slice_get, Option, Some, None}
 use Rattle.std.proofs.lemmas.Option.{get_or_from_slice_get, slice_get_within}
 use Rattle.std.proofs.Math.Seq.{drop-cons}
 use Rattle.nat_types.specs.declared.notes.Note.{Note}
@@ -91,11 +91,18 @@ idle-quiet b ask k = at (is_synced b.stage) (is_lone b.stage) ask (slot_of b.ent
     at true false false (Some x) h g = released-quiet x.pair x.state
 
 -- a gateway that isn't lone, and may not ask, lets none go
-pub none-go : (now : ℕ) (ks : List Key) (l : Ledger) (e : Link) → is_lone l.book.stage ≡ false → may_ask now e ≡ false → let_go now ks l e ≡ record { ledger = l; link = e; notes = [] }
-none-go now [] l e lone mute = refl
-none-go now (k ∷ ks) l e lone mute =
+none-from : (now : ℕ) (ks : List Key) (l : Ledger) (e : Link) → is_lone l.book.stage ≡ false → may_ask now e ≡ false → let_go now ks l e ≡ record { ledger = l; link = e; notes = [] }
+none-from now [] l e lone mute = refl
+none-from now (k ∷ ks) l e lone mute =
     ap (λ (r : Transition). let rest : LetGo = let_go now ks (ledger_after now r.change l) (answered e r.answer) in let all : LetGo = record rest { notes = noted_by l.book.id now r.what ++ rest.notes } in all) (idle-quiet l.book (may_ask now e) k lone mute)
-    ∙ none-go now ks l e lone mute
+    ∙ none-from now ks l e lone mute
+
+neither : (a b : Bool) → (a || b) ≡ false → (a ≡ false) × (b ≡ false)
+neither true b h = cc
+neither false b h = (refl, h)
+
+pub none-go : (now : ℕ) (ks : List Key) (l : Ledger) (e : Link) → (is_lone l.book.stage || may_ask now e) ≡ false → let_go now ks l e ≡ record { ledger = l; link = e; notes = [] }
+none-go now ks l e h = let parts = neither (is_lone l.book.stage) (may_ask now e) h in none-from now ks l e parts.0 parts.1
 
 -- ---- acts
 

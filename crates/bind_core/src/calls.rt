@@ -1,5 +1,5 @@
 //! What a gateway asks of its core: rows carried out.
-ghost use Rattle.std.specs.Prelude.{◌≡◌, ◌+◌, ◌<◌, ◌≤◌, ◌++◌, ◌∷◌, [], ℕ, List, true, false, suc};
+ghost use Rattle.std.specs.Prelude.{◌≡◌, ◌+◌, ◌<◌, ◌≤◌, ◌++◌, ◌∷◌, ◌||◌, [], ℕ, List, true, false, suc};
 ghost use Rattle.std.specs.Prelude.{length, vec_len, vec_capacity, OnOk, OnErr};
 ghost use Rattle.link.specs.Grammar.{IsWellFormedRecord};
 ghost use Rattle.link.specs.Link.{free_places, needs_answer};
@@ -96,6 +96,13 @@ impl Core {
         self.perform(link, notes, now, row);
     }
 
+    /// Whether any pair may be let go: it is alone, or the end of one may be asked for.
+    fn may_release(&self, link: &Link, now: u64) -> bool
+        ensures { result ≡ (is_lone_at self.now.stage || may_ask_at now link.now) }
+    {
+        self.is_lone() || may_ask(link, now)
+    }
+
     /// The idle pairs that may be let go, one after the other.
     fn release_idle(&mut self, link: &mut Link, now: u64, notes: &mut Vec<Note>)
         requires reserved { vec_len notes.old + length self.old.table.entries
@@ -147,8 +154,7 @@ impl Core {
             (ledger_of self.old) link.old).notes h }
     {
         works_nothing();
-        let may_release = self.is_lone() || may_ask(link, now);
-        if may_release {
+        if self.may_release(link, now) {
             self.release_idle(link, now, notes);
         }
     }

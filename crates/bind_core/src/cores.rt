@@ -573,6 +573,7 @@ impl Core {
 
     /// It is alone: what was proposed or asked to be closed translates again, and is noted, and the life of each pair
     /// begins anew.
+    #[tactic(auto, using(crate::proofs::Performing::put_alone_is))]
     pub(crate) fn put_alone(&mut self, now: u64, notes: &mut Vec<Note>)
         requires kept { IsBook (put_alone_book (book_of self.old)) }
         requires reserved { vec_len notes.old + length self.old.table.entries

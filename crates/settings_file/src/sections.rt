@@ -18,9 +18,7 @@ use toml::Table;
 
 /// The two gateways' port ranges, and the limit of each inside host where there is one.
 #[tactic(auto, unfolding(crate::specs::Rows::bad_ports))]
-pub(crate) fn ports(
-    document: &Table,
-) -> Result<(PortRange, PortRange, Option<u16>), ValueFault>
+pub(crate) fn ports(document: &Table) -> Result<(PortRange, PortRange, Option<u16>), ValueFault>
     ensures zero { IfOk result (λ r. IsRange (table_view document.now) Zero r.0) }
     ensures one { IfOk result (λ r. IsRange (table_view document.now) One r.1) }
     ensures limit { IfOk result (λ r. IsLimit (table_view document.now) r.2) }
