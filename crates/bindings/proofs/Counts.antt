@@ -11,7 +11,6 @@ use Rattle.nat_types.specs.declared.pairs.Key.{Key}
 use Rattle.nat_types.specs.Same.{same_endpoint}
 use Rattle.nat_types.proofs.Offered.{endpoint-self}
 use Rattle.slots.specs.Rows.{Row}
-use Rattle.slots.specs.Rows as slots
 use Rattle.bindings.specs.declared.entries.Entry.{Entry}
 use Rattle.bindings.specs.declared.store.Item.{Item}
 use Rattle.bindings.specs.Entries.{is_pair, is_pair_of, pairs_of, has_key, serves, slot_of, entry_of, entry_in, place_of, HasDistinctKeys}

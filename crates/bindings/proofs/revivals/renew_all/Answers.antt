@@ -1,4 +1,4 @@
-use Rattle.std.proofs.Common.{◌≡◌, List, refl, sym, ap, ◌∙◌}
+use Rattle.std.proofs.Common.{List, refl, sym, ap, ◌∙◌}
 use Rattle.nat_types.specs.declared.pairs.Key.{Key}
 use Rattle.activity.specs.Lives.{Activity, life_renewed}
 use Rattle.bindings.specs.Lives.{lives_with}

@@ -1,4 +1,4 @@
-use Rattle.std.proofs.Common.{◌≡◌, List, true, false, Some, ◌∷◌, sym, ap, subst, ◌∙◌}
+use Rattle.std.proofs.Common.{List, true, false, Some, ◌∷◌, sym, ap, subst, ◌∙◌}
 use Rattle.nat_types.specs.declared.pairs.Key.{Key}
 use Rattle.bindings.specs.Stores.{entries_of}
 use Rattle.bindings.specs.Dues.{AreTimedBut}
