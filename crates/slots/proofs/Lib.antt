@@ -4,5 +4,6 @@ mod Edits
 mod Stored
 mod LookUps
 mod Counted
+mod Held
 mod Due
 pub mod Offered

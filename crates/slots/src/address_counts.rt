@@ -2,7 +2,7 @@
 ghost use Rattle.std.specs.Prelude.{◌≡◌, ◌+◌, ◌-◌, ◌<◌, ◌≤◌, OnOk, if◌then◌else◌};
 ghost use Rattle.indexmap.specs.IndexMap.{spare};
 ghost use Rattle.addresses.specs.declared.internet.Ip.{Ip as Address};
-ghost use Rattle.slots.specs.Counts.{count_at, is_address, one_at};
+ghost use Rattle.slots.specs.Counts.{count_at, is_address, one_at, AreHeld};
 
 use addresses::Ip;
 use indexmap::IndexMap;
@@ -24,6 +24,10 @@ impl<S: BuildHasher + Drop> Model for AddressCounts<S> {
     ghost use Rattle.indexmap.specs.IndexMap.{spare};
 
     ghost view = { λ c. record { entries = c.counts.entries; spare = spare c.counts } };
+
+    ghost use Rattle.slots.specs.Counts.{AreHeld};
+
+    ghost invariant = { λ c. AreHeld c.counts.entries };
 }
 
 /// Gives an address that has a count another one.
@@ -31,6 +35,7 @@ fn rewrite<S: BuildHasher>(counts: &mut IndexMap<Ip, u32, S>, address: Ip, count
     requires { 0 < count_at counts.old.entries address }
     ensures counts { (a : Address) → count_at counts.new.entries a
         ≡ (if is_address address a then count else count_at counts.old.entries a) }
+    ensures held { 0 < count → AreHeld counts.old.entries → AreHeld counts.new.entries }
     ensures spare { spare counts.old ≤ spare counts.new }
 {
     if let Some(held) = counts.get_mut(&address) {
