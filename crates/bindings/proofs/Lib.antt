@@ -17,6 +17,7 @@ mod Rooms
 mod Uses
 mod Kept
 mod Changes
+mod Counts
 mod Stored
 mod Walks
 mod Dropping

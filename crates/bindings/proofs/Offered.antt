@@ -39,7 +39,9 @@ pub use Rattle.bindings.proofs.Renewed.{life-all}
 -- each past begins anew with its life
 pub use Rattle.bindings.proofs.Renewed.{past-renewed}
 -- Which entries are idle.
--- a key with an entry is listed just where that translates and is idle
+-- no more keys are idle than there are entries
+pub use Rattle.bindings.proofs.Resting.{few-idle}
+-- a key with an entry is listed just where that is idle and may be let go
 pub use Rattle.bindings.proofs.Resting.{listed-is}
 -- What is left of a table's lists once the peer begins anew.
 pub use Rattle.bindings.proofs.Revived.{length-revived}

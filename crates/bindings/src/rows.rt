@@ -58,7 +58,7 @@ fn push_if(pairs: &mut Vec<Pair>, passes: bool, pair: Pair) -> Result<(), AllocE
 }
 
 /// The pairs but Doomed ones, in order.
-pub(crate) fn pairs_of(alloc: Global, store: &Store) -> Result<Vec<Pair>, AllocError>
+pub(crate) fn list_pairs(alloc: Global, store: &Store) -> Result<Vec<Pair>, AllocError>
     ensures { IfOk result (λ v. v.items ≡ pairs_in is_pair store.now.entries) }
 {
     store.recall();
@@ -73,7 +73,7 @@ pub(crate) fn pairs_of(alloc: Global, store: &Store) -> Result<Vec<Pair>, AllocE
 }
 
 /// The pairs that translate, in order.
-pub(crate) fn translating_pairs_of(alloc: Global, store: &Store) -> Result<Vec<Pair>, AllocError>
+pub(crate) fn list_translating(alloc: Global, store: &Store) -> Result<Vec<Pair>, AllocError>
     ensures { IfOk result (λ v. v.items ≡ pairs_in translates store.now.entries) }
 {
     store.recall();

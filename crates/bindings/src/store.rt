@@ -1,10 +1,13 @@
 //! The entries of a table in slots, each with its life. A slot is found by key and by endpoint.
 ghost use Rattle.std.specs.Prelude.{◌≡◌, ◌+◌, ◌<◌, ◌≤◌, [], Some, None, true, false, not, ◌&&◌, if◌then◌else◌, length, IfOk, OnOk};
 ghost use Rattle.nat_types.specs.declared.pairs.Endpoint.{Endpoint as InsidePort};
-ghost use Rattle.slots.specs.Endpoints.{slot_of as number_of_endpoint};
+ghost use Rattle.addresses.specs.declared.internet.Ip.{Ip as Address};
+ghost use Rattle.slots.specs.Endpoints.{slot_of as number_of_endpoint, count_in};
+ghost use Rattle.bindings.specs.Stores.{one_of};
+ghost use Rattle.std.specs.Prelude.{IsSome};
 ghost use Rattle.std.specs.List.{insert};
 ghost use Rattle.bindings.specs.declared.entries.Entry.{Entry as Row};
-ghost use Rattle.bindings.specs.Entries.{is_pair, serves, slot_of, entry_of, entry_in, HasDistinctEndpoints};
+ghost use Rattle.bindings.specs.Entries.{is_pair, is_pair_of, pairs_of, serves, slot_of, entry_of, entry_in, HasDistinctEndpoints};
 ghost use Rattle.bindings.specs.Lists.{put_in, place_in, without, with_state, after_key, RisesUp};
 ghost use Rattle.bindings.specs.Lives.{life_in, lives_with, lives_without, rests_at, is_unused_at};
 ghost use Rattle.activity.specs.Lives.{Activity as Lived, History, Agrees, with_packet, renewed, life_carried, life_renewed};
@@ -22,6 +25,7 @@ ghost use Rattle.bindings.specs.Dues.{AreTimed, AreTimedBut, IsTimed, KeepsDues,
 use crate::Entry;
 use crate::entries::{endpoint_of, is_pair_state, key_of, may_go_state};
 use activity::{Activity, Packet};
+use addresses::Ip;
 use nat_types::{Endpoint, EntryState, Key, Pair};
 use slots::{Dues, EndpointIndex, Hashers, PortSlots, SlotNumber, recall_cell};
 use std::alloc::{AllocError, Global};
@@ -38,7 +42,7 @@ pub(crate) struct Item {
 #[derive(Drop)]
 pub(crate) struct Store {
     slots: PortSlots<Item>,
-    // The slot of each pair, by its endpoint. A Doomed entry is none.
+    // The slot of each pair, by its endpoint, and how many pairs each inside address has. A Doomed entry is none.
     index: EndpointIndex<Hashers>,
     // When each entry that may be let go is looked at again: at the latest when it is idle.
     dues: Dues,
@@ -79,9 +83,13 @@ fn item_with(pair: Pair, state: EntryState, life: Activity) -> Item
 
 /// An entry that comes in is found by its endpoint where it is a pair.
 fn list_pair(index: &mut EndpointIndex<Hashers>, pair: Pair, state: EntryState, number: SlotNumber)
-    requires { 0 < index.old.spare }
+    requires spare { 0 < index.old.spare }
+    requires free { is_pair state ≡ true
+        → number_of_endpoint index.old pair.endpoint ≡ None }
     ensures slots { (x : InsidePort) → number_of_endpoint index.new x ≡ (if serves x (entry_in
         state pair) then Some number else number_of_endpoint index.old x) }
+    ensures counts { (a : Address) → count_in index.new a
+        ≡ count_in index.old a + one_of a (entry_in state pair) }
     ensures spare { index.old.spare ≤ index.new.spare + 1 }
 {
     if is_pair_state(state) {
@@ -91,8 +99,11 @@ fn list_pair(index: &mut EndpointIndex<Hashers>, pair: Pair, state: EntryState, 
 
 /// An entry that goes is found no more.
 fn unlist(index: &mut EndpointIndex<Hashers>, pair: Pair, state: EntryState)
+    requires held { is_pair state ≡ true → IsSome (number_of_endpoint index.old pair.endpoint) }
     ensures slots { (x : InsidePort) → number_of_endpoint index.new x ≡ (if serves x (entry_in
         state pair) then None else number_of_endpoint index.old x) }
+    ensures counts { (a : Address) → count_in index.old a
+        ≡ count_in index.new a + one_of a (entry_in state pair) }
     ensures spare { index.old.spare ≤ index.new.spare }
 {
     if is_pair_state(state) {
@@ -102,9 +113,12 @@ fn unlist(index: &mut EndpointIndex<Hashers>, pair: Pair, state: EntryState)
 
 /// An entry that isn't a pair in its new state is found no more.
 fn unlist_turned(index: &mut EndpointIndex<Hashers>, pair: Pair, was: EntryState, state: EntryState)
+    requires held { is_pair was ≡ true → IsSome (number_of_endpoint index.old pair.endpoint) }
     ensures slots { (x : InsidePort) → number_of_endpoint index.new x
         ≡ (if serves x (entry_in was pair) && not (is_pair state) then None
         else number_of_endpoint index.old x) }
+    ensures counts { (a : Address) → count_in index.old a ≡ count_in index.new a
+        + (if is_pair_of a (entry_in was pair) && not (is_pair state) then 1 else 0) }
     ensures spare { index.old.spare ≤ index.new.spare }
 {
     if !is_pair_state(state) {
@@ -295,6 +309,13 @@ impl Store {
             Some(number) => entry_at(&self.slots, number),
             None => None,
         }
+    }
+
+    /// How many pairs an inside address has. Doomed ones don't count.
+    pub(crate) fn pairs_of(&self, address: Ip) -> u32
+        ensures { result ≡ pairs_of address self.now.entries }
+    {
+        self.index.count_of(address)
     }
 
     /// The first entry behind a key in the order, or the first of all.

@@ -4,7 +4,7 @@ ghost use Rattle.nat_types.specs.declared.pairs.Key.{Key as OutsidePort};
 ghost use Rattle.activity.specs.Lives.{History, came, with_packet, renewed, is_idle, is_unused};
 ghost use Rattle.bindings.specs.declared.entries.Entry.{Entry as Row};
 ghost use Rattle.activity.specs.declared.packets.Packet.{Packet as Carried};
-ghost use Rattle.bindings.specs.Entries.{is_pair, translates, slot_of, entry_of, set_at, refusal_of, entry_in, pairs_in};
+ghost use Rattle.bindings.specs.Entries.{is_pair, translates, slot_of, entry_of, set_at, refusal_of, entry_in, pairs_in, pairs_of};
 ghost use Rattle.bindings.specs.Lists.{put_in, after_key};
 ghost use Rattle.bindings.specs.Revivals.{revived_entries, revived_slot, lives_of_pairs};
 ghost use Rattle.bindings.specs.Table.{empty_table};
@@ -22,11 +22,11 @@ ghost use Rattle.activity.specs.Lives.{life_begun, life_carried, life_renewed};
 use crate::entries::key_of;
 use crate::ports::{Ports, highest_port, lowest_port};
 use crate::revivals::{drop_doomed, renew_all, wake};
-use crate::rows::{count_idle, is_vacant_port, list_idle, pairs_of, refusal, translating_pairs_of};
+use crate::rows::{count_idle, is_vacant_port, list_idle, list_pairs, list_translating, refusal};
 use crate::store::Store;
 use crate::{Entry, PortBounds, TableFault};
 use activity::{Activity, Packet, Remote, Way};
-use addresses::{Parity, Port, Protocol, TcpFlags};
+use addresses::{Ip, Parity, Port, Protocol, TcpFlags};
 use nat_types::{Endpoint, EntryState, Key, Pair};
 use slots::{CELLS, Hashers};
 use std::alloc::{AllocError, Global};
@@ -142,6 +142,13 @@ impl Table {
         ensures { result ≡ entry_of self.now.entries endpoint }
     {
         self.store.entry_of(endpoint)
+    }
+
+    /// How many pairs an inside address has, of both protocols together and whatever their state. Doomed ones don't count.
+    pub fn pairs_of(&self, address: Ip) -> u32
+        ensures { result ≡ pairs_of address self.now.entries }
+    {
+        self.store.pairs_of(address)
     }
 
     /// Makes the table ready for as many adds as there are endpoints, until the next call. Each later `add` that succeeds
@@ -267,14 +274,14 @@ impl Table {
     pub fn pairs(&self) -> Result<Vec<Pair>, AllocError>
         ensures { IfOk result (λ v. v.items ≡ pairs_in is_pair self.now.entries) }
     {
-        pairs_of(self.alloc, &self.store)
+        list_pairs(self.alloc, &self.store)
     }
 
     /// The Live and Held pairs, by protocol (tcp first) and port.
     pub fn translating(&self) -> Result<Vec<Pair>, AllocError>
         ensures { IfOk result (λ v. v.items ≡ pairs_in translates self.now.entries) }
     {
-        translating_pairs_of(self.alloc, &self.store)
+        list_translating(self.alloc, &self.store)
     }
 
     /// The lowest owned free port with that parity, else the lowest owned free one (RFC 4787, section 4.2.2).
