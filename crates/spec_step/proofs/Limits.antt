@@ -12,6 +12,7 @@ use Rattle.waiting.specs.declared.waits.WaitsFor.{WaitsFor}
 use Rattle.waiting.specs.declared.waits.WaitsFor.TheVariants as wait
 use Rattle.waiting.specs.Packets.{HeldPacket, asked_packet, asks_again, hop_count, with_asked, with_room, without_first_hop}
 use Rattle.waiting.specs.Waits.{is_for_pair, same_wait}
+use Rattle.waiting.proofs.Offered.{Ignores, filter-asked, map-asked, same-packet}
 use Rattle.spec_step.specs.Others.{Asking, Cause, Drops, Sends, Waits, all_noted, hops_of, noted_at, within_limit, without_hops}
 use Rattle.spec_step.specs.Parts.{waiting}
 use Rattle.spec_step.specs.Truly.{AtHand, packets_of}
@@ -24,7 +25,7 @@ abbrev pub TakesNone : (HeldPacket → Bool) → Type 0
 TakesNone f = (w : HeldPacket) → is_for_pair w.wait ≡ false → f w ≡ false
 
 abbrev pub IsByWait : (HeldPacket → Bool) → Type 0
-IsByWait f = (w : HeldPacket) (n : ℕ) → f (record w { asked = n }) ≡ f w
+IsByWait f = Ignores f
 
 -- ---- the first that wait for next hops
 
@@ -155,29 +156,11 @@ limit-more (wait.Hop exit host) kept side bytes now few = at (nat_lt (hop_count 
 
 -- ---- a request that is noted
 
-by-asked : {X : Type 0} (f : HeldPacket → X) → ((w : HeldPacket) (n : ℕ) → f (record w { asked = n }) ≡ f w) → (now : ℕ) (x : WaitsFor) (w : HeldPacket) → f (asked_packet now x w) ≡ f w
-by-asked f by now x w = at (same_wait x w.wait)
-  where
-    at : (b : Bool) → f (let v : HeldPacket = cond b (record w { asked = now }) w in v) ≡ f w
-    at true = by w now
-    at false = refl
-
 module _ (now : ℕ) (x : WaitsFor) where
-  filter-asked : (f : HeldPacket → Bool) → IsByWait f → (ws : List HeldPacket) → filter f (with_asked now x ws) ≡ with_asked now x (filter f ws)
-  filter-asked f by [] = refl
-  filter-asked f by (w ∷ ws) =
-      ap (λ (b : Bool). let ys : List HeldPacket = cond b (asked_packet now x w ∷ filter f (with_asked now x ws)) (filter f (with_asked now x ws)) in ys) (by-asked f by now x w)
-      ∙ at (f w) (filter-asked f by ws)
-    where
-      at : (b : Bool) → filter f (with_asked now x ws) ≡ with_asked now x (filter f ws)
-          → (let ys : List HeldPacket = cond b (asked_packet now x w ∷ filter f (with_asked now x ws)) (filter f (with_asked now x ws)) in ys) ≡ with_asked now x (let ys : List HeldPacket = cond b (w ∷ filter f ws) (filter f ws) in ys)
-      at true ih = ap (λ (ys : List HeldPacket). asked_packet now x w ∷ ys) ih
-      at false ih = ih
-
   first-asked : (ws : List HeldPacket) → without_first_hop (with_asked now x ws) ≡ with_asked now x (without_first_hop ws)
   first-asked [] = refl
   first-asked (w ∷ ws) =
-      ap (λ (b : Bool). let ys : List HeldPacket = cond b (asked_packet now x w ∷ without_first_hop (with_asked now x ws)) (with_asked now x ws) in ys) (by-asked (λ (v : HeldPacket). is_for_pair v.wait) (λ v n. refl) now x w)
+      ap (λ (b : Bool). let ys : List HeldPacket = cond b (asked_packet now x w ∷ without_first_hop (with_asked now x ws)) (with_asked now x ws) in ys) (same-packet (λ (v : HeldPacket). is_for_pair v.wait) (λ v n. refl) now x w)
       ∙ at (is_for_pair w.wait) (first-asked ws)
     where
       at : (b : Bool) → without_first_hop (with_asked now x ws) ≡ with_asked now x (without_first_hop ws)
@@ -188,7 +171,7 @@ module _ (now : ℕ) (x : WaitsFor) where
   count-asked : (ws : List HeldPacket) → hop_count (with_asked now x ws) ≡ hop_count ws
   count-asked [] = refl
   count-asked (w ∷ ws) =
-      ap (λ (b : Bool). cond (not b) 1 0 + hop_count (with_asked now x ws)) (by-asked (λ (v : HeldPacket). is_for_pair v.wait) (λ v n. refl) now x w)
+      ap (λ (b : Bool). cond (not b) 1 0 + hop_count (with_asked now x ws)) (same-packet (λ (v : HeldPacket). is_for_pair v.wait) (λ v n. refl) now x w)
       ∙ ap (λ (n : ℕ). cond (not (is_for_pair w.wait)) 1 0 + n) (count-asked ws)
 
   hops-asked : (n : ℕ) (ws : List HeldPacket) → without_hops n (with_asked now x ws) ≡ with_asked now x (without_hops n ws)
@@ -198,11 +181,8 @@ module _ (now : ℕ) (x : WaitsFor) where
   limit-asked : (ws : List HeldPacket) → within_limit (with_asked now x ws) ≡ with_asked now x (within_limit ws)
   limit-asked ws = ap (λ (c : ℕ). without_hops (c - 64) (with_asked now x ws)) (count-asked ws) ∙ hops-asked (hop_count ws - 64) ws
 
-  pub packets-asked : (ws : List HeldPacket) → packets_of (with_asked now x ws) ≡ packets_of ws
-  packets-asked [] = refl
-  packets-asked (w ∷ ws) =
-      ap (λ (p : AtHand). p ∷ packets_of (with_asked now x ws)) (by-asked (λ (v : HeldPacket). let p : AtHand = record { side = v.side; bytes = v.bytes } in p) (λ v n. refl) now x w)
-      ∙ ap (λ (ps : List AtHand). let p : AtHand = record { side = w.side; bytes = w.bytes } in p ∷ ps) (packets-asked ws)
+  packets-asked : (ws : List HeldPacket) → packets_of (with_asked now x ws) ≡ packets_of ws
+  packets-asked ws = map-asked (λ (v : HeldPacket). let p : AtHand = record { side = v.side; bytes = v.bytes } in p) (λ v n. refl) now x ws
 
   -- one that was asked for at that moment already
   asked-new : (ws : List HeldPacket) → AllByRecursion (λ (w : HeldPacket). w.asked ≡ now) ws → with_asked now x ws ≡ ws
@@ -224,7 +204,7 @@ module _ (now : ℕ) where
       at : (exit : Side) (host : Ip) (c : Cause) → filter f (noted_at now exit host c ws) ≡ noted_at now exit host c (filter f ws)
       at exit host Waits = refl
       at exit host Sends = refl
-      at exit host Drops = filter-asked now (wait.Hop exit host) f by ws
+      at exit host Drops = filter-asked f by now (wait.Hop exit host) ws
 
   limit-noted : (as : List Asking) (ws : List HeldPacket) → within_limit (all_noted now as ws) ≡ all_noted now as (within_limit ws)
   limit-noted [] ws = refl
@@ -375,6 +355,9 @@ module _ (now : ℕ) (x : WaitsFor) where
       at : (b : Bool) → list_any asks (let xs : List HeldPacket = cond b (w ∷ filter f ws) (filter f ws) in xs) ≡ true → list_any asks (w ∷ ws) ≡ true
       at true t = or (or-cases (asks w) (list_any asks (filter f ws)) t)
       at false t = or-right (asks w) (list_any asks ws) (any-filter f ws t)
+
+  pub asks-left : (f : HeldPacket → Bool) (kept : List HeldPacket) → asks_again now x (filter f kept) ≡ true → asks_again now x kept ≡ true
+  asks-left f kept h = any-filter f kept h
 
   -- a hop that is asked for again after a part could have been before it
   pub asks-before : (as : List Asking) (f : HeldPacket → Bool) (kept came : List HeldPacket) → AllByRecursion (λ (w : HeldPacket). w.asked ≡ now) came
