@@ -135,21 +135,21 @@ asks-fit hand over s s2 x =
 
 -- ---- lists of requests
 
-pub requests-same : (g g2 : Shown) → NetsStay g g2 → (as : List Asking) → requests g2 as ≡ requests g as
+pub requests-same : (g g2 : Shown) → NetsStay g g2 → (qs : List Asking) → requests g2 qs ≡ requests g qs
 requests-same g g2 nets [] = refl
-requests-same g g2 nets (a ∷ as) =
-    ap (λ (n : Network). let x : Sent = record { side = a.exit; bytes = request_frame n a.host } in x ∷ requests g2 as) (net-stays g g2 nets a.exit)
-    ∙ ap (λ (fs : List Sent). request_of g a ∷ fs) (requests-same g g2 nets as)
+requests-same g g2 nets (a ∷ qs) =
+    ap (λ (n : Network). let x : Sent = record { side = a.exit; bytes = request_frame n a.host } in x ∷ requests g2 qs) (net-stays g g2 nets a.exit)
+    ∙ ap (λ (fs : List Sent). request_of g a ∷ fs) (requests-same g g2 nets qs)
 
-packets-join : (as bs : List Asking) → packets_asked (as ++ bs) ≡ packets_asked as ++ packets_asked bs
-packets-join as bs =
+packets-join : (qs bs : List Asking) → packets_asked (qs ++ bs) ≡ packets_asked qs ++ packets_asked bs
+packets-join qs bs =
     let other = λ (a : Asking). not (has_come a.cause) in
-    ap (map (λ (a : Asking). a.packet)) (filter-append other as bs) ∙ map-append (λ (a : Asking). a.packet) (filter other as) (filter other bs)
+    ap (map (λ (a : Asking). a.packet)) (filter-append other qs bs) ∙ map-append (λ (a : Asking). a.packet) (filter other qs) (filter other bs)
 
-firsts-join : (now : ℕ) (as bs : List Asking) → map (waiting_by now) (firsts (as ++ bs)) ≡ map (waiting_by now) (firsts as) ++ map (waiting_by now) (firsts bs)
-firsts-join now as bs =
+firsts-join : (now : ℕ) (qs bs : List Asking) → map (waiting_by now) (firsts (qs ++ bs)) ≡ map (waiting_by now) (firsts qs) ++ map (waiting_by now) (firsts bs)
+firsts-join now qs bs =
     let first = λ (a : Asking). has_come a.cause in
-    ap (map (waiting_by now)) (filter-append first as bs) ∙ map-append (waiting_by now) (filter first as) (filter first bs)
+    ap (map (waiting_by now)) (filter-append first qs bs) ∙ map-append (waiting_by now) (filter first qs) (filter first bs)
 
 -- ---- the pairs that a gateway has
 
@@ -181,10 +181,10 @@ module _ (k : Known) (P Q : Pair → Type 0) (more : (p : Pair) → P p → Q p)
 
   -- what is due after a part was so before it
   pub due-more : (g g2 : Shown) → NearStays k.moment g g2 → ((side : Side) (host : Ip) → asks_again k.moment (wait.Hop side host) g2.kept ≡ true → asks_again k.moment (wait.Hop side host) g.kept ≡ true)
-      → (as : List Asking) → AllByRecursion (IsDue g2 k P) as → AllByRecursion (IsDue g k Q) as
+      → (qs : List Asking) → AllByRecursion (IsDue g2 k P) qs → AllByRecursion (IsDue g k Q) qs
   due-more g g2 near again [] all = tt
-  due-more g g2 near again (a ∷ as) all =
-      (record { hop = hop-more a.packet a.by a.exit a.host all.0.hop; cause = at a.exit a.host a.cause all.0.cause }, due-more g g2 near again as all.1)
+  due-more g g2 near again (a ∷ qs) all =
+      (record { hop = hop-more a.packet a.by a.exit a.host all.0.hop; cause = at a.exit a.host a.cause all.0.cause }, due-more g g2 near again qs all.1)
     where
       at : (exit : Side) (host : Ip) (c : Cause) → IsCause g2 k exit host c → IsCause g k exit host c
       at exit host Waits is = is
@@ -200,9 +200,9 @@ new-asked k P now is (w ∷ ws) all = (all.0.asked ∙ is, new-asked k P now is 
 keeps-hops : (g : HeldPacket → Bool) → TakesNone g → KeepsHops (λ w. not (g w))
 keeps-hops g none w hop = ap not (none w hop)
 
-waiting-then : (now : ℕ) (f g : HeldPacket → Bool) (as bs : List Asking) (came came2 a b c : List HeldPacket) → TakesNone g → IsByWait g → AllByRecursion (λ (w : HeldPacket). w.asked ≡ now) came2
-    → Waiting now f as came a b → Waiting now g bs came2 b c → Waiting now (λ w. f w || g w) (as ++ bs) (filter (λ w. not (g w)) came ++ came2) a c
-waiting-then now f g as bs came came2 a b c none by new x y =
+waiting-then : (now : ℕ) (f g : HeldPacket → Bool) (qs bs : List Asking) (came came2 a b c : List HeldPacket) → TakesNone g → IsByWait g → AllByRecursion (λ (w : HeldPacket). w.asked ≡ now) came2
+    → Waiting now f qs came a b → Waiting now g bs came2 b c → Waiting now (λ w. f w || g w) (qs ++ bs) (filter (λ w. not (g w)) came ++ came2) a c
+waiting-then now f g qs bs came came2 a b c none by new x y =
     let stays = λ (w : HeldPacket). not (g w) in
     let old = filter (λ (w : HeldPacket). not (f w)) a in
     let left = filter stays came in
@@ -210,13 +210,13 @@ waiting-then now f g as bs came came2 a b c none by new x y =
     record {
       hops_are = filter-append (λ (w : HeldPacket). not (is_for_pair w.wait)) left came2
           ∙ ap (λ (ws : List HeldPacket). ws ++ hops_of came2) (hops-stay g none came ∙ x.hops_are)
-          ∙ ap (λ (ws : List HeldPacket). map (waiting_by now) (firsts as) ++ ws) y.hops_are
-          ∙ sym (firsts-join now as bs);
+          ∙ ap (λ (ws : List HeldPacket). map (waiting_by now) (firsts qs) ++ ws) y.hops_are
+          ∙ sym (firsts-join now qs bs);
       kept_are = y.kept_are
           ∙ ap (λ (ws : List HeldPacket). all_noted now bs (within_limit (filter stays ws ++ came2))) x.kept_are
-          ∙ noted-then now as bs stays old came came2 (keeps-hops g none) (λ w n. ap not (by w n)) new
-          ∙ ap (λ (ws : List HeldPacket). all_noted now (as ++ bs) (within_limit (ws ++ came2))) (filter-append stays old came ∙ ap (λ (ws : List HeldPacket). ws ++ left) (filter-left f g a))
-          ∙ ap (λ (ws : List HeldPacket). all_noted now (as ++ bs) (within_limit ws)) (append_assoc rest left came2);
+          ∙ noted-then now qs bs stays old came came2 (keeps-hops g none) (λ w n. ap not (by w n)) new
+          ∙ ap (λ (ws : List HeldPacket). all_noted now (qs ++ bs) (within_limit (ws ++ came2))) (filter-append stays old came ∙ ap (λ (ws : List HeldPacket). ws ++ left) (filter-left f g a))
+          ∙ ap (λ (ws : List HeldPacket). all_noted now (qs ++ bs) (within_limit ws)) (append_assoc rest left came2);
     }
 
 pub asks-then : (h h2 : List AtHand) (f g : HeldPacket → Bool) (a b c : GatewayAndOutput) → Asks h f a b → IsAsking h2 g b c → Asks (h ++ h2) (λ w. f w || g w) a c
@@ -274,9 +274,9 @@ asks-then h h2 f g a b c x y =
       wired = z.wired;
     }
   where
-    due-append : (g : Shown) (k : Known) (P : Pair → Type 0) (as bs : List Asking) → AllByRecursion (IsDue g k P) as → AllByRecursion (IsDue g k P) bs → AllByRecursion (IsDue g k P) (as ++ bs)
+    due-append : (g : Shown) (k : Known) (P : Pair → Type 0) (qs bs : List Asking) → AllByRecursion (IsDue g k P) qs → AllByRecursion (IsDue g k P) bs → AllByRecursion (IsDue g k P) (qs ++ bs)
     due-append g k P [] bs x y = y
-    due-append g k P (a ∷ as) bs x y = (x.0, due-append g k P as bs x.1 y)
+    due-append g k P (a ∷ qs) bs x y = (x.0, due-append g k P qs bs x.1 y)
 
 pub asking-then : (h h2 : List AtHand) (f g : HeldPacket → Bool) (a b c : GatewayAndOutput) → Ask-on h f a b → Ask-on h2 g b c → Ask-on (h ++ h2) (λ w. f w || g w) a c
 asking-then h h2 f g a b c x y = λ w.
@@ -329,7 +329,7 @@ asks-by hand s s2 frames notes askings came gone frames_are notes_are roots due 
     }
 
 -- the packets are the same, within the limit
-kept-here : (kept : List HeldPacket) → hop_count kept ≤ 64 → kept ≡ within_limit (kept ++ [])
+pub kept-here : (kept : List HeldPacket) → hop_count kept ≤ 64 → kept ≡ within_limit (kept ++ [])
 kept-here kept few =
     let same : kept ++ [] ≡ kept = append-nil kept in
     let few2 : hop_count (kept ++ []) ≤ 64 = subst (λ (ws : List HeldPacket). hop_count ws ≤ 64) (sym same) few in
@@ -345,9 +345,6 @@ same-nets g g2 same = same.0
 same-near : (now : ℕ) (g g2 : Shown) → SameStations g g2 → NearStays now g g2
 same-near now g g2 same Inside host t = subst (λ (n : Neighbours). asks_at host now n ≡ true) same.1.0 t
 same-near now g g2 same Outside host t = subst (λ (n : Neighbours). asks_at host now n ≡ true) same.1.1 t
-
-abbrev pub as-it-was : {g : Shown} → SameStations g g
-as-it-was = ((refl, refl), (refl, refl))
 
 -- a part that sends no frame and leaves the packets that wait
 pub record IsQuiet (s s2 : GatewayAndOutput) : Type 0 where
@@ -388,12 +385,12 @@ row-quiet s row roots = record {
   roots = roots (id_of s.shown) s.shown.moment;
   kept = refl;
   known = refl;
-  stations = as-it-was;
+  stations = ((refl, refl), (refl, refl));
   wired = λ w. w;
 }
 
 nothing-quiet : (s : GatewayAndOutput) → IsQuiet s s
-nothing-quiet s = quiet-by s s refl refl refl refl refl as-it-was (λ w. w)
+nothing-quiet s = quiet-by s s refl refl refl refl refl ((refl, refl), (refl, refl)) (λ w. w)
 
 pub nothing-asks : (hand : List AtHand) (s : GatewayAndOutput) → Ask-on hand nobody s s
 nothing-asks hand s = quiet-asks hand s s (nothing-quiet s)
@@ -614,8 +611,7 @@ plan-asks frames s side bytes flow (Send by next) read plan says = λ w.
     let notes = q.notes ++ all_notes mid.shown by in
     let planned = plan-sends s.shown side flow by next plan in
     let is = frames.sent s.shown.networks by next bytes w.0.0 (next-six s.shown flow by next w.0 planned.next_is) read.passes in
-    renewed-asks frames s two side bytes by (hop_by s.shown by flow) x notes
-    (
+    renewed-asks frames s two side bytes by (hop_by s.shown by flow) x notes (
       c.frames ∙ ap (λ (fs : List Sent). fs ++ x ∷ []) q.frames,
       (
         is,
@@ -643,13 +639,13 @@ plan-asks frames s side bytes flow (Ask by hop) read plan says = λ w.
     let asked = asked-by s.shown side bytes flow by hop q.notes read says.0 in
     let new : IsNew (known_of s.shown) (MayGoBy s.shown q.notes) (waiting side bytes s.shown.moment (wait.Hop exit hop)) = record { since = refl; asked = refl; wait = (by, asked) } in
     keeping-asks s one (by_plan s side bytes flow (Ask by hop)) side bytes (wait.Hop exit hop) (x ∷ []) (ask ∷ []) q refl refl refl refl (record { hop = asked.0; cause = asked.1 }, tt)
-    (one-other x (frames.request (station_on s.shown exit).network hop (own-six s.shown w.0 exit))) new refl (λ ws. refl) refl refl as-it-was (λ v. v) w
+    (one-other x (frames.request (station_on s.shown exit).network hop (own-six s.shown w.0 exit))) new refl (λ ws. refl) refl refl ((refl, refl), (refl, refl)) (λ v. v) w
 plan-asks frames s side bytes flow (AskAgain by hop) read plan says = again-asks frames s side bytes by hop (asked-by s.shown side bytes flow by hop [] read says)
 plan-asks frames s side bytes flow (WaitFor e) read plan says =
     let one = wanted_by s e in
     let q = wanted-quiet s e in
     let new : IsNew (known_of s.shown) (MayGoBy s.shown q.notes) (waiting side bytes s.shown.moment (wait.Pair e)) = record { since = refl; asked = refl; wait = says.0 ∙ ap source_of read.flow_is } in
-    keeping-asks s one (by_plan s side bytes flow (WaitFor e)) side bytes (wait.Pair e) [] [] q (sym (append-nil one.told.frames)) refl refl refl tt refl new refl (λ ws. refl) refl refl as-it-was (λ v. v)
+    keeping-asks s one (by_plan s side bytes flow (WaitFor e)) side bytes (wait.Pair e) [] [] q (sym (append-nil one.told.frames)) refl refl refl tt refl new refl (λ ws. refl) refl refl ((refl, refl), (refl, refl)) (λ v. v)
 
 flow-asks : Frames → (s : GatewayAndOutput) (side : Side) (bytes : List ℕ) (flow : Flow) → IsRead s.shown bytes flow → Ask-on (at_hand side bytes ∷ []) nobody s (flow_taken s side bytes flow)
 flow-asks frames s side bytes flow read = at (plan_of s.shown side flow) refl (plan-says s.shown side flow)
@@ -695,7 +691,7 @@ released-asks frames s ended w =
       notes_are = x.notes_are;
       roots = x.roots;
       askings = x.askings;
-      due = due-more (known_of (released s ended).shown) (MayGoBy s.shown x.notes) (MayGoBy s.shown x.notes) (λ p h. h) s.shown start.shown sides back x.askings x.due;
+      due = due-more (known_of (released s ended).shown) (MayGoBy s.shown x.notes) (MayGoBy s.shown x.notes) (λ p h. h) s.shown start.shown (sides (known_of (released s ended).shown).moment) back x.askings x.due;
       others = x.others ∙ requests-same s.shown start.shown (refl, refl) x.askings;
       came = x.came;
       new = x.new;
@@ -706,14 +702,14 @@ released-asks frames s ended w =
       gone = x.gone;
       of_hand = comes-off freed left x.came (packets_asked x.askings ++ x.gone) x.of_hand;
       known = x.known;
-      near = λ side host t. sides side host (x.near side host t);
+      near = λ side host t. sides s.shown.moment side host (x.near side host t);
       nets = x.nets;
       wired = x.wired;
     }
   where
-    sides : {now : ℕ} (side : Side) (host : ℕ) → asks_at host now (station_on (record s.shown { kept = left_by ended s.shown.kept }) side).neighbours ≡ true → asks_at host now (station_on s.shown side).neighbours ≡ true
-    sides Inside host t = t
-    sides Outside host t = t
+    sides : (now : ℕ) (side : Side) (host : ℕ) → asks_at host now (station_on (record s.shown { kept = left_by ended s.shown.kept }) side).neighbours ≡ true → asks_at host now (station_on s.shown side).neighbours ≡ true
+    sides now Inside host t = t
+    sides now Outside host t = t
 
 -- a wait for a pair is over
 pub pairs-ask : Frames → (s : GatewayAndOutput) (ended : Ended) → ((x : WaitsFor) → is_for_pair x ≡ false → ends ended x ≡ false) → Ask-on [] (λ w. ends ended w.wait) s (released s ended)

@@ -170,12 +170,12 @@ plan-adds s side bytes flow (Ask by hop) =
     let one = wanted_for s flow by in
     adds-fewer 1 1 3 1 s _ (omega arith) (omega arith)
     (adds-then 1 0 0 1 s one _ (wanted-for-adds s flow by)
-    (adds-then 0 1 0 0 one _ _ (keeping-adds one side bytes _) (framed-adds _ _ _)))
+    (adds-then 0 1 0 0 one _ _ (keeping-adds one side bytes (wait.Hop (exit_by by) hop)) (framed-adds _ _ _)))
 plan-adds s side bytes flow (AskAgain by hop) = adds-fewer 0 0 3 1 s _ (omega arith) (omega arith) (again-adds s (exit_by by) hop)
 plan-adds s side bytes flow (WaitFor e) =
     let one = wanted_by s e in
     adds-fewer 1 1 3 1 s _ (omega arith) (omega arith)
-    (adds-then 1 0 0 1 s one _ (wanted-adds s e) (keeping-adds one side bytes _))
+    (adds-then 1 0 0 1 s one _ (wanted-adds s e) (keeping-adds one side bytes (wait.Pair e)))
 
 -- a packet makes at most three notes, and at most it itself is kept
 verdict-adds : (s : GatewayAndOutput) (side : Side) (bytes : List ℕ) (flow : Flow) (plan : Result Plan Reason) → Adds 3 1 s (by_verdict s side bytes flow plan)

@@ -5,7 +5,7 @@ use Rattle.std.proofs.lemmas.Bool.{leb-true, ltb-true, ltb-false}
 use Rattle.std.proofs.lemmas.List.{map-append}
 use Rattle.std.proofs.lemmas.List.Filters.{sum_by-filter_both}
 use Rattle.std.proofs.lemmas.List.Folds.{list_any-append}
-use Rattle.std.proofs.lemmas.List.Sums.{sum_by-append}
+use Rattle.std.proofs.lemmas.List.Sums.{sum_by-append, sum_by-cons}
 use Rattle.addresses.specs.declared.internet.Ip.{Ip}
 use Rattle.nat_types.specs.declared.gateways.Side.{Side}
 use Rattle.waiting.specs.declared.waits.WaitsFor.{WaitsFor}
@@ -29,6 +29,17 @@ IsByWait f = Ignores f
 
 -- ---- the first that wait for next hops
 
+count-cons : (w : HeldPacket) (ws : List HeldPacket) → hop_count (w ∷ ws) ≡ cond (not (is_for_pair w.wait)) 1 0 + hop_count ws
+count-cons w ws = sum_by-cons (λ (v : HeldPacket). cond (not (is_for_pair v.wait)) 1 0) w ws
+
+count-hop : (w : HeldPacket) (ws : List HeldPacket) → is_for_pair w.wait ≡ false → hop_count (w ∷ ws) ≡ 1 + hop_count ws
+count-hop w ws is = count-cons w ws ∙ ap (λ (b : Bool). cond (not b) 1 0 + hop_count ws) is
+
+count-pair : (w : HeldPacket) (ws : List HeldPacket) → is_for_pair w.wait ≡ true → hop_count (w ∷ ws) ≡ hop_count ws
+count-pair w ws is =
+    let none : 0 + hop_count ws ≡ hop_count ws = omega arith in
+    count-cons w ws ∙ ap (λ (b : Bool). cond (not b) 1 0 + hop_count ws) is ∙ none
+
 pub count-append : (xs ys : List HeldPacket) → hop_count (xs ++ ys) ≡ hop_count xs + hop_count ys
 count-append xs ys = sum_by-append (λ (w : HeldPacket). cond (not (is_for_pair w.wait)) 1 0) xs ys
 
@@ -41,21 +52,19 @@ first-count [] = refl
 first-count (w ∷ ws) = at (is_for_pair w.wait) refl (first-count ws)
   where
     at : (b : Bool) → is_for_pair w.wait ≡ b → hop_count (without_first_hop ws) ≡ hop_count ws - 1 → hop_count (let xs : List HeldPacket = cond b (w ∷ without_first_hop ws) ws in xs) ≡ hop_count (w ∷ ws) - 1
-    at true is ih = rw is (omega (arith, ih))
-    at false is ih = rw is (omega arith)
+    at true is ih = omega (arith, ih, count-pair w (without_first_hop ws) is, count-pair w ws is)
+    at false is ih = omega (arith, count-hop w ws is)
 
 first-append : (xs ys : List HeldPacket) → 0 < hop_count xs → without_first_hop (xs ++ ys) ≡ without_first_hop xs ++ ys
 first-append [] ys h = absurd (omega (arith, h))
-first-append (w ∷ xs) ys h = at (is_for_pair w.wait) refl
+first-append (w ∷ xs) ys h = at (is_for_pair w.wait) refl (λ few. first-append xs ys few)
   where
     less : is_for_pair w.wait ≡ true → 0 < hop_count xs
-    less is =
-        let same : hop_count (w ∷ xs) ≡ hop_count xs = rw is (omega arith) in
-        omega (arith, h, same)
+    less is = omega (arith, h, count-pair w xs is)
 
-    at : (b : Bool) → is_for_pair w.wait ≡ b → (let zs : List HeldPacket = cond b (w ∷ without_first_hop (xs ++ ys)) (xs ++ ys) in zs) ≡ (let zs : List HeldPacket = cond b (w ∷ without_first_hop xs) xs in zs) ++ ys
-    at true is = ap (λ (zs : List HeldPacket). w ∷ zs) (first-append xs ys (less is))
-    at false is = refl
+    at : (b : Bool) → is_for_pair w.wait ≡ b → (0 < hop_count xs → without_first_hop (xs ++ ys) ≡ without_first_hop xs ++ ys) → (let zs : List HeldPacket = cond b (w ∷ without_first_hop (xs ++ ys)) (xs ++ ys) in zs) ≡ (let zs : List HeldPacket = cond b (w ∷ without_first_hop xs) xs in zs) ++ ys
+    at true is ih = ap (λ (zs : List HeldPacket). w ∷ zs) (ih (less is))
+    at false is ih = refl
 
 first-filter : (f : HeldPacket → Bool) → KeepsHops f → (ws : List HeldPacket) → filter f (without_first_hop ws) ≡ without_first_hop (filter f ws)
 first-filter f keeps [] = refl
@@ -81,8 +90,8 @@ count-filter f keeps [] = refl
 count-filter f keeps (w ∷ ws) = at (is_for_pair w.wait) (f w) refl refl (count-filter f keeps ws)
   where
     at : (b c : Bool) → is_for_pair w.wait ≡ b → f w ≡ c → hop_count (filter f ws) ≡ hop_count ws → hop_count (let xs : List HeldPacket = cond c (w ∷ filter f ws) (filter f ws) in xs) ≡ hop_count (w ∷ ws)
-    at b true is to ih = ap (λ (n : ℕ). cond (not (is_for_pair w.wait)) 1 0 + n) ih
-    at true false is to ih = rw is (omega (arith, ih))
+    at b true is to ih = count-cons w (filter f ws) ∙ ap (λ (n : ℕ). cond (not (is_for_pair w.wait)) 1 0 + n) ih ∙ sym (count-cons w ws)
+    at true false is to ih = omega (arith, ih, count-pair w ws is)
     at false false is to ih = let clash : true ≡ false = sym (keeps w is) ∙ to in absurd (cc)
 
 -- ---- so many of them
@@ -97,7 +106,9 @@ hops-count zero xs = omega arith
 hops-count (suc n) xs = omega (arith, hops-count n (without_first_hop xs), first-count xs)
 
 hops-hops : (m n : ℕ) (xs : List HeldPacket) → without_hops m (without_hops n xs) ≡ without_hops (n + m) xs
-hops-hops m zero xs = ap (λ (k : ℕ). without_hops k xs) (omega arith)
+hops-hops m zero xs =
+    let same : m ≡ 0 + m = omega arith in
+    ap (λ (k : ℕ). without_hops k xs) same
 hops-hops m (suc n) xs =
     let more : suc (n + m) ≡ suc n + m = omega arith in
     hops-hops m n (without_first_hop xs) ∙ ap (λ (k : ℕ). without_hops k xs) more
@@ -171,8 +182,10 @@ module _ (now : ℕ) (x : WaitsFor) where
   count-asked : (ws : List HeldPacket) → hop_count (with_asked now x ws) ≡ hop_count ws
   count-asked [] = refl
   count-asked (w ∷ ws) =
-      ap (λ (b : Bool). cond (not b) 1 0 + hop_count (with_asked now x ws)) (same-packet (λ (v : HeldPacket). is_for_pair v.wait) (λ v n. refl) now x w)
+      count-cons (asked_packet now x w) (with_asked now x ws)
+      ∙ ap (λ (b : Bool). cond (not b) 1 0 + hop_count (with_asked now x ws)) (same-packet (λ (v : HeldPacket). is_for_pair v.wait) (λ v n. refl) now x w)
       ∙ ap (λ (n : ℕ). cond (not (is_for_pair w.wait)) 1 0 + n) (count-asked ws)
+      ∙ sym (count-cons w ws)
 
   hops-asked : (n : ℕ) (ws : List HeldPacket) → without_hops n (with_asked now x ws) ≡ with_asked now x (without_hops n ws)
   hops-asked zero ws = refl
@@ -197,58 +210,58 @@ module _ (now : ℕ) (x : WaitsFor) where
 -- ---- all that are noted
 
 module _ (now : ℕ) where
-  filter-noted : (f : HeldPacket → Bool) → IsByWait f → (as : List Asking) (ws : List HeldPacket) → filter f (all_noted now as ws) ≡ all_noted now as (filter f ws)
+  filter-noted : (f : HeldPacket → Bool) → IsByWait f → (qs : List Asking) (ws : List HeldPacket) → filter f (all_noted now qs ws) ≡ all_noted now qs (filter f ws)
   filter-noted f by [] ws = refl
-  filter-noted f by (a ∷ as) ws = filter-noted f by as (noted_at now a.exit a.host a.cause ws) ∙ ap (all_noted now as) (at a.exit a.host a.cause)
+  filter-noted f by (a ∷ qs) ws = filter-noted f by qs (noted_at now a.exit a.host a.cause ws) ∙ ap (all_noted now qs) (at a.exit a.host a.cause)
     where
       at : (exit : Side) (host : Ip) (c : Cause) → filter f (noted_at now exit host c ws) ≡ noted_at now exit host c (filter f ws)
       at exit host Waits = refl
       at exit host Sends = refl
       at exit host Drops = filter-asked f by now (wait.Hop exit host) ws
 
-  limit-noted : (as : List Asking) (ws : List HeldPacket) → within_limit (all_noted now as ws) ≡ all_noted now as (within_limit ws)
+  limit-noted : (qs : List Asking) (ws : List HeldPacket) → within_limit (all_noted now qs ws) ≡ all_noted now qs (within_limit ws)
   limit-noted [] ws = refl
-  limit-noted (a ∷ as) ws = limit-noted as (noted_at now a.exit a.host a.cause ws) ∙ ap (all_noted now as) (at a.exit a.host a.cause)
+  limit-noted (a ∷ qs) ws = limit-noted qs (noted_at now a.exit a.host a.cause ws) ∙ ap (all_noted now qs) (at a.exit a.host a.cause)
     where
       at : (exit : Side) (host : Ip) (c : Cause) → within_limit (noted_at now exit host c ws) ≡ noted_at now exit host c (within_limit ws)
       at exit host Waits = refl
       at exit host Sends = refl
       at exit host Drops = limit-asked now (wait.Hop exit host) ws
 
-  append-noted : (as : List Asking) (xs ys : List HeldPacket) → all_noted now as (xs ++ ys) ≡ all_noted now as xs ++ all_noted now as ys
+  append-noted : (qs : List Asking) (xs ys : List HeldPacket) → all_noted now qs (xs ++ ys) ≡ all_noted now qs xs ++ all_noted now qs ys
   append-noted [] xs ys = refl
-  append-noted (a ∷ as) xs ys = ap (all_noted now as) (at a.exit a.host a.cause) ∙ append-noted as (noted_at now a.exit a.host a.cause xs) (noted_at now a.exit a.host a.cause ys)
+  append-noted (a ∷ qs) xs ys = ap (all_noted now qs) (at a.exit a.host a.cause) ∙ append-noted qs (noted_at now a.exit a.host a.cause xs) (noted_at now a.exit a.host a.cause ys)
     where
       at : (exit : Side) (host : Ip) (c : Cause) → noted_at now exit host c (xs ++ ys) ≡ noted_at now exit host c xs ++ noted_at now exit host c ys
       at exit host Waits = refl
       at exit host Sends = refl
       at exit host Drops = map-append (asked_packet now (wait.Hop exit host)) xs ys
 
-  pub count-noted : (as : List Asking) (ws : List HeldPacket) → hop_count (all_noted now as ws) ≡ hop_count ws
+  pub count-noted : (qs : List Asking) (ws : List HeldPacket) → hop_count (all_noted now qs ws) ≡ hop_count ws
   count-noted [] ws = refl
-  count-noted (a ∷ as) ws = count-noted as (noted_at now a.exit a.host a.cause ws) ∙ at a.exit a.host a.cause
+  count-noted (a ∷ qs) ws = count-noted qs (noted_at now a.exit a.host a.cause ws) ∙ at a.exit a.host a.cause
     where
       at : (exit : Side) (host : Ip) (c : Cause) → hop_count (noted_at now exit host c ws) ≡ hop_count ws
       at exit host Waits = refl
       at exit host Sends = refl
       at exit host Drops = count-asked now (wait.Hop exit host) ws
 
-  packets-noted : (as : List Asking) (ws : List HeldPacket) → packets_of (all_noted now as ws) ≡ packets_of ws
+  packets-noted : (qs : List Asking) (ws : List HeldPacket) → packets_of (all_noted now qs ws) ≡ packets_of ws
   packets-noted [] ws = refl
-  packets-noted (a ∷ as) ws = packets-noted as (noted_at now a.exit a.host a.cause ws) ∙ at a.exit a.host a.cause
+  packets-noted (a ∷ qs) ws = packets-noted qs (noted_at now a.exit a.host a.cause ws) ∙ at a.exit a.host a.cause
     where
       at : (exit : Side) (host : Ip) (c : Cause) → packets_of (noted_at now exit host c ws) ≡ packets_of ws
       at exit host Waits = refl
       at exit host Sends = refl
       at exit host Drops = packets-asked now (wait.Hop exit host) ws
 
-  noted-join : (as bs : List Asking) (ws : List HeldPacket) → all_noted now (as ++ bs) ws ≡ all_noted now bs (all_noted now as ws)
+  noted-join : (qs bs : List Asking) (ws : List HeldPacket) → all_noted now (qs ++ bs) ws ≡ all_noted now bs (all_noted now qs ws)
   noted-join [] bs ws = refl
-  noted-join (a ∷ as) bs ws = noted-join as bs (noted_at now a.exit a.host a.cause ws)
+  noted-join (a ∷ qs) bs ws = noted-join qs bs (noted_at now a.exit a.host a.cause ws)
 
-  noted-new : (as : List Asking) (ws : List HeldPacket) → AllByRecursion (λ (w : HeldPacket). w.asked ≡ now) ws → all_noted now as ws ≡ ws
+  noted-new : (qs : List Asking) (ws : List HeldPacket) → AllByRecursion (λ (w : HeldPacket). w.asked ≡ now) ws → all_noted now qs ws ≡ ws
   noted-new [] ws all = refl
-  noted-new (a ∷ as) ws all = ap (all_noted now as) (at a.exit a.host a.cause) ∙ noted-new as ws all
+  noted-new (a ∷ qs) ws all = ap (all_noted now qs) (at a.exit a.host a.cause) ∙ noted-new qs ws all
     where
       at : (exit : Side) (host : Ip) (c : Cause) → noted_at now exit host c ws ≡ ws
       at exit host Waits = refl
@@ -256,23 +269,23 @@ module _ (now : ℕ) where
       at exit host Drops = asked-new now (wait.Hop exit host) ws all
 
   -- those that wait after one part and after a second, of which a test takes some out between
-  pub noted-then : (as bs : List Asking) (f : HeldPacket → Bool) (xs ys zs : List HeldPacket) → KeepsHops f → IsByWait f → AllByRecursion (λ (w : HeldPacket). w.asked ≡ now) zs
-      → all_noted now bs (within_limit (filter f (all_noted now as (within_limit (xs ++ ys))) ++ zs)) ≡ all_noted now (as ++ bs) (within_limit (filter f (xs ++ ys) ++ zs))
-  noted-then as bs f xs ys zs keeps by all =
+  pub noted-then : (qs bs : List Asking) (f : HeldPacket → Bool) (xs ys zs : List HeldPacket) → KeepsHops f → IsByWait f → AllByRecursion (λ (w : HeldPacket). w.asked ≡ now) zs
+      → all_noted now bs (within_limit (filter f (all_noted now qs (within_limit (xs ++ ys))) ++ zs)) ≡ all_noted now (qs ++ bs) (within_limit (filter f (xs ++ ys) ++ zs))
+  noted-then qs bs f xs ys zs keeps by all =
       let both = xs ++ ys in
-      let one : filter f (all_noted now as (within_limit both)) ++ zs ≡ all_noted now as (within_limit (filter f both) ++ zs) =
-      ap (λ (ws : List HeldPacket). ws ++ zs) (filter-noted f by as (within_limit both) ∙ ap (all_noted now as) (limit-filter f keeps both))
-      ∙ ap (λ (ws : List HeldPacket). all_noted now as (within_limit (filter f both)) ++ ws) (sym (noted-new as zs all))
-      ∙ sym (append-noted as (within_limit (filter f both)) zs) in
+      let one : filter f (all_noted now qs (within_limit both)) ++ zs ≡ all_noted now qs (within_limit (filter f both) ++ zs) =
+      ap (λ (ws : List HeldPacket). ws ++ zs) (filter-noted f by qs (within_limit both) ∙ ap (all_noted now qs) (limit-filter f keeps both))
+      ∙ ap (λ (ws : List HeldPacket). all_noted now qs (within_limit (filter f both)) ++ ws) (sym (noted-new qs zs all))
+      ∙ sym (append-noted qs (within_limit (filter f both)) zs) in
       ap (λ (ws : List HeldPacket). all_noted now bs (within_limit ws)) one
-      ∙ ap (all_noted now bs) (limit-noted as (within_limit (filter f both) ++ zs))
-      ∙ ap (λ (ws : List HeldPacket). all_noted now bs (all_noted now as ws)) (limit-limit (filter f both) zs)
-      ∙ sym (noted-join as bs (within_limit (filter f both ++ zs)))
+      ∙ ap (all_noted now bs) (limit-noted qs (within_limit (filter f both) ++ zs))
+      ∙ ap (λ (ws : List HeldPacket). all_noted now bs (all_noted now qs ws)) (limit-limit (filter f both) zs)
+      ∙ sym (noted-join qs bs (within_limit (filter f both ++ zs)))
 
   -- and those that the test took out
-  pub noted-taken : (as : List Asking) (g : HeldPacket → Bool) (xs : List HeldPacket) → TakesNone g → IsByWait g → packets_of (filter g (all_noted now as (within_limit xs))) ≡ packets_of (filter g xs)
-  noted-taken as g xs none by =
-      ap packets_of (filter-noted g by as (within_limit xs)) ∙ packets-noted as (filter g (within_limit xs)) ∙ ap packets_of (limit-taken g none xs)
+  pub noted-taken : (qs : List Asking) (g : HeldPacket → Bool) (xs : List HeldPacket) → TakesNone g → IsByWait g → packets_of (filter g (all_noted now qs (within_limit xs))) ≡ packets_of (filter g xs)
+  noted-taken qs g xs none by =
+      ap packets_of (filter-noted g by qs (within_limit xs)) ∙ packets-noted qs (filter g (within_limit xs)) ∙ ap packets_of (limit-taken g none xs)
 
 -- ---- whom to ask for again
 
@@ -301,27 +314,27 @@ module _ (now : ℕ) (x : WaitsFor) where
 
   any-new : (ws : List HeldPacket) → AllByRecursion (λ (w : HeldPacket). w.asked ≡ now) ws → list_any asks ws ≡ true → ⊥
   any-new [] all h = absurd (cc)
-  any-new (w ∷ ws) all h = at (or-cases (asks w) (list_any asks ws) h)
+  any-new (w ∷ ws) all h = at (or-cases (asks w) (list_any asks ws) h) (λ t. any-new ws all.1 t)
     where
-      at : (asks w ≡ true) ⊎ (list_any asks ws ≡ true) → ⊥
-      at (inl t) = just-asked (same_wait x w.wait) w.asked all.0 t
-      at (inr t) = any-new ws all.1 t
+      at : (asks w ≡ true) ⊎ (list_any asks ws ≡ true) → (list_any asks ws ≡ true → ⊥) → ⊥
+      at (inl t) ih = just-asked (same_wait x w.wait) w.asked all.0 t
+      at (inr t) ih = ih t
 
   any-asked : (y : WaitsFor) (ws : List HeldPacket) → list_any asks (with_asked now y ws) ≡ true → list_any asks ws ≡ true
   any-asked y [] h = h
-  any-asked y (w ∷ ws) h = at (or-cases (asks (asked_packet now y w)) (list_any asks (with_asked now y ws)) h)
+  any-asked y (w ∷ ws) h = at (or-cases (asks (asked_packet now y w)) (list_any asks (with_asked now y ws)) h) (λ t. any-asked y ws t)
     where
       back : (b : Bool) → asks (let v : HeldPacket = cond b (record w { asked = now }) w in v) ≡ true → asks w ≡ true
       back true t = absurd (just-asked (same_wait x w.wait) now refl t)
       back false t = t
 
-      at : (asks (asked_packet now y w) ≡ true) ⊎ (list_any asks (with_asked now y ws) ≡ true) → list_any asks (w ∷ ws) ≡ true
-      at (inl t) = or-left (asks w) (list_any asks ws) (back (same_wait y w.wait) t)
-      at (inr t) = or-right (asks w) (list_any asks ws) (any-asked y ws t)
+      at : (asks (asked_packet now y w) ≡ true) ⊎ (list_any asks (with_asked now y ws) ≡ true) → (list_any asks (with_asked now y ws) ≡ true → list_any asks ws ≡ true) → list_any asks (w ∷ ws) ≡ true
+      at (inl t) ih = or-left (asks w) (list_any asks ws) (back (same_wait y w.wait) t)
+      at (inr t) ih = or-right (asks w) (list_any asks ws) (ih t)
 
-  any-noted : (as : List Asking) (ws : List HeldPacket) → list_any asks (all_noted now as ws) ≡ true → list_any asks ws ≡ true
+  any-noted : (qs : List Asking) (ws : List HeldPacket) → list_any asks (all_noted now qs ws) ≡ true → list_any asks ws ≡ true
   any-noted [] ws h = h
-  any-noted (a ∷ as) ws h = at a.exit a.host a.cause (any-noted as (noted_at now a.exit a.host a.cause ws) h)
+  any-noted (a ∷ qs) ws h = at a.exit a.host a.cause (any-noted qs (noted_at now a.exit a.host a.cause ws) h)
     where
       at : (exit : Side) (host : Ip) (c : Cause) → list_any asks (noted_at now exit host c ws) ≡ true → list_any asks ws ≡ true
       at exit host Waits t = t
@@ -330,15 +343,15 @@ module _ (now : ℕ) (x : WaitsFor) where
 
   any-first : (ws : List HeldPacket) → list_any asks (without_first_hop ws) ≡ true → list_any asks ws ≡ true
   any-first [] h = h
-  any-first (w ∷ ws) h = at (is_for_pair w.wait) h
+  any-first (w ∷ ws) h = at (λ t. any-first ws t) (is_for_pair w.wait) h
     where
-      or : (asks w ≡ true) ⊎ (list_any asks (without_first_hop ws) ≡ true) → list_any asks (w ∷ ws) ≡ true
-      or (inl t) = or-left (asks w) (list_any asks ws) t
-      or (inr t) = or-right (asks w) (list_any asks ws) (any-first ws t)
+      or : (list_any asks (without_first_hop ws) ≡ true → list_any asks ws ≡ true) → (asks w ≡ true) ⊎ (list_any asks (without_first_hop ws) ≡ true) → list_any asks (w ∷ ws) ≡ true
+      or ih (inl t) = or-left (asks w) (list_any asks ws) t
+      or ih (inr t) = or-right (asks w) (list_any asks ws) (ih t)
 
-      at : (b : Bool) → list_any asks (let xs : List HeldPacket = cond b (w ∷ without_first_hop ws) ws in xs) ≡ true → list_any asks (w ∷ ws) ≡ true
-      at true t = or (or-cases (asks w) (list_any asks (without_first_hop ws)) t)
-      at false t = or-right (asks w) (list_any asks ws) t
+      at : (list_any asks (without_first_hop ws) ≡ true → list_any asks ws ≡ true) → (b : Bool) → list_any asks (let xs : List HeldPacket = cond b (w ∷ without_first_hop ws) ws in xs) ≡ true → list_any asks (w ∷ ws) ≡ true
+      at ih true t = or ih (or-cases (asks w) (list_any asks (without_first_hop ws)) t)
+      at ih false t = or-right (asks w) (list_any asks ws) t
 
   any-hops : (n : ℕ) (ws : List HeldPacket) → list_any asks (without_hops n ws) ≡ true → list_any asks ws ≡ true
   any-hops zero ws h = h
@@ -346,25 +359,25 @@ module _ (now : ℕ) (x : WaitsFor) where
 
   any-filter : (f : HeldPacket → Bool) (ws : List HeldPacket) → list_any asks (filter f ws) ≡ true → list_any asks ws ≡ true
   any-filter f [] h = h
-  any-filter f (w ∷ ws) h = at (f w) h
+  any-filter f (w ∷ ws) h = at (λ t. any-filter f ws t) (f w) h
     where
-      or : (asks w ≡ true) ⊎ (list_any asks (filter f ws) ≡ true) → list_any asks (w ∷ ws) ≡ true
-      or (inl t) = or-left (asks w) (list_any asks ws) t
-      or (inr t) = or-right (asks w) (list_any asks ws) (any-filter f ws t)
+      or : (list_any asks (filter f ws) ≡ true → list_any asks ws ≡ true) → (asks w ≡ true) ⊎ (list_any asks (filter f ws) ≡ true) → list_any asks (w ∷ ws) ≡ true
+      or ih (inl t) = or-left (asks w) (list_any asks ws) t
+      or ih (inr t) = or-right (asks w) (list_any asks ws) (ih t)
 
-      at : (b : Bool) → list_any asks (let xs : List HeldPacket = cond b (w ∷ filter f ws) (filter f ws) in xs) ≡ true → list_any asks (w ∷ ws) ≡ true
-      at true t = or (or-cases (asks w) (list_any asks (filter f ws)) t)
-      at false t = or-right (asks w) (list_any asks ws) (any-filter f ws t)
+      at : (list_any asks (filter f ws) ≡ true → list_any asks ws ≡ true) → (b : Bool) → list_any asks (let xs : List HeldPacket = cond b (w ∷ filter f ws) (filter f ws) in xs) ≡ true → list_any asks (w ∷ ws) ≡ true
+      at ih true t = or ih (or-cases (asks w) (list_any asks (filter f ws)) t)
+      at ih false t = or-right (asks w) (list_any asks ws) (ih t)
 
   pub asks-left : (f : HeldPacket → Bool) (kept : List HeldPacket) → asks_again now x (filter f kept) ≡ true → asks_again now x kept ≡ true
   asks-left f kept h = any-filter f kept h
 
   -- a hop that is asked for again after a part could have been before it
-  pub asks-before : (as : List Asking) (f : HeldPacket → Bool) (kept came : List HeldPacket) → AllByRecursion (λ (w : HeldPacket). w.asked ≡ now) came
-      → asks_again now x (all_noted now as (within_limit (filter f kept ++ came))) ≡ true → asks_again now x kept ≡ true
-  asks-before as f kept came all h =
+  pub asks-before : (qs : List Asking) (f : HeldPacket → Bool) (kept came : List HeldPacket) → AllByRecursion (λ (w : HeldPacket). w.asked ≡ now) came
+      → asks_again now x (all_noted now qs (within_limit (filter f kept ++ came))) ≡ true → asks_again now x kept ≡ true
+  asks-before qs f kept came all h =
       let both = filter f kept ++ came in
-      let t = any-hops (hop_count both - 64) both (any-noted as (within_limit both) h) in
+      let t = any-hops (hop_count both - 64) both (any-noted qs (within_limit both) h) in
       at (or-cases (list_any asks (filter f kept)) (list_any asks came) (sym (list_any-append asks (filter f kept) came) ∙ t))
     where
       at : (list_any asks (filter f kept) ≡ true) ⊎ (list_any asks came ≡ true) → asks_again now x kept ≡ true

@@ -6,7 +6,6 @@ use Rattle.std.proofs.lemmas.List.Folds.{list_any-append}
 use Rattle.addresses.specs.declared.ethernet.Mac.{Mac}
 use Rattle.addresses.specs.declared.internet.Ip.{Ip}
 use Rattle.arp.specs.declared.caches.CacheEntry.{CacheEntry}
-use Rattle.arp.specs.declared.caches.TheConstants.{ENTRIES}
 use Rattle.arp.specs.Neighbours.{Neighbours, asked_at, asks_at, asked_entry, fixed_mac, learnt_asked, learnt_asks, newest, wants_asking, with_entry, without}
 
 or-cases : (a b : Bool) → (a || b) ≡ true → (a ≡ true) ⊎ (b ≡ true)
@@ -38,27 +37,27 @@ module _ (host now : ℕ) where
 
   any-asked : (a : ℕ) (es : List CacheEntry) → list_any test (learnt_asked a now es) ≡ true → list_any test es ≡ true
   any-asked a [] h = h
-  any-asked a (e ∷ es) h = at (or-cases (test (asked_entry a now e)) (list_any test (learnt_asked a now es)) h)
+  any-asked a (e ∷ es) h = at (or-cases (test (asked_entry a now e)) (list_any test (learnt_asked a now es)) h) (λ t. any-asked a es t)
     where
       back : (b : Bool) → test (let d : CacheEntry = cond b (record e { asked = now }) e in d) ≡ true → test e ≡ true
       back true t = absurd (none (e.address.0 == host) (now - e.at) now refl t)
       back false t = t
 
-      at : (test (asked_entry a now e) ≡ true) ⊎ (list_any test (learnt_asked a now es) ≡ true) → list_any test (e ∷ es) ≡ true
-      at (inl t) = or-left (test e) (list_any test es) (back (e.address.0 == a) t)
-      at (inr t) = or-right (test e) (list_any test es) (any-asked a es t)
+      at : (test (asked_entry a now e) ≡ true) ⊎ (list_any test (learnt_asked a now es) ≡ true) → (list_any test (learnt_asked a now es) ≡ true → list_any test es ≡ true) → list_any test (e ∷ es) ≡ true
+      at (inl t) ih = or-left (test e) (list_any test es) (back (e.address.0 == a) t)
+      at (inr t) ih = or-right (test e) (list_any test es) (ih t)
 
   any-filter : (f : CacheEntry → Bool) (es : List CacheEntry) → list_any test (filter f es) ≡ true → list_any test es ≡ true
   any-filter f [] h = h
-  any-filter f (e ∷ es) h = at (f e) h
+  any-filter f (e ∷ es) h = at (λ t. any-filter f es t) (f e) h
     where
-      or : (test e ≡ true) ⊎ (list_any test (filter f es) ≡ true) → list_any test (e ∷ es) ≡ true
-      or (inl t) = or-left (test e) (list_any test es) t
-      or (inr t) = or-right (test e) (list_any test es) (any-filter f es t)
+      or : (list_any test (filter f es) ≡ true → list_any test es ≡ true) → (test e ≡ true) ⊎ (list_any test (filter f es) ≡ true) → list_any test (e ∷ es) ≡ true
+      or ih (inl t) = or-left (test e) (list_any test es) t
+      or ih (inr t) = or-right (test e) (list_any test es) (ih t)
 
-      at : (b : Bool) → list_any test (let xs : List CacheEntry = cond b (e ∷ filter f es) (filter f es) in xs) ≡ true → list_any test (e ∷ es) ≡ true
-      at true t = or (or-cases (test e) (list_any test (filter f es)) t)
-      at false t = or-right (test e) (list_any test es) (any-filter f es t)
+      at : (list_any test (filter f es) ≡ true → list_any test es ≡ true) → (b : Bool) → list_any test (let xs : List CacheEntry = cond b (e ∷ filter f es) (filter f es) in xs) ≡ true → list_any test (e ∷ es) ≡ true
+      at ih true t = or ih (or-cases (test e) (list_any test (filter f es)) t)
+      at ih false t = or-right (test e) (list_any test es) (ih t)
 
   any-drop : (n : ℕ) (es : List CacheEntry) → list_any test (drop n es) ≡ true → list_any test es ≡ true
   any-drop zero es h = h
@@ -72,10 +71,10 @@ module _ (host now : ℕ) where
       e = record { address = ip; mac = mac; at = now; asked = now }
 
       front : List CacheEntry
-      front = newest (ENTRIES - 1) (without ip.0 es)
+      front = newest 1023 (without ip.0 es)
 
       at : (list_any test front ≡ true) ⊎ (list_any test (e ∷ []) ≡ true) → list_any test es ≡ true
-      at (inl t) = any-filter (λ d. not (d.address.0 == ip.0)) es (any-drop (length (without ip.0 es) - (ENTRIES - 1)) (without ip.0 es) t)
+      at (inl t) = any-filter (λ d. not (d.address.0 == ip.0)) es (any-drop (length (without ip.0 es) - 1023) (without ip.0 es) t)
       at (inr t) = absurd (none (ip.0 == host) (now - now) now refl (last (or-cases (test e) false t)))
         where
           last : (test e ≡ true) ⊎ (false ≡ true) → test e ≡ true

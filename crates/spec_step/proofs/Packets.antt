@@ -260,14 +260,15 @@ module _ (letters : List Letter) (words : List ℕ) where
       (renewed-goes two (exit_by by) (hop_by s.shown by flow))
   plan-goes s side bytes flow (Ask by hop) are formed fits =
       let one = wanted_for s flow by in
-      let two = keeping one side bytes _ in
+      let what = wait.Hop (exit_by by) hop in
+      let two = keeping one side bytes what in
       going-then letters words s two _
-      (going-then letters words s one two (wanted-for-goes s flow by formed) (keeping-goes one side bytes _ are))
+      (going-then letters words s one two (wanted-for-goes s flow by formed) (keeping-goes one side bytes what are))
       (framed-goes two _ _)
   plan-goes s side bytes flow (AskAgain by hop) are formed fits = again-goes s (exit_by by) hop
   plan-goes s side bytes flow (WaitFor e) are formed fits =
       let one = wanted_by s e in
-      going-then letters words s one _ (wanted-goes s e fits) (keeping-goes one side bytes _ are)
+      going-then letters words s one _ (wanted-goes s e fits) (keeping-goes one side bytes (wait.Pair e) are)
 
   refusal-goes : (s : GatewayAndOutput) (flow : Flow) (reason : Reason) → IsWellFormedEndpoint (source_of flow) → Going letters words s (by_refusal s flow reason)
   refusal-goes s flow reason formed = refusal-leaves (λ x. Going letters words s x) s flow reason (here s) (wanted-goes s (source_of flow) formed)

@@ -180,14 +180,15 @@ plan-rests s side bytes flow (Send by next) are formed fits =
     (renewed-rests two (exit_by by) (hop_by s.shown by flow))
 plan-rests s side bytes flow (Ask by hop) are formed fits =
     let one = wanted_for s flow by in
-    let two = keeping one side bytes _ in
+    let what = wait.Hop (exit_by by) hop in
+    let two = keeping one side bytes what in
     resting-then s two _
-    (resting-then s one two (wanted-for-rests s flow by formed) (keeping-rests one side bytes _ are))
+    (resting-then s one two (wanted-for-rests s flow by formed) (keeping-rests one side bytes what are))
     (framed-rests two _ _)
 plan-rests s side bytes flow (AskAgain by hop) are formed fits = again-rests s (exit_by by) hop
 plan-rests s side bytes flow (WaitFor e) are formed fits =
     let one = wanted_by s e in
-    resting-then s one _ (wanted-rests s e fits) (keeping-rests one side bytes _ are)
+    resting-then s one _ (wanted-rests s e fits) (keeping-rests one side bytes (wait.Pair e) are)
 
 verdict-rests : (s : GatewayAndOutput) (side : Side) (bytes : List ℕ) (flow : Flow) (plan : Result Plan Reason) → AreBytes bytes → IsWellFormedEndpoint (source_of flow) → PlanFits plan → Resting s (by_verdict s side bytes flow plan)
 verdict-rests s side bytes flow (Ok plan) are formed fits = plan-rests s side bytes flow plan are formed fits
