@@ -57,6 +57,7 @@ from-holds g flow by want.Wait = at (has_place g.kept (wait.Pair (source_of flow
     at false is = tt
 from-holds g flow by want.NoPort = tt
 from-holds g flow by want.NotNow = tt
+from-holds g flow by want.HostLimit = tt
 
 on-holds : (g : Shown) (flow : Flow) (w : Direction) → Holds g flow (plan_on g flow w)
 on-holds g flow way.Outward = from-holds g flow Outward (look_for g flow)

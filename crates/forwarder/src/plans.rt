@@ -101,6 +101,7 @@ impl Forwarder {
             }
             Want::NoPort => Err(Reason::NoPort),
             Want::NotNow => Err(Reason::CannotWait),
+            Want::HostLimit => Err(Reason::HostLimit),
         }
     }
 

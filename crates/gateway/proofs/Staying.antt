@@ -16,7 +16,7 @@ use Rattle.waiting.specs.Packets.{HeldPacket, ended_by, left_by}
 use Rattle.packet_rules.specs.declared.readings.Reading.{Reading}
 use Rattle.packet_rules.specs.declared.readings.Reading.TheVariants.{Arp, Advert, Packet}
 use Rattle.packet_rules.specs.declared.reasons.Reason.{Reason}
-use Rattle.packet_rules.specs.declared.reasons.Reason.TheVariants.{ShortFrame, NotMine, BadHeader, BadLength, BadHeaderSum, Fragment, TtlOver, NotUdpTcp, BadTransport, BadArp, BadAdvert, NotUp, NoBinding, NoPort, CannotWait, BadDatagram, OldWord}
+use Rattle.packet_rules.specs.declared.reasons.Reason.TheVariants.{ShortFrame, NotMine, BadHeader, BadLength, BadHeaderSum, Fragment, TtlOver, NotUdpTcp, BadTransport, BadArp, BadAdvert, NotUp, NoBinding, NoPort, CannotWait, BadDatagram, OldWord, HostLimit}
 use Rattle.packet_rules.specs.declared.translations.Translation.{Translation}
 use Rattle.packet_rules.specs.declared.translations.Translation.TheVariants.{Outward, Inward, Hairpin}
 use Rattle.packet_rules.specs.Flows.{source_of}
@@ -100,6 +100,7 @@ refusal-stays s flow NoBinding = stays-here s.shown
 refusal-stays s flow CannotWait = stays-here s.shown
 refusal-stays s flow BadDatagram = stays-here s.shown
 refusal-stays s flow OldWord = stays-here s.shown
+refusal-stays s flow HostLimit = stays-here s.shown
 
 verdict-stays : (s : GatewayAndOutput) (side : Side) (bytes : List ℕ) (flow : Flow) (r : Result Plan Reason) → Stays s.shown (by_verdict s side bytes flow r).shown
 verdict-stays s side bytes flow (Ok plan) = plan-stays s side bytes flow plan

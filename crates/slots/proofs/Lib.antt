@@ -3,5 +3,6 @@ mod Rows
 mod Edits
 mod Stored
 mod LookUps
+mod Counted
 mod Due
 pub mod Offered

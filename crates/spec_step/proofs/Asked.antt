@@ -62,6 +62,7 @@ module _ (g : Shown) (side : Side) (flow : Flow) where
       at false place = tt
   from-says by want.NoPort is goes = tt
   from-says by want.NotNow is goes = tt
+  from-says by want.HostLimit is goes = tt
 
   on-says : (w : Direction) → direction_of g.networks side flow.source.0 flow.destination.0 ≡ Ok w → PlanSays g side flow (plan_on g flow w)
   on-says way.Outward there = from-says Outward (look_for g flow) refl (λ port is. (there, (port, (is, refl))))

@@ -30,7 +30,7 @@ use Rattle.link.specs.Link.{Link, after_take, closed_at, free_places, is_beginni
 use Rattle.link.specs.Reading.{reading}
 use Rattle.link.proofs.Offered.{length-takeable, reading_takes}
 use Rattle.spec_binding.specs.declared.changes.Transition.{Transition}
-use Rattle.spec_binding.specs.Books.{Book, is_synced}
+use Rattle.spec_binding.specs.Books.{Book, is_lone, is_synced}
 use Rattle.spec_binding.specs.Ledgers.{Ledger, alone_ledger, may_ask, restarted_ledger, rests_for, taken_ledger}
 use Rattle.spec_binding.specs.Resets.{back_in, restart_link, restart_notes, retaken}
 use Rattle.spec_binding.specs.Rows.{answered, carry_row, idle_row, is_full, noted_by, taken_answer, taken_ended, taken_what, wish_of}
@@ -402,7 +402,7 @@ taken-within : (c : ℕ) (s : GatewayAndOutput) (n : ℕ) → Within c (length s
 taken-within c s n =
     let g = s.shown in let b = g.ledger.book in
     let notes = retaken b.id g.moment (back_in b.entries) in
-    let mid = scene (record g { ledger = alone_ledger g.ledger; link = closed_at g.link n }) (with_notes s.told notes) in
+    let mid = scene (record g { ledger = alone_ledger g.moment g.ledger; link = closed_at g.link n }) (with_notes s.told notes) in
     within-then c (length b.entries) (3 * c) s mid (word_taken s n)
     (within-adds c (length b.entries) s mid (adds-noted (length b.entries) s mid notes (few-retaken b.id g.moment b.entries) refl refl))
     (released-within c mid AllPairs)
@@ -413,10 +413,10 @@ word-within c s n (Some reason) = nothing-within c _ s
 
 -- ---- ticks
 
-few-idle : (now : ℕ) (es : List Entry) (ls : List Activity) → length (idle_keys_in now es ls) ≤ length es
-few-idle now [] ls = omega arith
-few-idle now (e ∷ es) [] = omega arith
-few-idle now (e ∷ es) (l ∷ ls) = at (is_idle_row now e l) (idle_keys_in now es ls) (few-idle now es ls)
+few-idle : (lone : Bool) (now : ℕ) (es : List Entry) (ls : List Activity) → length (idle_keys_in lone now es ls) ≤ length es
+few-idle lone now [] ls = omega arith
+few-idle lone now (e ∷ es) [] = omega arith
+few-idle lone now (e ∷ es) (l ∷ ls) = at (is_idle_row lone now e l) (idle_keys_in lone now es ls) (few-idle lone now es ls)
   where
     at : (b : Bool) (ks : List Key) → length ks ≤ length es → length (let xs : List Key = cond b (e.pair.key ∷ ks) ks in xs) ≤ suc (length es)
     at true ks few = omega (arith, few)
@@ -432,8 +432,8 @@ all-idle-adds s (k ∷ ks) =
 idle-adds : (s : GatewayAndOutput) → Adds (length s.shown.ledger.book.entries) 0 s (idle_taken s)
 idle-adds s =
     let l = s.shown.ledger in
-    let ks = idle_keys_in s.shown.moment l.book.entries l.lives in
-    adds-fewer (length ks) 0 (length l.book.entries) 0 s _ (few-idle s.shown.moment l.book.entries l.lives) (omega arith) (all-idle-adds s ks)
+    let ks = idle_keys_in (is_lone l.book.stage) s.shown.moment l.book.entries l.lives in
+    adds-fewer (length ks) 0 (length l.book.entries) 0 s _ (few-idle (is_lone l.book.stage) s.shown.moment l.book.entries l.lives) (omega arith) (all-idle-adds s ks)
 
 old-adds : (s : GatewayAndOutput) → Adds 0 0 s (old_dropped s)
 old-adds s = record {

@@ -21,7 +21,7 @@ use Rattle.link.specs.declared.faults.LinkFault.{LinkFault}
 use Rattle.link.specs.Link.{Link, sent_on_answer, after_take, closed_at, is_due_on_tick, is_restart, records_taken, refusal, sent_on_tick}
 use Rattle.link.specs.Reading.{reading}
 use Rattle.spec_pair.specs.Box.{In}
-use Rattle.spec_binding.specs.Books.{IsBook}
+use Rattle.spec_binding.specs.Books.{is_lone, IsBook}
 use Rattle.spec_binding.specs.Uses.{IsTranslated}
 use Rattle.spec_binding.specs.Ledgers.{Ledger, alone_ledger, may_ask, restarted_ledger, rests_for, taken_ledger}
 use Rattle.spec_binding.specs.Resets.{back_in, restart_link, restart_notes, retaken}
@@ -369,9 +369,9 @@ datagram-asks frames s (Err fault) is = nothing-asks [] s
 word-asks : Frames → (s : GatewayAndOutput) (n : ℕ) (o : Option Reason) → IsBook s.shown.ledger.book → Ask-on [] (frees_unless o) s (word_by s n o)
 word-asks frames s n None is =
     let g = s.shown in let b = g.ledger.book in
-    let mid = scene (record g { ledger = alone_ledger g.ledger; link = closed_at g.link n }) (with_notes s.told (retaken (id_of g) g.moment (back_in b.entries))) in
+    let mid = scene (record g { ledger = alone_ledger g.moment g.ledger; link = closed_at g.link n }) (with_notes s.told (retaken (id_of g) g.moment (back_in b.entries))) in
     asking-then [] [] nobody of_pairs s mid (word_taken s n)
-    (quiet-asks [] s mid (table-quiet s (alone_ledger g.ledger) (closed_at g.link n) (retaken (id_of g) g.moment (back_in b.entries)) (alone-rooted b (id_of g) g.moment is.keys))) (pairs-ask frames mid AllPairs all-apart)
+    (quiet-asks [] s mid (table-quiet s (alone_ledger g.moment g.ledger) (closed_at g.link n) (retaken (id_of g) g.moment (back_in b.entries)) (alone-rooted b (id_of g) g.moment is.keys))) (pairs-ask frames mid AllPairs all-apart)
 word-asks frames s n (Some reason) is = nothing-asks [] s
 
 -- ---- ticks
@@ -399,7 +399,7 @@ tick-others frames s now middle acts w =
     let x = both.gives in
     let young = old_dropped middle in
     let l = young.shown.ledger in
-    let idle = all-idle-leave young (idle_keys_in young.shown.moment l.book.entries l.lives) in
+    let idle = all-idle-leave young (idle_keys_in (is_lone l.book.stage) young.shown.moment l.book.entries l.lives) in
     let left = filter (λ (w : HeldPacket). not (is_old s.shown (Tick now) w || false)) s.shown.kept in
     let keeps : filter (is_young middle.shown.moment) middle.shown.kept ≡ left =
     ap (λ (m : ℕ). filter (is_young m) middle.shown.kept) x.moment

@@ -104,6 +104,7 @@ from-fits g flow by want.Wait formed = at _
     at false = tt
 from-fits g flow by want.NoPort formed = tt
 from-fits g flow by want.NotNow formed = tt
+from-fits g flow by want.HostLimit formed = tt
 
 on-fits : (g : Shown) (flow : Flow) (w : Direction) → IsWellFormedEndpoint (source_of flow) → PlanFits (plan_on g flow w)
 on-fits g flow way.Outward formed = from-fits g flow Outward (look_for g flow) formed

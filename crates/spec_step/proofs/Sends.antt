@@ -69,6 +69,7 @@ from-send g flow by want.Wait by2 next is = at (has_place g.kept (wait.Pair (sou
     at false is = absurd (cc)
 from-send g flow by want.NoPort by2 next is = absurd (cc)
 from-send g flow by want.NotNow by2 next is = absurd (cc)
+from-send g flow by want.HostLimit by2 next is = absurd (cc)
 
 on-send : (g : Shown) (side : Side) (flow : Flow) (w : Direction) (by : Translation) (next : Mac)
     → direction_of g.networks side flow.source.0 flow.destination.0 ≡ Ok w → plan_on g flow w ≡ Ok (Send by next) → IsPlanned g side flow by next

@@ -20,7 +20,7 @@ use Rattle.link.specs.declared.faults.LinkFault.{LinkFault}
 use Rattle.link.specs.Link.{after_take, is_due_on_tick, is_restart, is_time, records_taken, refusal, sent_on_tick}
 use Rattle.link.specs.Reading.{reading}
 use Rattle.spec_binding.specs.declared.changes.Transition.{Transition}
-use Rattle.spec_binding.specs.Books.{Book, empty_book, is_synced}
+use Rattle.spec_binding.specs.Books.{Book, empty_book, is_lone, is_synced}
 use Rattle.spec_binding.specs.Ledgers.{alone_ledger, may_ask, restarted_ledger, rests_for, taken_ledger}
 use Rattle.spec_binding.specs.Resets.{begun_anew, restarted}
 use Rattle.spec_binding.specs.Rows.{after, answered, idle_row, is_full, row_of, taken_answer, taken_book, taken_ended, unsynced_after, wish_of}
@@ -325,7 +325,7 @@ records-calm s (r ∷ rs) = calming-then s (record_done s r) (records_done s (r 
 restart-synced : (b : Book) → is_synced b.stage ≡ is_synced (restarted b).stage
 restart-synced b = at (is_synced b.stage) refl
   where
-    at : (t : Bool) → is_synced b.stage ≡ t → is_synced b.stage ≡ is_synced (let x : Book = cond t (begun_anew b) (empty_book b.id b.zero b.one) in x).stage
+    at : (t : Bool) → is_synced b.stage ≡ t → is_synced b.stage ≡ is_synced (let x : Book = cond t (begun_anew b) (empty_book b.id b.zero b.one b.limit) in x).stage
     at true is = is
     at false is = is
 
@@ -358,7 +358,7 @@ datagram-calms s (Err fault) = nothing-calms s
 word-calms : (s : GatewayAndOutput) (n : ℕ) (o : Option Reason) → Calming s (word_by s n o)
 word-calms s n None = λ is.
     let g = s.shown in
-    let mid : Shown = record g { ledger = alone_ledger g.ledger; link = _ } in
+    let mid : Shown = record g { ledger = alone_ledger g.moment g.ledger; link = _ } in
     released-calms (scene mid _) AllPairs
     (calm-by g mid (λ d. up-back (is_synced g.ledger.book.stage) true (not g.stopped) (λ t. refl) d) refl refl (λ k. k) is)
 word-calms s n (Some reason) = nothing-calms s
@@ -378,7 +378,7 @@ tick-calms s now middle both = λ is.
     let young = old_dropped middle in
     let l = young.shown.ledger in
     let first = both-calm (ticked s now) table.Tick middle (λ no. absurd (cc)) both (record { routers = is.routers; places = is.places }) in
-    all-idle-calm young (idle_keys_in young.shown.moment l.book.entries l.lives) (old-calms middle first)
+    all-idle-calm young (idle_keys_in (is_lone l.book.stage) young.shown.moment l.book.entries l.lives) (old-calms middle first)
 
 -- ---- an event's own parts
 

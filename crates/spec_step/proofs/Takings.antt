@@ -20,7 +20,7 @@ use Rattle.spec_binding.specs.declared.changes.Transition.{Transition}
 use Rattle.spec_binding.specs.declared.changes.PortRequest.{PortRequest}
 use Rattle.spec_binding.specs.declared.changes.Want.TheVariants as want
 use Rattle.spec_binding.specs.Books.{Book, is_lone, is_synced}
-use Rattle.spec_binding.specs.Rows.{known_wish, may_want, new_pair, new_wish, none_row, noted_by, port_for, proposal, quiet, row, wish, wish_by, wish_of}
+use Rattle.spec_binding.specs.Rows.{is_at_limit, known_wish, may_want, new_pair, new_wish, none_row, noted_by, port_for, proposal, quiet, row, wish, wish_by, wish_of}
 use Rattle.waiting.specs.declared.waits.WaitsFor.{WaitsFor}
 use Rattle.waiting.specs.declared.waits.WaitsFor.TheVariants as wait
 use Rattle.waiting.specs.Packets.{HeldPacket, hop_count, with_room, without_first_hop}
@@ -70,7 +70,8 @@ new-useless b full e (Some port) =
 
 by-useless : (b : Book) (full : Bool) (e : Endpoint) (o : Option Entry) → IsUseless (wish_by b full e o).row
 by-useless b full e (Some x) = known-useless x.pair x.state
-by-useless b full e None = new-useless b full e (port_for b e)
+by-useless b full e None =
+    either-wish (is_at_limit b e.address) (wish want.HostLimit quiet) (new_wish b full e (port_for b e)) (λ i now. refl) (new-useless b full e (port_for b e))
 
 pub wish-useless : (b : Book) (full : Bool) (e : Endpoint) → IsUseless (wish_of b full e).row
 wish-useless b full e = either-wish (is_synced b.stage) (wish_by b full e (entry_of b.entries e)) (wish want.NotNow quiet) (by-useless b full e (entry_of b.entries e)) (λ i now. refl)

@@ -18,7 +18,7 @@ use Rattle.link.specs.Grammar.{IsWellFormed, IsWellFormedRecord}
 use Rattle.link.specs.Link.{Link, after_take, closed_at, is_due_on_tick, is_restart, records_taken, refusal, sent_on_answer, sent_on_tick}
 use Rattle.link.specs.Reading.{reading}
 use Rattle.link.proofs.Offered.{all_taken, reading_takes}
-use Rattle.spec_binding.specs.Books.{is_synced}
+use Rattle.spec_binding.specs.Books.{is_lone, is_synced}
 use Rattle.spec_binding.specs.Ledgers.{alone_ledger, may_ask, restarted_ledger, rests_for, taken_ledger}
 use Rattle.spec_binding.specs.Resets.{back_in, restart_link, restart_notes, retaken}
 use Rattle.spec_binding.specs.Rows.{answered, idle_row, noted_by, taken_answer, taken_ended, taken_what}
@@ -253,7 +253,7 @@ taken-says : Frames → (s : GatewayAndOutput) (n : ℕ) → is_synced s.shown.l
 taken-says frames s n synced =
     let g = s.shown in let b = g.ledger.book in
     let notes = retaken (id_of g) g.moment (back_in b.entries) in
-    let mid = scene (record g { ledger = alone_ledger g.ledger; link = closed_at g.link n }) (with_notes s.told notes) in
+    let mid = scene (record g { ledger = alone_ledger g.moment g.ledger; link = closed_at g.link n }) (with_notes s.told notes) in
     let first : Saying [] s mid = λ is w. (
       record {
         tells = tells-quietly s mid notes refl refl (retaken-useless (id_of g) g.moment (back_in b.entries)) refl;
@@ -315,7 +315,7 @@ does-speak frames s (Tick now) done does has =
     let young = old_dropped middle in
     let l = young.shown.ledger in
     let parts = saying-then [] [] start middle (idle_taken young) (both-say frames start table.Tick middle does.1)
-    (saying-then [] [] middle young (idle_taken young) (old-says middle) (all-idle-say young (idle_keys_in young.shown.moment l.book.entries l.lives))) in
+    (saying-then [] [] middle young (idle_taken young) (old-says middle) (all-idle-say young (idle_keys_in (is_lone l.book.stage) young.shown.moment l.book.entries l.lives))) in
     subst (λ (x : GatewayAndOutput). Speaks [] s x) (sym does.2) (speaks-then [] [] s start (idle_taken young) (ticked-speaks s now) parts)
 does-speak frames s Stop done does has =
     let middle = does.0 in

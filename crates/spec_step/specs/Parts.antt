@@ -27,7 +27,7 @@ use Rattle.link.specs.Grammar.{spelling}
 use Rattle.link.specs.Link.{Link, after_take, closed_at, datagram_of, is_due_on_tick, is_restart, records_taken, refusal, sent_on_answer, sent_on_tick, wanted, with_fed}
 use Rattle.link.specs.Reading.{reading}
 use Rattle.spec_binding.specs.declared.changes.Transition.{Transition}
-use Rattle.spec_binding.specs.Books.{is_synced}
+use Rattle.spec_binding.specs.Books.{is_lone, is_synced}
 use Rattle.spec_binding.specs.Ledgers.{alone_ledger, carried_ledger, ledger_after, may_ask, rests_for, restarted_ledger, taken_ledger}
 use Rattle.spec_binding.specs.Resets.{back_in, restart_link, restart_notes, retaken}
 use Rattle.spec_binding.specs.Rows.{answered, carry_row, idle_row, is_full, noted_by, taken_answer, taken_ended, taken_what, wish_of}
@@ -325,7 +325,7 @@ datagram_taken s bytes = datagram_read s (reading bytes)
 abbrev pub word_taken : GatewayAndOutput → ℕ → GatewayAndOutput
 word_taken s n = let g = s.shown in let book = g.ledger.book in
     released
-    (scene (record g { ledger = alone_ledger g.ledger; link = closed_at g.link n })
+    (scene (record g { ledger = alone_ledger g.moment g.ledger; link = closed_at g.link n })
     (with_notes s.told (retaken (id_of g) g.moment (back_in book.entries))))
     AllPairs
 
@@ -342,7 +342,7 @@ all_idle_done s (k ∷ ks) = all_idle_done (idle_done s k) ks
 
 -- the idle pairs of a moment, by protocol (tcp first) and port
 abbrev pub idle_taken : GatewayAndOutput → GatewayAndOutput
-idle_taken s = let l = s.shown.ledger in all_idle_done s (idle_keys_in s.shown.moment l.book.entries l.lives)
+idle_taken s = let l = s.shown.ledger in all_idle_done s (idle_keys_in (is_lone l.book.stage) s.shown.moment l.book.entries l.lives)
 
 -- kept packets of 300 centiseconds and more are dropped
 abbrev pub old_dropped : GatewayAndOutput → GatewayAndOutput

@@ -20,7 +20,7 @@ use Rattle.packet_rules.specs.declared.networks.Direction.TheVariants as way
 use Rattle.packet_rules.specs.declared.readings.Reading.{Reading}
 use Rattle.packet_rules.specs.declared.readings.Reading.TheVariants.{Arp, Advert, Packet}
 use Rattle.packet_rules.specs.declared.reasons.Reason.{Reason}
-use Rattle.packet_rules.specs.declared.reasons.Reason.TheVariants.{NoBinding, NoPort, CannotWait}
+use Rattle.packet_rules.specs.declared.reasons.Reason.TheVariants.{NoBinding, NoPort, CannotWait, HostLimit}
 use Rattle.packet_rules.specs.declared.translations.Translation.{Translation}
 use Rattle.packet_rules.specs.declared.translations.Translation.TheVariants.{Outward, Inward, Hairpin}
 use Rattle.packet_rules.specs.Flows.{source_of, target_of}
@@ -60,6 +60,7 @@ plan_from g flow by want.TheVariants.Wait =
     (if has_place g.kept (wait.TheVariants.Pair (source_of flow)) then Ok (Wait (source_of flow)) else Err CannotWait)
 plan_from g flow by want.TheVariants.NoPort = Err NoPort
 plan_from g flow by want.TheVariants.NotNow = Err CannotWait
+plan_from g flow by want.TheVariants.HostLimit = Err HostLimit
 
 -- what the endpoint of a packet's source is given
 abbrev pub look_for : Shown → Flow → Want
