@@ -46,7 +46,7 @@ use Rattle.spec_step.specs.Others.{AreOfBoth, AreOthers, Asking, FrameOwes, IsDu
 use Rattle.spec_step.specs.Parts.{acted, all_framed, all_idle_done, answered_by, arp_taken, datagram_in, datagram_read, datagram_taken, flow_taken, framed, frames_of, handed_in, has_synced, heard_by, heard_unless, idle_done, idle_taken, link_answered, link_ticked, old_dropped, record_done, record_shown, record_told, records_done, released, reset, started, wait_ended, with_link, word_taken}
 use Rattle.spec_step.specs.Shown.{GatewayAndOutput, Shown, id_of, scene, station_on, with_notes, with_station}
 use Rattle.spec_step.specs.Steps.{BothAct, Does, FrameDoes, IsStepOn, RouterActs, clock_after, ended_on, stopped, ticked, word_by, word_refusal}
-use Rattle.spec_step.specs.Truly.{AreWired, AtHand, Known, known_of, packets_of}
+use Rattle.spec_step.specs.Truly.{AtHand, Known, known_of, packets_of}
 use Rattle.spec_step.specs.Verdict.{reading_on}
 use Rattle.spec_step.proofs.Asking.{Ask-on, Asks, IsFit, IsQuiet, NearStays, NetsStay, Waiting, all-apart, asking-then, due-more, kept-here, net-stays, new-more, nobody, nothing-asks, one-apart, packet-asks, pairs-ask, quiet-asks, quiet-by, released-asks, requests-same}
 use Rattle.spec_step.proofs.Freeing.{Comes-of, filter-same}
