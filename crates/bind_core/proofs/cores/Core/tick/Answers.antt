@@ -1,9 +1,9 @@
-use Rattle.std.proofs.Common.{◌≡◌, ◌++◌, List, [], sym, ap, subst, ◌∙◌}
+use Rattle.std.proofs.Common.{◌++◌, List, [], sym, ap, subst, ◌∙◌}
 use Rattle.std.proofs.lemmas.List.{append-nil}
 use Rattle.nat_types.specs.declared.notes.Note.{Note}
 use Rattle.bindings.specs.Table.{idle_keys_of}
 use Rattle.spec_binding.specs.Books.{is_lone}
-use Rattle.spec_binding.specs.Ledgers.{LetGo, let_go}
+use Rattle.spec_binding.specs.Ledgers.{LetGo}
 use Rattle.spec_binding.specs.Machine.{Works}
 use Rattle.bind_core.specs.Cores.{book_of, ledger_of}
 use Rattle.bind_core.proofs.Releasing.{none-go}
