@@ -68,8 +68,8 @@ impl Forwarder {
         self.send_request(page, by.direction().exit(), hop);
     }
 
-    /// A packet is dropped because another one waits for its next hop, which is asked for again where it
-    /// wasn't just now.
+    /// A packet is dropped because another one waits for its next hop, which is asked for again
+    /// where it wasn't just now.
     pub(crate) fn ask_again(&mut self, page: &mut OutputBuffer, by: Translation, hop: Ip)
         requires frames { 1 ≤ page.old.room.frames }
         ensures scene { scene_on self.new page.new

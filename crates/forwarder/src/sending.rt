@@ -1,5 +1,5 @@
 //! What a packet does that goes on at once.
-ghost use Rattle.std.specs.Prelude.{◌≡◌, ◌≤◌, ◌+◌, min};
+ghost use Rattle.std.specs.Prelude.{◌≡◌, ◌≤◌, ◌+◌, min, if◌then◌else◌};
 ghost use Rattle.link.specs.Link.{free_places};
 ghost use Rattle.activity.specs.declared.packets.Packet.{Packet as Carried};
 ghost use Rattle.spec_binding.specs.WellFormed.{IsWellFormedEndpoint};

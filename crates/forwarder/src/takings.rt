@@ -30,8 +30,8 @@ fn recall_source(bytes: &[u8], packet: Packet)
 
 impl Forwarder {
     /// Does what was planned of a packet: it goes on, waits, or is dropped. `copy` is what is kept of
-    /// one that has to wait. It needs room for two frames and three notes, and a core that is ready for a
-    /// pair.
+    /// one that has to wait. It needs room for two frames and three notes, and a core that is ready
+    /// for a pair.
     pub fn take_packet(
         &mut self,
         page: &mut OutputBuffer,

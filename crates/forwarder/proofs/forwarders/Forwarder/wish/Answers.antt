@@ -6,4 +6,4 @@ use Rattle.forwarder.proofs.forwarders.Forwarder.wish.Goals as goal
 
 pub returns-clause-places : goal.returns-clause-places
 returns-clause-places c =
-    subst (λ (l : Link). min 64 (free_places c.args.self.now.link) ≤ free_places l) (sym c.want.ensures.link) (wish-leaves (book_of c.args.self.now.core) c.args.self.now.link c.args.endpoint)
+    subst (λ (l : Link). min 64 (free_places c.args.self.now.link) ≤ free_places l) (sym c.want-given.ensures.link) (wish-leaves (book_of c.args.self.now.core) c.args.self.now.link c.args.endpoint)
