@@ -1,5 +1,5 @@
 -- A neighbour that was asked for is the same neighbour.
-use Rattle.std.proofs.Common.{◌≡◌, ℕ, ◌-◌, Bool, true, false, cond, ◌==◌, ◌&&◌, nat_lt, Some, List, [], ◌∷◌, map, refl, ◌∙◌, ap}
+use Rattle.std.proofs.Common.{◌≡◌, ℕ, ◌-◌, Bool, true, false, cond, ◌==◌, ◌&&◌, nat_lt, Some, List, [], ◌∷◌, map, refl, ap}
 use Rattle.arp.specs.declared.caches.CacheEntry.{CacheEntry}
 use Rattle.arp.specs.Neighbours.{Neighbours, asked_at, fixed_mac, learnt_asked, learnt_mac, mac_at, or_else}
 use Rattle.arp.specs.Macs.{AllSix, KnowsMacs}
