@@ -21,7 +21,7 @@ pub fn room_law()
 /// key's entry knows of them: it begins where they have rested and the entry comes in (`begins`) or is renewed
 /// (`renewed`), and goes on with a carried packet (`carried`), where the entry's life begins anew while its pair is in use
 /// (`anew`), and with any change that leaves the entry its pasts (`kept`).
-/// Where the entry is idle, or unused, they have rested (`idle`, `listed`, `unused`): `HaveRested` of `lives` says what
+/// Where the entry is idle, or unused, they have rested (`idle`, `listed`, `unused`): `HaveRested` of `activity` says what
 /// that gives to a trace.
 pub fn uses_law()
     ensures begins { (t : Seen) → (key : OutsidePort) → (by_install : Bool) → (now : ℕ)

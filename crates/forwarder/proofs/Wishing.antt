@@ -1,5 +1,5 @@
 -- A wish for a port leaves 64 places of the link free, where they were.
-use Rattle.std.proofs.Common.{◌≡◌, ◌≤◌, ◌+◌, ◌&&◌, Bool, true, false, cond, not, Option, Some, None, [], ◌∷◌, min, refl, sym, ap, ◌∙◌, arith, length-append}
+use Rattle.std.proofs.Common.{◌≡◌, ◌≤◌, ◌+◌, ◌&&◌, Bool, true, false, cond, not, Option, Some, None, [], ◌∷◌, min, refl, arith, length-append}
 use Rattle.std.proofs.lemmas.Bool.{ltb-false}
 use Rattle.addresses.specs.declared.transport.Port.{Port}
 use Rattle.nat_types.specs.declared.notes.NoteKind.TheVariants.{Retaken}
