@@ -1,6 +1,5 @@
 -- A pair is idle from its due moment on.
-use Rattle.std.proofs.Common.{◌≡◌, ℕ, ◌+◌, ◌-◌, ◌<◌, ◌≤◌, max, nat_le, Bool, true, false, cond, ◌&&◌, ◌||◌, inl, inr, List, [], ◌∷◌, refl, sym, ap, ◌∙◌, arith}
-use Rattle.std.specs.List.{list_all}
+use Rattle.std.proofs.Common.{◌≡◌, ℕ, ◌+◌, ◌-◌, ◌<◌, max, nat_le, Bool, true, false, cond, ◌&&◌, ◌||◌, inl, inr, List, [], ◌∷◌, sym, ap, ◌∙◌, arith}
 use Rattle.std.proofs.lemmas.Bool.{cases_lt, le-leb, lt-leb, and_from, and_left, and_right}
 use Rattle.addresses.specs.declared.transport.Protocol.{Protocol}
 use Rattle.addresses.specs.declared.transport.Protocol.TheVariants.{Tcp, Udp}
@@ -8,7 +7,7 @@ use Rattle.activity.specs.declared.sessions.Session.{Session}
 use Rattle.activity.specs.declared.sessions.Class.{Class}
 use Rattle.activity.specs.declared.sessions.Class.TheVariants.{Opening, Established, Closed}
 use Rattle.activity.specs.declared.TheConstants.{UDP_REST, ESTABLISHED_REST}
-use Rattle.activity.specs.Sessions.{rest_of, has_rested, has_passed_by}
+use Rattle.activity.specs.Sessions.{rest_of, has_rested}
 use Rattle.activity.specs.Kept.{all_passed}
 use Rattle.activity.specs.Lives.{Activity, is_empty, looks_idle}
 use Rattle.activity.specs.Dues.{last_end, due_moment}

@@ -1,5 +1,5 @@
 -- An idle pair has rested since each use.
-use Rattle.std.proofs.Common.{◌≡◌, ℕ, zero, suc, ◌+◌, ◌-◌, ◌<◌, ◌≤◌, Bool, true, false, cond, ◌||◌, ◌⊎◌, inl, inr, List, [], ◌∷◌, ◌++◌, length, map, get_or, refl, arith}
+use Rattle.std.proofs.Common.{◌≡◌, ℕ, zero, suc, ◌+◌, ◌-◌, ◌<◌, ◌≤◌, Bool, true, false, cond, ◌||◌, ◌⊎◌, inl, inr, List, [], ◌∷◌, ◌++◌, length, map, get_or, refl, arith, sym, ap, subst, ◌∙◌}
 use Rattle.std.specs.List.{list_all}
 use Rattle.std.proofs.lemmas.Bool.{leb-true, and_parts}
 use Rattle.addresses.specs.declared.transport.Protocol.{Protocol}
@@ -13,8 +13,8 @@ use Rattle.activity.specs.declared.TheConstants.{UDP_REST, TRANSITORY_REST, ESTA
 use Rattle.activity.specs.Packets.{same_remote}
 use Rattle.activity.specs.Places.{changed_at, put_at, is_nowhere}
 use Rattle.activity.specs.Sessions.{has_rested, rest_of}
-use Rattle.activity.specs.Lives.{Course, History, came, with_packet, renewed, courses, course_place, is_crowded, is_empty, is_idle, is_unused, has_passed, first_course, longer, class_of, last_of}
-use Rattle.activity.specs.Rests.{least_rest, CameBy, AllRested, AllBefore, IsAmong, WasCarried, HaveRested, AccountsFor}
+use Rattle.activity.specs.Lives.{Course, History, came, with_packet, renewed, courses, course_place, is_crowded, is_empty, is_idle, is_unused, has_passed, first_course, longer, class_of, last_of, newest_or}
+use Rattle.activity.specs.Rests.{least_rest, CameBy, AllRested, AllBefore, IsAmong, WasCarried, HaveRested, LiesBehind, AccountsFor}
 use Rattle.activity.proofs.Items.{known-within, passed-within}
 
 -- where the newest of the packets rested, all did
@@ -95,10 +95,20 @@ both-rest rest now (p ∷ older) moments rested all = (rested.0, both-rest rest 
 -- ---- a list of uses
 
 pub accounts-came : (protocol : Protocol) (by_install : Bool) (now : ℕ) (uses : List ℕ) → HaveRested (least_rest protocol) now uses → AccountsFor protocol now (came by_install now) uses
-accounts-came protocol by_install now uses rested = record { since = omega arith; packets = tt; accounted = λ at is. inr (rested at is) }
+accounts-came protocol by_install now uses rested = record {
+  since = omega arith;
+  last = omega arith;
+  packets = tt;
+  accounted = λ at is. inr (record { behind = (let low = rested at is in omega (arith, low)); rested = λ _. rested at is });
+}
 
 pub accounts-renewed : (protocol : Protocol) (past : History) (now : ℕ) (uses : List ℕ) → HaveRested (least_rest protocol) now uses → AccountsFor protocol now (renewed now past) uses
-accounts-renewed protocol past now uses rested = record { since = omega arith; packets = tt; accounted = λ at is. inr (rested at is) }
+accounts-renewed protocol past now uses rested = record {
+  since = omega arith;
+  last = omega arith;
+  packets = tt;
+  accounted = λ at is. inr (record { behind = (let low = rested at is in omega (arith, low)); rested = λ _. rested at is });
+}
 
 came-later : (since now : ℕ) (packets : List Packet) → since ≤ now → CameBy since packets → CameBy now packets
 came-later since now [] h by = tt
@@ -107,6 +117,7 @@ came-later since now (p ∷ older) h by = (let low = by.0 in omega (arith, low, 
 pub accounts-later : (protocol : Protocol) (past : History) (since now : ℕ) (uses : List ℕ) → since ≤ now → AccountsFor protocol since past uses → AccountsFor protocol now past uses
 accounts-later protocol past since now uses h a = record {
   since = (let low = a.since in omega (arith, low, h));
+  last = a.last;
   packets = came-later since now past.packets h a.packets;
   accounted = a.accounted;
 }
@@ -114,35 +125,90 @@ accounts-later protocol past since now uses h a = record {
 pub accounts-more : (protocol : Protocol) (since : ℕ) (past : History) (uses : List ℕ) (p : Packet) → since ≤ p.at → AccountsFor protocol since past uses → AccountsFor protocol p.at (with_packet p past) (p.at ∷ uses)
 accounts-more protocol since past uses p h a = record {
   since = (let low = a.since in omega (arith, low, h));
+  last = (let low = a.since in omega (arith, low, h));
   packets = (omega arith, came-later since p.at past.packets h a.packets);
   accounted = one;
 }
   where
-    old : (at : ℕ) → WasCarried at past.packets ⊎ (at + least_rest protocol ≤ past.since) → WasCarried at (p ∷ past.packets) ⊎ (at + least_rest protocol ≤ past.since)
-    old at (inl carried) = inl (inr carried)
-    old at (inr rested) = inr rested
+    behind : (at : ℕ) → LiesBehind protocol past at → LiesBehind protocol (with_packet p past) at
+    behind at lies = record { behind = lies.behind; rested = lies.rested }
 
-    one : (at : ℕ) → IsAmong at (p.at ∷ uses) → WasCarried at (p ∷ past.packets) ⊎ (at + least_rest protocol ≤ past.since)
+    old : (at : ℕ) → WasCarried at past.packets ⊎ LiesBehind protocol past at → WasCarried at (p ∷ past.packets) ⊎ LiesBehind protocol (with_packet p past) at
+    old at (inl carried) = inl (inr carried)
+    old at (inr lies) = inr (behind at lies)
+
+    one : (at : ℕ) → IsAmong at (p.at ∷ uses) → WasCarried at (p ∷ past.packets) ⊎ LiesBehind protocol (with_packet p past) at
     one at (inl here) = inl (inl here)
     one at (inr is) = old at (a.accounted at is)
+
+-- a packet that was carried isn't later
+carried-by : (now at : ℕ) (packets : List Packet) → CameBy now packets → WasCarried at packets → at ≤ now
+carried-by now at [] by was = absurd was
+carried-by now at (p ∷ older) by (inl here) = let low = by.0 in omega (arith, low, here)
+carried-by now at (p ∷ older) by (inr was) = let low = by.0 in let more = carried-by p.at at older by.1 was in omega (arith, low, more)
+
+-- a pair that carried a packet isn't unused
+used-by : (at : ℕ) (packets : List Packet) → WasCarried at packets → is_empty packets ≡ true → ⊥
+used-by at [] was none = absurd was
+used-by at (p ∷ older) was none = cc
+
+-- the list of packets begins anew while the pair is in use
+pub accounts-anew : (protocol : Protocol) (past : History) (now : ℕ) (uses : List ℕ) → AccountsFor protocol now past uses → AccountsFor protocol now (renewed now past) uses
+accounts-anew protocol past now uses a = record {
+  since = omega arith;
+  last = omega arith;
+  packets = tt;
+  accounted = λ at is. inr (old at (a.accounted at is));
+}
+  where
+    old : (at : ℕ) → WasCarried at past.packets ⊎ LiesBehind protocol past at → LiesBehind protocol (renewed now past) at
+    old at (inl carried) = record {
+      behind = carried-by now at past.packets a.packets carried;
+      rested = λ unused. absurd (used-by at past.packets carried (and_parts past.by_install (is_empty past.packets) unused).1);
+    }
+    old at (inr lies) = record {
+      behind = (let low = lies.behind in let high = a.since in omega (arith, low, high));
+      rested = λ unused. (let low = lies.rested (and_parts past.by_install (is_empty past.packets) unused).0 in let high = a.since in omega (arith, low, high));
+    }
 
 carried-rested : (rest now at : ℕ) (packets : List Packet) → AllRested rest now packets → WasCarried at packets → at + rest ≤ now
 carried-rested rest now at [] rested was = absurd was
 carried-rested rest now at (p ∷ older) rested (inl here) = let low = rested.0 in omega (arith, low, here)
 carried-rested rest now at (p ∷ older) rested (inr was) = carried-rested rest now at older rested.1 was
 
-all-of-them : (protocol : Protocol) (past : History) (now : ℕ) (uses : List ℕ) → AccountsFor protocol now past uses → AllRested (least_rest protocol) now past.packets → HaveRested (least_rest protocol) now uses
-all-of-them protocol past now uses a rested at is = each (a.accounted at is)
+-- an idle pair has rested since its last use, or since its life began
+begin-rested : (protocol : Protocol) (past : History) (now : ℕ) → CameBy now past.packets → is_idle protocol past now ≡ true → last_of past + least_rest protocol ≤ now
+begin-rested protocol past now by h = at past.packets refl (idle-rests protocol past now by h)
   where
-    each : WasCarried at past.packets ⊎ (at + least_rest protocol ≤ past.since) → at + least_rest protocol ≤ now
-    each (inl was) = carried-rested (least_rest protocol) now at past.packets rested was
-    each (inr had) = let low = a.since in omega (arith, low, had)
+    none : (protocol : Protocol) → past.packets ≡ [] → is_idle protocol past now ≡ true → past.since + least_rest protocol ≤ now
+    none Udp is idle = rested-by UDP_REST UDP_REST past.since now (omega arith) (omega arith) (sym (ap (λ ps. has_rested UDP_REST (newest_or past.since ps) now) is) ∙ idle)
+    none Tcp is idle = rested-by ESTABLISHED_REST TRANSITORY_REST past.since now (omega arith) (omega arith)
+        (sym (ap (λ ps. cond (is_crowded ps || is_empty (courses ps)) (has_rested ESTABLISHED_REST (newest_or past.since ps) now) (list_all (has_passed now) (courses ps))) is) ∙ idle)
+
+    at : (packets : List Packet) → past.packets ≡ packets → AllRested (least_rest protocol) now past.packets → last_of past + least_rest protocol ≤ now
+    at [] is rested = subst (λ ps. newest_or past.since ps + least_rest protocol ≤ now) (sym is) (none protocol is h)
+    at (p ∷ older) is rested = subst (λ ps. newest_or past.since ps + least_rest protocol ≤ now) (sym is) (subst (λ ps. AllRested (least_rest protocol) now ps) is rested).0
 
 pub accounts-idle : (protocol : Protocol) (past : History) (now : ℕ) (uses : List ℕ) → AccountsFor protocol now past uses → is_idle protocol past now ≡ true → HaveRested (least_rest protocol) now uses
-accounts-idle protocol past now uses a h = all-of-them protocol past now uses a (idle-rests protocol past now a.packets h)
+accounts-idle protocol past now uses a h at is = each (a.accounted at is)
+  where
+    each : WasCarried at past.packets ⊎ LiesBehind protocol past at → at + least_rest protocol ≤ now
+    each (inl was) = carried-rested (least_rest protocol) now at past.packets (idle-rests protocol past now a.packets h) was
+    each (inr lies) =
+        let low = lies.behind in
+        let last = a.last in
+        let rested = begin-rested protocol past now a.packets h in
+        omega (arith, low, last, rested)
 
 pub accounts-unused : (protocol : Protocol) (past : History) (now : ℕ) (uses : List ℕ) → AccountsFor protocol now past uses → is_unused past ≡ true → HaveRested (least_rest protocol) now uses
-accounts-unused protocol past now uses a h = all-of-them protocol past now uses a (unused-rests past (least_rest protocol) now h)
+accounts-unused protocol past now uses a h at is = each (a.accounted at is)
+  where
+    parts : (past.by_install ≡ true) × (is_empty past.packets ≡ true)
+    parts = and_parts past.by_install (is_empty past.packets) h
+
+    each : WasCarried at past.packets ⊎ LiesBehind protocol past at → at + least_rest protocol ≤ now
+    each (inl was) = absurd (used-by at past.packets was parts.1)
+    each (inr lies) = let low = lies.rested parts.0 in let high = a.since in omega (arith, low, high)
 
 pub rested-later : (rest since now : ℕ) (uses : List ℕ) → since ≤ now → HaveRested rest since uses → HaveRested rest now uses
 rested-later rest since now uses h rested at is = let low = rested at is in omega (arith, low, h)

@@ -38,7 +38,7 @@ abbrev pub begun : Packet → Standing
 begun s = record { class = first_class s.flags; marked = s ∷ [] }
 
 -- A further segment: RST counts first, then SYN in Closed, which clears the marks and sets none, then FIN carried both
--- ways, then a segment with neither SYN nor RST carried each way in Opening.
+-- ways, then a plain segment (no RST, and no SYN without ACK) carried each way in Opening.
 abbrev pub went_on : Standing → Packet → Standing
 went_on x s =
     (if s.flags.rst then record { class = Closed; marked = s ∷ x.marked }
@@ -110,7 +110,7 @@ is_empty (x ∷ xs) = false
 abbrev pub is_unused : History → Bool
 is_unused past = past.by_install && is_empty past.packets
 
--- the peer says No: the list begins anew
+-- the peer says No, or the operator that the peer is off: the list begins anew
 abbrev pub renewed : ℕ → History → History
 renewed now past = record { by_install = is_unused past; since = now; packets = [] }
 

@@ -17,6 +17,6 @@ same_remote a b = (a.address.0 == b.address.0) && (a.port.0 == b.port.0)
 abbrev pub is_fin : TcpFlags → Bool
 is_fin flags = flags.fin
 
--- neither SYN nor RST
+-- no RST, and no SYN without ACK (RFC 5382, section 5: a handshake alone makes an established connection)
 abbrev pub is_plain : TcpFlags → Bool
-is_plain flags = not (flags.syn || flags.rst)
+is_plain flags = not (flags.rst || (flags.syn && not flags.ack))

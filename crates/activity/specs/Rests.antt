@@ -1,10 +1,10 @@
 -- What the rule of idle pairs gives to those who see uses and releases alone.
-use Rattle.std.specs.Prelude.{◌≡◌, ℕ, ◌+◌, ◌≤◌, ◌⊎◌, List, [], ◌∷◌}
+use Rattle.std.specs.Prelude.{◌≡◌, ℕ, ◌+◌, ◌≤◌, ◌⊎◌, true, List, [], ◌∷◌}
 use Rattle.addresses.specs.declared.transport.Protocol.{Protocol}
 use Rattle.addresses.specs.declared.transport.Protocol.TheVariants.{Tcp, Udp}
 use Rattle.activity.specs.declared.packets.Packet.{Packet}
 use Rattle.activity.specs.declared.TheConstants.{UDP_REST, TRANSITORY_REST}
-use Rattle.activity.specs.Lives.{History}
+use Rattle.activity.specs.Lives.{History, last_of}
 
 -- how long a pair of a protocol rests at least before it is idle, in centiseconds
 abbrev pub least_rest : Protocol → ℕ
@@ -42,9 +42,16 @@ WasCarried moment (p ∷ older) = (moment ≡ p.at) ⊎ WasCarried moment older
 abbrev pub HaveRested : ℕ → ℕ → List ℕ → Type 0
 HaveRested rest now uses = (use_at : ℕ) → IsAmong use_at uses → use_at + rest ≤ now
 
--- A past accounts for uses: each of them carried one of its packets, or had rested when the past began. Its packets came
--- in order, and neither they nor its beginning lie behind this moment.
+-- A use lies behind the beginning of a past: it isn't later; and where the pair came by Install and may still end unused, it
+-- had rested by then.
+pub record LiesBehind (protocol : Protocol) (past : History) (use_at : ℕ) : Type 0 where
+  pub behind : use_at ≤ past.since
+  pub rested : past.by_install ≡ true → use_at + least_rest protocol ≤ past.since
+
+-- A past accounts for uses: each of them carried one of its packets, or lies behind its beginning. Its packets came in
+-- order, the last not before it began, and neither they nor its beginning lie after this moment.
 pub record AccountsFor (protocol : Protocol) (now : ℕ) (past : History) (uses : List ℕ) : Type 0 where
   pub since : past.since ≤ now
+  pub last : past.since ≤ last_of past
   pub packets : CameBy now past.packets
-  pub accounted : (use_at : ℕ) → IsAmong use_at uses → WasCarried use_at past.packets ⊎ (use_at + least_rest protocol ≤ past.since)
+  pub accounted : (use_at : ℕ) → IsAmong use_at uses → WasCarried use_at past.packets ⊎ LiesBehind protocol past use_at

@@ -29,8 +29,8 @@ pub fn idle_rests_law()
 {}
 
 /// The same by a list of uses, for those who see a trace: the moments at which a gateway used a pair in its present life.
-/// A past that accounts for them begins where all have rested (`comes`, `renewed`), and goes on with each packet
-/// (`carried`) and with time (`later`); where it is idle, or unused, all have rested (`idle`, `unused`), and that stays so
+/// A past that accounts for them begins where all have rested (`comes`, `renewed`), or anew while its pair is in use
+/// (`anew`), and goes on with each packet (`carried`) and with time (`later`); where it is idle, or unused, all have rested (`idle`, `unused`), and that stays so
 /// (`rested`). So a caller keeps of each entry a past with which it agrees and which accounts for the uses so far, and of
 /// each pair without an entry, or let go, that its uses have rested.
 ///
@@ -50,6 +50,8 @@ pub fn uses_rest_law()
     ensures renewed { (protocol : Protocol) → (past : History) → (now : ℕ) → (uses : List ℕ)
         → HaveRested (least_rest protocol) now uses
         → AccountsFor protocol now (renewed now past) uses }
+    ensures anew { (protocol : Protocol) → (past : History) → (now : ℕ) → (uses : List ℕ)
+        → AccountsFor protocol now past uses → AccountsFor protocol now (renewed now past) uses }
     ensures later { (protocol : Protocol) → (past : History) → (since now : ℕ)
         → (uses : List ℕ)
         → since ≤ now → AccountsFor protocol since past uses → AccountsFor protocol now past uses }

@@ -1,5 +1,5 @@
 //! Packets that a pair carried, as its sessions see them.
-ghost use Rattle.std.specs.Prelude.{◌≡◌, not, ◌||◌};
+ghost use Rattle.std.specs.Prelude.{◌≡◌, not, ◌||◌, ◌&&◌};
 ghost use Rattle.activity.specs.Packets.{same_way, same_remote, is_plain};
 
 use addresses::{Ip, Port, TcpFlags};
@@ -33,9 +33,9 @@ pub(crate) fn is_that_remote(remote: Remote, other: Remote) -> bool
     remote == other
 }
 
-/// Whether a segment has neither SYN nor RST.
+/// Whether a segment has no RST, and no SYN without ACK.
 pub(crate) fn is_plain_segment(flags: TcpFlags) -> bool
     ensures { result ≡ is_plain flags }
 {
-    !(flags.syn || flags.rst)
+    !(flags.rst || (flags.syn && !flags.ack))
 }

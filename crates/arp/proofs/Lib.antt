@@ -1,3 +1,5 @@
+mod Asked
+mod Asking
 mod Indexed
 mod Logs
 mod Reading

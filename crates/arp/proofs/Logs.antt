@@ -44,7 +44,7 @@ tally-without x a (e ∷ es) = by (eqb e.address.0 a) refl (tally-without x a es
     by false is rest = grind (arith, nat_tests)
 
 -- a place of an address is counted
-tally-place : (a : ℕ) (log : List (Option CacheEntry)) (i : ℕ) → IsPlaceOf a log i → 1 ≤ tally a (entry_addresses (kept log))
+pub tally-place : (a : ℕ) (log : List (Option CacheEntry)) (i : ℕ) → IsPlaceOf a log i → 1 ≤ tally a (entry_addresses (kept log))
 tally-place a [] i at = absurd (omega (arith, at.within))
 tally-place a (None ∷ log) zero at = cc
 tally-place a (Some e ∷ log) zero at = let is : eqb e.address.0 a ≡ true = at.is in grind (arith, is)

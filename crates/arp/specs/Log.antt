@@ -6,6 +6,7 @@ use Rattle.arp.specs.declared.caches.CacheEntry.{CacheEntry}
 use Rattle.arp.specs.declared.learnt.TheConstants.{PLACES}
 use Rattle.arp.specs.declared.learnt.Learnt.{Learnt}
 use Rattle.arp.specs.declared.learnt.Spot.{Spot}
+use Rattle.arp.specs.Neighbours.{wants_asking}
 
 -- the entries of the places that aren't empty
 abbrev pub kept : List (Option CacheEntry) → List CacheEntry
@@ -22,6 +23,16 @@ is_of address (Some e) = e.address.0 == address
 abbrev pub valid_mac : ℕ → Option CacheEntry → Option Mac
 valid_mac now None = None
 valid_mac now (Some e) = if nat_lt (now - e.at) VALID_FOR then Some e.mac else None
+
+-- a place has an entry that is to be asked for
+abbrev pub place_asks : ℕ → Option CacheEntry → Bool
+place_asks now None = false
+place_asks now (Some e) = wants_asking now e
+
+-- its entry was asked for at the moment `now`
+abbrev pub place_asked : ℕ → Option CacheEntry → Option CacheEntry
+place_asked now None = None
+place_asked now (Some e) = Some (record e { asked = now })
 
 abbrev pub entry_addresses : List CacheEntry → List ℕ
 entry_addresses entries = map (λ e. e.address.0) entries

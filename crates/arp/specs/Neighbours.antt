@@ -1,10 +1,10 @@
 -- Whom an interface knows: fixed neighbours and learnt ones.
-use Rattle.std.specs.Prelude.{◌≡◌, ◌≢◌, ℕ, ◌-◌, ◌%◌, ◌==◌, ◌&&◌, not, nat_lt, List, [], ◌∷◌, ◌++◌, length, drop, replicate, slice_index, Option, Some, None, if◌then◌else◌}
-use Rattle.std.specs.List.{filter}
+use Rattle.std.specs.Prelude.{◌≡◌, ◌≢◌, ℕ, ◌-◌, ◌%◌, Bool, ◌==◌, ◌&&◌, not, nat_lt, nat_le, List, [], ◌∷◌, ◌++◌, length, map, drop, replicate, slice_index, Option, Some, None, is_some, if◌then◌else◌}
+use Rattle.std.specs.List.{filter, list_any}
 use Rattle.addresses.specs.declared.ethernet.Mac.{Mac}
 use Rattle.addresses.specs.declared.internet.Ip.{Ip}
 use Rattle.addresses.specs.Address.{IsIn}
-use Rattle.arp.specs.declared.caches.TheConstants.{ENTRIES, VALID_FOR}
+use Rattle.arp.specs.declared.caches.TheConstants.{ENTRIES, VALID_FOR, RENEWED_AFTER, ASKED_AFTER}
 use Rattle.arp.specs.declared.caches.Interface.{Interface}
 use Rattle.arp.specs.declared.caches.Neighbour.{Neighbour}
 use Rattle.arp.specs.declared.caches.CacheEntry.{CacheEntry}
@@ -47,6 +47,32 @@ or_else (Some x) other = Some x
 abbrev pub mac_at : ℕ → ℕ → Neighbours → Option Mac
 mac_at address now known =
     or_else (fixed_mac address known.fixed) (learnt_mac address now known.learnt)
+
+-- an entry was learnt or renewed 90,000 centiseconds ago or more, and last asked for 100 ago or more
+abbrev pub wants_asking : ℕ → CacheEntry → Bool
+wants_asking now e = nat_le RENEWED_AFTER (now - e.at) && nat_le ASKED_AFTER (now - e.asked)
+
+-- a learnt entry of that address is to be asked for
+abbrev pub learnt_asks : ℕ → ℕ → List CacheEntry → Bool
+learnt_asks address now entries =
+    list_any (λ e. e.address.0 == address && wants_asking now e) entries
+
+-- the entries, of which that of this address was asked for at the moment `now`
+abbrev pub asked_entry : ℕ → ℕ → CacheEntry → CacheEntry
+asked_entry address now e = if e.address.0 == address then record e { asked = now } else e
+
+abbrev pub learnt_asked : ℕ → ℕ → List CacheEntry → List CacheEntry
+learnt_asked address now entries = map (asked_entry address now) entries
+
+-- behind a packet just sent to that address it is asked for; a fixed neighbour never is
+abbrev pub asks_at : ℕ → ℕ → Neighbours → Bool
+asks_at address now known =
+    not (is_some (fixed_mac address known.fixed)) && learnt_asks address now known.learnt
+
+-- the learnt entry of that address was asked for at the moment `now`
+abbrev pub asked_at : ℕ → ℕ → Neighbours → Neighbours
+asked_at address now known =
+    record known { learnt = learnt_asked address now known.learnt }
 
 -- an interface, as far as it decides whom it learns
 pub record Learner : Type 0 where

@@ -1,9 +1,10 @@
 //! The cache of neighbours.
-ghost use Rattle.std.specs.Prelude.{◌≡◌, [], ◌↔◌, length, IfOk, IfSome, IsTrue};
+ghost use Rattle.std.specs.Prelude.{◌≡◌, [], ◌↔◌, length, IfOk, IfSome, IsTrue, if◌then◌else◌};
 ghost use Rattle.arp.specs.Macs.{AllSix, KnowsMacs};
 ghost use Rattle.arp.specs.Neighbours.{with_entry, fixed_mac, mac_at, learner_of, IsLearnable};
+ghost use Rattle.arp.specs.Neighbours.{asks_at, asked_at};
 
-use crate::learnt::{Learnt, learn, mac_in};
+use crate::learnt::{Learnt, ask_in, learn, mac_in};
 use crate::packets::octets_of;
 use addresses::{Ip, Mac, Prefix};
 use std::alloc::{AllocError, Global};
@@ -14,6 +15,12 @@ pub(crate) const ENTRIES: usize = 1024;
 
 /// For how long an entry is valid, in centiseconds.
 pub(crate) const VALID_FOR: u64 = 120_000;
+
+/// After how long an entry in use is asked for, so that the answer renews it, in centiseconds.
+pub(crate) const RENEWED_AFTER: u64 = 90_000;
+
+/// After how long it is asked for again, where no answer came, in centiseconds.
+pub(crate) const ASKED_AFTER: u64 = 100;
 
 /// A neighbour that doesn't change.
 #[derive(Clone, Copy, Debug, PartialEq, Eq)]
@@ -28,6 +35,8 @@ pub struct CacheEntry {
     pub address: Ip,
     pub mac: Mac,
     pub at: u64,
+    /// The moment at which it was last asked for; learning sets it too.
+    pub asked: u64,
 }
 
 /// An interface, as far as it decides whom it learns: its network, and its primary and its
@@ -77,12 +86,14 @@ impl Cache {
     pub fn learn(&mut self, address: Ip, mac: Mac, now: u64)
         ensures fixed { self.new.fixed ≡ self.old.fixed }
         ensures learnt { self.new.learnt
-            ≡ with_entry (record { address = address; mac = mac; at = now }) self.old.learnt }
+            ≡ with_entry (record { address = address; mac = mac; at = now; asked = now })
+            self.old.learnt }
     {
         let entry = CacheEntry {
             address,
             mac: Mac(octets_of(mac)),
             at: now,
+            asked: now,
         };
         learn(&mut self.learnt, entry);
     }
@@ -96,6 +107,20 @@ impl Cache {
         match fixed_mac(&self.fixed, address) {
             Some(mac) => Some(mac),
             None => mac_in(&self.learnt, address, now),
+        }
+    }
+
+    /// Whether a packet just sent to a neighbour, at the moment `now` in centiseconds, is to be
+    /// followed by a request for its address: it isn't fixed, was learnt or renewed 90,000 ago or
+    /// more, and last asked for 100 ago or more. If so, it counts as asked for at this moment.
+    pub fn ask(&mut self, address: Ip, now: u64) -> bool
+        ensures asks { result ≡ asks_at address.0 now self.old }
+        ensures after { self.new
+            ≡ (if result then asked_at address.0 now self.old else self.old) }
+    {
+        match fixed_mac(&self.fixed, address) {
+            Some(_) => false,
+            None => ask_in(&mut self.learnt, address, now),
         }
     }
 

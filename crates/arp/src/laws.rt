@@ -1,6 +1,6 @@
 //! What follows of packets from the definitions of their bytes.
 ghost use Rattle.std.specs.Prelude.{◌≡◌, ◌<◌, ◌↔◌, ℕ, List, None, slice_index};
-ghost use Rattle.arp.specs.declared.caches.TheConstants.{ENTRIES, VALID_FOR};
+ghost use Rattle.arp.specs.declared.caches.TheConstants.{ENTRIES, VALID_FOR, RENEWED_AFTER, ASKED_AFTER};
 ghost use Rattle.arp.specs.declared.packets.ArpPacket.{ArpPacket};
 ghost use Rattle.arp.specs.declared.packets.TheConstants.{ARP_FRAME};
 ghost use Rattle.arp.specs.declared.packets.field.TheConstants.{PACKET};
@@ -24,10 +24,13 @@ pub fn read_is_spelled()
 {}
 
 /// The numbers that the definitions take from the code: a packet's bytes, a frame's, the cache's
-/// places, and for how many centiseconds an entry is valid.
+/// places, for how many centiseconds an entry is valid, and after how many one in use is asked for,
+/// first and again.
 pub fn limits_law()
     ensures packet { PACKET ≡ 28 }
     ensures frame { ARP_FRAME ≡ 42 }
     ensures entries { ENTRIES ≡ 1024 }
     ensures valid_for { VALID_FOR ≡ 120000 }
+    ensures renewed_after { RENEWED_AFTER ≡ 90000 }
+    ensures asked_after { ASKED_AFTER ≡ 100 }
 {}

@@ -1,10 +1,10 @@
 //! The neighbours that were learnt: a log of them in order, and an index of the log by address.
-ghost use Rattle.std.specs.Prelude.{◌≡◌, ◌≤◌, ◌++◌, ◌∷◌, [], ◌<◌, ◌-◌, ℕ, Some, drop, take, length, vec_len, vec_capacity, IfOk, IfErr, MatchOption};
+ghost use Rattle.std.specs.Prelude.{◌≡◌, ◌≤◌, ◌++◌, ◌∷◌, [], ◌<◌, ◌-◌, ℕ, Some, drop, take, length, vec_len, vec_capacity, IfOk, IfErr, MatchOption, if◌then◌else◌};
 ghost use Rattle.std.specs.List.{insert, remove};
-ghost use Rattle.arp.specs.Neighbours.{without, with_entry, learnt_mac};
-ghost use Rattle.arp.specs.Log.{kept, is_of, valid_mac, entry_addresses, spot_addresses, tally, IsRising, IsAt, IsGapFor, IsPlaceOf, IsFirst, IsLearnt, place_without};
+ghost use Rattle.arp.specs.Neighbours.{without, with_entry, learnt_mac, wants_asking, learnt_asks, learnt_asked};
+ghost use Rattle.arp.specs.Log.{kept, is_of, valid_mac, entry_addresses, spot_addresses, tally, IsRising, IsAt, IsGapFor, IsPlaceOf, IsFirst, IsLearnt, place_without, place_asks, place_asked};
 
-use crate::caches::{CacheEntry, ENTRIES, VALID_FOR};
+use crate::caches::{ASKED_AFTER, CacheEntry, ENTRIES, RENEWED_AFTER, VALID_FOR};
 use addresses::{Ip, Mac};
 use std::alloc::{AllocError, Global};
 
@@ -85,6 +85,86 @@ fn valid_mac(place: Option<CacheEntry>, now: u64) -> Option<Mac>
     match place {
         Some(entry) if now.saturating_sub(entry.at) < VALID_FOR => Some(entry.mac),
         _ => None,
+    }
+}
+
+/// Whether a packet sent by the entry of that address asks for it: if so, it is noted.
+pub fn ask_in(learnt: &mut Learnt, address: Ip, now: u64) -> bool
+    requires { IsLearnt learnt.old }
+    ensures asks { result ≡ learnt_asks address.0 now (kept learnt.old.log.items) }
+    ensures entries { kept learnt.new.log.items
+        ≡ (if result then learnt_asked address.0 now (kept learnt.old.log.items)
+        else kept learnt.old.log.items) }
+    ensures holds { IsLearnt learnt.new }
+{
+    match find(&learnt.index, address) {
+        Ok(at) => ask_in_log(&mut learnt.log, address, learnt.index[at].place, now),
+        Err(_) => false,
+    }
+}
+
+fn ask_in_log(log: &mut Vec<Option<CacheEntry>>, address: Ip, hint: u32, now: u64) -> bool
+    requires { tally address.0 (entry_addresses (kept log.old.items)) ≤ 1 }
+    ensures asks { result ≡ learnt_asks address.0 now (kept log.old.items) }
+    ensures entries { kept log.new.items
+        ≡ (if result then learnt_asked address.0 now (kept log.old.items) else kept log.old.items) }
+    ensures len { length log.new.items ≡ length log.old.items }
+    ensures capacity { vec_capacity log.new ≡ vec_capacity log.old }
+    ensures front { (n : ℕ) → kept (take n log.old.items) ≡ []
+        → kept (take n log.new.items) ≡ [] }
+{
+    match place_of(log, address, hint) {
+        Some(place) => ask_at(log, address, place, now),
+        None => false,
+    }
+}
+
+/// The same of the entry at the place of its address.
+fn ask_at(log: &mut Vec<Option<CacheEntry>>, address: Ip, place: usize, now: u64) -> bool
+    requires once { tally address.0 (entry_addresses (kept log.old.items)) ≤ 1 }
+    requires at { IsPlaceOf address.0 log.old.items place }
+    ensures asks { result ≡ learnt_asks address.0 now (kept log.old.items) }
+    ensures entries { kept log.new.items
+        ≡ (if result then learnt_asked address.0 now (kept log.old.items) else kept log.old.items) }
+    ensures len { length log.new.items ≡ length log.old.items }
+    ensures capacity { vec_capacity log.new ≡ vec_capacity log.old }
+    ensures front { (n : ℕ) → kept (take n log.old.items) ≡ []
+        → kept (take n log.new.items) ≡ [] }
+{
+    if place_asks(log[place], now) {
+        log[place] = place_asked(log[place], now);
+        true
+    } else {
+        false
+    }
+}
+
+fn wants_asking(entry: &CacheEntry, now: u64) -> bool
+    ensures { result ≡ wants_asking now entry.now }
+{
+    now.saturating_sub(entry.at) >= RENEWED_AFTER && now.saturating_sub(entry.asked) >= ASKED_AFTER
+}
+
+fn place_asks(place: Option<CacheEntry>, now: u64) -> bool
+    ensures { result ≡ place_asks now place }
+{
+    match place {
+        Some(entry) => wants_asking(&entry, now),
+        None => false,
+    }
+}
+
+fn place_asked(place: Option<CacheEntry>, now: u64) -> Option<CacheEntry>
+    ensures { result ≡ place_asked now place }
+{
+    match place {
+        Some(entry) => Some(CacheEntry {
+            address: entry.address,
+            mac: entry.mac,
+            at: entry.at,
+            asked: now,
+        }),
+        None => None,
     }
 }
 

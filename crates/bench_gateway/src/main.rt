@@ -10,7 +10,7 @@ mod stations;
 
 use addresses::Protocol;
 use anyhow::{Context, Result, bail};
-use many::{Costs, costs_of};
+use many::{Costs, TICKS, costs_of};
 use nat_types::Side;
 use packets::{Kind, PORTS, frame_of, set_pair};
 use stations::{Station, start};
@@ -91,12 +91,22 @@ fn report_costs<R: Print + Clock + AllocGlobal>(rt: &R, pairs: u32) -> Result<()
         idled,
         loaded,
         ticks,
+        silent,
+        held,
     } = costs_of(rt, pairs)?;
     println!(rt; "{pairs} pairs opened: {} us", opened.as_micros())?;
     println!(rt; "{pairs} pairs idle at one tick: {} us", idled.as_micros())?;
     println!(rt;
         "{pairs} pairs loaded: {} us, {ticks} ticks",
         loaded.as_micros()
+    )?;
+    println!(rt;
+        "{pairs} idle pairs, the peer silent: {} us for {TICKS} ticks",
+        silent.as_micros()
+    )?;
+    println!(rt;
+        "{pairs} idle pairs of the other gateway: {} us for {TICKS} ticks",
+        held.as_micros()
     )?;
     Ok(())
 }

@@ -12,6 +12,9 @@ use std::time::{Duration, Instant};
 /// The pairs of a gateway are idle after so many centiseconds: more than the longest limit of a pair.
 const REST: u64 = 800_000;
 
+/// So many ticks are measured at once.
+pub(crate) const TICKS: u64 = 100;
+
 /// So many ticks are given at most until nothing is left to do.
 const PATIENCE: u32 = 20_000;
 
@@ -25,6 +28,10 @@ pub(crate) struct Costs {
     pub(crate) loaded: Duration,
     /// How many ticks each gateway had until then.
     pub(crate) ticks: u32,
+    /// So many further ticks of the first gateway, whose pairs are idle, and whose peer is silent.
+    pub(crate) silent: Duration,
+    /// The same of the second one, which holds the first one's pairs.
+    pub(crate) held: Duration,
 }
 
 /// The tick at which all pairs of a gateway are idle.
@@ -36,6 +43,21 @@ fn idle<R: Clock>(rt: &R, station: &mut Station) -> Result<Duration> {
         bail!("pairs are left after the tick at which all were idle");
     }
     Ok(idled)
+}
+
+/// Ticks of a gateway all of whose pairs are idle, and none of which it may let go. The first such tick isn't counted.
+fn rest<R: Clock>(rt: &R, station: &mut Station) -> Result<Duration> {
+    let pairs = station.count()?;
+    station.tick(ACTIVE + REST)?;
+    let start = Instant::now(rt)?;
+    for tick in 1..=TICKS {
+        station.tick(ACTIVE + REST + tick)?;
+    }
+    let spent = start.elapsed(rt)?;
+    if station.count()? != pairs {
+        bail!("pairs were let go");
+    }
+    Ok(spent)
 }
 
 /// Opens so many pairs, and lets them idle.
@@ -102,24 +124,49 @@ impl Both {
         }
         Ok((spent, ticks))
     }
+
+    fn load_and_rest<R: Clock>(&mut self, rt: &R) -> Result<Load> {
+        let (loaded, ticks) = self.load_timed(rt)?;
+        Ok(Load {
+            loaded,
+            ticks,
+            silent: rest(rt, &mut self.zero)?,
+            held: rest(rt, &mut self.one)?,
+        })
+    }
 }
 
-/// Loads so many pairs into a gateway that starts.
-fn loaded<R: Clock + AllocGlobal>(rt: &R, pairs: u32) -> Result<(Duration, u32)> {
+/// What a gateway that starts costs, and what both cost then while all pairs are idle.
+struct Load {
+    loaded: Duration,
+    ticks: u32,
+    silent: Duration,
+    held: Duration,
+}
+
+/// Loads so many pairs into a gateway that starts, and lets both rest.
+fn loaded<R: Clock + AllocGlobal>(rt: &R, pairs: u32) -> Result<Load> {
     let mut both = Both::ready(rt.alloc(), pairs)?;
-    let loaded = both.load_timed(rt);
+    let load = both.load_and_rest(rt);
     both.end();
-    loaded
+    load
 }
 
 /// What so many pairs cost, at most as many as the gateway has ports.
 pub(crate) fn costs_of<R: Clock + AllocGlobal>(rt: &R, pairs: u32) -> Result<Costs> {
     let (opened, idled) = open_and_idle(rt, pairs)?;
-    let (loaded, ticks) = loaded(rt, pairs)?;
+    let Load {
+        loaded,
+        ticks,
+        silent,
+        held,
+    } = loaded(rt, pairs)?;
     Ok(Costs {
         opened,
         idled,
         loaded,
         ticks,
+        silent,
+        held,
     })
 }

@@ -21,7 +21,7 @@ use Rattle.spec_binding.specs.declared.changes.Transition.{Transition}
 use Rattle.spec_binding.specs.declared.changes.PortRequest.{PortRequest}
 use Rattle.spec_binding.specs.declared.changes.Want.TheVariants as want
 use Rattle.spec_binding.specs.Books.{Book, IsBook, is_synced, is_lone, is_promised}
-use Rattle.spec_binding.specs.Rows.{row, quiet, wish, wish_of, wish_by, known_wish, new_wish, new_pair, none_row, may_want, port_for, idle_row, release_row, released_row, is_full}
+use Rattle.spec_binding.specs.Rows.{row, quiet, wish, wish_of, wish_by, known_wish, new_wish, new_pair, none_row, may_want, port_for, is_at_limit, idle_row, release_row, released_row, is_full}
 use Rattle.bind_core.specs.Changes.{IsSteady, adds}
 use Rattle.spec_binding.specs.Ledgers.{may_ask, is_heard}
 
@@ -54,9 +54,13 @@ lone-paired s is = ap is_lone is
 pub wish-steady : (b : Book) (full : Bool) (e : Endpoint) → IsBook b → is_promised b ≡ true → IsSteady b (wish_of b full e).row.change
 wish-steady b full e is promised = at (is_synced b.stage) (entry_of b.entries e)
   where
+    unknown : (t : Bool) → IsSteady b (let w : PortRequest = cond t (wish want.HostLimit quiet) (new_wish b full e (port_for b e)) in w).row.change
+    unknown true = tt
+    unknown false = new-steady b full e (port_for b e) (lone-paired b.stage (is.promised promised))
+
     at : (t : Bool) (o : Option Entry) → IsSteady b (let w : PortRequest = cond t (wish_by b full e o) (wish want.NotNow quiet) in w).row.change
     at true (Some x) = known-steady b x.pair x.state
-    at true None = new-steady b full e (port_for b e) (lone-paired b.stage (is.promised promised))
+    at true None = unknown (is_at_limit b e.address)
     at false o = tt
 
 -- ---- idle pairs

@@ -4,6 +4,7 @@ use Rattle.nat_types.specs.declared.records.Record.{Record}
 use Rattle.bindings.specs.Entries.{HasDistinctKeys}
 use Rattle.resync.specs.Cursor.{coming, to_come}
 use Rattle.resync.specs.declared.cursor.Cursor.{Cursor}
+use Rattle.resync.specs.declared.cursor.Cursor.TheVariants.{Over}
 use Rattle.bind_core.proofs.Steady.{SteadyLaws, still-coming, none-coming}
 use Rattle.nat_types.specs.declared.notes.Note.{Note}
 use Rattle.link.specs.Link.{Link, with_fed, with_promised}
@@ -13,7 +14,7 @@ use Rattle.spec_pair.specs.Box.{Letter}
 use Rattle.spec_binding.specs.Machine.{Works}
 use Rattle.nat_types.specs.declared.gateways.GatewayId.{GatewayId}
 use Rattle.bindings.specs.declared.entries.Entry.{Entry}
-use Rattle.bindings.specs.Revivals.{revived_entries, woken_entry}
+use Rattle.bindings.specs.Revivals.{lives_of_pairs, revived_entries, woken_entry}
 use Rattle.bindings.proofs.Offered.{length-keep}
 use Rattle.resync.specs.Batch.{batch_of}
 use Rattle.resync.proofs.Offered.{few-of}
@@ -27,8 +28,8 @@ use Rattle.nat_types.specs.declared.pairs.Pair.{Pair}
 use Rattle.port_range.specs.Ports.{is_listed}
 use Rattle.std.proofs.Common.{◌==◌}
 use Rattle.std.proofs.lemmas.Bool.{or_left, eq-eqb}
-use Rattle.spec_binding.specs.Resets.{revived, restarted, restart_batch, restart_link}
-use Rattle.activity.specs.Lives.{Activity}
+use Rattle.spec_binding.specs.Resets.{put_alone, revived, restarted, restart_batch, restart_link}
+use Rattle.activity.specs.Lives.{Activity, life_renewed}
 use Rattle.bindings.specs.Table.{Table, IsTable}
 use Rattle.spec_binding.specs.declared.changes.Change.{Change}
 use Rattle.spec_binding.specs.declared.changes.Change.TheVariants.{Keep, Add, Turn, Renew, Drop, Yield, Want, Give, Gain}
@@ -36,17 +37,17 @@ use Rattle.spec_binding.specs.declared.changes.Transition.{Transition}
 use Rattle.spec_binding.specs.Books.{Book, IsBook, is_any, is_promised, is_synced, load_of, empty_book}
 use Rattle.spec_binding.specs.Rows.{after, changed, with_gained, is_gained, numbers_of, row_of, carry_row, use_row, used_row, quiet, answered, taken_book, taken_answer, unsynced_after, load_taken, stage_after}
 use Rattle.spec_binding.specs.declared.setups.Stage.{Stage}
-use Rattle.spec_binding.specs.declared.setups.Stage.TheVariants.{Paired, Unsynced}
+use Rattle.spec_binding.specs.declared.setups.Stage.TheVariants.{Lone, Paired, Unsynced}
 use Rattle.nat_types.specs.declared.records.Record.TheVariants as rec
 use Rattle.bindings.specs.declared.entries.PortBounds.{PortBounds}
 use Rattle.resync.specs.Loading.{Progress, loaded}
 use Rattle.resync.specs.Loading as progress
 use Rattle.std.proofs.Common.{Option, Some, None}
 use Rattle.bindings.specs.Runs.{own_in}
-use Rattle.std.proofs.Common.{true, false, cond, [], ◌∷◌, ◌++◌, take, drop}
+use Rattle.std.proofs.Common.{true, false, cond, [], ◌∷◌, ◌++◌, map, take, drop}
 use Rattle.bind_core.specs.Changes.{table_book, table_after, wants_after, ready_after, adds, IsBetween, IsSteady}
 use Rattle.bind_core.specs.declared.deeds.Bounds.{Bounds}
-use Rattle.spec_binding.specs.Ledgers.{Ledger, ledger_after, lives_after, lives_loaded, rests_for, taken_ledger}
+use Rattle.spec_binding.specs.Ledgers.{Ledger, alone_ledger, ledger_after, lives_after, lives_loaded, rests_for, taken_ledger}
 use Rattle.bind_core.specs.Cores.{Core, book_of, core_after, ledger_of, is_whole, revived_with}
 use Rattle.bind_core.proofs.Porting.{gained-rest}
 
@@ -223,7 +224,7 @@ load-book c r t2 p2 s2 cs ok stage comes zero one =
     ∙ sym (ap (load_taken (book_of c) r) ok)
   where
     of : Stage → List Record → PortBounds → PortBounds → Book
-    of s cs z o = record { id = c.id; zero = z; one = o; stage = s; begun = p2.begun; named = p2.named; entries = t2.entries; owned = t2.owned; wants = c.wants; coming = cs }
+    of s cs z o = record { id = c.id; zero = z; one = o; limit = c.limit; stage = s; begun = p2.begun; named = p2.named; entries = t2.entries; owned = t2.owned; wants = c.wants; coming = cs }
 
 unpaired : (b : Book) → is_synced b.stage ≡ false → IsBook b → is_promised b ≡ true → ⊥
 unpaired b h is promised = let paired : is_synced b.stage ≡ true = ap is_synced (is.promised promised) in cc
@@ -255,9 +256,9 @@ none-owned : (xs : List ℕ) → ((p : ℕ) → is_listed p xs ≡ false) → xs
 none-owned [] h = refl
 none-owned (x ∷ xs) h = let here = or_left (x == x) (is_listed x xs) (eq-eqb x x refl) in let none = h x in cc
 
-pub empty-is : (id : GatewayId) (zero one : PortBounds) (t : Table) (p : Progress) → t.zero ≡ zero → t.one ≡ one → t.entries ≡ [] → ((port : ℕ) → is_listed port t.owned ≡ false) → p ≡ progress.fresh zero one
-    → (let b : Book = record { id = id; zero = t.zero; one = t.one; stage = Unsynced; begun = p.begun; named = p.named; entries = t.entries; owned = t.owned; wants = false; coming = [] } in b) ≡ empty_book id zero one
-empty-is id zero one t p z o es owned is =
+pub empty-is : (id : GatewayId) (zero one : PortBounds) (limit : Option ℕ) (t : Table) (p : Progress) → t.zero ≡ zero → t.one ≡ one → t.entries ≡ [] → ((port : ℕ) → is_listed port t.owned ≡ false) → p ≡ progress.fresh zero one
+    → (let b : Book = record { id = id; zero = t.zero; one = t.one; limit = limit; stage = Unsynced; begun = p.begun; named = p.named; entries = t.entries; owned = t.owned; wants = false; coming = [] } in b) ≡ empty_book id zero one limit
+empty-is id zero one limit t p z o es owned is =
     ap (λ (x : Progress). of t.zero t.one x.begun x.named t.entries t.owned) is
     ∙ ap (λ (x : PortBounds). of x t.one false 0 t.entries t.owned) z
     ∙ ap (λ (x : PortBounds). of zero x false 0 t.entries t.owned) o
@@ -265,7 +266,7 @@ empty-is id zero one t p z o es owned is =
     ∙ ap (λ (x : List ℕ). of zero one false 0 [] x) (none-owned t.owned owned)
   where
     of : PortBounds → PortBounds → Bool → ℕ → List Entry → List ℕ → Book
-    of z o begun named entries owned = record { id = id; zero = z; one = o; stage = Unsynced; begun = begun; named = named; entries = entries; owned = owned; wants = false; coming = [] }
+    of z o begun named entries owned = record { id = id; zero = z; one = o; limit = limit; stage = Unsynced; begun = begun; named = named; entries = entries; owned = owned; wants = false; coming = [] }
 
 pub revived-book : (c : Core) (t2 : Table) (stage : Stage) (cursor : Cursor) → t2 ≡ record c.table { entries = t2.entries; lives = t2.lives } → t2.entries ≡ revived_entries c.table.entries
     → book_of (record c { table = t2; stage = stage; wants = false; coming = coming cursor t2 }) ≡ revived_with stage cursor c
@@ -273,16 +274,24 @@ revived-book c t2 stage cursor same entries =
     ap (λ (t : Table). book_of (record c { table = t; stage = stage; wants = false; coming = coming cursor t })) same
     ∙ ap (λ (es : List Entry). let b : Book = record (revived (book_of c)) { entries = es; stage = stage; coming = to_come cursor c.table.owned es } in b) entries
 
-pub restarted-synced : (b : Book) → is_synced b.stage ≡ true → restarted b ≡ record (revived b) { stage = Paired; coming = restart_batch b }
-restarted-synced b h = ap (λ (t : Bool). let x : Book = cond t (record (revived b) { stage = Paired; coming = restart_batch b }) (empty_book b.id b.zero b.one) in x) h
+-- alone, with each pair's life begun anew
+pub put_alone_is : (now : ℕ) (c c1 c2 : Core) → book_of c1 ≡ revived_with Lone Over c → c1.table.lives ≡ lives_of_pairs c.table.entries c.table.lives → c2 ≡ record c1 { table = record c1.table { lives = map (life_renewed now) c1.table.lives } }
+    → ledger_of c2 ≡ alone_ledger now (ledger_of c)
+put_alone_is now c c1 c2 book lives is =
+    ap ledger_of is
+    ∙ ap (λ (b : Book). let l : Ledger = record { book = b; lives = map (life_renewed now) c1.table.lives } in l) book
+    ∙ ap (λ (ls : List Activity). let l : Ledger = record { book = put_alone (book_of c); lives = map (life_renewed now) ls } in l) lives
 
-pub restarted-bare : (b : Book) → is_synced b.stage ≡ false → restarted b ≡ empty_book b.id b.zero b.one
-restarted-bare b h = ap (λ (t : Bool). let x : Book = cond t (record (revived b) { stage = Paired; coming = restart_batch b }) (empty_book b.id b.zero b.one) in x) h
+pub restarted-synced : (b : Book) → is_synced b.stage ≡ true → restarted b ≡ record (revived b) { stage = Paired; coming = restart_batch b }
+restarted-synced b h = ap (λ (t : Bool). let x : Book = cond t (record (revived b) { stage = Paired; coming = restart_batch b }) (empty_book b.id b.zero b.one b.limit) in x) h
+
+pub restarted-bare : (b : Book) → is_synced b.stage ≡ false → restarted b ≡ empty_book b.id b.zero b.one b.limit
+restarted-bare b h = ap (λ (t : Bool). let x : Book = cond t (record (revived b) { stage = Paired; coming = restart_batch b }) (empty_book b.id b.zero b.one b.limit) in x) h
 
 pub forgotten : (c : Core) (t2 : Table) (p : Progress) (zero one : PortBounds) → t2 ≡ record c.table { entries = []; lives = []; owned = [] } → c.table.zero ≡ zero → c.table.one ≡ one → p ≡ progress.fresh zero one
-    → (let b : Book = record { id = c.id; zero = t2.zero; one = t2.one; stage = Unsynced; begun = p.begun; named = p.named; entries = t2.entries; owned = t2.owned; wants = false; coming = [] } in b) ≡ empty_book c.id c.table.zero c.table.one
+    → (let b : Book = record { id = c.id; zero = t2.zero; one = t2.one; limit = c.limit; stage = Unsynced; begun = p.begun; named = p.named; entries = t2.entries; owned = t2.owned; wants = false; coming = [] } in b) ≡ empty_book c.id c.table.zero c.table.one c.limit
 forgotten c t2 p zero one same z o is =
-    empty-is c.id c.table.zero c.table.one t2 p (ap (λ (t : Table). t.zero) same) (ap (λ (t : Table). t.one) same) (ap (λ (t : Table). t.entries) same) (λ port. ap (λ (t : Table). is_listed port t.owned) same)
+    empty-is c.id c.table.zero c.table.one c.limit t2 p (ap (λ (t : Table). t.zero) same) (ap (λ (t : Table). t.one) same) (ap (λ (t : Table). t.entries) same) (λ port. ap (λ (t : Table). is_listed port t.owned) same)
     (is ∙ ap (λ (x : PortBounds). progress.fresh x one) (sym z) ∙ ap (λ (x : PortBounds). progress.fresh c.table.zero x) (sym o))
 
 pub link-synced : (b : Book) (e : Link) → is_synced b.stage ≡ true → restart_link b e ≡ with_promised e (length (restart_batch b))

@@ -1,27 +1,32 @@
 -- The idle pairs of a tick.
-use Rattle.std.proofs.Common.{◌≡◌, ℕ, zero, suc, ◌+◌, ◌<◌, ◌≤◌, Bool, true, false, cond, List, [], ◌∷◌, ◌++◌, length, get_or, drop, refl, sym, ap, subst, ◌∙◌, arith, append_assoc, slice_get, Some}
+use Rattle.std.proofs.Common.{◌≡◌, ℕ, zero, suc, ◌+◌, ◌<◌, ◌≤◌, Bool, true, false, cond, ◌||◌, List, [], ◌∷◌, ◌++◌, length, get_or, drop, refl, sym, ap, subst, ◌∙◌, arith, append_assoc, slice_get, Option, Some, None}
 use Rattle.std.proofs.lemmas.Option.{get_or_from_slice_get, slice_get_within}
 use Rattle.std.proofs.Math.Seq.{drop-cons}
 use Rattle.nat_types.specs.declared.notes.Note.{Note}
 use Rattle.link.specs.Link.{Link}
-use Rattle.spec_binding.specs.Rows.{idle_row, after, answered, noted_by}
-use Rattle.spec_binding.specs.Ledgers.{Ledger, ledger_after, let_go, may_ask}
+use Rattle.spec_binding.specs.Rows.{idle_row, after, answered, noted_by, quiet, release_row, released_row}
+use Rattle.spec_binding.specs.Ledgers.{Ledger, LetGo, ledger_after, let_go, may_ask}
 use Rattle.nat_types.specs.declared.records.Record.{Record}
 use Rattle.spec_pair.specs.Box.{Letter}
-use Rattle.spec_binding.specs.Books.{Book}
+use Rattle.spec_binding.specs.Books.{Book, is_lone, is_synced}
+use Rattle.spec_binding.specs.declared.changes.Transition.{Transition}
 use Rattle.spec_binding.specs.Machine.{Stands, Works}
+use Rattle.nat_types.specs.declared.pairs.EntryState.{EntryState}
+use Rattle.nat_types.specs.declared.pairs.EntryState.TheVariants.{Pending, Doomed, Live, Closing, Held}
 use Rattle.nat_types.specs.declared.pairs.Key.{Key}
+use Rattle.nat_types.specs.declared.pairs.Pair.{Pair}
 use Rattle.activity.specs.Lives.{Activity}
 use Rattle.bindings.specs.declared.entries.Entry.{Entry}
+use Rattle.bindings.specs.Entries.{slot_of}
 use Rattle.bindings.specs.Lives.{idle_keys_in, is_idle_row}
 
 -- no more keys are idle than there are entries
-pub few-idle : (now : ℕ) (es : List Entry) (ls : List Activity) → length (idle_keys_in now es ls) ≤ length es
-few-idle now [] ls = omega arith
-few-idle now (e ∷ es) [] = omega arith
-few-idle now (e ∷ es) (l ∷ ls) = at (is_idle_row now e l) (few-idle now es ls)
+pub few-idle : (lone : Bool) (now : ℕ) (es : List Entry) (ls : List Activity) → length (idle_keys_in lone now es ls) ≤ length es
+few-idle lone now [] ls = omega arith
+few-idle lone now (e ∷ es) [] = omega arith
+few-idle lone now (e ∷ es) (l ∷ ls) = at (is_idle_row lone now e l) (few-idle lone now es ls)
   where
-    at : (b : Bool) → length (idle_keys_in now es ls) ≤ length es → length (cond b (e.pair.key ∷ idle_keys_in now es ls) (idle_keys_in now es ls)) ≤ suc (length es)
+    at : (b : Bool) → length (idle_keys_in lone now es ls) ≤ length es → length (cond b (e.pair.key ∷ idle_keys_in lone now es ls) (idle_keys_in lone now es ls)) ≤ suc (length es)
     at true h = omega arith
     at false h = omega arith
 
@@ -65,6 +70,39 @@ all-done (suc i) (k ∷ ks) h = all-done i ks (omega (arith, h))
 pub one-more-at : (now : ℕ) (i : ℕ) (keys : List Key) (k : Key) (l : Ledger) (e : Link) (ns : List Note) (l2 : Ledger) (e2 : Link) (ns2 : List Note) → slice_get keys i ≡ Some k → IsReleased now k l e ns l2 e2 ns2 → IsOneMore now i keys l e ns l2 e2 ns2
 one-more-at now i keys k l e ns l2 e2 ns2 h is =
     one-more now i keys k l e ns l2 e2 ns2 (slice_get_within keys i k h) (subst (λ (z : Key). IsReleased now z l e ns l2 e2 ns2) (sym (get_or_from_slice_get keys i k k h)) is)
+
+-- ---- where none may be let go
+
+released-quiet : (p : Pair) (s : EntryState) → released_row false false p s ≡ quiet
+released-quiet p Pending = refl
+released-quiet p Doomed = refl
+released-quiet p Live = refl
+released-quiet p Closing = refl
+released-quiet p Held = refl
+
+idle-quiet : (b : Book) (ask : Bool) (k : Key) → is_lone b.stage ≡ false → ask ≡ false → idle_row b ask k ≡ quiet
+idle-quiet b ask k = at (is_synced b.stage) (is_lone b.stage) ask (slot_of b.entries k)
+  where
+    at : (t lone ask : Bool) (o : Option Entry) → lone ≡ false → ask ≡ false → (let r : Transition = cond t (release_row lone ask o) quiet in r) ≡ quiet
+    at false lone ask o h g = refl
+    at true true ask o h g = cc
+    at true false true o h g = cc
+    at true false false None h g = refl
+    at true false false (Some x) h g = released-quiet x.pair x.state
+
+-- a gateway that isn't lone, and may not ask, lets none go
+none-from : (now : ℕ) (ks : List Key) (l : Ledger) (e : Link) → is_lone l.book.stage ≡ false → may_ask now e ≡ false → let_go now ks l e ≡ record { ledger = l; link = e; notes = [] }
+none-from now [] l e lone mute = refl
+none-from now (k ∷ ks) l e lone mute =
+    ap (λ (r : Transition). let rest : LetGo = let_go now ks (ledger_after now r.change l) (answered e r.answer) in let all : LetGo = record rest { notes = noted_by l.book.id now r.what ++ rest.notes } in all) (idle-quiet l.book (may_ask now e) k lone mute)
+    ∙ none-from now ks l e lone mute
+
+neither : (a b : Bool) → (a || b) ≡ false → (a ≡ false) × (b ≡ false)
+neither true b h = cc
+neither false b h = (refl, h)
+
+pub none-go : (now : ℕ) (ks : List Key) (l : Ledger) (e : Link) → (is_lone l.book.stage || may_ask now e) ≡ false → let_go now ks l e ≡ record { ledger = l; link = e; notes = [] }
+none-go now ks l e h = let parts = neither (is_lone l.book.stage) (may_ask now e) h in none-from now ks l e parts.0 parts.1
 
 -- ---- acts
 

@@ -1,5 +1,5 @@
 -- What a change makes of a table, and of what its pairs carried.
-use Rattle.std.specs.Prelude.{◌≡◌, ℕ, ◌-◌, Bool, true, false, [], Some, if◌then◌else◌}
+use Rattle.std.specs.Prelude.{◌≡◌, ℕ, ◌-◌, Bool, true, false, [], None, Some, if◌then◌else◌}
 use Rattle.nat_types.specs.Same.{same_key}
 use Rattle.nat_types.specs.declared.gateways.GatewayId.TheVariants.{Zero}
 use Rattle.nat_types.specs.declared.pairs.Key.{Key}
@@ -16,12 +16,13 @@ use Rattle.spec_binding.specs.Ledgers.{is_held, lives_after}
 use Rattle.spec_binding.specs.Rows.{changed}
 use Rattle.bind_core.specs.declared.deeds.Bounds.{Bounds}
 
--- the table as the book of a gateway that isn't lone
+-- the table as the book of a gateway that isn't lone, with no limit
 abbrev pub table_book : Table → Book
 table_book t = record {
   id = Zero;
   zero = t.zero;
   one = t.one;
+  limit = None;
   stage = Paired;
   begun = false;
   named = 0;

@@ -23,17 +23,18 @@ use Rattle.spec_binding.specs.Books.{Book, is_synced}
 use Rattle.spec_binding.specs.Ledgers.{Ledger}
 use Rattle.bind_core.specs.Changes.{table_after, wants_after}
 
--- Who it is, its table, how far it is, whether Begin was taken and not yet Done, the last port that an Owner named,
+-- Who it is, its table, the most pairs that one inside address may have, how far it is, whether Begin was taken and not yet Done, the last port that an Owner named,
 -- whether a Want of its is open, and what of a promised batch is still to be handed in.
 pub record Core : Type 0 where
   pub id : GatewayId
   pub table : Table
+  pub limit : Option ℕ
   pub stage : Stage
   pub begun : Bool
   pub named : ℕ
   pub wants : Bool
   pub coming : List Record
-  pub idle : List Key  -- what the last tick found idle
+  pub idle : List Key  -- what the last tick that looked found idle
 
 -- what the protocol knows of it
 abbrev pub book_of : Core → Book
@@ -41,6 +42,7 @@ book_of c = record {
   id = c.id;
   zero = c.table.zero;
   one = c.table.one;
+  limit = c.limit;
   stage = c.stage;
   begun = c.begun;
   named = c.named;

@@ -10,6 +10,7 @@ abbrev pub core_of : Inside → Core
 core_of c = record {
   id = c.id;
   table = c.table;
+  limit = c.limit;
   stage = c.stage;
   begun = c.loading.begun;
   named = c.loading.named;

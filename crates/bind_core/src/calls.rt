@@ -1,5 +1,5 @@
 //! What a gateway asks of its core: rows carried out.
-ghost use Rattle.std.specs.Prelude.{◌≡◌, ◌+◌, ◌<◌, ◌≤◌, ◌++◌, ◌∷◌, [], ℕ, List, true, false, suc};
+ghost use Rattle.std.specs.Prelude.{◌≡◌, ◌+◌, ◌<◌, ◌≤◌, ◌++◌, ◌∷◌, ◌||◌, [], ℕ, List, true, false, suc};
 ghost use Rattle.std.specs.Prelude.{length, vec_len, vec_capacity, OnOk, OnErr};
 ghost use Rattle.link.specs.Grammar.{IsWellFormedRecord};
 ghost use Rattle.link.specs.Link.{free_places, needs_answer};
@@ -96,16 +96,22 @@ impl Core {
         self.perform(link, notes, now, row);
     }
 
-    /// The idle pairs of a tick, one after the other: a lone gateway drops each, another one asks for the end of each
-    /// Live one, where the peer was heard at most 300 cs ago and the link isn't full then.
-    pub fn tick(&mut self, link: &mut Link, now: u64, notes: &mut Vec<Note>)
+    /// Whether any pair may be let go: it is alone, or the end of one may be asked for.
+    fn may_release(&self, link: &Link, now: u64) -> bool
+        ensures { result ≡ (is_lone_at self.now.stage || may_ask_at now link.now) }
+    {
+        self.is_lone() || may_ask(link, now)
+    }
+
+    /// The idle pairs that may be let go, one after the other.
+    fn release_idle(&mut self, link: &mut Link, now: u64, notes: &mut Vec<Note>)
         requires reserved { vec_len notes.old + length self.old.table.entries
             < vec_capacity notes.old }
-        ensures ledger { let keys = idle_keys_of self.old.table now
+        ensures ledger { let keys = idle_keys_of self.old.table (is_lone_at self.old.stage) now
             in ledger_of self.new ≡ (let_go now keys (ledger_of self.old) link.old).ledger }
-        ensures link { let keys = idle_keys_of self.old.table now
+        ensures link { let keys = idle_keys_of self.old.table (is_lone_at self.old.stage) now
             in link.new ≡ (let_go now keys (ledger_of self.old) link.old).link }
-        ensures notes { let keys = idle_keys_of self.old.table now
+        ensures notes { let keys = idle_keys_of self.old.table (is_lone_at self.old.stage) now
             in notes.new.items ≡ notes.old.items
             ++ (let_go now keys (ledger_of self.old) link.old).notes }
         ensures ready { self.new.table.ready ≡ self.old.table.ready }
@@ -113,7 +119,8 @@ impl Core {
         ensures capacity { vec_capacity notes.new ≡ vec_capacity notes.old }
         ensures works { (h : List Rec) (n : ℕ) → Stands (book_of self.old) link.old h
             → Works now [] [] (book_of self.old) link.old n (book_of self.new) link.new n
-            (let_go now (idle_keys_of self.old.table now) (ledger_of self.old) link.old).notes h }
+            (let_go now (idle_keys_of self.old.table (is_lone_at self.old.stage) now)
+            (ledger_of self.old) link.old).notes h }
     {
         idle_works();
         works_join();
@@ -122,6 +129,33 @@ impl Core {
         for i in 0..self.idle_count() {
             let key = self.idle_key_at(i);
             self.release(key, link, now, notes);
+        }
+    }
+
+    /// The idle pairs of a tick, one after the other: a lone gateway drops each, another one asks for the end of each
+    /// Live one, where the peer was heard at most 300 cs ago and the link isn't full then. Where none may be let go, no
+    /// pair is looked at.
+    pub fn tick(&mut self, link: &mut Link, now: u64, notes: &mut Vec<Note>)
+        requires reserved { vec_len notes.old + length self.old.table.entries
+            < vec_capacity notes.old }
+        ensures ledger { let keys = idle_keys_of self.old.table (is_lone_at self.old.stage) now
+            in ledger_of self.new ≡ (let_go now keys (ledger_of self.old) link.old).ledger }
+        ensures link { let keys = idle_keys_of self.old.table (is_lone_at self.old.stage) now
+            in link.new ≡ (let_go now keys (ledger_of self.old) link.old).link }
+        ensures notes { let keys = idle_keys_of self.old.table (is_lone_at self.old.stage) now
+            in notes.new.items ≡ notes.old.items
+            ++ (let_go now keys (ledger_of self.old) link.old).notes }
+        ensures ready { self.new.table.ready ≡ self.old.table.ready }
+        ensures len { vec_len notes.new ≤ vec_len notes.old + length self.old.table.entries }
+        ensures capacity { vec_capacity notes.new ≡ vec_capacity notes.old }
+        ensures works { (h : List Rec) (n : ℕ) → Stands (book_of self.old) link.old h
+            → Works now [] [] (book_of self.old) link.old n (book_of self.new) link.new n
+            (let_go now (idle_keys_of self.old.table (is_lone_at self.old.stage) now)
+            (ledger_of self.old) link.old).notes h }
+    {
+        works_nothing();
+        if self.may_release(link, now) {
+            self.release_idle(link, now, notes);
         }
     }
 
@@ -224,13 +258,14 @@ impl Core {
     }
 
     /// The operator's word that the peer is off: the link's session was closed just before. Each pair that it waited for
-    /// translates again, and from then on nobody's consent is needed.
+    /// translates again, the life of each pair begins anew, since the peer may have carried it until then, and from then
+    /// on nobody's consent is needed.
     pub fn peer_off(&mut self, link: &Link, now: u64, notes: &mut Vec<Note>)
         requires synced { is_synced_at self.old.stage ≡ true }
         requires closed { link.now.closed ≡ true }
         requires reserved { vec_len notes.old + length self.old.table.entries
             ≤ vec_capacity notes.old }
-        ensures ledger { ledger_of self.new ≡ alone_ledger (ledger_of self.old) }
+        ensures ledger { ledger_of self.new ≡ alone_ledger now (ledger_of self.old) }
         ensures ready { self.new.table.ready ≡ self.old.table.ready }
         ensures notes { notes.new.items ≡ notes.old.items ++ retaken self.old.id now
             (back_in self.old.table.entries) }
@@ -245,7 +280,7 @@ impl Core {
         self.recall();
         books_keep();
         word_works();
-        self.revive(Stage::Lone, Cursor::Over, now, notes);
+        self.put_alone(now, notes);
         let _ = link;
     }
 

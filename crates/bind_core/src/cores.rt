@@ -2,10 +2,10 @@
 ghost use Rattle.std.specs.Prelude.{◌≡◌, ◌+◌, ◌-◌, ◌*◌, ◌<◌, ◌≤◌, ◌++◌, ◌&&◌, not};
 ghost use Rattle.std.specs.Prelude.{ℕ, Bool, [], true};
 ghost use Rattle.std.specs.Prelude.{IsTrue, IfOk, IfSome, is_some, length, vec_len, vec_capacity};
-ghost use Rattle.std.specs.Prelude.{slice_get, Some, false, OnOk, OnErr, drop, take, List};
+ghost use Rattle.std.specs.Prelude.{slice_get, Some, false, OnOk, OnErr, drop, take, List, map};
 ghost use Rattle.nat_types.specs.declared.pairs.Key.{Key as OutsidePort};
 ghost use Rattle.activity.specs.declared.packets.Packet.{Packet as Carried};
-ghost use Rattle.activity.specs.Lives.{History, with_packet};
+ghost use Rattle.activity.specs.Lives.{History, life_renewed, with_packet};
 ghost use Rattle.bindings.specs.Lives.{KeepsOthers};
 ghost use Rattle.bindings.specs.Table.{IsPast};
 ghost use Rattle.link.specs.Grammar.{IsWellFormedRecord};
@@ -19,6 +19,7 @@ ghost use Rattle.spec_binding.specs.Books.{is_lone as is_lone_at, is_promised};
 ghost use Rattle.spec_binding.specs.WellFormed.{Fits};
 ghost use Rattle.spec_binding.specs.Rows.{is_theirs as is_theirs_port, proposed_row, install_row};
 ghost use Rattle.spec_binding.specs.Rows.{grant_row, want_row, none_row, synced_row, new_wish};
+ghost use Rattle.spec_binding.specs.Rows.{is_at_limit as is_at_limit_in, unknown_wish};
 ghost use Rattle.spec_binding.specs.Rows.{wish_of, carry_row, noted_by, after, answered, is_full};
 ghost use Rattle.spec_binding.specs.Rows.{idle_row, row_of, unsynced_after, unsynced_what};
 ghost use Rattle.spec_binding.specs.Rows.{quiet as quiet_row, wish as wish_with};
@@ -28,13 +29,13 @@ ghost use Rattle.bindings.specs.Table.{idle_keys_of};
 ghost use Rattle.bindings.specs.Ports.{AreBounds, key_count};
 ghost use Rattle.spec_binding.specs.Books.{empty_book, founded_book};
 ghost use Rattle.nat_types.specs.declared.gateways.GatewayId.TheVariants.{Zero};
-ghost use Rattle.spec_binding.specs.Resets.{back_in, retaken};
+ghost use Rattle.spec_binding.specs.Resets.{back_in, put_alone as put_alone_book, retaken};
 ghost use Rattle.bindings.specs.declared.entries.Entry.{Entry as Known};
 ghost use Rattle.bindings.specs.Entries.{is_pair, slot_of};
 ghost use Rattle.bindings.specs.Revivals.{lives_of_pairs};
 ghost use Rattle.resync.specs.Loading.{loaded};
 ghost use Rattle.spec_binding.specs.Books.{load_of};
-ghost use Rattle.spec_binding.specs.Ledgers.{carried_ledger, lives_loaded, rests_for};
+ghost use Rattle.spec_binding.specs.Ledgers.{alone_ledger, carried_ledger, lives_loaded, rests_for};
 ghost use Rattle.spec_binding.specs.Resets.{restart_batch};
 ghost use Rattle.bind_core.specs.Cores.{book_of, carries_pair, core_after, ledger_of};
 ghost use Rattle.bind_core.specs.Cores.{owned_of, revived_with};
@@ -46,7 +47,7 @@ use crate::deeds::{
 use crate::loads::{loading_of, stage_after};
 use crate::resets::note_back;
 use activity::{Packet, Remote, Way};
-use addresses::{Port, TcpFlags};
+use addresses::{Ip, Port, TcpFlags};
 use arrayvec::ArrayVec;
 use binding_rows::{
     accept, answering, ask, carry, choose_granted, ending, gives_way, higher, is_lone, is_synced,
@@ -68,6 +69,8 @@ pub struct Core {
     id: GatewayId,
     bounds: Bounds,
     table: Table,
+    /// The most pairs that one inside address may have.
+    limit: Option<u16>,
     stage: Stage,
     /// How far a loading is.
     loading: Loading,
@@ -281,6 +284,28 @@ impl Core {
         }
     }
 
+    /// Whether an inside address has as many pairs as it may have, or more: those of both gateways count.
+    fn is_at_limit(&self, address: Ip) -> bool
+        ensures { result ≡ is_at_limit_in (book_of self.now) address }
+    {
+        match self.limit {
+            None => false,
+            Some(limit) => u32::from(limit) <= self.table.pairs_of(address),
+        }
+    }
+
+    /// What a packet of an endpoint without a pair has to do.
+    fn unknown_wish_for(&self, full: bool, endpoint: Endpoint) -> PortRequest
+        ensures { result ≡ unknown_wish (book_of self.now) full endpoint }
+    {
+        if self.is_at_limit(endpoint.address) {
+            return wish(Want::HostLimit, quiet());
+        }
+        let parity = endpoint.port.parity();
+        let port = self.table.free_like(endpoint.protocol, parity);
+        self.new_wish_for(full, endpoint, port)
+    }
+
     pub(crate) fn wish_for(&self, full: bool, endpoint: Endpoint) -> PortRequest
         ensures { result ≡ wish_of (book_of self.now) full endpoint }
     {
@@ -289,11 +314,7 @@ impl Core {
         }
         match self.table.port_of(endpoint) {
             Some(entry) => known(entry.pair, entry.state),
-            None => {
-                let parity = endpoint.port.parity();
-                let port = self.table.free_like(endpoint.protocol, parity);
-                self.new_wish_for(full, endpoint, port)
-            }
+            None => self.unknown_wish_for(full, endpoint),
         }
     }
 
@@ -412,11 +433,13 @@ impl Core {
     }
 
     pub(crate) fn list_idle(&mut self, now: u64)
-        ensures { self.new ≡ record self.old { idle = idle_keys_of self.old.table now } }
+        ensures { let lone = is_lone_at self.old.stage
+            in self.new ≡ record self.old { idle = idle_keys_of self.old.table lone now } }
     {
         self.table.recall();
         self.idle.clear();
-        match self.table.idle_keys(now, &mut self.idle) {
+        let lone = is_lone(self.stage);
+        match self.table.idle_keys(lone, now, &mut self.idle) {
             Ok(()) => {}
             Err(_no_room) => unreachable!(),
         }
@@ -548,11 +571,39 @@ impl Core {
         self.cursor = cursor;
     }
 
+    /// It is alone: what was proposed or asked to be closed translates again, and is noted, and the life of each pair
+    /// begins anew.
+    #[tactic(auto, using(crate::proofs::Performing::put_alone_is))]
+    pub(crate) fn put_alone(&mut self, now: u64, notes: &mut Vec<Note>)
+        requires kept { IsBook (put_alone_book (book_of self.old)) }
+        requires reserved { vec_len notes.old + length self.old.table.entries
+            ≤ vec_capacity notes.old }
+        ensures ledger { ledger_of self.new ≡ alone_ledger now (ledger_of self.old) }
+        ensures notes { notes.new.items ≡ notes.old.items ++ retaken self.old.id now
+            (back_in self.old.table.entries) }
+        ensures len { vec_len notes.new ≤ vec_len notes.old + length self.old.table.entries }
+        ensures capacity { vec_capacity notes.new ≡ vec_capacity notes.old }
+        ensures ready { self.new.table.ready ≡ self.old.table.ready }
+    {
+        self.revive(Stage::Lone, Cursor::Over, now, notes);
+        self.renew_all(now);
+    }
+
+    fn renew_all(&mut self, now: u64)
+        ensures { self.new ≡ record self.old {
+          table = record self.old.table {
+            lives = map (life_renewed now) self.old.table.lives;
+          };
+        } }
+    {
+        self.table.renew_all(now);
+    }
+
     /// The table is empty, and nothing is loaded.
     pub(crate) fn forget(&mut self)
-        requires kept { IsBook (empty_book self.old.id self.old.table.zero self.old.table.one) }
-        ensures book { book_of self.new
-            ≡ empty_book self.old.id self.old.table.zero self.old.table.one }
+        requires kept { let b = book_of self.old in IsBook (empty_book b.id b.zero b.one b.limit) }
+        ensures book { let b = book_of self.old
+            in book_of self.new ≡ empty_book b.id b.zero b.one b.limit }
         ensures lives { self.new.table.lives ≡ [] }
         ensures ready { self.new.table.ready ≡ self.old.table.ready }
     {
@@ -578,18 +629,20 @@ impl Core {
 
     // ---- beginnings
 
-    /// A gateway that begins without a table, with the ranges of gateway 0 and of gateway 1.
+    /// A gateway that begins without a table, with the ranges of gateway 0 and of gateway 1, and the most pairs that one
+    /// inside address may have: any number where there is no limit.
     pub fn unsynced(
         alloc: Global,
         id: GatewayId,
         zero: PortBounds,
         one: PortBounds,
+        limit: Option<u16>,
         hashers: Hashers,
     ) -> Result<Core, AllocError>
         requires zero { AreBounds zero }
         requires one { AreBounds one }
         ensures ledger { IfOk result (λ c. ledger_of c
-            ≡ record { book = empty_book id zero one; lives = [] }) }
+            ≡ record { book = empty_book id zero one limit; lives = [] }) }
     {
         books_begin();
         recall_port(zero.highest);
@@ -600,6 +653,7 @@ impl Core {
             id,
             bounds: Bounds { zero, one },
             table,
+            limit,
             stage: Stage::Unsynced,
             loading: Loading::new(zero, one),
             wants: false,
@@ -608,19 +662,20 @@ impl Core {
         })
     }
 
-    /// Gateway 0, founded alone, with the ports of its range.
+    /// Gateway 0, founded alone, with the ports of its range; the limit is as of `unsynced`.
     pub fn founder(
         alloc: Global,
         zero: PortBounds,
         one: PortBounds,
+        limit: Option<u16>,
         hashers: Hashers,
     ) -> Result<Core, AllocError>
         requires zero { AreBounds zero }
         requires one { AreBounds one }
         ensures ledger { IfOk result (λ c. ledger_of c
-            ≡ record { book = founded_book zero one; lives = [] }) }
+            ≡ record { book = founded_book zero one limit; lives = [] }) }
     {
-        let mut core = Core::unsynced(alloc, GatewayId::Zero, zero, one, hashers)?;
+        let mut core = Core::unsynced(alloc, GatewayId::Zero, zero, one, limit, hashers)?;
         core.found(zero, one);
         Ok(core)
     }
@@ -628,8 +683,8 @@ impl Core {
     fn found(&mut self, zero: PortBounds, one: PortBounds)
         requires zero { AreBounds zero }
         requires one { AreBounds one }
-        requires empty { book_of self.old ≡ empty_book Zero zero one }
-        ensures book { book_of self.new ≡ founded_book zero one }
+        requires empty { book_of self.old ≡ empty_book Zero zero one self.old.limit }
+        ensures book { book_of self.new ≡ founded_book zero one self.old.limit }
         ensures lives { self.new.table.lives ≡ self.old.table.lives }
     {
         books_begin();

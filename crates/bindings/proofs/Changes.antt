@@ -23,7 +23,7 @@ use Rattle.bindings.proofs.Places.{turn-none}
 use Rattle.bindings.proofs.Kept.{slot-is, entry-is, below-none, rows-without_none}
 
 -- what is found passes no test that nothing passes
-found-none : {X : Type 0} (p q : X → Bool) (xs : List X) (x : X) → find p xs ≡ Some x → q x ≡ true → find q xs ≡ None → ⊥
+pub found-none : {X : Type 0} (p q : X → Bool) (xs : List X) (x : X) → find p xs ≡ Some x → q x ≡ true → find q xs ≡ None → ⊥
 found-none p q [] x h t n = cc
 found-none p q (y ∷ ys) x h t n = by (p y) h (found-none p q ys x)
   where
@@ -39,7 +39,7 @@ mapped true z o = refl
 mapped false z o = refl
 
 -- where no pair serves an endpoint, no slot does
-number-none : (rows : List (Row Item)) (x : Endpoint) → entry_of (entries_of rows) x ≡ None → number_for rows x ≡ None
+pub number-none : (rows : List (Row Item)) (x : Endpoint) → entry_of (entries_of rows) x ≡ None → number_for rows x ≡ None
 number-none rows x h = by (find (λ (r : Row Item). serves x r.item.entry) rows) (sym (entry-is rows x) ∙ h)
   where
     by : (o : Option (Row Item)) → option_map (λ (r : Row Item). r.item.entry) o ≡ None → option_map (λ (r : Row Item). r.number) o ≡ None

@@ -17,10 +17,12 @@ mod Rooms
 mod Uses
 mod Kept
 mod Changes
+mod Counts
 mod Stored
 mod Walks
 mod Dropping
 mod Lived
+mod Renewed
 mod Timed
 mod Merged
 pub mod Offered

@@ -17,29 +17,28 @@ use Rattle.slots.specs.Rows as slots
 use Rattle.slots.proofs.Offered.{places_rise, other_key}
 use Rattle.bindings.specs.declared.entries.Entry.{Entry}
 use Rattle.bindings.specs.declared.store.Item.{Item}
-use Rattle.bindings.specs.Entries.{translates}
 use Rattle.bindings.specs.Lists.{key_place}
-use Rattle.bindings.specs.Lives.{life_in, is_idle_row, idle_keys_in, rests_by}
+use Rattle.bindings.specs.Lives.{life_in, may_go, is_idle_row, idle_keys_in, rests_by}
 use Rattle.bindings.specs.Stores.{entries_of, lives_of, AreKeyed}
-use Rattle.bindings.specs.Dues.{AreTimed, translates_by, is_idle_key, idle_among}
+use Rattle.bindings.specs.Dues.{AreTimed, may_go_by, is_idle_key, idle_among}
 use Rattle.bindings.proofs.Kept.{slot-is, life-is, below-none}
 use Rattle.bindings.proofs.Timed.{item-first, item-next}
 
--- an item under a key translates and is idle
-abbrev rests_here : ℕ → Key → Option Item → Bool
-rests_here now key None = false
-rests_here now key (Some i) = translates i.entry.state && looks_idle key.protocol i.life now
+-- an item under a key is idle and may be let go
+abbrev rests_here : Bool → ℕ → Key → Option Item → Bool
+rests_here lone now key None = false
+rests_here lone now key (Some i) = may_go lone i.entry.state && looks_idle key.protocol i.life now
 
-abbrev row_test : ℕ → List (Row Item) → Key → Bool
-row_test now rows key = rests_here now key (slots.item_of rows key)
+abbrev row_test : Bool → ℕ → List (Row Item) → Key → Bool
+row_test lone now rows key = rests_here lone now key (slots.item_of rows key)
 
-test-is : (now : ℕ) (rows : List (Row Item)) (key : Key) → AreKeyed rows → is_idle_key now (entries_of rows) (lives_of rows) key ≡ row_test now rows key
-test-is now rows key k =
-    ap (λ (o : Option Entry). translates_by o && rests_by key now (life_in (entries_of rows) (lives_of rows) key)) (slot-is rows key k)
-    ∙ ap (λ (o : Option Activity). translates_by (option_map (λ (i : Item). i.entry) (slots.item_of rows key)) && rests_by key now o) (life-is rows key k)
+test-is : (lone : Bool) (now : ℕ) (rows : List (Row Item)) (key : Key) → AreKeyed rows → is_idle_key lone now (entries_of rows) (lives_of rows) key ≡ row_test lone now rows key
+test-is lone now rows key k =
+    ap (λ (o : Option Entry). may_go_by lone o && rests_by key now (life_in (entries_of rows) (lives_of rows) key)) (slot-is rows key k)
+    ∙ ap (λ (o : Option Activity). may_go_by lone (option_map (λ (i : Item). i.entry) (slots.item_of rows key)) && rests_by key now o) (life-is rows key k)
     ∙ at (slots.item_of rows key)
   where
-    at : (o : Option Item) → (translates_by (option_map (λ (i : Item). i.entry) o) && rests_by key now (option_map (λ (i : Item). i.life) o)) ≡ rests_here now key o
+    at : (o : Option Item) → (may_go_by lone (option_map (λ (i : Item). i.entry) o) && rests_by key now (option_map (λ (i : Item). i.life) o)) ≡ rests_here lone now key o
     at None = refl
     at (Some i) = refl
 
@@ -67,24 +66,24 @@ filter-none p now first (m ∷ ms) none = at (is_due now m) (filter-none p now (
 -- ---- rows and cells
 
 -- from this cell on, a row's cell is one of these, and is due where the row is idle
-record IsDueRow (now first : ℕ) (ms : List (Option ℕ)) (r : Row Item) : Type 0 where
+record IsDueRow (lone : Bool) (now first : ℕ) (ms : List (Option ℕ)) (r : Row Item) : Type 0 where
   own : key_at (cell_of r.key) ≡ r.key
   index : ℕ
   cell : cell_of r.key ≡ first + index
   within : index < length ms
-  due : is_idle_row now r.item.entry r.item.life ≡ true → is_due now (get_or ms index None) ≡ true
+  due : is_idle_row lone now r.item.entry r.item.life ≡ true → is_due now (get_or ms index None) ≡ true
 
-abbrev AreDue : ℕ → ℕ → List (Option ℕ) → List (Row Item) → Type 0
-AreDue now first ms [] = Unit {0}
-AreDue now first ms (r ∷ rows) = IsDueRow now first ms r × AreDue now first ms rows
+abbrev AreDue : Bool → ℕ → ℕ → List (Option ℕ) → List (Row Item) → Type 0
+AreDue lone now first ms [] = Unit {0}
+AreDue lone now first ms (r ∷ rows) = IsDueRow lone now first ms r × AreDue lone now first ms rows
 
 -- rows behind the first cell's have later cells
-shift : (now first low : ℕ) (m : Option ℕ) (ms : List (Option ℕ)) (rows : List (Row Item)) → slots.Rises low rows → key_place (key_at first) < low → AreDue now first (m ∷ ms) rows → AreDue now (first + 1) ms rows
-shift now first low m ms [] rises h due = tt
-shift now first low m ms (r ∷ rows) rises h due =
-    (one due.0.index refl, shift now first (suc (key_place r.key)) m ms rows rises.1 (let l = rises.0 in omega (arith, h, l)) due.1)
+shift : (lone : Bool) (now first low : ℕ) (m : Option ℕ) (ms : List (Option ℕ)) (rows : List (Row Item)) → slots.Rises low rows → key_place (key_at first) < low → AreDue lone now first (m ∷ ms) rows → AreDue lone now (first + 1) ms rows
+shift lone now first low m ms [] rises h due = tt
+shift lone now first low m ms (r ∷ rows) rises h due =
+    (one due.0.index refl, shift lone now first (suc (key_place r.key)) m ms rows rises.1 (let l = rises.0 in omega (arith, h, l)) due.1)
   where
-    one : (i : ℕ) → due.0.index ≡ i → IsDueRow now (first + 1) ms r
+    one : (i : ℕ) → due.0.index ≡ i → IsDueRow lone now (first + 1) ms r
     one zero e =
         let c : cell_of r.key ≡ first = (let d = due.0.cell in omega (arith, d, e)) in
         let place = ap key_place (sym due.0.own ∙ ap key_at c) in
@@ -99,51 +98,51 @@ shift now first low m ms (r ∷ rows) rises h due =
     }
 
 -- what is to be shown, of all rows from a cell on
-abbrev AreMerged : ℕ → ℕ → List (Option ℕ) → Type 0
-AreMerged now first ms =
-    (low : ℕ) (rows : List (Row Item)) → slots.Rises low rows → AreKeyed rows → AreDue now first ms rows
-    → idle_keys_in now (entries_of rows) (lives_of rows) ≡ filter (row_test now rows) (map key_at (due_from now first ms))
+abbrev AreMerged : Bool → ℕ → ℕ → List (Option ℕ) → Type 0
+AreMerged lone now first ms =
+    (low : ℕ) (rows : List (Row Item)) → slots.Rises low rows → AreKeyed rows → AreDue lone now first ms rows
+    → idle_keys_in lone now (entries_of rows) (lives_of rows) ≡ filter (row_test lone now rows) (map key_at (due_from now first ms))
 
-merged : (now first low : ℕ) (ms : List (Option ℕ)) (rows : List (Row Item)) → slots.Rises low rows → AreKeyed rows → AreDue now first ms rows
-    → idle_keys_in now (entries_of rows) (lives_of rows) ≡ filter (row_test now rows) (map key_at (due_from now first ms))
-merged now first low ms [] rises keyed due = sym (filter-none (row_test now []) now first ms (λ key. refl))
-merged now first low [] (r ∷ rows) rises keyed due = absurd (let w = due.0.within in omega (arith, w))
-merged now first low (m ∷ ms) (r ∷ rows) rises keyed due =
-    by (λ low rows rises keyed due. merged now (first + 1) low ms rows rises keyed due) due.0.index refl
+merged : (lone : Bool) (now first low : ℕ) (ms : List (Option ℕ)) (rows : List (Row Item)) → slots.Rises low rows → AreKeyed rows → AreDue lone now first ms rows
+    → idle_keys_in lone now (entries_of rows) (lives_of rows) ≡ filter (row_test lone now rows) (map key_at (due_from now first ms))
+merged lone now first low ms [] rises keyed due = sym (filter-none (row_test lone now []) now first ms (λ key. refl))
+merged lone now first low [] (r ∷ rows) rises keyed due = absurd (let w = due.0.within in omega (arith, w))
+merged lone now first low (m ∷ ms) (r ∷ rows) rises keyed due =
+    by (λ low rows rises keyed due. merged lone now (first + 1) low ms rows rises keyed due) due.0.index refl
   where
     T : Key → Bool
-    T = row_test now (r ∷ rows)
+    T = row_test lone now (r ∷ rows)
 
     D : List Key
     D = map key_at (due_from now (first + 1) ms)
 
     K : List Key
-    K = idle_keys_in now (entries_of rows) (lives_of rows)
+    K = idle_keys_in lone now (entries_of rows) (lives_of rows)
 
     -- the first cell has the first row
-    here : AreMerged now (first + 1) ms → r.key ≡ key_at first → cond (is_idle_row now r.item.entry r.item.life) (r.item.entry.pair.key ∷ K) K ≡ filter T (map key_at (due_from now first (m ∷ ms)))
-    here less same = at (is_idle_row now r.item.entry r.item.life) (is_due now m) refl refl
+    here : AreMerged lone now (first + 1) ms → r.key ≡ key_at first → cond (is_idle_row lone now r.item.entry r.item.life) (r.item.entry.pair.key ∷ K) K ≡ filter T (map key_at (due_from now first (m ∷ ms)))
+    here less same = at (is_idle_row lone now r.item.entry r.item.life) (is_due now m) refl refl
       where
-        test : T (key_at first) ≡ is_idle_row now r.item.entry r.item.life
+        test : T (key_at first) ≡ is_idle_row lone now r.item.entry r.item.life
         test =
-            ap (rests_here now (key_at first)) (item-first (key_at first) r rows (key-true r.key (key_at first) same))
-            ∙ ap (λ (q : Key). translates r.item.entry.state && looks_idle q.protocol r.item.life now) (sym same ∙ keyed.0)
+            ap (rests_here lone now (key_at first)) (item-first (key_at first) r rows (key-true r.key (key_at first) same))
+            ∙ ap (λ (q : Key). may_go lone r.item.entry.state && looks_idle q.protocol r.item.life now) (sym same ∙ keyed.0)
 
-        later : (d : ℕ) → first + 1 ≤ d → row_test now rows (key_at d) ≡ T (key_at d)
+        later : (d : ℕ) → first + 1 ≤ d → row_test lone now rows (key_at d) ≡ T (key_at d)
         later d h =
             let differs = ap (λ (q : Key). same_key q (key_at d)) same ∙ other_key first d (λ e. omega (arith, h, e)) in
-            ap (rests_here now (key_at d)) (sym (item-next (key_at d) r rows differs))
+            ap (rests_here lone now (key_at d)) (sym (item-next (key_at d) r rows differs))
 
         rest : K ≡ filter T D
         rest =
             let place = ap key_place same in
-            less (suc (key_place r.key)) rows rises.1 keyed.1 (shift now first (suc (key_place r.key)) m ms rows rises.1 (omega (arith, place)) due.1)
-            ∙ filter-same (row_test now rows) T now (first + 1) ms later
+            less (suc (key_place r.key)) rows rises.1 keyed.1 (shift lone now first (suc (key_place r.key)) m ms rows rises.1 (omega (arith, place)) due.1)
+            ∙ filter-same (row_test lone now rows) T now (first + 1) ms later
 
         key : r.item.entry.pair.key ≡ key_at first
         key = sym keyed.0 ∙ same
 
-        at : (b c : Bool) → is_idle_row now r.item.entry r.item.life ≡ b → is_due now m ≡ c → cond b (r.item.entry.pair.key ∷ K) K ≡ filter T (map key_at (cond c (first ∷ due_from now (first + 1) ms) (due_from now (first + 1) ms)))
+        at : (b c : Bool) → is_idle_row lone now r.item.entry r.item.life ≡ b → is_due now m ≡ c → cond b (r.item.entry.pair.key ∷ K) K ≡ filter T (map key_at (cond c (first ∷ due_from now (first + 1) ms) (due_from now (first + 1) ms)))
         at true true e f = ap (λ q. q ∷ K) key ∙ ap (λ ks. key_at first ∷ ks) rest ∙ sym (cond-true (T (key_at first)) (key_at first ∷ filter T D) (filter T D) (test ∙ e))
         at false true e f = rest ∙ sym (cond-false (T (key_at first)) (key_at first ∷ filter T D) (filter T D) (test ∙ e))
         at false false e f = rest
@@ -159,7 +158,7 @@ merged now first low (m ∷ ms) (r ∷ rows) rises keyed due =
                 omega (arith, p, q, o)
 
     -- no row has the first cell
-    beyond : AreMerged now (first + 1) ms → first < cell_of r.key → cond (is_idle_row now r.item.entry r.item.life) (r.item.entry.pair.key ∷ K) K ≡ filter T (map key_at (due_from now first (m ∷ ms)))
+    beyond : AreMerged lone now (first + 1) ms → first < cell_of r.key → cond (is_idle_row lone now r.item.entry r.item.life) (r.item.entry.pair.key ∷ K) K ≡ filter T (map key_at (due_from now first (m ∷ ms)))
     beyond less h = rest ∙ sym (at (is_due now m))
       where
         before : key_place (key_at first) < key_place r.key
@@ -169,41 +168,41 @@ merged now first low (m ∷ ms) (r ∷ rows) rises keyed due =
         up = (omega arith, rises.1)
 
         none : T (key_at first) ≡ false
-        none = ap (λ (o : Option (Row Item)). rests_here now (key_at first) (option_map (λ (x : Row Item). x.item) o)) (below-none (key_place r.key) (r ∷ rows) (key_at first) up before)
+        none = ap (λ (o : Option (Row Item)). rests_here lone now (key_at first) (option_map (λ (x : Row Item). x.item) o)) (below-none (key_place r.key) (r ∷ rows) (key_at first) up before)
 
-        rest : cond (is_idle_row now r.item.entry r.item.life) (r.item.entry.pair.key ∷ K) K ≡ filter T D
-        rest = less low (r ∷ rows) rises keyed (shift now first (key_place r.key) m ms (r ∷ rows) up before due)
+        rest : cond (is_idle_row lone now r.item.entry r.item.life) (r.item.entry.pair.key ∷ K) K ≡ filter T D
+        rest = less low (r ∷ rows) rises keyed (shift lone now first (key_place r.key) m ms (r ∷ rows) up before due)
 
         at : (c : Bool) → filter T (map key_at (cond c (first ∷ due_from now (first + 1) ms) (due_from now (first + 1) ms))) ≡ filter T D
         at true = cond-false (T (key_at first)) (key_at first ∷ filter T D) (filter T D) none
         at false = refl
 
-    by : AreMerged now (first + 1) ms → (i : ℕ) → due.0.index ≡ i → cond (is_idle_row now r.item.entry r.item.life) (r.item.entry.pair.key ∷ K) K ≡ filter T (map key_at (due_from now first (m ∷ ms)))
+    by : AreMerged lone now (first + 1) ms → (i : ℕ) → due.0.index ≡ i → cond (is_idle_row lone now r.item.entry r.item.life) (r.item.entry.pair.key ∷ K) K ≡ filter T (map key_at (due_from now first (m ∷ ms)))
     by less zero e = here less (sym due.0.own ∙ ap key_at (let c = due.0.cell in omega (arith, c, e)))
     by less (suc j) e = beyond less (let c = due.0.cell in omega (arith, c, e))
 
-are-due : (now : ℕ) (dues : List (Option ℕ)) (rows : List (Row Item)) → length dues ≡ 131072 → AreKeyed rows → AreTimed dues rows → AreDue now 0 dues rows
-are-due now dues [] count keyed timed = tt
-are-due now dues (r ∷ rows) count keyed timed = (
+are-due : (lone : Bool) (now : ℕ) (dues : List (Option ℕ)) (rows : List (Row Item)) → length dues ≡ 131072 → AreKeyed rows → AreTimed lone dues rows → AreDue lone now 0 dues rows
+are-due lone now dues [] count keyed timed = tt
+are-due lone now dues (r ∷ rows) count keyed timed = (
   record {
     own = timed.0.own;
     index = cell_of r.key;
     cell = omega arith;
     within = (let w = timed.0.within in omega (arith, w, count));
     due = λ t.
-        let parts = and_parts (translates r.item.entry.state) (looks_idle r.item.entry.pair.key.protocol r.item.life now) t in
+        let parts = and_parts (may_go lone r.item.entry.state) (looks_idle r.item.entry.pair.key.protocol r.item.life now) t in
         let w = timed.0.timed parts.0 in
         let rests = ap (λ (q : Key). looks_idle q.protocol r.item.life now) keyed.0 ∙ parts.1 in
         let late = leb-true (due_moment r.key.protocol r.item.life) now (sym (idle-from r.key.protocol r.item.life now) ∙ rests) in
         let early = w.2 in
         ap (is_due now) w.1 ∙ le-leb w.0 now (omega (arith, late, early));
   },
-  are-due now dues rows count keyed.1 timed.1,
+  are-due lone now dues rows count keyed.1 timed.1,
 )
 
 -- all idle entries are among the due keys, and those of the due keys are all
-pub idle-among : (now : ℕ) (dues : List (Option ℕ)) (rows : List (Row Item)) → length dues ≡ 131072 → slots.Rises 0 rows → AreKeyed rows → AreTimed dues rows
-    → idle_keys_in now (entries_of rows) (lives_of rows) ≡ idle_among now (entries_of rows) (lives_of rows) (due_keys now dues)
-idle-among now dues rows count rises keyed timed =
-    merged now 0 0 dues rows rises keyed (are-due now dues rows count keyed timed)
-    ∙ filter-same (row_test now rows) (is_idle_key now (entries_of rows) (lives_of rows)) now 0 dues (λ d h. sym (test-is now rows (key_at d) keyed))
+pub idle-among : (lone : Bool) (now : ℕ) (dues : List (Option ℕ)) (rows : List (Row Item)) → length dues ≡ 131072 → slots.Rises 0 rows → AreKeyed rows → AreTimed lone dues rows
+    → idle_keys_in lone now (entries_of rows) (lives_of rows) ≡ idle_among lone now (entries_of rows) (lives_of rows) (due_keys now dues)
+idle-among lone now dues rows count rises keyed timed =
+    merged lone now 0 0 dues rows rises keyed (are-due lone now dues rows count keyed timed)
+    ∙ filter-same (row_test lone now rows) (is_idle_key lone now (entries_of rows) (lives_of rows)) now 0 dues (λ d h. sym (test-is lone now rows (key_at d) keyed))

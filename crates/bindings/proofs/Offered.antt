@@ -33,8 +33,15 @@ pub use Rattle.bindings.proofs.Places.{length-put, length-keep, rest-none}
 pub use Rattle.bindings.proofs.Places.{any_entry}
 -- the list with the key's entry in another state
 pub use Rattle.bindings.proofs.Places.{turn-none}
+-- The lives of a table once each of them begins anew.
+-- the life of a key once all were changed
+pub use Rattle.bindings.proofs.Renewed.{life-all}
+-- each past begins anew with its life
+pub use Rattle.bindings.proofs.Renewed.{past-renewed}
 -- Which entries are idle.
--- a key with an entry is listed just where that translates and is idle
+-- no more keys are idle than there are entries
+pub use Rattle.bindings.proofs.Resting.{few-idle}
+-- a key with an entry is listed just where that is idle and may be let go
 pub use Rattle.bindings.proofs.Resting.{listed-is}
 -- What is left of a table's lists once the peer begins anew.
 pub use Rattle.bindings.proofs.Revived.{length-revived}

@@ -1,7 +1,8 @@
 -- What single calls make of a store.
-use Rattle.std.proofs.Common.{◌≡◌, true, false, not, cond, ◌&&◌, Option, Some, None, List, refl, sym, ap, ◌∙◌}
-use Rattle.std.specs.List.{find}
+use Rattle.std.proofs.Common.{◌≡◌, ℕ, ◌+◌, true, false, not, cond, ◌&&◌, Option, Some, None, List, [], refl, sym, ap, ◌∙◌, arith}
+use Rattle.std.specs.List.{find, count_by}
 use Rattle.std.specs.Option.{option_map}
+use Rattle.addresses.specs.declared.internet.Ip.{Ip}
 use Rattle.nat_types.specs.declared.pairs.Endpoint.{Endpoint}
 use Rattle.nat_types.specs.declared.pairs.Key.{Key}
 use Rattle.nat_types.specs.declared.pairs.EntryState.{EntryState}
@@ -9,20 +10,29 @@ use Rattle.activity.specs.Lives.{Activity}
 use Rattle.slots.specs.declared.numbers.SlotNumber.{SlotNumber}
 use Rattle.slots.specs.Rows.{Row, PortSlots}
 use Rattle.slots.specs.Rows as slots
-use Rattle.slots.specs.Endpoints.{EndpointIndex}
+use Rattle.slots.specs.Endpoints.{EndpointIndex, look_up, is_of, count_in}
 use Rattle.slots.specs.Endpoints.{slot_of as number_of_endpoint}
 use Rattle.bindings.specs.declared.entries.Entry.{Entry}
 use Rattle.bindings.specs.declared.store.Item.{Item}
-use Rattle.bindings.specs.Entries.{is_pair, serves, slot_of, entry_of, entry_in, HasDistinctEndpoints}
-use Rattle.bindings.specs.Lists.{with_state, after_key}
+use Rattle.bindings.specs.Entries.{is_pair, pairs_of, serves, slot_of, entry_of, entry_in, HasDistinctEndpoints}
+use Rattle.bindings.specs.Lists.{without, with_state, after_key}
 use Rattle.bindings.specs.Lives.{life_in, lives_with}
-use Rattle.bindings.specs.Stores.{Store, entries_of, lives_of, AreKeyed, IsIndexed}
-use Rattle.bindings.proofs.Kept.{slot-is, life-is, entry-is, after-is, own-row, keyed-put, number-put, keyed-without, rows-without_none}
+use Rattle.bindings.specs.Stores.{Store, entries_of, lives_of, one_of, AreKeyed, IsIndexed}
+use Rattle.bindings.proofs.Kept.{slot-is, life-is, entry-is, after-is, own-row, rises-up, keyed-put, entries-put, number-put, keyed-without, entries-without, rows-without_none}
 use Rattle.bindings.proofs.Changes.{keyed-with, entries-turned, entries-same, lives-same, lives-changed, lives-nowhere, number-with, number-same, number-without}
+use Rattle.bindings.proofs.Counts.{lost_by, count-put, count-without, count-turned}
+use Rattle.bindings.proofs.Walks.{rises-distinct}
 
 -- what callers see of slots and an index
 abbrev pub seen : PortSlots Item → EndpointIndex → Store
 seen slots index = record { entries = entries_of slots.rows; lives = lives_of slots.rows; room = slots.room; spare = index.spare }
+
+-- the entry of a key's item is the key's
+pub held-by : (rows : List (Row Item)) (key : Key) (i : Item) → AreKeyed rows → slots.item_of rows key ≡ Some i → slot_of (entries_of rows) key ≡ Some i.entry
+held-by rows key i k h = slot-is rows key k ∙ ap (option_map (λ (z : Item). z.entry)) h
+
+cancelled : (m n p q k : ℕ) → m ≡ n + k → m ≡ p → p ≡ q + k → n ≡ q
+cancelled m n p q k h g f = omega (arith, h, g, f)
 
 -- a key's life was changed, or there was none
 pub changed-life : (old new : PortSlots Item) (index : EndpointIndex) (key : Key) (g : Activity → Activity) → IsIndexed old.rows index → slots.Rises 0 old.rows
@@ -43,24 +53,42 @@ changed-life old new index key g k r some none = by (slots.item_of old.rows key)
           rw rows (record {
             keyed = keyed-with 0 key t i old.rows k.keyed r e refl;
             indexed = λ x. k.indexed x ∙ sym (number-same 0 key t i old.rows x r e refl);
+            counted = λ a. k.counted a ∙ ap (pairs_of a) (sym (entries-same 0 key t i old.rows r e refl));
           }),
           rw (rows, room, entries-same 0 key t i old.rows r e refl, lives-changed 0 key g t i old.rows k.keyed r e refl) refl,
         )
 
+-- no rows, and no endpoints
+pub none-indexed : (index : EndpointIndex) → ((x : Endpoint) → number_of_endpoint index x ≡ None) → ((a : Ip) → count_in index a ≡ 0) → IsIndexed [] index
+none-indexed index none counts = record { keyed = tt; indexed = none; counted = counts }
+
+-- more room alone
+pub readied : (rows : List (Row Item)) (index index2 : EndpointIndex) → IsIndexed rows index → index2.entries ≡ index.entries → IsIndexed rows index2
+readied rows index index2 k same = record {
+  keyed = k.keyed;
+  indexed = λ x. ap (λ es. look_up es x) same ∙ k.indexed x;
+  counted = λ a. ap (count_by (is_of a)) same ∙ k.counted a;
+}
+
 -- an entry came in
 pub added : (old : PortSlots Item) (index index2 : EndpointIndex) (r : Row Item) → IsIndexed old.rows index → r.key ≡ r.item.entry.pair.key → (is_pair r.item.entry.state ≡ true → entry_of (entries_of old.rows) r.item.entry.pair.endpoint ≡ None)
-    → ((x : Endpoint) → number_of_endpoint index2 x ≡ cond (serves x r.item.entry) (Some r.number) (number_of_endpoint index x)) → IsIndexed (slots.put_in r old.rows) index2
-added old index index2 r k key free listed = record {
+    → ((x : Endpoint) → number_of_endpoint index2 x ≡ cond (serves x r.item.entry) (Some r.number) (number_of_endpoint index x)) → ((a : Ip) → count_in index2 a ≡ count_in index a + one_of a r.item.entry) → IsIndexed (slots.put_in r old.rows) index2
+added old index index2 r k key free listed counts = record {
   keyed = keyed-put r old.rows k.keyed key;
   indexed = λ x. listed x ∙ ap (cond (serves x r.item.entry) (Some r.number)) (k.indexed x) ∙ sym (number-put r old.rows x free);
+  counted = λ a. counts a ∙ ap (λ n. n + one_of a r.item.entry) (k.counted a) ∙ sym (count-put a r.item.entry (entries_of old.rows)) ∙ ap (pairs_of a) (sym (entries-put r old.rows k.keyed key));
 }
 
 -- a key's row went
 pub removed : (rows : List (Row Item)) (index index2 : EndpointIndex) (key : Key) (i : Item) → IsIndexed rows index → slots.Rises 0 rows → slots.item_of rows key ≡ Some i → (is_pair i.entry.state ≡ true → HasDistinctEndpoints (entries_of rows))
-    → ((x : Endpoint) → number_of_endpoint index2 x ≡ cond (serves x i.entry) None (number_of_endpoint index x)) → IsIndexed (slots.without key rows) index2
-removed rows index index2 key i k r e d unlisted = record {
+    → ((x : Endpoint) → number_of_endpoint index2 x ≡ cond (serves x i.entry) None (number_of_endpoint index x)) → ((a : Ip) → count_in index a ≡ count_in index2 a + one_of a i.entry) → IsIndexed (slots.without key rows) index2
+removed rows index index2 key i k r e d unlisted counts = record {
   keyed = keyed-without key rows k.keyed;
   indexed = λ x. unlisted x ∙ ap (cond (serves x i.entry) None) (k.indexed x) ∙ sym (number-without 0 key rows i x r e d);
+  counted = λ a.
+      cancelled (count_in index a) (count_in index2 a) (pairs_of a (entries_of rows)) (pairs_of a (without key (entries_of rows))) (one_of a i.entry) (counts a) (k.counted a)
+      (count-without a key (entries_of rows) i.entry (rises-distinct 0 (entries_of rows) (rises-up 0 rows k.keyed r)) (held-by rows key i k.keyed e))
+      ∙ ap (pairs_of a) (sym (entries-without key rows k.keyed));
 }
 
 -- a key without a row has none to go
@@ -91,8 +119,9 @@ pub turned : (old new : PortSlots Item) (index index2 : EndpointIndex) (key : Ke
     → (is_pair s ≡ true → is_pair e.state ≡ true) → (is_pair e.state ≡ true → is_pair s ≡ false → HasDistinctEndpoints (entries_of old.rows))
     → ((i : Item) → slots.item_of old.rows key ≡ Some i → new ≡ record old { rows = slots.with_item key (record i { entry = entry_in s e.pair }) old.rows })
     → ((x : Endpoint) → number_of_endpoint index2 x ≡ cond (serves x e && not (is_pair s)) None (number_of_endpoint index x))
+    → ((a : Ip) → count_in index a ≡ count_in index2 a + lost_by a e s)
     → IsIndexed new.rows index2 × (entries_of new.rows ≡ with_state key s (entries_of old.rows)) × (lives_of new.rows ≡ lives_of old.rows) × (new.room ≡ old.room)
-turned old new index index2 key s e k r h back d some unlisted =
+turned old new index index2 key s e k r h back d some unlisted counts =
     let found = item-found old.rows key e k.keyed h in
     let i = found.0 in
     let t : Item = record i { entry = entry_in s e.pair } in
@@ -108,6 +137,10 @@ turned old new index index2 key s e k r h back d some unlisted =
             ∙ ap (λ (z : Entry). cond (serves x z && not (is_pair s)) None (number_of_endpoint index x)) (sym found.2)
             ∙ ap (cond (serves x i.entry && not (is_pair s)) None) (k.indexed x)
             ∙ sym (number-with 0 key t i old.rows x r found.1 two (λ p. was ∙ back p) (λ p q. d (sym was ∙ p) q));
+        counted = λ a.
+            cancelled (count_in index a) (count_in index2 a) (pairs_of a (entries_of old.rows)) (pairs_of a (with_state key s (entries_of old.rows))) (lost_by a e s) (counts a) (k.counted a)
+            (count-turned a key s (entries_of old.rows) e (rises-distinct 0 (entries_of old.rows) (rises-up 0 old.rows k.keyed r)) h back)
+            ∙ ap (pairs_of a) (sym (entries-turned 0 key s t i old.rows k.keyed r found.1 turns));
       }),
       rw rows (entries-turned 0 key s t i old.rows k.keyed r found.1 turns),
       rw rows (lives-same 0 key t i old.rows r found.1 refl),
@@ -174,10 +207,6 @@ put-rows old new key key2 n item item2 h e f =
     ap (λ (s : PortSlots Item). s.rows) h
     ∙ ap (λ (k : Key). slots.put_in (record { key = k; number = n; item = item }) old.rows) e
     ∙ ap (λ (i : Item). slots.put_in (record { key = key2; number = n; item = i }) old.rows) f
-
--- the entry of a key's item is the key's
-pub held-by : (rows : List (Row Item)) (key : Key) (i : Item) → AreKeyed rows → slots.item_of rows key ≡ Some i → slot_of (entries_of rows) key ≡ Some i.entry
-held-by rows key i k h = slot-is rows key k ∙ ap (option_map (λ (z : Item). z.entry)) h
 
 -- the item of a key's life
 pub item-of_life : (rows : List (Row Item)) (key : Key) (l : Activity) → AreKeyed rows → life_in (entries_of rows) (lives_of rows) key ≡ Some l → (i : Item) × (slots.item_of rows key ≡ Some i) × (i.life ≡ l)

@@ -5,10 +5,10 @@ use Rattle.nat_types.specs.declared.pairs.Key.{Key}
 use Rattle.activity.specs.declared.packets.Packet.{Packet}
 use Rattle.activity.specs.Lives.{History, came, with_packet, renewed, is_idle}
 use Rattle.activity.specs.Rests.{HaveRested, least_rest}
-use Rattle.activity.proofs.Offered.{looks-is, accounts-came, accounts-renewed, accounts-later, accounts-more, accounts-idle, accounts-unused}
+use Rattle.activity.proofs.Offered.{looks-is, accounts-came, accounts-renewed, accounts-anew, accounts-later, accounts-more, accounts-idle, accounts-unused}
 use Rattle.bindings.specs.declared.entries.Entry.{Entry}
-use Rattle.bindings.specs.Entries.{translates, slot_of}
-use Rattle.bindings.specs.Lives.{rests_by, rests_at, is_unused_by, is_unused_at, is_among}
+use Rattle.bindings.specs.Entries.{slot_of}
+use Rattle.bindings.specs.Lives.{rests_by, rests_at, is_unused_by, is_unused_at, is_among, may_go}
 use Rattle.bindings.specs.Table.{Table, IsTable, IsPast, Accounts, idle_keys_of}
 use Rattle.bindings.proofs.Slots.{slot-key}
 use Rattle.bindings.proofs.Resting.{listed-is}
@@ -22,6 +22,9 @@ uses-carried t u key since uses p goes h a = (with_packet p a.0, goes a.0 a.1, a
 pub uses-renewed : (t u : Table) (key : Key) (since now : ℕ) (uses : List ℕ) → ((past : History) → IsPast t key past → IsPast u key (renewed now past)) → HaveRested (least_rest key.protocol) now uses → Accounts t key since uses → Accounts u key now uses
 uses-renewed t u key since now uses goes rested a = (renewed now a.0, goes a.0 a.1, accounts-renewed key.protocol a.0 now uses rested)
 
+pub uses-anew : (t u : Table) (key : Key) (now : ℕ) (uses : List ℕ) → ((past : History) → IsPast t key past → IsPast u key (renewed now past)) → Accounts t key now uses → Accounts u key now uses
+uses-anew t u key now uses goes a = (renewed now a.0, goes a.0 a.1, accounts-anew key.protocol a.0 now uses a.2)
+
 pub uses-kept : (t u : Table) (key : Key) (since now : ℕ) (uses : List ℕ) → ((past : History) → IsPast t key past → IsPast u key past) → since ≤ now → Accounts t key since uses → Accounts u key now uses
 uses-kept t u key since now uses goes h a = (a.0, goes a.0 a.1, accounts-later key.protocol a.0 since now uses h a.2)
 
@@ -29,10 +32,10 @@ pub uses-idle : (t : Table) (key : Key) (now : ℕ) (uses : List ℕ) → Accoun
 uses-idle t key now uses a h =
     accounts-idle key.protocol a.0 now uses a.2 (sym (looks-is key.protocol a.0 a.1.0 now a.1.2) ∙ ap (rests_by key now) (sym a.1.1) ∙ h)
 
-pub uses-listed : (t : Table) (key : Key) (e : Entry) (now : ℕ) (uses : List ℕ) → IsTable t → slot_of t.entries key ≡ Some e → Accounts t key now uses → is_among key (idle_keys_of t now) ≡ true → HaveRested (least_rest key.protocol) now uses
-uses-listed t key e now uses is held a h =
-    let both : (translates e.state && is_idle key.protocol a.0 now) ≡ true = sym (listed-is now t.entries t.lives key e a.0 is.keys held (slot-key t.entries key e held) a.1) ∙ h in
-    accounts-idle key.protocol a.0 now uses a.2 (and_parts (translates e.state) (is_idle key.protocol a.0 now) both).1
+pub uses-listed : (t : Table) (key : Key) (e : Entry) (lone : Bool) (now : ℕ) (uses : List ℕ) → IsTable t → slot_of t.entries key ≡ Some e → Accounts t key now uses → is_among key (idle_keys_of t lone now) ≡ true → HaveRested (least_rest key.protocol) now uses
+uses-listed t key e lone now uses is held a h =
+    let both : (may_go lone e.state && is_idle key.protocol a.0 now) ≡ true = sym (listed-is lone now t.entries t.lives key e a.0 is.keys held (slot-key t.entries key e held) a.1) ∙ h in
+    accounts-idle key.protocol a.0 now uses a.2 (and_parts (may_go lone e.state) (is_idle key.protocol a.0 now) both).1
 
 pub uses-unused : (t : Table) (key : Key) (now : ℕ) (uses : List ℕ) → Accounts t key now uses → is_unused_at t.entries t.lives key ≡ true → HaveRested (least_rest key.protocol) now uses
 uses-unused t key now uses a h =

@@ -42,7 +42,7 @@ found-above low p (x ∷ xs) e r h = by (p x) h (found-above (suc (place_of x.pa
 
 -- ---- behind a key
 
-is-behind : (last : Option Key) (x : Entry) → ((key : Key) → last ≡ Some key → key_place key < place_of x.pair) → stands_behind last x ≡ true
+pub is-behind : (last : Option Key) (x : Entry) → ((key : Key) → last ≡ Some key → key_place key < place_of x.pair) → stands_behind last x ≡ true
 is-behind None x h = refl
 is-behind (Some key) x h = lt-ltb (key_place key) (place_of x.pair) (h key refl)
 
@@ -58,7 +58,7 @@ behind-none [] = refl
 behind-none (x ∷ xs) = ap (λ ys. x ∷ ys) (behind-none xs)
 
 -- a key's own place is not behind it, and what stands behind the first entry found stands behind the key
-below-last : (last : Option Key) (x : Entry) → stands_behind last x ≡ true → (key : Key) → last ≡ Some key → key_place key < place_of x.pair
+pub below-last : (last : Option Key) (x : Entry) → stands_behind last x ≡ true → (key : Key) → last ≡ Some key → key_place key < place_of x.pair
 below-last None x h key e = absurd (cc)
 below-last (Some k) x h key e = (let same : k ≡ key = cc in let place = ap key_place same in let lower = ltb-true (key_place k) (place_of x.pair) h in omega (arith, place, lower))
 

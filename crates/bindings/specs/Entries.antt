@@ -1,11 +1,12 @@
 -- Entries of a table: distinct keys, and distinct endpoints except Doomed ones.
-use Rattle.std.specs.Prelude.{◌≡◌, ℕ, ◌+◌, ◌*◌, Bool, true, false, ◌&&◌, Option, Some, None, is_some, nat_le, List, [], ◌∷◌, length, map, if◌then◌else◌}
-use Rattle.std.specs.List.{find, filter}
+use Rattle.std.specs.Prelude.{◌≡◌, ℕ, ◌+◌, ◌*◌, ◌==◌, Bool, true, false, ◌&&◌, Option, Some, None, is_some, nat_le, List, [], ◌∷◌, length, map, if◌then◌else◌}
+use Rattle.std.specs.List.{find, filter, count_by}
 use Rattle.nat_types.specs.declared.pairs.EntryState.{EntryState}
 use Rattle.nat_types.specs.declared.pairs.EntryState.TheVariants.{Pending, Doomed, Live, Closing, Held}
 use Rattle.nat_types.specs.declared.pairs.Endpoint.{Endpoint}
 use Rattle.nat_types.specs.declared.pairs.Key.{Key}
 use Rattle.nat_types.specs.declared.pairs.Pair.{Pair}
+use Rattle.addresses.specs.declared.internet.Ip.{Ip}
 use Rattle.addresses.specs.Transport.{protocol_number}
 use Rattle.nat_types.specs.Same.{same_key, same_endpoint}
 use Rattle.bindings.specs.declared.entries.Entry.{Entry}
@@ -43,6 +44,14 @@ slot_of entries key = find (has_key key) entries
 -- the entry of an endpoint, a Doomed one aside
 abbrev pub entry_of : List Entry → Endpoint → Option Entry
 entry_of entries x = find (serves x) entries
+
+-- the entry is a pair of that inside address
+abbrev pub is_pair_of : Ip → Entry → Bool
+is_pair_of address e = is_pair e.state && e.pair.endpoint.address.0 == address.0
+
+-- how many pairs that inside address has, Doomed ones aside
+abbrev pub pairs_of : Ip → List Entry → ℕ
+pairs_of address entries = count_by (is_pair_of address) entries
 
 -- the same slots but for this key
 abbrev pub set_at : (Key → Option Entry) → Key → Option Entry → Key → Option Entry

@@ -1,12 +1,14 @@
 -- The lives of a table's entries: the first entry has the first life, and so on.
-use Rattle.std.specs.Prelude.{◌≡◌, ℕ, Bool, false, ◌&&◌, List, [], ◌∷◌, Option, Some, None, slice_index_or, slice_set, if◌then◌else◌}
+use Rattle.std.specs.Prelude.{◌≡◌, ℕ, Bool, true, false, ◌&&◌, List, [], ◌∷◌, Option, Some, None, slice_index_or, slice_set, if◌then◌else◌}
+use Rattle.nat_types.specs.declared.pairs.EntryState.{EntryState}
+use Rattle.nat_types.specs.declared.pairs.EntryState.TheVariants.{Pending, Doomed, Live, Closing, Held}
 use Rattle.nat_types.specs.declared.pairs.Key.{Key}
 use Rattle.nat_types.specs.Same.{same_key}
 use Rattle.addresses.specs.declared.transport.Protocol.{Protocol}
 use Rattle.activity.specs.Lives.{History, Activity, Agrees, looks_idle}
 use Rattle.std.specs.List.{list_any}
 use Rattle.bindings.specs.declared.entries.Entry.{Entry}
-use Rattle.bindings.specs.Entries.{has_key, translates}
+use Rattle.bindings.specs.Entries.{has_key}
 
 -- the life of a key's entry
 abbrev pub life_in : List Entry → List Activity → Key → Option Activity
@@ -44,16 +46,24 @@ pub record IsLifeSet (protocol : Protocol) (goes : History → History) (old new
 
 -- ---- idle pairs
 
--- an entry with this life translates and is idle
-abbrev pub is_idle_row : ℕ → Entry → Activity → Bool
-is_idle_row now e l = translates e.state && looks_idle e.pair.key.protocol l now
+-- An idle entry may be let go: a Live one, and a Held one where the gateway is lone.
+abbrev pub may_go : Bool → EntryState → Bool
+may_go lone Pending = false
+may_go lone Doomed = false
+may_go lone Live = true
+may_go lone Closing = false
+may_go lone Held = lone
 
--- the keys of the idle Live and Held entries, in the order of the list
-abbrev pub idle_keys_in : ℕ → List Entry → List Activity → List Key
-idle_keys_in now [] ls = []
-idle_keys_in now (e ∷ es) [] = []
-idle_keys_in now (e ∷ es) (l ∷ ls) =
-    (if is_idle_row now e l then e.pair.key ∷ idle_keys_in now es ls else idle_keys_in now es ls)
+-- an entry with this life is idle and may be let go
+abbrev pub is_idle_row : Bool → ℕ → Entry → Activity → Bool
+is_idle_row lone now e l = may_go lone e.state && looks_idle e.pair.key.protocol l now
+
+-- the keys of the idle entries that may be let go, in the order of the list
+abbrev pub idle_keys_in : Bool → ℕ → List Entry → List Activity → List Key
+idle_keys_in lone now [] ls = []
+idle_keys_in lone now (e ∷ es) [] = []
+idle_keys_in lone now (e ∷ es) (l ∷ ls) =
+    (if is_idle_row lone now e l then e.pair.key ∷ idle_keys_in lone now es ls else idle_keys_in lone now es ls)
 
 -- a key stands among these
 abbrev pub is_among : Key → List Key → Bool

@@ -1,16 +1,17 @@
 -- The entries of a table in slots, and what the index says of them.
-use Rattle.std.specs.Prelude.{◌≡◌, ℕ, Option, List, [], ◌∷◌, map}
+use Rattle.std.specs.Prelude.{◌≡◌, ℕ, Option, List, [], ◌∷◌, map, if◌then◌else◌}
 use Rattle.std.specs.List.{find}
 use Rattle.std.specs.Option.{option_map}
+use Rattle.addresses.specs.declared.internet.Ip.{Ip}
 use Rattle.nat_types.specs.declared.pairs.Endpoint.{Endpoint}
 use Rattle.activity.specs.Lives.{Activity}
 use Rattle.slots.specs.declared.numbers.SlotNumber.{SlotNumber}
 use Rattle.slots.specs.Rows.{Row}
-use Rattle.slots.specs.Endpoints.{EndpointIndex}
+use Rattle.slots.specs.Endpoints.{EndpointIndex, count_in}
 use Rattle.slots.specs.Endpoints.{slot_of as number_of_endpoint}
 use Rattle.bindings.specs.declared.entries.Entry.{Entry}
 use Rattle.bindings.specs.declared.store.Item.{Item}
-use Rattle.bindings.specs.Entries.{serves}
+use Rattle.bindings.specs.Entries.{serves, is_pair_of, pairs_of}
 
 -- entries and their lives, how many there is room for, and for how many more pairs the index has room
 pub record Store : Type 0 where
@@ -34,7 +35,12 @@ AreKeyed (r ∷ rows) = (r.key ≡ r.item.entry.pair.key) × AreKeyed rows
 abbrev pub number_for : List (Row Item) → Endpoint → Option SlotNumber
 number_for rows x = option_map (λ r. r.number) (find (λ r. serves x r.item.entry) rows)
 
--- The index has the slot of each pair, and no other.
+-- 1 where the entry is a pair of that inside address, else 0
+abbrev pub one_of : Ip → Entry → ℕ
+one_of address e = (if is_pair_of address e then 1 else 0)
+
+-- The index has the slot of each pair, and no other, and counts the pairs of each inside address.
 pub record IsIndexed (rows : List (Row Item)) (index : EndpointIndex) : Type 0 where
   pub keyed : AreKeyed rows
   pub indexed : (x : Endpoint) → number_of_endpoint index x ≡ number_for rows x
+  pub counted : (address : Ip) → count_in index address ≡ pairs_of address (entries_of rows)

@@ -37,9 +37,9 @@ IsPast t key past = HasPast t.entries t.lives key past
 abbrev pub Accounts : Table → Key → ℕ → List ℕ → Type 0
 Accounts t key now uses = (past : History) × IsPast t key past × AccountsFor key.protocol now past uses
 
--- the keys of its idle Live and Held entries, by protocol and port
-abbrev pub idle_keys_of : Table → ℕ → List Key
-idle_keys_of t now = idle_keys_in now t.entries t.lives
+-- the keys of its idle entries that may be let go, by protocol and port
+abbrev pub idle_keys_of : Table → Bool → ℕ → List Key
+idle_keys_of t lone now = idle_keys_in lone now t.entries t.lives
 
 -- what each table keeps
 pub record IsTable (t : Table) : Type 0 where

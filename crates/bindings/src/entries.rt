@@ -1,6 +1,7 @@
 //! Entries of a table.
 ghost use Rattle.std.specs.Prelude.{◌≡◌};
 ghost use Rattle.bindings.specs.Entries.{is_pair, translates};
+ghost use Rattle.bindings.specs.Lives.{may_go};
 ghost use Rattle.bindings.specs.Ports.{in_bounds};
 ghost use Rattle.bindings.specs.Revivals.{woken};
 
@@ -56,6 +57,17 @@ pub(crate) fn is_translating(state: EntryState) -> bool
 {
     match state {
         EntryState::Live | EntryState::Held => true,
+        EntryState::Pending | EntryState::Doomed | EntryState::Closing => false,
+    }
+}
+
+/// Whether an idle entry may be let go: a Live one, and a Held one where the gateway is lone.
+pub(crate) fn may_go_state(lone: bool, state: EntryState) -> bool
+    ensures { result ≡ may_go lone state }
+{
+    match state {
+        EntryState::Live => true,
+        EntryState::Held => lone,
         EntryState::Pending | EntryState::Doomed | EntryState::Closing => false,
     }
 }

@@ -19,8 +19,9 @@ pub fn room_law()
 
 /// A list of uses has the moments at which the gateway used a key's pair in its present life. `Accounts` says that the
 /// key's entry knows of them: it begins where they have rested and the entry comes in (`begins`) or is renewed
-/// (`renewed`), and goes on with a carried packet (`carried`) and with any change that leaves the entry its pasts (`kept`).
-/// Where the entry is idle, or unused, they have rested (`idle`, `listed`, `unused`): `HaveRested` of `lives` says what
+/// (`renewed`), and goes on with a carried packet (`carried`), where the entry's life begins anew while its pair is in use
+/// (`anew`), and with any change that leaves the entry its pasts (`kept`).
+/// Where the entry is idle, or unused, they have rested (`idle`, `listed`, `unused`): `HaveRested` of `activity` says what
 /// that gives to a trace.
 pub fn uses_law()
     ensures begins { (t : Seen) → (key : OutsidePort) → (by_install : Bool) → (now : ℕ)
@@ -36,15 +37,18 @@ pub fn uses_law()
         → ((past : History) → IsPast t key past → IsPast u key (renewed now past))
         → HaveRested (least_rest key.protocol) now uses → Accounts t key since uses
         → Accounts u key now uses }
+    ensures anew { (t u : Seen) → (key : OutsidePort) → (now : ℕ) → (uses : List ℕ)
+        → ((past : History) → IsPast t key past → IsPast u key (renewed now past))
+        → Accounts t key now uses → Accounts u key now uses }
     ensures kept { (t u : Seen) → (key : OutsidePort) → (since now : ℕ) → (uses : List ℕ)
         → ((past : History) → IsPast t key past → IsPast u key past) → since ≤ now
         → Accounts t key since uses → Accounts u key now uses }
     ensures idle { (t : Seen) → (key : OutsidePort) → (now : ℕ) → (uses : List ℕ)
         → Accounts t key now uses → rests_at t.entries t.lives key now ≡ true
         → HaveRested (least_rest key.protocol) now uses }
-    ensures listed { (t : Seen) → (key : OutsidePort) → (entry : Row) → (now : ℕ)
+    ensures listed { (t : Seen) → (key : OutsidePort) → (entry : Row) → (lone : Bool) → (now : ℕ)
         → (uses : List ℕ) → IsTable t → slot_of t.entries key ≡ Some entry
-        → Accounts t key now uses → is_among key (idle_keys_of t now) ≡ true
+        → Accounts t key now uses → is_among key (idle_keys_of t lone now) ≡ true
         → HaveRested (least_rest key.protocol) now uses }
     ensures unused { (t : Seen) → (key : OutsidePort) → (now : ℕ) → (uses : List ℕ)
         → Accounts t key now uses → is_unused_at t.entries t.lives key ≡ true

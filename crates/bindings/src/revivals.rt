@@ -1,9 +1,10 @@
-//! What becomes of a table's entries once the peer begins anew.
+//! What becomes of a table's entries once the peer begins anew, or is off for good.
 ghost use Rattle.std.specs.Prelude.{◌≡◌, ◌≤◌, Some, map, if◌then◌else◌};
 ghost use Rattle.std.specs.List.{filter};
 ghost use Rattle.bindings.specs.Entries.{is_pair, entry_in, slot_of};
 ghost use Rattle.bindings.specs.Lists.{without};
 ghost use Rattle.bindings.specs.Lives.{lives_without};
+ghost use Rattle.activity.specs.Lives.{life_renewed};
 ghost use Rattle.bindings.specs.Ports.{AreAlike, AreFree, SameBounds, SameOwned};
 ghost use Rattle.bindings.specs.Revivals.{woken_entry, lives_of_pairs};
 
@@ -70,6 +71,22 @@ pub(crate) fn wake(store: &mut Store)
         let Entry { pair, state } = entry;
         let key = key_of(pair);
         store.turn(key, woken_state(state));
+        last = Some(key);
+    }
+}
+
+/// The list of packets of each pair begins empty.
+pub(crate) fn renew_all(store: &mut Store, now: u64)
+    ensures { store.new ≡ record store.old {
+      lives = map (life_renewed now) store.old.lives;
+    } }
+{
+    store.recall();
+    let mut last = None;
+    while let Some(entry) = store.entry_after(last) {
+        store.recall();
+        let key = key_of(entry.pair);
+        store.renew(key, now);
         last = Some(key);
     }
 }

@@ -4,7 +4,7 @@ ghost use Rattle.bindings.specs.Entries.{is_pair, translates, entry_in, refusal_
 ghost use Rattle.bindings.specs.Dues.{idle_among, is_idle_key};
 ghost use Rattle.bindings.specs.Ports.{is_vacant};
 
-use crate::entries::{endpoint_of, is_pair_state, is_translating, key_of};
+use crate::entries::{endpoint_of, is_pair_state, is_translating, key_of, may_go_state};
 use crate::store::Store;
 use crate::{Entry, TableFault};
 use addresses::{Port, Protocol};
@@ -58,7 +58,7 @@ fn push_if(pairs: &mut Vec<Pair>, passes: bool, pair: Pair) -> Result<(), AllocE
 }
 
 /// The pairs but Doomed ones, in order.
-pub(crate) fn pairs_of(alloc: Global, store: &Store) -> Result<Vec<Pair>, AllocError>
+pub(crate) fn list_pairs(alloc: Global, store: &Store) -> Result<Vec<Pair>, AllocError>
     ensures { IfOk result (λ v. v.items ≡ pairs_in is_pair store.now.entries) }
 {
     store.recall();
@@ -73,7 +73,7 @@ pub(crate) fn pairs_of(alloc: Global, store: &Store) -> Result<Vec<Pair>, AllocE
 }
 
 /// The pairs that translate, in order.
-pub(crate) fn translating_pairs_of(alloc: Global, store: &Store) -> Result<Vec<Pair>, AllocError>
+pub(crate) fn list_translating(alloc: Global, store: &Store) -> Result<Vec<Pair>, AllocError>
     ensures { IfOk result (λ v. v.items ≡ pairs_in translates store.now.entries) }
 {
     store.recall();
@@ -87,36 +87,36 @@ pub(crate) fn translating_pairs_of(alloc: Global, store: &Store) -> Result<Vec<P
     Ok(pairs)
 }
 
-/// Whether a key's entry translates and is idle.
-fn is_idle_entry(store: &Store, key: Key, now: u64) -> bool
-    ensures { result ≡ is_idle_key now store.now.entries store.now.lives key }
+/// Whether a key's entry is idle and may be let go.
+fn is_idle_entry(store: &Store, key: Key, lone: bool, now: u64) -> bool
+    ensures { result ≡ is_idle_key lone now store.now.entries store.now.lives key }
 {
     match store.entry(key) {
-        Some(entry) => is_translating(entry.state) && store.is_idle(key, now),
+        Some(entry) => may_go_state(lone, entry.state) && store.is_idle(key, now),
         None => false,
     }
 }
 
-/// How many of the keys have entries that translate and are idle.
-pub(crate) fn count_idle(store: &Store, keys: &[Key], now: u64) -> usize
+/// How many of the keys have idle entries that may be let go.
+pub(crate) fn count_idle(store: &Store, keys: &[Key], lone: bool, now: u64) -> usize
     ensures { result
-        ≡ count_by (is_idle_key now store.now.entries store.now.lives) keys.now }
+        ≡ count_by (is_idle_key lone now store.now.entries store.now.lives) keys.now }
 {
     keys.iter()
-        .filter(|key| is_idle_entry(store, **key, now))
+        .filter(|key| is_idle_entry(store, **key, lone, now))
         .count()
 }
 
-/// Lists those of the keys whose entries translate and are idle.
-pub(crate) fn list_idle(store: &Store, keys: &[Key], now: u64, out: &mut Vec<Key>)
-    requires { vec_len out.old + count_by (is_idle_key now store.now.entries store.now.lives)
+/// Lists those of the keys whose entries are idle and may be let go.
+pub(crate) fn list_idle(store: &Store, keys: &[Key], lone: bool, now: u64, out: &mut Vec<Key>)
+    requires { vec_len out.old + count_by (is_idle_key lone now store.now.entries store.now.lives)
         keys.now ≤ vec_capacity out.old }
     ensures items { out.new.items
-        ≡ out.old.items ++ idle_among now store.now.entries store.now.lives keys.now }
+        ≡ out.old.items ++ idle_among lone now store.now.entries store.now.lives keys.now }
     ensures capacity { vec_capacity out.new ≡ vec_capacity out.old }
 {
     for key in keys.iter() {
-        if is_idle_entry(store, *key, now) {
+        if is_idle_entry(store, *key, lone, now) {
             out.push_reserved(*key);
         }
     }

@@ -1,10 +1,13 @@
 //! The entries of a table in slots, each with its life. A slot is found by key and by endpoint.
 ghost use Rattle.std.specs.Prelude.{◌≡◌, ◌+◌, ◌<◌, ◌≤◌, [], Some, None, true, false, not, ◌&&◌, if◌then◌else◌, length, IfOk, OnOk};
 ghost use Rattle.nat_types.specs.declared.pairs.Endpoint.{Endpoint as InsidePort};
-ghost use Rattle.slots.specs.Endpoints.{slot_of as number_of_endpoint};
+ghost use Rattle.addresses.specs.declared.internet.Ip.{Ip as Address};
+ghost use Rattle.slots.specs.Endpoints.{slot_of as number_of_endpoint, count_in};
+ghost use Rattle.bindings.specs.Stores.{one_of};
+ghost use Rattle.std.specs.Prelude.{IsSome};
 ghost use Rattle.std.specs.List.{insert};
 ghost use Rattle.bindings.specs.declared.entries.Entry.{Entry as Row};
-ghost use Rattle.bindings.specs.Entries.{is_pair, translates, serves, slot_of, entry_of, entry_in, HasDistinctEndpoints};
+ghost use Rattle.bindings.specs.Entries.{is_pair, is_pair_of, pairs_of, serves, slot_of, entry_of, entry_in, HasDistinctEndpoints};
 ghost use Rattle.bindings.specs.Lists.{put_in, place_in, without, with_state, after_key, RisesUp};
 ghost use Rattle.bindings.specs.Lives.{life_in, lives_with, lives_without, rests_at, is_unused_at};
 ghost use Rattle.activity.specs.Lives.{Activity as Lived, History, Agrees, with_packet, renewed, life_carried, life_renewed};
@@ -15,12 +18,14 @@ ghost use Rattle.std.specs.Prelude.{vec_capacity};
 ghost use Rattle.timers.specs.Due.{is_due};
 ghost use Rattle.slots.specs.Dues.{moment_of};
 ghost use Rattle.slots.specs.Rows.{Rises};
-ghost use Rattle.bindings.specs.Lives.{idle_keys_in};
+ghost use Rattle.bindings.specs.Lives.{idle_keys_in, may_go};
+ghost use Rattle.bindings.specs.Stores.{AreKeyed};
 ghost use Rattle.bindings.specs.Dues.{AreTimed, AreTimedBut, IsTimed, KeepsDues, idle_among};
 
 use crate::Entry;
-use crate::entries::{endpoint_of, is_pair_state, is_translating, key_of};
+use crate::entries::{endpoint_of, is_pair_state, key_of, may_go_state};
 use activity::{Activity, Packet};
+use addresses::Ip;
 use nat_types::{Endpoint, EntryState, Key, Pair};
 use slots::{Dues, EndpointIndex, Hashers, PortSlots, SlotNumber, recall_cell};
 use std::alloc::{AllocError, Global};
@@ -37,10 +42,12 @@ pub(crate) struct Item {
 #[derive(Drop)]
 pub(crate) struct Store {
     slots: PortSlots<Item>,
-    // The slot of each pair, by its endpoint. A Doomed entry is none.
+    // The slot of each pair, by its endpoint, and how many pairs each inside address has. A Doomed entry is none.
     index: EndpointIndex<Hashers>,
-    // When each entry that translates is looked at again: at the latest when it is idle.
+    // When each entry that may be let go is looked at again: at the latest when it is idle.
     dues: Dues,
+    // Whether Held entries are looked at, too.
+    alone: bool,
 }
 
 impl Model for Store {
@@ -58,7 +65,7 @@ impl Model for Store {
       spare = s.index.spare;
     } };
 
-    ghost invariant = { λ s. IsIndexed s.slots.rows s.index × AreTimed s.dues s.slots.rows };
+    ghost invariant = { λ s. IsIndexed s.slots.rows s.index × AreTimed s.alone s.dues s.slots.rows };
 }
 
 fn entry_of_item(item: &Item) -> Entry
@@ -76,9 +83,13 @@ fn item_with(pair: Pair, state: EntryState, life: Activity) -> Item
 
 /// An entry that comes in is found by its endpoint where it is a pair.
 fn list_pair(index: &mut EndpointIndex<Hashers>, pair: Pair, state: EntryState, number: SlotNumber)
-    requires { 0 < index.old.spare }
+    requires spare { 0 < index.old.spare }
+    requires free { is_pair state ≡ true
+        → number_of_endpoint index.old pair.endpoint ≡ None }
     ensures slots { (x : InsidePort) → number_of_endpoint index.new x ≡ (if serves x (entry_in
         state pair) then Some number else number_of_endpoint index.old x) }
+    ensures counts { (a : Address) → count_in index.new a
+        ≡ count_in index.old a + one_of a (entry_in state pair) }
     ensures spare { index.old.spare ≤ index.new.spare + 1 }
 {
     if is_pair_state(state) {
@@ -88,8 +99,11 @@ fn list_pair(index: &mut EndpointIndex<Hashers>, pair: Pair, state: EntryState, 
 
 /// An entry that goes is found no more.
 fn unlist(index: &mut EndpointIndex<Hashers>, pair: Pair, state: EntryState)
+    requires held { is_pair state ≡ true → IsSome (number_of_endpoint index.old pair.endpoint) }
     ensures slots { (x : InsidePort) → number_of_endpoint index.new x ≡ (if serves x (entry_in
         state pair) then None else number_of_endpoint index.old x) }
+    ensures counts { (a : Address) → count_in index.old a
+        ≡ count_in index.new a + one_of a (entry_in state pair) }
     ensures spare { index.old.spare ≤ index.new.spare }
 {
     if is_pair_state(state) {
@@ -99,9 +113,12 @@ fn unlist(index: &mut EndpointIndex<Hashers>, pair: Pair, state: EntryState)
 
 /// An entry that isn't a pair in its new state is found no more.
 fn unlist_turned(index: &mut EndpointIndex<Hashers>, pair: Pair, was: EntryState, state: EntryState)
+    requires held { is_pair was ≡ true → IsSome (number_of_endpoint index.old pair.endpoint) }
     ensures slots { (x : InsidePort) → number_of_endpoint index.new x
         ≡ (if serves x (entry_in was pair) && not (is_pair state) then None
         else number_of_endpoint index.old x) }
+    ensures counts { (a : Address) → count_in index.old a ≡ count_in index.new a
+        + (if is_pair_of a (entry_in was pair) && not (is_pair state) then 1 else 0) }
     ensures spare { index.old.spare ≤ index.new.spare }
 {
     if !is_pair_state(state) {
@@ -169,15 +186,15 @@ fn put_renewal(slots: &mut PortSlots<Item>, key: Key, now: u64)
     }
 }
 
-/// A key whose entry translates is due no later than the entry is idle. One that is due before that
+/// A key whose entry may be let go is due no later than the entry is idle. One that is due before that
 /// is looked at then, and set anew.
-fn set_in_time(slots: &PortSlots<Item>, dues: &mut Dues, key: Key)
-    ensures timed { (item : Kept) → item_of slots.now.rows key ≡ Some item → translates
-        item.entry.state ≡ true → IsTimed dues.new key item.life }
+fn set_in_time(slots: &PortSlots<Item>, dues: &mut Dues, alone: bool, key: Key)
+    ensures timed { (item : Kept) → item_of slots.now.rows key ≡ Some item → may_go
+        alone item.entry.state ≡ true → IsTimed dues.new key item.life }
     ensures others { KeepsDues key dues.old dues.new }
 {
     if let Some(item) = slots.get(key)
-        && is_translating(item.entry.state)
+        && may_go_state(alone, item.entry.state)
     {
         let due = item.life.due(key.protocol);
         if !is_due_by(dues, key, due) {
@@ -196,14 +213,39 @@ fn is_due_by(dues: &Dues, key: Key, moment: u64) -> bool
     }
 }
 
-/// Sets the keys that came due again.
-fn set_again(slots: &PortSlots<Item>, dues: &mut Dues, keys: &[Key])
+/// Sets those keys again that came due and whose entries may be let go.
+fn set_again(slots: &PortSlots<Item>, dues: &mut Dues, alone: bool, keys: &[Key])
     requires order { Rises 0 slots.now.rows }
-    requires timed { AreTimedBut keys.now dues.old slots.now.rows }
-    ensures timed { AreTimed dues.new slots.now.rows }
+    requires timed { AreTimedBut alone keys.now dues.old slots.now.rows }
+    ensures timed { AreTimed alone dues.new slots.now.rows }
 {
     for key in keys.iter() {
-        set_in_time(slots, dues, *key);
+        set_in_time(slots, dues, alone, *key);
+    }
+}
+
+/// Sets all keys whose entries may be let go once the gateway is lone.
+fn set_all(slots: &PortSlots<Item>, dues: &mut Dues)
+    requires keyed { AreKeyed slots.now.rows }
+    requires timed { AreTimed false dues.old slots.now.rows }
+    ensures timed { AreTimed true dues.new slots.now.rows }
+{
+    slots.recall();
+    let mut last = None;
+    while let Some(key) = slots.key_after(last) {
+        set_in_time(slots, dues, true, key);
+        last = Some(key);
+    }
+}
+
+/// The gateway is lone, or isn't: where it comes to be, all keys are set whose entries may now be let go.
+fn set_alone(slots: &PortSlots<Item>, dues: &mut Dues, alone: bool, lone: bool)
+    requires keyed { AreKeyed slots.now.rows }
+    requires timed { AreTimed alone dues.old slots.now.rows }
+    ensures timed { AreTimed lone dues.new slots.now.rows }
+{
+    if lone && !alone {
+        set_all(slots, dues);
     }
 }
 
@@ -217,7 +259,12 @@ impl Store {
         let slots = PortSlots::new(alloc, room)?;
         let index = EndpointIndex::new(alloc, hashers);
         let dues = Dues::new(alloc)?;
-        Ok(Store { slots, index, dues })
+        Ok(Store {
+            slots,
+            index,
+            dues,
+            alone: false,
+        })
     }
 
     /// Reminds the prover of the order of the entries; it does nothing when it runs.
@@ -264,6 +311,13 @@ impl Store {
         }
     }
 
+    /// How many pairs an inside address has. Doomed ones don't count.
+    pub(crate) fn pairs_of(&self, address: Ip) -> u32
+        ensures { result ≡ pairs_of address self.now.entries }
+    {
+        self.index.count_of(address)
+    }
+
     /// The first entry behind a key in the order, or the first of all.
     pub(crate) fn entry_after(&self, last: Option<Key>) -> Option<Entry>
         ensures { result ≡ after_key last self.now.entries }
@@ -292,7 +346,7 @@ impl Store {
         let number = self.slots.insert(key, item_with(pair, state, life));
         list_pair(&mut self.index, pair, state, number);
         recall_cell(key);
-        set_in_time(&self.slots, &mut self.dues, key);
+        set_in_time(&self.slots, &mut self.dues, self.alone, key);
     }
 
     /// Gives a key's entry another state. None becomes a pair by it.
@@ -313,7 +367,7 @@ impl Store {
             let Entry { pair, state: was } = entry;
             unlist_turned(&mut self.index, pair, was, state);
             put_state(&mut self.slots, key, pair, state);
-            set_in_time(&self.slots, &mut self.dues, key);
+            set_in_time(&self.slots, &mut self.dues, self.alone, key);
         }
     }
 
@@ -357,7 +411,7 @@ impl Store {
     {
         self.slots.recall();
         put_packet(&mut self.slots, key, packet);
-        set_in_time(&self.slots, &mut self.dues, key);
+        set_in_time(&self.slots, &mut self.dues, self.alone, key);
     }
 
     /// The list of packets of a key's pair begins empty.
@@ -372,22 +426,24 @@ impl Store {
     {
         self.slots.recall();
         put_renewal(&mut self.slots, key, now);
-        set_in_time(&self.slots, &mut self.dues, key);
+        set_in_time(&self.slots, &mut self.dues, self.alone, key);
     }
 
-    /// Lists the keys that are to be looked at, in order. All keys whose entries translate and are idle are among them.
-    pub(crate) fn list_due(&mut self, now: u64, keys: &mut Vec<Key>)
+    /// Lists the keys that are to be looked at, in order. The keys of all idle entries that may be let go are among them.
+    pub(crate) fn list_due(&mut self, lone: bool, now: u64, keys: &mut Vec<Key>)
         requires empty { keys.old.items ≡ [] }
         requires room { 131072 ≤ vec_capacity keys.old }
-        ensures among { idle_keys_in now self.old.entries self.old.lives
-            ≡ idle_among now self.old.entries self.old.lives keys.new.items }
+        ensures among { idle_keys_in lone now self.old.entries self.old.lives
+            ≡ idle_among lone now self.old.entries self.old.lives keys.new.items }
         ensures capacity { vec_capacity keys.new ≡ vec_capacity keys.old }
         ensures same { self.new ≡ self.old }
     {
         self.slots.recall();
+        set_alone(&self.slots, &mut self.dues, self.alone, lone);
+        self.alone = lone;
         self.dues.recall();
         self.dues.take(now, keys);
-        set_again(&self.slots, &mut self.dues, keys);
+        set_again(&self.slots, &mut self.dues, lone, keys);
     }
 
     /// Whether a key's pair is idle.

@@ -4,13 +4,13 @@ ghost use Rattle.nat_types.specs.declared.pairs.Key.{Key as OutsidePort};
 ghost use Rattle.activity.specs.Lives.{History, came, with_packet, renewed, is_idle, is_unused};
 ghost use Rattle.bindings.specs.declared.entries.Entry.{Entry as Row};
 ghost use Rattle.activity.specs.declared.packets.Packet.{Packet as Carried};
-ghost use Rattle.bindings.specs.Entries.{is_pair, translates, slot_of, entry_of, set_at, refusal_of, entry_in, pairs_in};
+ghost use Rattle.bindings.specs.Entries.{is_pair, translates, slot_of, entry_of, set_at, refusal_of, entry_in, pairs_in, pairs_of};
 ghost use Rattle.bindings.specs.Lists.{put_in, after_key};
 ghost use Rattle.bindings.specs.Revivals.{revived_entries, revived_slot, lives_of_pairs};
 ghost use Rattle.bindings.specs.Table.{empty_table};
 ghost use Rattle.bindings.specs.Runs.{own_in, without_port, all_ports, first_run, port_at};
 ghost use Rattle.addresses.specs.declared.transport.Protocol.TheVariants.{Tcp, Udp};
-ghost use Rattle.bindings.specs.Lives.{KeepsOthers, is_among, rests_at, is_unused_at};
+ghost use Rattle.bindings.specs.Lives.{KeepsOthers, is_among, may_go, rests_at, is_unused_at};
 ghost use Rattle.bindings.specs.Ports.{AreBounds, in_either, key_count, is_free_in, is_open_in, is_vacant, is_spare, chosen_port, ports_in};
 ghost use Rattle.bindings.specs.Table.{IsTable, IsPast, owns, idle_keys_of, with_entry_state, without_entry};
 ghost use Rattle.bindings.specs.Lives.{lives_with};
@@ -21,12 +21,12 @@ ghost use Rattle.activity.specs.Lives.{life_begun, life_carried, life_renewed};
 
 use crate::entries::key_of;
 use crate::ports::{Ports, highest_port, lowest_port};
-use crate::revivals::{drop_doomed, wake};
-use crate::rows::{count_idle, is_vacant_port, list_idle, pairs_of, refusal, translating_pairs_of};
+use crate::revivals::{drop_doomed, renew_all, wake};
+use crate::rows::{count_idle, is_vacant_port, list_idle, list_pairs, list_translating, refusal};
 use crate::store::Store;
 use crate::{Entry, PortBounds, TableFault};
 use activity::{Activity, Packet, Remote, Way};
-use addresses::{Parity, Port, Protocol, TcpFlags};
+use addresses::{Ip, Parity, Port, Protocol, TcpFlags};
 use nat_types::{Endpoint, EntryState, Key, Pair};
 use slots::{CELLS, Hashers};
 use std::alloc::{AllocError, Global};
@@ -144,6 +144,13 @@ impl Table {
         self.store.entry_of(endpoint)
     }
 
+    /// How many pairs an inside address has, of both protocols together and whatever their state. Doomed ones don't count.
+    pub fn pairs_of(&self, address: Ip) -> u32
+        ensures { result ≡ pairs_of address self.now.entries }
+    {
+        self.store.pairs_of(address)
+    }
+
     /// Makes the table ready for as many adds as there are endpoints, until the next call. Each later `add` that succeeds
     /// uses one of them up, whatever its endpoint. So a caller hands in one endpoint for each add that may come: a record
     /// gives at most one, its own or that of the one packet whose wait it ends.
@@ -243,6 +250,18 @@ impl Table {
         wake(&mut self.store);
     }
 
+    /// The operator says that the peer is off. It may have carried packets until then, so that the life of every pair
+    /// begins anew: the lists of their packets begin empty.
+    pub fn renew_all(&mut self, now: u64)
+        ensures lives { self.new ≡ record self.old {
+          lives = map (life_renewed now) self.old.lives;
+        } }
+        ensures pasts { (q : OutsidePort) → (past : History) → IsPast self.old q past
+            → IsPast self.new q (renewed now past) }
+    {
+        renew_all(&mut self.store, now);
+    }
+
     /// Takes all entries out, and gives all ports up. It stays ready for as many adds as it was.
     pub fn clear(&mut self)
         ensures { self.new ≡ record self.old { entries = []; lives = []; owned = [] } }
@@ -255,14 +274,14 @@ impl Table {
     pub fn pairs(&self) -> Result<Vec<Pair>, AllocError>
         ensures { IfOk result (λ v. v.items ≡ pairs_in is_pair self.now.entries) }
     {
-        pairs_of(self.alloc, &self.store)
+        list_pairs(self.alloc, &self.store)
     }
 
     /// The Live and Held pairs, by protocol (tcp first) and port.
     pub fn translating(&self) -> Result<Vec<Pair>, AllocError>
         ensures { IfOk result (λ v. v.items ≡ pairs_in translates self.now.entries) }
     {
-        translating_pairs_of(self.alloc, &self.store)
+        list_translating(self.alloc, &self.store)
     }
 
     /// The lowest owned free port with that parity, else the lowest owned free one (RFC 4787, section 4.2.2).
@@ -412,25 +431,26 @@ impl Table {
         self.store.is_unused(key)
     }
 
-    /// Appends the keys of the idle Live and Held entries, each once, by protocol (tcp first) and port.
-    /// Room for as many keys as there are entries is enough.
-    pub fn idle_keys(&mut self, now: u64, out: &mut Vec<Key>) -> Result<(), AllocError>
-        ensures keys { OnOk result (out.new.items ≡ out.old.items ++ idle_keys_of self.old now) }
+    /// Appends the keys of the idle entries that may be let go, each once, by protocol (tcp first) and port: of the Live
+    /// ones, and where the gateway is lone of the Held ones too. Room for as many keys as there are entries is enough.
+    pub fn idle_keys(&mut self, lone: bool, now: u64, keys: &mut Vec<Key>) -> Result<(), AllocError>
+        ensures keys { OnOk result (keys.new.items
+            ≡ keys.old.items ++ idle_keys_of self.old lone now) }
         ensures listed { (key : OutsidePort) → (entry : Row) → (past : History)
             → slot_of self.old.entries key ≡ Some entry → IsPast self.old key past
-            → is_among key (idle_keys_of self.old now)
-            ≡ (translates entry.state && is_idle key.protocol past now) }
+            → is_among key (idle_keys_of self.old lone now)
+            ≡ (may_go lone entry.state && is_idle key.protocol past now) }
         ensures same { self.new ≡ self.old }
-        ensures err { OnErr result (out.new.items ≡ out.old.items) }
-        ensures few { length (idle_keys_of self.old now) ≤ length self.old.entries }
-        ensures room { vec_len out.old + length (idle_keys_of self.old now) ≤ vec_capacity out.old
-            → IsOk result }
-        ensures capacity { vec_capacity out.old ≤ vec_capacity out.new }
+        ensures err { OnErr result (keys.new.items ≡ keys.old.items) }
+        ensures few { length (idle_keys_of self.old lone now) ≤ length self.old.entries }
+        ensures room { vec_len keys.old + length (idle_keys_of self.old lone now)
+            ≤ vec_capacity keys.old → IsOk result }
+        ensures capacity { vec_capacity keys.old ≤ vec_capacity keys.new }
     {
         self.found.clear();
-        self.store.list_due(now, &mut self.found);
-        out.reserve(count_idle(&self.store, &self.found, now))?;
-        list_idle(&self.store, &self.found, now, out);
+        self.store.list_due(lone, now, &mut self.found);
+        keys.reserve(count_idle(&self.store, &self.found, lone, now))?;
+        list_idle(&self.store, &self.found, lone, now, keys);
         Ok(())
     }
 }

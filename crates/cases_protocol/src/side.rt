@@ -60,14 +60,15 @@ fn begin_core(
     word: &str,
     zero: PortBounds,
     one: PortBounds,
+    limit: Option<u16>,
 ) -> Result<Core>
     requires zero { AreBounds zero }
     requires one { AreBounds one }
 {
     let hashers = Hashers::fixed();
     match (word, id) {
-        ("founder", GatewayId::Zero) => Ok(Core::founder(alloc, zero, one, hashers)?),
-        ("unsynced", _) => Ok(Core::unsynced(alloc, id, zero, one, hashers)?),
+        ("founder", GatewayId::Zero) => Ok(Core::founder(alloc, zero, one, limit, hashers)?),
+        ("unsynced", _) => Ok(Core::unsynced(alloc, id, zero, one, limit, hashers)?),
         _ => bail!("no beginning {word}"),
     }
 }
@@ -111,8 +112,20 @@ fn bounds(given: &mut Given<'_>) -> Result<PortBounds>
     Ok(PortBounds { lowest, highest })
 }
 
+/// The most pairs that an inside address may have, where one more word is left.
+fn read_limit(given: &mut Given<'_>) -> Result<Option<u16>> {
+    if given.left().is_empty() {
+        return Ok(None);
+    }
+    match u16::try_from(given.number()?) {
+        Ok(limit) => Ok(Some(limit)),
+        Err(_) => bail!("a limit has 16 bits"),
+    }
+}
+
 impl Side {
-    /// As `0 founder 20000 20003 40000 40003 200`: who it is, how it begins, both ranges, and the link's places.
+    /// As `0 founder 20000 20003 40000 40003 200 2`: who it is, how it begins, both ranges, the link's places, and the
+    /// most pairs that an inside address may have, if there is a limit.
     pub fn new(given: &mut Given<'_>) -> Result<Side> {
         let alloc = given.alloc;
         let id = given.gateway()?;
@@ -120,7 +133,8 @@ impl Side {
         let zero = bounds(given)?;
         let one = bounds(given)?;
         let capacity = given.count()?;
-        let core = begin_core(alloc, id, word, zero, one)?;
+        let limit = read_limit(given)?;
+        let core = begin_core(alloc, id, word, zero, one, limit)?;
         let link = Link::new(alloc, id, 1, capacity)?;
         Ok(Side {
             alloc,

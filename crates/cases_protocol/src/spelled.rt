@@ -118,6 +118,7 @@ pub fn say_want(out: &mut String, want: Want) -> Result<()> {
         }
         Want::Wait => begin_part(out, "wait")?,
         Want::NoPort => begin_part(out, "no port")?,
+        Want::HostLimit => begin_part(out, "host limit")?,
         Want::NotNow => begin_part(out, "not now")?,
     }
     Ok(())

@@ -14,6 +14,7 @@ use settings::Settings;
 /// - `advert SIDE HEX NOW`: what an interface sends when it hears this frame
 /// - `arp SIDE HEX NOW`: whether the sender of this frame is learnt, and the answer
 /// - `mac SIDE ADDRESS NOW`: a neighbour's Ethernet address
+/// - `ask SIDE ADDRESS NOW`: whether a packet just sent to a neighbour asks for it
 /// - `request SIDE ADDRESS`: the frame that asks for it
 /// - `send SIDE HEX MAC PORT ADDRESS PORT ..`: the frame by which a packet is sent on to a next hop,
 ///   by one pair, or for a hairpin two
@@ -33,6 +34,7 @@ pub fn answer(
         "advert" => packets::hear_advert(interfaces, given),
         "arp" => packets::hear_arp(interfaces, given),
         "mac" => packets::find_mac(interfaces, given),
+        "ask" => packets::ask(interfaces, given),
         "request" => packets::request(interfaces, given),
         "send" => packets::send(interfaces, given),
         call => bail!("no call {call}"),

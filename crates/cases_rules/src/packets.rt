@@ -116,6 +116,13 @@ pub fn find_mac(interfaces: &Interfaces, given: &mut Given) -> Result<String> {
     }
 }
 
+pub fn ask(interfaces: &mut Interfaces, given: &mut Given) -> Result<String> {
+    let station = interfaces.at_mut(given.side()?);
+    let address = given.hex_ip()?;
+    let asks = station.ask(address, moment(given)?);
+    Ok(format!(in given.alloc; "{asks}")?)
+}
+
 pub fn request(interfaces: &Interfaces, given: &mut Given) -> Result<String> {
     let station = interfaces.at(given.side()?);
     let address = given.hex_ip()?;

@@ -100,6 +100,7 @@ impl TableCase {
             "disown" => self.disown(given.port()?)?,
             "carried" => self.carry(given)?,
             "renew" => self.table.renew(given.key()?, given.number()?),
+            "renew_all" => self.table.renew_all(given.number()?),
             "set_state" => self.set_state(given)?,
             "remove" => self.table.remove(given.key()?),
             "revive" => self.table.revive(),
@@ -122,6 +123,7 @@ impl TableCase {
             "owned" => listed_ports(alloc, self.table.owned()?.as_slice()),
             "first_run" => self.run(given),
             "len" => Ok(format!(in alloc; "{}", self.table.len())?),
+            "pairs_of" => Ok(format!(in alloc; "{}", self.table.pairs_of(given.ip()?))?),
             "idle_keys" => self.idle_keys(given),
             "pairs" => listed(alloc, self.table.pairs()?.as_slice()),
             "translating" => listed(alloc, self.table.translating()?.as_slice()),
@@ -217,11 +219,16 @@ impl TableCase {
         }
     }
 
-    /// How many keys are idle, and which.
+    /// How many keys are idle and may be let go by a gateway that is alone, or paired; and which.
     fn idle_keys(&mut self, given: &mut Given<'_>) -> Result<String> {
+        let lone = match given.word()? {
+            "alone" => true,
+            "paired" => false,
+            stage => bail!("no stage {stage}"),
+        };
         let now = given.number()?;
         let mut keys = Vec::new(given.alloc);
-        self.table.idle_keys(now, &mut keys)?;
+        self.table.idle_keys(lone, now, &mut keys)?;
         let mut out = String::new(given.alloc);
         write!(out, "{}", keys.len())?;
         for key in keys.iter() {

@@ -48,7 +48,7 @@ pub fn is_learnt(given: &mut Given) -> Result<bool> {
 }
 
 /// What a cache finds in steps: `learn:IP:MAC:NOW`, `fill:COUNT:MAC:NOW` for so many addresses from
-/// 0.0.0.0 on, and `find:IP:NOW`. It has the fixed neighbour 192.0.2.254, twice.
+/// 0.0.0.0 on, `find:IP:NOW`, and `ask:IP:NOW`: whether a packet just sent there asks. It has the fixed neighbour 192.0.2.254, twice.
 pub fn found(alloc: Global, steps: &[&str]) -> Result<String> {
     let router = Ip::new([192, 0, 2, 254]);
     let fixed = [0xfe, 0xfd].map(|last| Neighbour {
@@ -81,6 +81,10 @@ fn take_step(cache: &mut Cache, given: &mut Given, found: &mut String) -> Result
             Some(mac) => write!(found, "{mac} ")?,
             None => found.push_str("none ")?,
         },
+        "ask" => {
+            let asks = cache.ask(given.hex_ip()?, given.number()?);
+            found.push_str(if asks { "asks " } else { "no " })?;
+        }
         word => bail!("no step {word}"),
     }
     Ok(())

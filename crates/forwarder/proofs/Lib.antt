@@ -1,2 +1,3 @@
 mod Planning
 mod Taking
+mod Wishing

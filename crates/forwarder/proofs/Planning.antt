@@ -19,24 +19,25 @@ use Rattle.packet_rules.specs.Flows.{source_of}
 use Rattle.packet_rules.specs.Networks.{direction_of}
 use Rattle.packet_rules.specs.Steps.{and_then}
 use Rattle.spec_step.specs.declared.plans.Plan.{Plan}
-use Rattle.spec_step.specs.declared.plans.Plan.TheVariants.{Send, Ask, Wait as WaitFor}
+use Rattle.spec_step.specs.declared.plans.Plan.TheVariants.{Send, Ask, AskAgain, Wait as WaitFor}
 use Rattle.spec_step.specs.Shown.{Shown}
 use Rattle.spec_step.specs.Verdict.{exit_by, hop_by, look_for, next_by, plan_by, plan_from, plan_of, plan_on, plan_to, target_pair}
 
 -- a packet whose next hop isn't known waits for it, where there is a place
 pub plan-waits : (g : Shown) (flow : Flow) (by : Translation) (hop : Ip) (place : Bool) → hop ≡ hop_by g by flow → next_by g by flow ≡ None → has_place g.kept (wait.Hop (exit_by by) hop) ≡ place
-    → (let r : Result Plan Reason = cond place (Ok (Ask by hop)) (Err CannotWait) in r) ≡ plan_by g flow by
+    → (let r : Result Plan Reason = cond place (Ok (Ask by hop)) (Ok (AskAgain by hop)) in r) ≡ plan_by g flow by
 plan-waits g flow by hop place is none at =
     sym (
     ap (λ (o : Option Mac). plan_to g by (hop_by g by flow) o) none
-    ∙ ap (λ (i : Ip). let r : Result Plan Reason = cond (has_place g.kept (wait.Hop (exit_by by) i)) (Ok (Ask by i)) (Err CannotWait) in r) (sym is)
-    ∙ ap (λ (b : Bool). let r : Result Plan Reason = cond b (Ok (Ask by hop)) (Err CannotWait) in r) at
+    ∙ ap (λ (i : Ip). let r : Result Plan Reason = cond (has_place g.kept (wait.Hop (exit_by by) i)) (Ok (Ask by i)) (Ok (AskAgain by i)) in r) (sym is)
+    ∙ ap (λ (b : Bool). let r : Result Plan Reason = cond b (Ok (Ask by hop)) (Ok (AskAgain by hop)) in r) at
     )
 
 -- what is planned to wait has a place, and waits for the packet's own pair, or for its next hop
 abbrev pub Holds : Shown → Flow → Result Plan Reason → Type 0
 Holds g flow (Ok (Send by next)) = Unit {0}
 Holds g flow (Ok (Ask by hop)) = has_place g.kept (wait.Hop (exit_by by) hop) ≡ true
+Holds g flow (Ok (AskAgain by hop)) = Unit {0}
 Holds g flow (Ok (WaitFor e)) = (has_place g.kept (wait.Pair e) ≡ true) × (e ≡ source_of flow)
 Holds g flow (Err reason) = Unit {0}
 
@@ -44,7 +45,7 @@ to-holds : (g : Shown) (flow : Flow) (by : Translation) (hop : Ip) (next : Optio
 to-holds g flow by hop (Some next) = tt
 to-holds g flow by hop None = at (has_place g.kept (wait.Hop (exit_by by) hop)) refl
   where
-    at : (b : Bool) → has_place g.kept (wait.Hop (exit_by by) hop) ≡ b → Holds g flow (let r : Result Plan Reason = cond b (Ok (Ask by hop)) (Err CannotWait) in r)
+    at : (b : Bool) → has_place g.kept (wait.Hop (exit_by by) hop) ≡ b → Holds g flow (let r : Result Plan Reason = cond b (Ok (Ask by hop)) (Ok (AskAgain by hop)) in r)
     at true is = is
     at false is = tt
 
@@ -57,6 +58,7 @@ from-holds g flow by want.Wait = at (has_place g.kept (wait.Pair (source_of flow
     at false is = tt
 from-holds g flow by want.NoPort = tt
 from-holds g flow by want.NotNow = tt
+from-holds g flow by want.HostLimit = tt
 
 on-holds : (g : Shown) (flow : Flow) (w : Direction) → Holds g flow (plan_on g flow w)
 on-holds g flow way.Outward = from-holds g flow Outward (look_for g flow)

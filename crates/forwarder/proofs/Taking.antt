@@ -11,7 +11,7 @@ use Rattle.packet_rules.specs.declared.reasons.Reason.{Reason}
 use Rattle.packet_rules.specs.Flows.{flow_in}
 use Rattle.packet_rules.specs.Steps.{IsForwardable}
 use Rattle.spec_step.specs.declared.plans.Plan.{Plan}
-use Rattle.spec_step.specs.Parts.{by_verdict, flow_taken}
+use Rattle.spec_step.specs.Parts.{by_verdict, flow_taken, waiting}
 use Rattle.spec_step.specs.Shown.{GatewayAndOutput}
 use Rattle.spec_step.specs.Verdict.{plan_of}
 use Rattle.forwarder.specs.Forwarder.{copy_for, wait_in}
@@ -31,7 +31,7 @@ taken-as s side bytes flow plan is = ap (by_verdict s side bytes flow) is
 
 -- what is kept of a packet that has to wait
 pub copied-as : (side : Side) (bytes : List ℕ) (now : ℕ) (plan plan2 : Result Plan Reason) (copy : Option HeldPacket) (w : HeldPacket) (what : WaitsFor) → copy ≡ copy_for side bytes now (wait_in plan) → plan ≡ plan2 → copy ≡ Some w → wait_in plan2 ≡ Some what
-    → w ≡ record { side = side; bytes = bytes; since = now; wait = what }
+    → w ≡ waiting side bytes now what
 copied-as side bytes now plan plan2 copy w what copied is some waits =
     let all : Some w ≡ copy_for side bytes now (Some what) = sym some ∙ copied ∙ ap (λ (p : Result Plan Reason). copy_for side bytes now (wait_in p)) is ∙ ap (copy_for side bytes now) waits in
     cc

@@ -9,6 +9,7 @@ use Rattle.packet_rules.specs.declared.reasons.Reason.{Reason}
 use Rattle.output.specs.Output.{Paged}
 use Rattle.spec_step.specs.declared.plans.Plan.{Plan}
 use Rattle.spec_step.specs.declared.plans.Plan.TheVariants as plans
+use Rattle.spec_step.specs.Parts.{waiting}
 use Rattle.spec_step.specs.Shown.{GatewayAndOutput, Shown, scene}
 use Rattle.spec_step.specs.Verdict.{exit_by}
 use Rattle.forwarder.specs.declared.forwarders.Forwarder.{Forwarder}
@@ -34,10 +35,11 @@ scene_on f page = scene (shown_of f) page.told
 abbrev pub wait_in : Result Plan Reason → Option WaitsFor
 wait_in (Ok (plans.Send by next)) = None
 wait_in (Ok (plans.Ask by hop)) = Some (wait.Hop (exit_by by) hop)
+wait_in (Ok (plans.AskAgain by hop)) = None
 wait_in (Ok (plans.Wait endpoint)) = Some (wait.Pair endpoint)
 wait_in (Err reason) = None
 
 -- the copy of a packet that has to wait
 abbrev pub copy_for : Side → List ℕ → ℕ → Option WaitsFor → Option HeldPacket
 copy_for side bytes now None = None
-copy_for side bytes now (Some what) = Some (record { side = side; bytes = bytes; since = now; wait = what })
+copy_for side bytes now (Some what) = Some (waiting side bytes now what)

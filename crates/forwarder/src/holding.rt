@@ -7,7 +7,7 @@ ghost use Rattle.spec_binding.specs.WellFormed.{IsWellFormedEndpoint};
 ghost use Rattle.packet_rules.specs.Arping.{request_frame};
 ghost use Rattle.packet_rules.specs.Flows.{source_of};
 ghost use Rattle.spec_step.specs.declared.plans.Plan.TheVariants.{Ask, Wait as WaitFor};
-ghost use Rattle.spec_step.specs.Parts.{by_plan, by_refusal, framed};
+ghost use Rattle.spec_step.specs.Parts.{asked_again, by_plan, by_refusal, framed};
 ghost use Rattle.spec_step.specs.Shown.{station_on};
 ghost use Rattle.spec_step.specs.Verdict.{exit_by};
 ghost use Rattle.forwarder.specs.Forwarder.{scene_on, shown_of};
@@ -19,11 +19,11 @@ use ipv4::Flow;
 use nat_types::Side;
 use output::OutputBuffer;
 use packet_rules::{Reason, Translation, source_endpoint};
-use waiting::HeldPacket;
+use waiting::{HeldPacket, WaitsFor};
 
 impl Forwarder {
     /// Asks everyone on a side for an address.
-    fn send_request(&self, page: &mut OutputBuffer, exit: Side, hop: Ip)
+    pub(crate) fn send_request(&self, page: &mut OutputBuffer, exit: Side, hop: Ip)
         requires frames { 1 ≤ page.old.room.frames }
         ensures scene { scene_on self.now page.new
             ≡ framed (scene_on self.now page.old) exit
@@ -50,6 +50,7 @@ impl Forwarder {
         requires formed { IsWellFormedEndpoint (source_of flow) }
         requires place { has_place self.old.kept copy.wait ≡ true }
         requires since { copy.since ≡ self.old.moment }
+        requires asked { copy.asked ≡ self.old.moment }
         requires wait { copy.wait ≡ Hop (exit_by by) hop }
         requires frames { 1 ≤ page.old.room.frames }
         requires notes { 1 ≤ page.old.room.notes }
@@ -67,11 +68,29 @@ impl Forwarder {
         self.send_request(page, by.direction().exit(), hop);
     }
 
+    /// A packet is dropped because another one waits for its next hop, which is asked for again
+    /// where it wasn't just now.
+    pub(crate) fn ask_again(&mut self, page: &mut OutputBuffer, by: Translation, hop: Ip)
+        requires frames { 1 ≤ page.old.room.frames }
+        ensures scene { scene_on self.new page.new
+            ≡ asked_again (scene_on self.old page.old) (exit_by by) hop }
+        ensures rest { self.new ≡ record self.old { kept = self.new.kept } }
+        ensures frames { page.old.room.frames ≤ page.new.room.frames + 1 }
+        ensures datagrams { page.new.room.datagrams ≡ page.old.room.datagrams }
+        ensures notes { page.new.room.notes ≡ page.old.room.notes }
+    {
+        let exit = by.direction().exit();
+        if self.kept.ask_again(WaitsFor::Hop(exit, hop), self.moment) {
+            self.send_request(page, exit, hop);
+        }
+    }
+
     /// A packet waits for the answer to the proposal of its endpoint's pair.
     pub(crate) fn wait(&mut self, page: &mut OutputBuffer, flow: Flow, copy: HeldPacket)
         requires formed { IsWellFormedEndpoint (source_of flow) }
         requires place { has_place self.old.kept copy.wait ≡ true }
         requires since { copy.since ≡ self.old.moment }
+        requires asked { copy.asked ≡ self.old.moment }
         requires wait { copy.wait ≡ Pair (source_of flow) }
         requires notes { 1 ≤ page.old.room.notes }
         requires ready { 1 ≤ self.old.core.table.ready }

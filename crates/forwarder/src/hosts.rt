@@ -59,12 +59,12 @@ impl Forwarder {
     /// Takes an ARP packet: its sender may be learnt, a request is answered, and the packet that
     /// waited for that host is taken again.
     pub fn take_arp(&mut self, page: &mut OutputBuffer, side: Side, packet: &ArpPacket)
-        requires frames { 2 ≤ page.old.room.frames }
+        requires frames { 3 ≤ page.old.room.frames }
         requires notes { 3 ≤ page.old.room.notes }
         requires ready { 1 ≤ self.old.core.table.ready }
         ensures scene { scene_on self.new page.new
             ≡ arp_taken (scene_on self.old page.old) side packet.now }
-        ensures frames { page.old.room.frames ≤ page.new.room.frames + 2 }
+        ensures frames { page.old.room.frames ≤ page.new.room.frames + 3 }
         ensures datagrams { page.new.room.datagrams ≡ page.old.room.datagrams }
         ensures notes { page.old.room.notes ≤ page.new.room.notes + 3 }
         ensures ready { self.old.core.table.ready ≤ self.new.core.table.ready + 1 }

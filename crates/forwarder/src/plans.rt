@@ -101,6 +101,7 @@ impl Forwarder {
             }
             Want::NoPort => Err(Reason::NoPort),
             Want::NotNow => Err(Reason::CannotWait),
+            Want::HostLimit => Err(Reason::HostLimit),
         }
     }
 
@@ -116,7 +117,7 @@ impl Forwarder {
                 if self.kept.has_place(WaitsFor::Hop(exit, hop)) {
                     Ok(Plan::Ask { by, hop })
                 } else {
-                    Err(Reason::CannotWait)
+                    Ok(Plan::AskAgain { by, hop })
                 }
             }
         }

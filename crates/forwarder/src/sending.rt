@@ -1,24 +1,27 @@
 //! What a packet does that goes on at once.
-ghost use Rattle.std.specs.Prelude.{◌≡◌, ◌≤◌, ◌+◌, min};
+ghost use Rattle.std.specs.Prelude.{◌≡◌, ◌≤◌, ◌+◌, min, if◌then◌else◌};
 ghost use Rattle.link.specs.Link.{free_places};
 ghost use Rattle.activity.specs.declared.packets.Packet.{Packet as Carried};
 ghost use Rattle.spec_binding.specs.WellFormed.{IsWellFormedEndpoint};
-ghost use Rattle.nat_types.specs.declared.gateways.Side.{Side};
+ghost use Rattle.arp.specs.Neighbours.{asks_at};
+ghost use Rattle.nat_types.specs.declared.gateways.Side.{Side as OnSide};
 ghost use Rattle.packet_rules.specs.Flows.{packet_in, source_of};
 ghost use Rattle.packet_rules.specs.Frames.{sent_frame};
 ghost use Rattle.packet_rules.specs.Steps.{IsForwardable};
 ghost use Rattle.spec_step.specs.declared.plans.Plan.TheVariants.{Send};
 ghost use Rattle.spec_step.specs.Parts.{by_plan, carried_all, carried_by, framed};
+ghost use Rattle.spec_step.specs.Parts.{neighbour_asked, renewed_behind};
 ghost use Rattle.spec_step.specs.Parts.{remote, wanted_by, wanted_for};
 ghost use Rattle.spec_step.specs.Verdict.{exit_by};
-ghost use Rattle.forwarder.specs.Forwarder.{scene_on};
+ghost use Rattle.spec_step.specs.Shown.{station_on};
+ghost use Rattle.forwarder.specs.Forwarder.{scene_on, shown_of};
 
 use crate::Forwarder;
 use crate::outgoing::SentFrame;
 use activity::{Remote, Way};
 use addresses::{Ip, Mac, Port, TcpFlags};
 use ipv4::{Flow, Packet};
-use nat_types::{Endpoint, Key};
+use nat_types::{Endpoint, Key, Side};
 use output::OutputBuffer;
 use packet_rules::{Translation, limits_law, source_endpoint};
 
@@ -158,7 +161,39 @@ impl Forwarder {
         page.make_frame(by.direction().exit(), &frame);
     }
 
-    /// A packet goes on at once.
+    /// Whether a neighbour on a side is to be asked for; where it is, it counts as asked for now.
+    fn ask_neighbour(&mut self, exit: Side, hop: Ip) -> bool
+        ensures asks { result ≡ asks_at hop.0 self.old.moment
+            (station_on (shown_of self.old) exit).neighbours }
+        ensures shown { shown_of self.new
+            ≡ (if result then neighbour_asked (shown_of self.old) exit hop
+            else shown_of self.old) }
+        ensures core { self.new.core ≡ self.old.core }
+        ensures link { self.new.link ≡ self.old.link }
+    {
+        match exit {
+            Side::Inside => self.inside.ask(hop, self.moment),
+            Side::Outside => self.outside.ask(hop, self.moment),
+        }
+    }
+
+    /// Behind a packet that was sent to a neighbour, asks for it, where it is to be asked for.
+    fn ask_behind(&mut self, page: &mut OutputBuffer, exit: Side, hop: Ip)
+        requires frames { 1 ≤ page.old.room.frames }
+        ensures scene { scene_on self.new page.new
+            ≡ renewed_behind (scene_on self.old page.old) exit hop }
+        ensures core { self.new.core ≡ self.old.core }
+        ensures link { self.new.link ≡ self.old.link }
+        ensures frames { page.old.room.frames ≤ page.new.room.frames + 1 }
+        ensures datagrams { page.new.room.datagrams ≡ page.old.room.datagrams }
+        ensures notes { page.new.room.notes ≡ page.old.room.notes }
+    {
+        if self.ask_neighbour(exit, hop) {
+            self.send_request(page, exit, hop);
+        }
+    }
+
+    /// A packet goes on at once. It needs room for two frames: its own, and a request behind it.
     pub(crate) fn send(
         &mut self,
         page: &mut OutputBuffer,
@@ -170,12 +205,12 @@ impl Forwarder {
         requires forwardable { IsForwardable bytes.now }
         requires read { packet ≡ packet_in bytes.now }
         requires formed { IsWellFormedEndpoint (source_of packet.flow) }
-        requires frames { 1 ≤ page.old.room.frames }
+        requires frames { 2 ≤ page.old.room.frames }
         requires notes { 3 ≤ page.old.room.notes }
         requires ready { 1 ≤ self.old.core.table.ready }
-        ensures scene { (side : Side) → scene_on self.new page.new
+        ensures scene { (side : OnSide) → scene_on self.new page.new
             ≡ by_plan (scene_on self.old page.old) side bytes.now packet.flow (Send by next) }
-        ensures frames { page.old.room.frames ≤ page.new.room.frames + 1 }
+        ensures frames { page.old.room.frames ≤ page.new.room.frames + 2 }
         ensures datagrams { page.new.room.datagrams ≡ page.old.room.datagrams }
         ensures notes { page.old.room.notes ≤ page.new.room.notes + 3 }
         ensures ready { self.old.core.table.ready ≤ self.new.core.table.ready + 1 }
@@ -184,5 +219,7 @@ impl Forwarder {
         self.wish_for(page, packet.flow, &by);
         self.send_frame(page, &by, next, bytes, &packet);
         self.carry_all(page, packet.flow, packet.flags, &by);
+        let hop = by.next_hop(&self.networks, packet.flow.destination);
+        self.ask_behind(page, by.direction().exit(), hop);
     }
 }

@@ -30,8 +30,8 @@ fn recall_source(bytes: &[u8], packet: Packet)
 
 impl Forwarder {
     /// Does what was planned of a packet: it goes on, waits, or is dropped. `copy` is what is kept of
-    /// one that has to wait. It needs room for a frame and three notes, and a core that is ready for a
-    /// pair.
+    /// one that has to wait. It needs room for two frames and three notes, and a core that is ready
+    /// for a pair.
     pub fn take_packet(
         &mut self,
         page: &mut OutputBuffer,
@@ -45,12 +45,12 @@ impl Forwarder {
         requires copied { copy ≡ copy_for side bytes.now self.old.moment (wait_in plan) }
         requires forwardable { IsForwardable bytes.now }
         requires read { packet ≡ packet_in bytes.now }
-        requires frames { 1 ≤ page.old.room.frames }
+        requires frames { 2 ≤ page.old.room.frames }
         requires notes { 3 ≤ page.old.room.notes }
         requires ready { 1 ≤ self.old.core.table.ready }
         ensures scene { scene_on self.new page.new
             ≡ flow_taken (scene_on self.old page.old) side bytes.now packet.flow }
-        ensures frames { page.old.room.frames ≤ page.new.room.frames + 1 }
+        ensures frames { page.old.room.frames ≤ page.new.room.frames + 2 }
         ensures datagrams { page.new.room.datagrams ≡ page.old.room.datagrams }
         ensures notes { page.old.room.notes ≤ page.new.room.notes + 3 }
         ensures ready { self.old.core.table.ready ≤ self.new.core.table.ready + 1 }
@@ -64,6 +64,7 @@ impl Forwarder {
                 Some(copy) => self.ask(page, packet.flow, by, hop, copy),
                 None => unreachable!(),
             },
+            Ok(Plan::AskAgain { by, hop }) => self.ask_again(page, by, hop),
             Ok(Plan::Wait(_)) => match copy {
                 Some(copy) => self.wait(page, packet.flow, copy),
                 None => unreachable!(),
@@ -76,12 +77,12 @@ impl Forwarder {
     fn take_flow_again(&mut self, page: &mut OutputBuffer, reading: Packet, packet: HeldPacket)
         requires forwardable { IsForwardable packet.bytes }
         requires read { reading ≡ packet_in packet.bytes }
-        requires frames { 1 ≤ page.old.room.frames }
+        requires frames { 2 ≤ page.old.room.frames }
         requires notes { 3 ≤ page.old.room.notes }
         requires ready { 1 ≤ self.old.core.table.ready }
         ensures scene { scene_on self.new page.new
             ≡ flow_taken (scene_on self.old page.old) packet.side packet.bytes reading.flow }
-        ensures frames { page.old.room.frames ≤ page.new.room.frames + 1 }
+        ensures frames { page.old.room.frames ≤ page.new.room.frames + 2 }
         ensures datagrams { page.new.room.datagrams ≡ page.old.room.datagrams }
         ensures notes { page.old.room.notes ≤ page.new.room.notes + 3 }
         ensures ready { self.old.core.table.ready ≤ self.new.core.table.ready + 1 }
@@ -96,6 +97,7 @@ impl Forwarder {
                 let copy = packet.again(self.moment, wait);
                 self.ask(page, flow, by, hop, copy);
             }
+            Ok(Plan::AskAgain { by, hop }) => self.ask_again(page, by, hop),
             Ok(Plan::Wait(endpoint)) => {
                 let copy = packet.again(self.moment, WaitsFor::Pair(endpoint));
                 self.wait(page, flow, copy);
@@ -106,12 +108,12 @@ impl Forwarder {
 
     /// Takes a kept packet, which is read again from the first step on.
     fn take_again(&mut self, page: &mut OutputBuffer, packet: HeldPacket)
-        requires frames { 1 ≤ page.old.room.frames }
+        requires frames { 2 ≤ page.old.room.frames }
         requires notes { 3 ≤ page.old.room.notes }
         requires ready { 1 ≤ self.old.core.table.ready }
         ensures scene { scene_on self.new page.new
             ≡ taken_again (scene_on self.old page.old) packet }
-        ensures frames { page.old.room.frames ≤ page.new.room.frames + 1 }
+        ensures frames { page.old.room.frames ≤ page.new.room.frames + 2 }
         ensures datagrams { page.new.room.datagrams ≡ page.old.room.datagrams }
         ensures notes { page.old.room.notes ≤ page.new.room.notes + 3 }
         ensures ready { self.old.core.table.ready ≤ self.new.core.table.ready + 1 }
@@ -127,12 +129,12 @@ impl Forwarder {
 
     /// The packet that waited for this, if one did, waits no more, and is taken again.
     pub fn release_one(&mut self, page: &mut OutputBuffer, wait: WaitsFor)
-        requires frames { 1 ≤ page.old.room.frames }
+        requires frames { 2 ≤ page.old.room.frames }
         requires notes { 3 ≤ page.old.room.notes }
         requires ready { 1 ≤ self.old.core.table.ready }
         ensures scene { scene_on self.new page.new
             ≡ released (scene_on self.old page.old) (One wait) }
-        ensures frames { page.old.room.frames ≤ page.new.room.frames + 1 }
+        ensures frames { page.old.room.frames ≤ page.new.room.frames + 2 }
         ensures datagrams { page.new.room.datagrams ≡ page.old.room.datagrams }
         ensures notes { page.old.room.notes ≤ page.new.room.notes + 3 }
         ensures ready { self.old.core.table.ready ≤ self.new.core.table.ready + 1 }
@@ -149,12 +151,12 @@ impl Forwarder {
     pub fn release_all(&mut self, page: &mut OutputBuffer, list: Vec<HeldPacket>)
         requires empty { list.items ≡ [] }
         requires room { length self.old.kept ≤ vec_capacity list }
-        requires frames { 64 ≤ page.old.room.frames }
+        requires frames { 128 ≤ page.old.room.frames }
         requires notes { 192 ≤ page.old.room.notes }
         requires ready { 64 ≤ self.old.core.table.ready }
         ensures scene { scene_on self.new page.new
             ≡ released (scene_on self.old page.old) AllPairs }
-        ensures frames { page.old.room.frames ≤ page.new.room.frames + 64 }
+        ensures frames { page.old.room.frames ≤ page.new.room.frames + 128 }
         ensures datagrams { page.new.room.datagrams ≡ page.old.room.datagrams }
         ensures notes { page.old.room.notes ≤ page.new.room.notes + 192 }
         ensures ready { self.old.core.table.ready ≤ self.new.core.table.ready + 64 }

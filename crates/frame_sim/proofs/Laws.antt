@@ -1,5 +1,5 @@
 -- The laws of the crates below on which a world stands.
-use Rattle.std.proofs.Common.{◌≡◌, ℕ, ◌&&◌, false, List, [], ◌∷◌, ◌++◌, reverse, Ok}
+use Rattle.std.proofs.Common.{◌≡◌, ℕ, ◌&&◌, false, Option, List, [], ◌∷◌, ◌++◌, reverse, Ok}
 use Rattle.nat_types.specs.Same.{other, same}
 use Rattle.nat_types.specs.declared.gateways.GatewayId.{GatewayId}
 use Rattle.nat_types.specs.declared.gateways.GatewayId.TheVariants.{Zero}
@@ -53,11 +53,11 @@ GoesTo = (r : Ranges) (s : Seen) (e : MachineEvent) → IsWorld r s → Can r e.
 
 -- the boxes with which the machine begins
 abbrev pub BoxBooted : Type 0
-BoxBooted = (id : GatewayId) (zero one : PortBounds) (boot capacity : ℕ) → box_at (empty_book id zero one) (fresh id boot capacity) [] 0 ≡ booted boot
+BoxBooted = (id : GatewayId) (zero one : PortBounds) (limit : Option ℕ) (boot capacity : ℕ) → box_at (empty_book id zero one limit) (fresh id boot capacity) [] 0 ≡ booted boot
 
 abbrev pub BoxFounded : Type 0
-BoxFounded = (zero one : PortBounds) (capacity : ℕ) → AreBounds zero → let r = ranges_of (founded_book zero one) in
-    box_at (founded_book zero one) (fresh Zero 1 capacity) [] 0 ≡ founder (λ p. r.in_ranges p && r.at_start p)
+BoxFounded = (zero one : PortBounds) (limit : Option ℕ) (capacity : ℕ) → AreBounds zero → let r = ranges_of (founded_book zero one limit) in
+    box_at (founded_book zero one limit) (fresh Zero 1 capacity) [] 0 ≡ founder (λ p. r.in_ranges p && r.at_start p)
 
 -- the founding can come about
 abbrev pub Begins : Type 0

@@ -114,7 +114,7 @@ begun-box : BoxBooted → (settings : Settings) (i : GatewayId) (n : ℕ) → bo
 unfolding begun
 begun-box law settings i n =
     let zero = bounds_of settings.ports.zero in let one = bounds_of settings.ports.one in
-    sym (law i zero one n (link_places zero one))
+    sym (law i zero one settings.ports.host_limit n (link_places zero one))
 
 begun-that : (settings : Settings) (i : GatewayId) (n : ℕ) → IsThat settings.ports i n (begun settings i n) []
 unfolding begun
@@ -148,7 +148,7 @@ founded-box : BoxFounded → (settings : Settings) → AreBounds (bounds_of sett
 unfolding founded begun
 founded-box law settings are =
     let zero = bounds_of settings.ports.zero in let one = bounds_of settings.ports.one in
-    ap (λ (b : Box). let x : Scene = record (machine.founding (ranges_of settings.ports)) { mine = b } in x) (sym (law zero one (link_places zero one) are))
+    ap (λ (b : Box). let x : Scene = record (machine.founding (ranges_of settings.ports)) { mine = b } in x) (sym (law zero one settings.ports.host_limit (link_places zero one) are))
 
 founded-that : (settings : Settings) → IsThat settings.ports Zero 1 (founded settings 1) []
 unfolding founded begun

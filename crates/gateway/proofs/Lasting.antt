@@ -13,7 +13,7 @@ use Rattle.link.specs.declared.faults.LinkFault.{LinkFault}
 use Rattle.link.specs.Link.{Link, after_take, closed_at, is_due_on_tick, is_restart, met, records_taken, refusal}
 use Rattle.link.specs.Reading.{reading}
 use Rattle.resync.specs.Loading.{Load, loaded}
-use Rattle.spec_binding.specs.Books.{Book, is_synced, load_of}
+use Rattle.spec_binding.specs.Books.{Book, is_lone, is_synced, load_of}
 use Rattle.spec_binding.specs.Ledgers.{alone_ledger, may_ask, restarted_ledger, rests_for, taken_ledger}
 use Rattle.spec_binding.specs.Resets.{back_in, restart_link, restart_notes, restarted, retaken}
 use Rattle.spec_binding.specs.Rows.{answered, idle_row, load_taken, row_of, taken_answer, taken_book, taken_ended}
@@ -181,7 +181,7 @@ read-stays s (Err fault) = stays-here s.shown
 word-stays : (s : GatewayAndOutput) (n : ℕ) (o : Option Reason) → Stays s.shown (word_by s n o).shown
 word-stays s n None =
     let g = s.shown in
-    let alone = scene (record g { ledger = alone_ledger g.ledger; link = closed_at g.link n }) (with_notes s.told (retaken (id_of g) g.moment (back_in g.ledger.book.entries))) in
+    let alone = scene (record g { ledger = alone_ledger g.moment g.ledger; link = closed_at g.link n }) (with_notes s.told (retaken (id_of g) g.moment (back_in g.ledger.book.entries))) in
     let x = released-stays alone AllPairs in
     record { moment = x.moment; capacity = x.capacity; zero = x.zero; one = x.one }
 word-stays s n (Some reason) = stays-here s.shown
@@ -208,7 +208,7 @@ does-stays s (Comes bytes) done does = stays-as s.shown (datagram_taken s bytes.
 does-stays s (Tick now) done does =
     let middle = does.0 in
     let young = old_dropped middle in
-    let keys = idle_keys_in young.shown.moment young.shown.ledger.book.entries young.shown.ledger.lives in
+    let keys = idle_keys_in (is_lone young.shown.ledger.book.stage) young.shown.moment young.shown.ledger.book.entries young.shown.ledger.lives in
     let x = both-stay (ticked s now) table.Tick middle does.1 in
     let y = idle-stays young keys in
     stays-as (ticked s now).shown (idle_taken young) done does.2

@@ -1,6 +1,8 @@
 -- What no part of a step changes: the clock's moment, the ranges of ports, and for how much the link has room.
-use Rattle.std.proofs.Common.{◌≡◌, ℕ, List, [], ◌∷◌, Option, Some, None, Result, Ok, Err, refl, ◌∙◌}
+use Rattle.std.proofs.Common.{◌≡◌, ℕ, Bool, true, false, cond, List, [], ◌∷◌, Option, Some, None, Result, Ok, Err, refl, ◌∙◌}
+use Rattle.addresses.specs.declared.internet.Ip.{Ip}
 use Rattle.nat_types.specs.declared.gateways.Side.{Side}
+use Rattle.nat_types.specs.declared.gateways.Side.TheVariants.{Inside, Outside}
 use Rattle.nat_types.specs.declared.pairs.Endpoint.{Endpoint}
 use Rattle.nat_types.specs.declared.pairs.Key.{Key}
 use Rattle.nat_types.specs.declared.records.Record.{Record}
@@ -12,20 +14,22 @@ use Rattle.spec_binding.specs.declared.changes.Transition.{Transition}
 use Rattle.spec_binding.specs.Rows.{answered, is_full, wish_of}
 use Rattle.spec_binding.proofs.Offered.{change-leaves}
 use Rattle.waiting.specs.declared.waits.Ended.{Ended}
-use Rattle.waiting.specs.Packets.{HeldPacket, ended_by, left_by}
+use Rattle.arp.specs.Neighbours.{asks_at}
+use Rattle.waiting.specs.declared.waits.WaitsFor.TheVariants as wait
+use Rattle.waiting.specs.Packets.{HeldPacket, asks_again, ended_by, left_by, with_asked}
 use Rattle.packet_rules.specs.declared.readings.Reading.{Reading}
 use Rattle.packet_rules.specs.declared.readings.Reading.TheVariants.{Arp, Advert, Packet}
 use Rattle.packet_rules.specs.declared.reasons.Reason.{Reason}
-use Rattle.packet_rules.specs.declared.reasons.Reason.TheVariants.{ShortFrame, NotMine, BadHeader, BadLength, BadHeaderSum, Fragment, TtlOver, NotUdpTcp, BadTransport, BadArp, BadAdvert, NotUp, NoBinding, NoPort, CannotWait, BadDatagram, OldWord}
+use Rattle.packet_rules.specs.declared.reasons.Reason.TheVariants.{ShortFrame, NotMine, BadHeader, BadLength, BadHeaderSum, Fragment, TtlOver, NotUdpTcp, BadTransport, BadArp, BadAdvert, NotUp, NoBinding, NoPort, CannotWait, BadDatagram, OldWord, HostLimit}
 use Rattle.packet_rules.specs.declared.translations.Translation.{Translation}
 use Rattle.packet_rules.specs.declared.translations.Translation.TheVariants.{Outward, Inward, Hairpin}
 use Rattle.packet_rules.specs.Flows.{source_of}
 use Rattle.packet_rules.specs.Frames.{sent_frame}
 use Rattle.spec_step.specs.declared.plans.Plan.{Plan}
-use Rattle.spec_step.specs.declared.plans.Plan.TheVariants.{Send, Ask, Wait as WaitFor}
-use Rattle.spec_step.specs.Parts.{all_taken, by_plan, by_refusal, by_row, by_verdict, carried_all, carried_by, flow_taken, released, retaken_by, taken_again, flags_in, framed, wanted_by, wanted_for}
-use Rattle.spec_step.specs.Shown.{GatewayAndOutput, Shown, scene}
-use Rattle.spec_step.specs.Verdict.{exit_by, plan_of, reading_on}
+use Rattle.spec_step.specs.declared.plans.Plan.TheVariants.{Send, Ask, AskAgain, Wait as WaitFor}
+use Rattle.spec_step.specs.Parts.{all_taken, asked_again, by_plan, by_refusal, by_row, by_verdict, carried_all, carried_by, flow_taken, released, retaken_by, taken_again, flags_in, framed, neighbour_asked, renewed_behind, request_by, wanted_by, wanted_for}
+use Rattle.spec_step.specs.Shown.{GatewayAndOutput, Shown, scene, station_on}
+use Rattle.spec_step.specs.Verdict.{exit_by, hop_by, plan_of, reading_on}
 
 pub record Stays (g g2 : Shown) : Type 0 where
   pub moment : g2.moment ≡ g.moment
@@ -70,14 +74,37 @@ wanted-for-stays s flow (Outward p) = wanted-stays s (source_of flow)
 wanted-for-stays s flow (Inward p) = stays-here s.shown
 wanted-for-stays s flow (Hairpin own other) = wanted-stays s (source_of flow)
 
+-- a neighbour is asked for, or a next hop again
+neighbour-stays : (g : Shown) (exit : Side) (hop : Ip) → Stays g (neighbour_asked g exit hop)
+neighbour-stays g Inside hop = record { moment = refl; capacity = refl; zero = refl; one = refl }
+neighbour-stays g Outside hop = record { moment = refl; capacity = refl; zero = refl; one = refl }
+
+renewed-stays : (s : GatewayAndOutput) (exit : Side) (hop : Ip) → Stays s.shown (renewed_behind s exit hop).shown
+renewed-stays s exit hop = at (asks_at hop.0 s.shown.moment (station_on s.shown exit).neighbours)
+  where
+    at : (b : Bool) → Stays s.shown (let r : GatewayAndOutput = cond b (framed (scene (neighbour_asked s.shown exit hop) s.told) exit (request_by s.shown exit hop)) s in r.shown)
+    at true = neighbour-stays s.shown exit hop
+    at false = stays-here s.shown
+
+again-asked-stays : (s : GatewayAndOutput) (exit : Side) (hop : Ip) → Stays s.shown (asked_again s exit hop).shown
+again-asked-stays s exit hop = at (asks_again s.shown.moment (wait.Hop exit hop) s.shown.kept)
+  where
+    at : (b : Bool) → Stays s.shown (let r : GatewayAndOutput = cond b (framed (scene (record s.shown { kept = with_asked s.shown.moment (wait.Hop exit hop) s.shown.kept }) s.told) exit (request_by s.shown exit hop)) s in r.shown)
+    at true = record { moment = refl; capacity = refl; zero = refl; one = refl }
+    at false = stays-here s.shown
+
 plan-stays : (s : GatewayAndOutput) (side : Side) (bytes : List ℕ) (flow : Flow) (plan : Plan) → Stays s.shown (by_plan s side bytes flow plan).shown
 plan-stays s side bytes flow (Send by next) =
     let wanted = wanted_for s flow by in
     let sent = framed wanted (exit_by by) (sent_frame s.shown.networks by next bytes) in
-    stays-then s.shown wanted.shown (carried_all sent flow (flags_in bytes) by).shown (wanted-for-stays s flow by) (carried-all-stays sent flow (flags_in bytes) by)
+    let carried = carried_all sent flow (flags_in bytes) by in
+    stays-then s.shown carried.shown (renewed_behind carried (exit_by by) (hop_by s.shown by flow)).shown
+    (stays-then s.shown wanted.shown carried.shown (wanted-for-stays s flow by) (carried-all-stays sent flow (flags_in bytes) by))
+    (renewed-stays carried (exit_by by) (hop_by s.shown by flow))
 plan-stays s side bytes flow (Ask by hop) =
     let wanted = wanted-for-stays s flow by in
     record { moment = wanted.moment; capacity = wanted.capacity; zero = wanted.zero; one = wanted.one }
+plan-stays s side bytes flow (AskAgain by hop) = again-asked-stays s (exit_by by) hop
 plan-stays s side bytes flow (WaitFor endpoint) =
     let wanted = wanted-stays s endpoint in
     record { moment = wanted.moment; capacity = wanted.capacity; zero = wanted.zero; one = wanted.one }
@@ -100,6 +127,7 @@ refusal-stays s flow NoBinding = stays-here s.shown
 refusal-stays s flow CannotWait = stays-here s.shown
 refusal-stays s flow BadDatagram = stays-here s.shown
 refusal-stays s flow OldWord = stays-here s.shown
+refusal-stays s flow HostLimit = stays-here s.shown
 
 verdict-stays : (s : GatewayAndOutput) (side : Side) (bytes : List ℕ) (flow : Flow) (r : Result Plan Reason) → Stays s.shown (by_verdict s side bytes flow r).shown
 verdict-stays s side bytes flow (Ok plan) = plan-stays s side bytes flow plan

@@ -24,7 +24,7 @@ fn wait_in(plan: &Result<Plan, Reason>) -> Option<WaitsFor>
     ensures { result ≡ wait_in plan.now }
 {
     match plan {
-        Ok(Plan::Send { by: _, next: _ }) => None,
+        Ok(Plan::Send { by: _, next: _ }) | Ok(Plan::AskAgain { by: _, hop: _ }) => None,
         Ok(Plan::Ask { by, hop }) => Some(WaitsFor::Hop(by.direction().exit(), *hop)),
         Ok(Plan::Wait(endpoint)) => Some(WaitsFor::Pair(*endpoint)),
         Err(_reason) => None,
@@ -57,6 +57,7 @@ fn outcome_by(plan: &Result<Plan, Reason>) -> Outcome
     match plan {
         Ok(Plan::Send { by: _, next: _ }) => Outcome::Sent,
         Ok(Plan::Ask { by: _, hop: _ }) | Ok(Plan::Wait(_)) => Outcome::Waiting,
+        Ok(Plan::AskAgain { by: _, hop: _ }) => Outcome::Dropped(Reason::CannotWait),
         Err(reason) => Outcome::Dropped(*reason),
     }
 }
@@ -72,7 +73,7 @@ fn take_flow(
 ) -> Result<Outcome, NoMemory>
     requires forwardable { IsForwardable bytes.now }
     requires read { packet ≡ packet_in bytes.now }
-    requires frames { 1 ≤ page.old.room.frames }
+    requires frames { 2 ≤ page.old.room.frames }
     requires notes { 3 ≤ page.old.room.notes }
     requires ready { 1 ≤ forwarder.old.core.table.ready }
     ensures outcome { IfOk result (λ o. o
@@ -95,8 +96,8 @@ fn take_flow(
     }
 }
 
-/// Does what a frame that was read asks for. It needs room for two frames and three notes, and a
-/// core that is ready for a pair. An `Err` stands for a refused copy; nothing has changed then.
+/// Does what a frame that was read asks for. It needs room for three frames and three notes, and
+/// a core that is ready for a pair. An `Err` stands for a refused copy; nothing has changed then.
 pub(crate) fn take_reading(
     alloc: Global,
     forwarder: &mut Forwarder,
@@ -107,7 +108,7 @@ pub(crate) fn take_reading(
 ) -> Result<Outcome, NoMemory>
     requires carries { Carries bytes.now reading }
     requires moment { IsMoment forwarder.old.moment }
-    requires frames { 2 ≤ page.old.room.frames }
+    requires frames { 3 ≤ page.old.room.frames }
     requires notes { 3 ≤ page.old.room.notes }
     requires ready { 1 ≤ forwarder.old.core.table.ready }
     ensures outcome { IfOk result (λ o. o

@@ -163,7 +163,8 @@ fn begin_unsynced(
     let zero = bounds_of(settings.ports.zero);
     let one = bounds_of(settings.ports.one);
     let parts = parts_of(alloc, settings, id, boot)?;
-    let core = Core::unsynced(alloc, id, zero, one, hashers)?;
+    let limit = settings.ports.host_limit;
+    let core = Core::unsynced(alloc, id, zero, one, limit, hashers)?;
     Ok(joined(settings, id, parts, core))
 }
 
@@ -182,7 +183,8 @@ fn begin_founded(
     let zero = bounds_of(settings.ports.zero);
     let one = bounds_of(settings.ports.one);
     let parts = parts_of(alloc, settings, GatewayId::Zero, boot)?;
-    let core = Core::founder(alloc, zero, one, hashers)?;
+    let limit = settings.ports.host_limit;
+    let core = Core::founder(alloc, zero, one, limit, hashers)?;
     let mut forwarder = joined(settings, GatewayId::Zero, parts, core);
     start_routers(&mut forwarder);
     Ok(forwarder)

@@ -27,11 +27,11 @@ fn reset(forwarder: &mut Forwarder, page: &mut OutputBuffer, list: Vec<HeldPacke
     requires acknowledged { forwarder.old.link.acknowledged ≡ 0 }
     requires places { forwarder.old.link.capacity
         ≡ link_places forwarder.old.core.table.zero forwarder.old.core.table.one }
-    requires frames { 64 ≤ page.old.room.frames }
+    requires frames { 128 ≤ page.old.room.frames }
     requires notes { length forwarder.old.core.table.entries + 192 ≤ page.old.room.notes }
     requires ready { 64 ≤ forwarder.old.core.table.ready }
     ensures scene { scene_on forwarder.new page.new ≡ reset_of (scene_on forwarder.old page.old) }
-    ensures frames { page.old.room.frames ≤ page.new.room.frames + 64 }
+    ensures frames { page.old.room.frames ≤ page.new.room.frames + 128 }
     ensures datagrams { page.new.room.datagrams ≡ page.old.room.datagrams }
     ensures notes { page.old.room.notes
         ≤ page.new.room.notes + (length forwarder.old.core.table.entries + 192) }
@@ -63,12 +63,12 @@ fn reset_where(
     requires acknowledged { restarted ≡ true → forwarder.old.link.acknowledged ≡ 0 }
     requires places { forwarder.old.link.capacity
         ≡ link_places forwarder.old.core.table.zero forwarder.old.core.table.one }
-    requires frames { 64 ≤ page.old.room.frames }
+    requires frames { 128 ≤ page.old.room.frames }
     requires notes { length forwarder.old.core.table.entries + 192 ≤ page.old.room.notes }
     requires ready { 64 ≤ forwarder.old.core.table.ready }
     ensures scene { let s = scene_on forwarder.old page.old
         in scene_on forwarder.new page.new ≡ (if restarted then reset_of s else s) }
-    ensures frames { page.old.room.frames ≤ page.new.room.frames + 64 }
+    ensures frames { page.old.room.frames ≤ page.new.room.frames + 128 }
     ensures datagrams { page.new.room.datagrams ≡ page.old.room.datagrams }
     ensures notes { page.old.room.notes
         ≤ page.new.room.notes + (length forwarder.old.core.table.entries + 192) }
@@ -94,7 +94,7 @@ pub(crate) fn take_datagram(
     requires moment { IsMoment forwarder.old.moment }
     requires places { forwarder.old.link.capacity
         ≡ link_places forwarder.old.core.table.zero forwarder.old.core.table.one }
-    requires frames { 128 ≤ page.old.room.frames }
+    requires frames { 256 ≤ page.old.room.frames }
     requires notes { length forwarder.old.core.table.entries + 448 ≤ page.old.room.notes }
     requires ready { 192 ≤ forwarder.old.core.table.ready }
     ensures scene { scene_on forwarder.new page.new

@@ -80,18 +80,18 @@ fn take_and_start(
     ended
 }
 
-/// Takes a record, and the packets again that needn't wait any more. It needs room for a frame and
-/// four notes, and a core that is ready for two pairs.
+/// Takes a record, and the packets again that needn't wait any more. It needs room for two frames
+/// and four notes, and a core that is ready for two pairs.
 pub(crate) fn take_record(forwarder: &mut Forwarder, page: &mut OutputBuffer, entry: Record)
     requires formed { IsWellFormedRecord entry }
     requires moment { IsMoment forwarder.old.moment }
     requires ready { 2 ≤ forwarder.old.core.table.ready }
     requires places { needs_answer entry ≡ true → 0 < free_places forwarder.old.link }
-    requires frames { 1 ≤ page.old.room.frames }
+    requires frames { 2 ≤ page.old.room.frames }
     requires notes { 4 ≤ page.old.room.notes }
     ensures scene { scene_on forwarder.new page.new
         ≡ record_done (scene_on forwarder.old page.old) entry }
-    ensures frames { page.old.room.frames ≤ page.new.room.frames + 1 }
+    ensures frames { page.old.room.frames ≤ page.new.room.frames + 2 }
     ensures datagrams { page.new.room.datagrams ≡ page.old.room.datagrams }
     ensures notes { page.old.room.notes ≤ page.new.room.notes + 4 }
     ensures ready { forwarder.old.core.table.ready ≤ forwarder.new.core.table.ready + 2 }
@@ -114,7 +114,7 @@ pub(crate) fn take_records(forwarder: &mut Forwarder, page: &mut OutputBuffer, r
     requires moment { IsMoment forwarder.old.moment }
     requires ready { 2 * length records.now ≤ forwarder.old.core.table.ready }
     requires places { answers_count records.now ≤ free_places forwarder.old.link }
-    requires frames { length records.now ≤ page.old.room.frames }
+    requires frames { 2 * length records.now ≤ page.old.room.frames }
     requires notes { 4 * length records.now ≤ page.old.room.notes }
     ensures scene { scene_on forwarder.new page.new
         ≡ records_done (scene_on forwarder.old page.old) records.now }

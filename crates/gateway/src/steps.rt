@@ -28,10 +28,10 @@ use output::{OutputBuffer, Room};
 use spec_step::{Event, Outcome, parts_stand, steps_go, steps_keep, steps_settle};
 use std::alloc::Global;
 
-/// What a frame asks room for that is taken: an answer and a packet that goes on, three notes, and
-/// the datagram at the end.
+/// What a frame asks room for that is taken: an answer, a packet that goes on and a request behind it,
+/// three notes, and the datagram at the end.
 const FRAME_ROOM: Room = Room {
-    frames: 2,
+    frames: 3,
     datagrams: 1,
     notes: 3,
 };
@@ -88,7 +88,7 @@ fn datagram_came(
         ≡ scene_on forwarder.old page.old) }
 {
     let room = Room {
-        frames: 128,
+        frames: 256,
         datagrams: 1,
         notes: entry_count(forwarder) + 448,
     };
@@ -159,7 +159,7 @@ fn word_came(
         ≡ scene_on forwarder.old page.old) }
 {
     let room = Room {
-        frames: 64,
+        frames: 128,
         datagrams: 1,
         notes: entry_count(forwarder) + 193,
     };

@@ -29,7 +29,7 @@ fn go_alone(forwarder: &mut Forwarder, page: &mut OutputBuffer, boot: u64, list:
     requires heard { word_refusal (shown_of forwarder.old) boot ≡ None }
     requires empty { list.items ≡ [] }
     requires room { length forwarder.old.kept ≤ vec_capacity list }
-    requires frames { 64 ≤ page.old.room.frames }
+    requires frames { 128 ≤ page.old.room.frames }
     requires notes { length forwarder.old.core.table.entries + 192 ≤ page.old.room.notes }
     requires ready { 64 ≤ forwarder.old.core.table.ready }
     ensures scene { scene_on forwarder.new page.new
@@ -54,7 +54,7 @@ pub(crate) fn take_word(
 ) -> Outcome
     requires empty { list.items ≡ [] }
     requires room { length forwarder.old.kept ≤ vec_capacity list }
-    requires frames { 64 ≤ page.old.room.frames }
+    requires frames { 128 ≤ page.old.room.frames }
     requires notes { length forwarder.old.core.table.entries + 192 ≤ page.old.room.notes }
     requires ready { 64 ≤ forwarder.old.core.table.ready }
     ensures scene { scene_on forwarder.new page.new

@@ -77,7 +77,8 @@ pub record IsRouterStep (old : Interface) (event : Event) (now : ℕ) (action : 
 abbrev pub with_neighbour : Interface → ArpPacket → ℕ → Interface
 with_neighbour station p now = record station {
   neighbours = record station.neighbours {
-    learnt = with_entry (record { address = p.sender_ip; mac = p.sender_mac; at = now })
+    learnt = with_entry
+        (record { address = p.sender_ip; mac = p.sender_mac; at = now; asked = now })
         station.neighbours.learnt;
   };
 }

@@ -1,6 +1,6 @@
 //! An interface with its state.
-ghost use Rattle.std.specs.Prelude.{◌≡◌, ℕ, ◌≤◌, ◌+◌, ◌++◌, IfOk, IfSome, length, vec_len, vec_capacity};
-ghost use Rattle.arp.specs.Neighbours.{mac_at};
+ghost use Rattle.std.specs.Prelude.{◌≡◌, ℕ, ◌≤◌, ◌+◌, ◌++◌, IfOk, IfSome, length, vec_len, vec_capacity, if◌then◌else◌};
+ghost use Rattle.arp.specs.Neighbours.{mac_at, asks_at, asked_at};
 ghost use Rattle.arp.specs.declared.packets.TheConstants.{ARP_FRAME};
 ghost use Rattle.vrrp_packet.specs.declared.TheConstants.{ADVERT_FRAME};
 ghost use Rattle.vrrp_states.specs.declared.Action.TheVariants.{Nothing};
@@ -181,6 +181,20 @@ impl Interface {
         ensures six { IfSome result (λ mac. length mac.0 ≡ 6) }
     {
         self.cache.mac_of(address, now)
+    }
+
+    /// Whether a packet just sent to a neighbour at a moment is to be followed by a request for its
+    /// address: it isn't static, was learnt or renewed 90,000 centiseconds ago or more, and last
+    /// asked for 100 ago or more. If so, it counts as asked for now.
+    pub fn ask(&mut self, address: Ip, now: u64) -> bool
+        ensures asks { result ≡ asks_at address.0 now self.old.neighbours }
+        ensures after { self.new
+            ≡ record self.old {
+              neighbours = (if result then asked_at address.0 now self.old.neighbours
+                  else self.old.neighbours);
+            } }
+    {
+        self.cache.ask(address, now)
     }
 
     /// Reads a frame that came in here, by a gateway that is `up` or not; or gives the reason of the

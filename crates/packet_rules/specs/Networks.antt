@@ -73,20 +73,21 @@ lies_in address interface =
     let hosts = 2 ^ (32 - interface.prefix_length) in
     address / hosts == interface.virtual_ip.0 / hosts
 
--- no host has the address: this network (0/8), loopback (127/8), multicast (224/4), limited
--- broadcast
-unfoldable pub is_special : ℕ → Bool
-is_special address = let first = address / 2 ^ 24 in
-    (first == 0) || (first == 127) || (address / 2 ^ 28 == 14) || (address == 4294967295)
+-- a martian address: of this network (0/8), loopback (127/8), multicast (224/4) or reserved (240/4,
+-- with the limited broadcast address); no host has it (RFC 1812, section 5.3.7)
+unfoldable pub is_martian : ℕ → Bool
+is_martian address = let first = address / 2 ^ 24 in
+    (first == 0) || (first == 127) || (address / 2 ^ 28 == 14) || (address / 2 ^ 28 == 15)
 
 -- 7. the way of a packet from the inside
 unfoldable pub inside_direction : Networks → ℕ → ℕ → Result Direction Reason
 inside_direction networks source destination =
     (if not (lies_in source networks.inside.interface)
-    || (source == networks.inside.interface.virtual_ip.0) then Err NoBinding
+    || (source == networks.inside.interface.virtual_ip.0)
+    || is_martian source then Err NoBinding
     else (if destination == networks.outside.interface.virtual_ip.0 then Ok Hairpin
     else (if lies_in destination networks.inside.interface
-    || is_special destination then Err NoBinding
+    || is_martian destination then Err NoBinding
     else Ok Outward)))
 
 -- 8. the way of a packet from the outside
@@ -94,7 +95,8 @@ unfoldable pub outside_direction : Networks → ℕ → ℕ → Result Direction
 outside_direction networks source destination =
     (if not (destination == networks.outside.interface.virtual_ip.0) then Err NoBinding
     else (if lies_in source networks.inside.interface
-    || (source == networks.outside.interface.virtual_ip.0) then Err NoBinding
+    || (source == networks.outside.interface.virtual_ip.0)
+    || is_martian source then Err NoBinding
     else Ok Inward))
 
 -- the way of a packet

@@ -1,6 +1,6 @@
 //! The two networks: whom a frame addresses, which way its packet goes, and to whom next.
 ghost use Rattle.std.specs.Prelude.{◌≡◌, length};
-ghost use Rattle.packet_rules.specs.Networks.{network_of, networks_of, IsWired, is_virtual, is_addressed, lies_in, is_special, inside_direction, outside_direction, direction_of, outside_hop, exit_of};
+ghost use Rattle.packet_rules.specs.Networks.{network_of, networks_of, IsWired, is_virtual, is_addressed, lies_in, is_martian, inside_direction, outside_direction, direction_of, outside_hop, exit_of};
 
 use crate::Reason;
 use addresses::{Ip, Mac};
@@ -134,12 +134,13 @@ fn contains(interface: &InterfaceSettings, address: Ip) -> bool
     interface.network().contains(address)
 }
 
-#[tactic(auto, unfolding(crate::specs::Networks::is_special))]
-fn is_no_host(address: Ip) -> bool
-    ensures { result ≡ is_special address.0 }
+/// Whether no host has an address (RFC 1812, section 5.3.7).
+#[tactic(auto, unfolding(crate::specs::Networks::is_martian))]
+fn is_martian(address: Ip) -> bool
+    ensures { result ≡ is_martian address.0 }
 {
     let first = address.0 >> 24;
-    first == 0 || first == 127 || address.0 >> 28 == 14 || address == Ip::BROADCAST
+    first == 0 || first == 127 || address.0 >> 28 == 14 || address.0 >> 28 == 15
 }
 
 #[tactic(auto, unfolding(crate::specs::Networks::inside_direction))]
@@ -151,13 +152,13 @@ fn direction_from_inside(
     ensures { result ≡ inside_direction networks.now source.0 destination.0 }
 {
     let inside = &networks.inside.interface;
-    if !contains(inside, source) || source == inside.virtual_ip {
+    if !contains(inside, source) || source == inside.virtual_ip || is_martian(source) {
         return Err(Reason::NoBinding);
     }
     if destination == networks.outside.interface.virtual_ip {
         return Ok(Direction::Hairpin);
     }
-    if contains(inside, destination) || is_no_host(destination) {
+    if contains(inside, destination) || is_martian(destination) {
         return Err(Reason::NoBinding);
     }
     Ok(Direction::Outward)
@@ -175,7 +176,8 @@ fn direction_from_outside(
     if destination != virtual_ip {
         return Err(Reason::NoBinding);
     }
-    if contains(&networks.inside.interface, source) || source == virtual_ip {
+    let inside = &networks.inside.interface;
+    if contains(inside, source) || source == virtual_ip || is_martian(source) {
         return Err(Reason::NoBinding);
     }
     Ok(Direction::Inward)

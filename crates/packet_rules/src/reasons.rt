@@ -41,10 +41,12 @@ pub enum Reason {
     BadDatagram,
     #[error("the operator's word is of a boot below the known one")]
     OldWord,
+    #[error("the host has all the pairs that it may have")]
+    HostLimit,
 }
 
 impl Reason {
-    /// The reason's number, from 1 to 17.
+    /// The reason's number, from 1 to 18.
     pub fn number(self) -> u8
         ensures { result ≡ number_of self }
     {

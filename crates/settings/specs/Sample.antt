@@ -1,5 +1,5 @@
 -- The values of the sample settings.
-use Rattle.std.specs.Prelude.{◌≡◌, ℕ, ◌+◌, ◌*◌, List, [], ◌∷◌, true, codes, string_bytes}
+use Rattle.std.specs.Prelude.{◌≡◌, ℕ, ◌+◌, ◌*◌, List, [], ◌∷◌, true, None, codes, string_bytes}
 use Rattle.nat_types.specs.declared.gateways.Side.{Side}
 use Rattle.nat_types.specs.declared.gateways.Side.TheVariants.{Inside, Outside}
 use Rattle.settings.specs.declared.ranges.PortRange.{PortRange}
@@ -59,6 +59,7 @@ sample_neighbours =
 pub record IsSample (settings : Settings) : Type 0 where
   pub zero_ports : Spans settings.ports.zero 20000 39999
   pub one_ports : Spans settings.ports.one 40000 59999
+  pub limit_is : settings.ports.host_limit ≡ None
   pub inside_is : IsNetwork settings.inside (address 192 168 1 1) 24 11 7101
   pub outside_is : IsNetwork settings.outside (address 192 0 2 1) 24 10 7102
   pub router_is : settings.router.0 ≡ address 192 0 2 254

@@ -1,5 +1,5 @@
 //! The sample settings.
-ghost use Rattle.std.specs.Prelude.{◌≡◌, ◌<◌, IfOk, codes};
+ghost use Rattle.std.specs.Prelude.{◌≡◌, ◌<◌, None, IfOk, codes};
 ghost use Rattle.nat_types.specs.declared.gateways.Side.TheVariants.{Inside};
 ghost use Rattle.settings.specs.Sample.{address, Spans, IsNetwork, IsGateway, IsSample, neighbour_of, sample_neighbours};
 
@@ -11,6 +11,7 @@ use std::alloc::{AllocError, Global};
 fn ranges() -> PortRanges
     ensures zero { Spans result.zero 20000 39999 }
     ensures one { Spans result.one 40000 59999 }
+    ensures limit { result.host_limit ≡ None }
 {
     PortRanges {
         zero: PortRange {
@@ -21,6 +22,7 @@ fn ranges() -> PortRanges
             lowest: Port(40000),
             highest: Port(59999),
         },
+        host_limit: None,
     }
 }
 

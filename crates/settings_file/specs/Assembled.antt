@@ -29,6 +29,7 @@ pub record IsAssembled (v : Values) (s : Settings) : Type 0 where
   pub distinct : same_ids_of v ≡ false
   pub zero_ports : s.ports.zero ≡ v.zero_ports
   pub one_ports : s.ports.one ≡ v.one_ports
+  pub host_limit : s.ports.host_limit ≡ v.host_limit
   pub inside : s.inside ≡ v.inside
   pub outside : s.outside ≡ v.outside
   pub router : s.router ≡ v.router

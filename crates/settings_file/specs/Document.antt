@@ -28,6 +28,11 @@ number_at low high t section name = option_and_then (number_in low high) (value_
 unfoldable pub number_or : ℕ → ℕ → ℕ → Members → Section → Name → Option ℕ
 number_or default low high t section name = or_default default (number_in low high) (value_of t section name)
 
+-- the number at a key that may be left out: `None` where it is
+unfoldable pub optional_at : ℕ → ℕ → Members → Section → Name → Option (Option ℕ)
+optional_at low high t section name =
+    or_default None (λ d. option_map (λ n. Some n) (number_in low high d)) (value_of t section name)
+
 unfoldable pub flag_or : Bool → Members → Section → Name → Option Bool
 flag_or default t section name = or_default default as_bool (value_of t section name)
 

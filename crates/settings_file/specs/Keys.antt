@@ -3,7 +3,7 @@ use Rattle.std.specs.Prelude.{ℕ, List, codes, Some}
 use Rattle.settings_file.specs.declared.keys.Section.{Section}
 use Rattle.settings_file.specs.declared.keys.Section.TheVariants.{Ports, Inside, Outside, GatewayZero, GatewayOne, Neighbour}
 use Rattle.settings_file.specs.declared.keys.Name.{Name}
-use Rattle.settings_file.specs.declared.keys.Name.TheVariants.{Zero, One, Virtual, Prefix, Vrid, Wire, Router}
+use Rattle.settings_file.specs.declared.keys.Name.TheVariants.{Zero, One, HostLimit, Virtual, Prefix, Vrid, Wire, Router}
 use Rattle.settings_file.specs.declared.keys.Name.TheVariants.{InsideIp, InsideMac, OutsideIp, OutsideMac, Priority, Interval, Preempt, BootFile, Link, InsidePort, OutsidePort}
 use Rattle.settings_file.specs.declared.keys.Name.TheVariants.{Side, Ip, Mac}
 use Rattle.settings_file.specs.declared.keys.Key.{Key}
@@ -21,6 +21,7 @@ section_text Neighbour = codes "neighbour"
 abbrev pub name_text : Name → List ℕ
 name_text Zero = codes "zero"
 name_text One = codes "one"
+name_text HostLimit = codes "host_limit"
 name_text Virtual = codes "virtual"
 name_text Prefix = codes "prefix"
 name_text Vrid = codes "vrid"

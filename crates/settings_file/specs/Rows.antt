@@ -3,18 +3,19 @@ use Rattle.std.specs.Prelude.{true, [], ◌∷◌, Option, is_some, unwrap_or}
 use Rattle.toml.specs.Data.{Members}
 use Rattle.settings_file.specs.declared.keys.Section.{Section}
 use Rattle.settings_file.specs.declared.keys.Section.TheVariants.{Ports, Inside, Outside}
-use Rattle.settings_file.specs.declared.keys.Name.TheVariants.{Zero, One, Virtual, Prefix, Vrid, Wire, Router}
+use Rattle.settings_file.specs.declared.keys.Name.TheVariants.{Zero, One, HostLimit, Virtual, Prefix, Vrid, Wire, Router}
 use Rattle.settings_file.specs.declared.keys.Name.TheVariants.{InsideIp, InsideMac, OutsideIp, OutsideMac, Priority, Interval, Preempt, BootFile, Link, InsidePort, OutsidePort}
 use Rattle.settings_file.specs.declared.keys.Key.{Key}
 use Rattle.settings_file.specs.Keys.{key}
 use Rattle.settings_file.specs.Faults.{first_bad, earlier}
-use Rattle.settings_file.specs.Document.{Network, number_at, number_or, flag_or, text_at, address_at, mac_at, range_at, is_host, is_apart}
+use Rattle.settings_file.specs.Document.{Network, number_at, number_or, optional_at, flag_or, text_at, address_at, mac_at, range_at, is_host, is_apart}
 
 -- [ports]
 unfoldable pub bad_ports : Members → Option Key
 bad_ports t = first_bad
     ((key Ports Zero, is_some (range_at t Ports Zero))
     ∷ (key Ports One, is_some (range_at t Ports One))
+    ∷ (key Ports HostLimit, is_some (optional_at 1 65535 t Ports HostLimit))
     ∷ [])
 
 -- [inside]

@@ -1,5 +1,5 @@
 -- Settings that stand at the keys of a document.
-use Rattle.std.specs.Prelude.{◌≡◌, true, Some, string_bytes}
+use Rattle.std.specs.Prelude.{◌≡◌, ℕ, true, Option, Some, string_bytes}
 use Rattle.toml.specs.Data.{Members}
 use Rattle.settings.specs.declared.ranges.PortRange.{PortRange}
 use Rattle.settings.specs.declared.interfaces.InterfaceSettings.{InterfaceSettings}
@@ -7,13 +7,17 @@ use Rattle.settings.specs.declared.gateway_settings.GatewaySettings.{GatewaySett
 use Rattle.settings_file.specs.declared.keys.Section.{Section}
 use Rattle.settings_file.specs.declared.keys.Name.{Name}
 use Rattle.settings_file.specs.declared.keys.Section.TheVariants.{Ports}
-use Rattle.settings_file.specs.declared.keys.Name.TheVariants.{Virtual, Prefix, Vrid, Wire}
+use Rattle.settings_file.specs.declared.keys.Name.TheVariants.{HostLimit, Virtual, Prefix, Vrid, Wire}
 use Rattle.settings_file.specs.declared.keys.Name.TheVariants.{InsideIp, InsideMac, OutsideIp, OutsideMac, Priority, Interval, Preempt, BootFile, Link, InsidePort, OutsidePort}
-use Rattle.settings_file.specs.Document.{number_at, number_or, flag_or, text_at, address_at, mac_at, range_at}
+use Rattle.settings_file.specs.Document.{number_at, number_or, optional_at, flag_or, text_at, address_at, mac_at, range_at}
 
 -- a range of ports
 abbrev pub IsRange : Members → Name → PortRange → Type 0
 IsRange t name range = range_at t Ports name ≡ Some (range.lowest.0, range.highest.0)
+
+-- the most pairs of an inside address: none where it is left out
+abbrev pub IsLimit : Members → Option ℕ → Type 0
+IsLimit t limit = optional_at 1 65535 t Ports HostLimit ≡ Some limit
 
 -- a network
 pub record IsInterface (t : Members) (s : Section) (interface : InterfaceSettings) : Type 0 where

@@ -1,9 +1,10 @@
 //! The values at the keys of a document.
 ghost use Rattle.std.specs.Prelude.{◌≡◌, ◌≤◌, ◌∷◌, [], true, is_some, Some, map, option_map, option_and_then, IfOk, IfErr, IfSome, OnOk, string_bytes};
+ghost use Rattle.std.specs.Option.{ForSome};
 ghost use Rattle.toml.specs.Data.{get_member, as_table, as_str, as_bool};
 ghost use Rattle.toml.specs.View.{table_view, view};
 ghost use Rattle.settings_file.specs.Keys.{section_text, key};
-ghost use Rattle.settings_file.specs.Document.{value_of, number_in, number_at, number_or, flag_or, text_at, address_at, mac_at};
+ghost use Rattle.settings_file.specs.Document.{value_of, number_in, number_at, number_or, optional_at, flag_or, text_at, address_at, mac_at};
 ghost use Rattle.settings_file.specs.Document.{range_of, range_items, range_at, list_in, is_in, is_host};
 ghost use Rattle.settings_file.specs.Faults.{IsBadAt, TellsFirst, first_bad};
 
@@ -101,6 +102,30 @@ pub(crate) fn number_or(
     match value_at(document, section, name) {
         Some(value) => number_in(value, low, high).ok_or(Key::new(section, name)),
         None => Ok(default),
+    }
+}
+
+/// The whole number at a key, from `low` to `high`, where the key isn't left out.
+#[tactic(auto, unfolding(crate::specs::Document::optional_at))]
+pub(crate) fn optional(
+    document: &Table,
+    section: Section,
+    name: Name,
+    low: u16,
+    high: u16,
+) -> Result<Option<u16>, Key>
+    ensures ok { IfOk result
+        (λ found. optional_at low high (table_view document.now) section name ≡ Some found) }
+    ensures low { IfOk result (λ found. ForSome found (λ n. low ≤ n)) }
+    ensures err { IfErr result
+        (IsBadAt section name (optional_at low high (table_view document.now) section name)) }
+{
+    let Some(value) = value_at(document, section, name) else {
+        return Ok(None);
+    };
+    match number_in(value, low, high) {
+        Some(number) => Ok(Some(number)),
+        None => Err(Key::new(section, name)),
     }
 }
 

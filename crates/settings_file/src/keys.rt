@@ -36,6 +36,7 @@ impl Section {
 pub enum Name {
     Zero,
     One,
+    HostLimit,
     Virtual,
     Prefix,
     Vrid,
@@ -65,6 +66,7 @@ impl Name {
         match self {
             Name::Zero => "zero",
             Name::One => "one",
+            Name::HostLimit => "host_limit",
             Name::Virtual => "virtual",
             Name::Prefix => "prefix",
             Name::Vrid => "vrid",

@@ -47,6 +47,7 @@ fn assemble(values: Values) -> Result<Settings, SettingFault>
     let ports = PortRanges {
         zero: values.zero_ports,
         one: values.one_ports,
+        host_limit: values.host_limit,
     };
     Ok(Settings {
         ports,

@@ -1,12 +1,13 @@
-//! The sections of a document: port ranges, the two networks and the router.
-ghost use Rattle.std.specs.Prelude.{◌≡◌, ◌≤◌, Some, None, IfOk, IfErr, OnOk};
+//! The sections of a document: ports, the two networks and the router.
+ghost use Rattle.std.specs.Prelude.{◌≡◌, ◌<◌, ◌≤◌, Some, None, IfOk, IfErr, OnOk};
+ghost use Rattle.std.specs.Option.{ForSome};
 ghost use Rattle.toml.specs.View.{table_view};
 ghost use Rattle.settings_file.specs.declared.keys.Section.TheVariants.{Inside, Outside};
 ghost use Rattle.settings_file.specs.declared.keys.Name.TheVariants.{Zero, One, Router};
 ghost use Rattle.settings_file.specs.Document.{address_at, is_in, is_apart};
 ghost use Rattle.settings_file.specs.Faults.{TellsFirst};
 ghost use Rattle.settings_file.specs.Rows.{bad_ports, bad_inside, bad_outside, bad_router};
-ghost use Rattle.settings_file.specs.Values.{IsRange, IsInterface};
+ghost use Rattle.settings_file.specs.Values.{IsRange, IsLimit, IsInterface};
 
 use crate::faults::ValueFault;
 use crate::{Key, Name, Section, fields};
@@ -15,17 +16,20 @@ use settings::{InterfaceSettings, PortRange};
 use std::alloc::Global;
 use toml::Table;
 
-/// The two gateways' port ranges.
+/// The two gateways' port ranges, and the limit of each inside host where there is one.
 #[tactic(auto, unfolding(crate::specs::Rows::bad_ports))]
-pub(crate) fn ports(document: &Table) -> Result<(PortRange, PortRange), ValueFault>
+pub(crate) fn ports(document: &Table) -> Result<(PortRange, PortRange, Option<u16>), ValueFault>
     ensures zero { IfOk result (λ r. IsRange (table_view document.now) Zero r.0) }
     ensures one { IfOk result (λ r. IsRange (table_view document.now) One r.1) }
+    ensures limit { IfOk result (λ r. IsLimit (table_view document.now) r.2) }
+    ensures limited { IfOk result (λ r. ForSome r.2 (λ most. 0 < most)) }
     ensures good { OnOk result (bad_ports (table_view document.now) ≡ None) }
     ensures err { IfErr result (TellsFirst (bad_ports (table_view document.now))) }
 {
     let zero = fields::range(document, Section::Ports, Name::Zero)?;
     let one = fields::range(document, Section::Ports, Name::One)?;
-    Ok((zero, one))
+    let limit = fields::optional(document, Section::Ports, Name::HostLimit, 1, 65535)?;
+    Ok((zero, one, limit))
 }
 
 /// The inside network.

@@ -11,7 +11,7 @@ use crate::{Name, Section, neighbours};
 use std::alloc::{AllocError, Global};
 use toml::{Table, Value};
 
-const PORTS: [Name; 2] = [Name::Zero, Name::One];
+const PORTS: [Name; 3] = [Name::Zero, Name::One, Name::HostLimit];
 
 const INSIDE: [Name; 4] = [Name::Virtual, Name::Prefix, Name::Vrid, Name::Wire];
 

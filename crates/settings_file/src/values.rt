@@ -1,12 +1,13 @@
 //! All values of a document.
-ghost use Rattle.std.specs.Prelude.{◌≡◌, ◌≤◌, None, Some, map, option_map, vec_len, IfOk, IfErr, OnOk};
+ghost use Rattle.std.specs.Prelude.{◌≡◌, ◌<◌, ◌≤◌, None, Some, map, option_map, vec_len, IfOk, IfErr, OnOk};
+ghost use Rattle.std.specs.Option.{ForSome};
 ghost use Rattle.toml.specs.View.{table_view};
 ghost use Rattle.settings_file.specs.declared.keys.Section.TheVariants.{Inside, Outside, GatewayZero, GatewayOne};
 ghost use Rattle.settings_file.specs.declared.keys.Name.TheVariants.{Zero, One, Router};
 ghost use Rattle.settings_file.specs.Document.{address_at};
 ghost use Rattle.settings_file.specs.Faults.{TellsFirst};
 ghost use Rattle.settings_file.specs.Neighbours.{neighbours_of, neighbour_in};
-ghost use Rattle.settings_file.specs.Values.{IsRange, IsInterface, IsGateway};
+ghost use Rattle.settings_file.specs.Values.{IsRange, IsLimit, IsInterface, IsGateway};
 ghost use Rattle.settings_file.specs.Settings.{first_bad_value};
 
 use crate::faults::ValueFault;
@@ -23,12 +24,14 @@ use toml::Table;
 pub(crate) struct Values {
     pub(crate) zero_ports: PortRange,
     pub(crate) one_ports: PortRange,
+    pub(crate) host_limit: Option<u16>,
     pub(crate) inside: InterfaceSettings,
     pub(crate) outside: InterfaceSettings,
     pub(crate) router: Ip,
     pub(crate) zero: GatewaySettings,
     pub(crate) one: GatewaySettings,
     pub(crate) neighbours: Vec<Neighbour>,
+    ghost limited: { ForSome host_limit (λ most. 0 < most) },
     ghost few_neighbours: { vec_len neighbours ≤ 64 },
 }
 
@@ -37,6 +40,7 @@ pub(crate) struct Values {
 pub(crate) fn read_values(alloc: Global, document: &Table) -> Result<Values, ValueFault>
     ensures zero_ports { IfOk result (λ v. IsRange (table_view document.now) Zero v.zero_ports) }
     ensures one_ports { IfOk result (λ v. IsRange (table_view document.now) One v.one_ports) }
+    ensures limit { IfOk result (λ v. IsLimit (table_view document.now) v.host_limit) }
     ensures inside { IfOk result (λ v. IsInterface (table_view document.now) Inside v.inside) }
     ensures outside { IfOk result (λ v. IsInterface (table_view document.now) Outside v.outside) }
     ensures router { IfOk result
@@ -48,7 +52,7 @@ pub(crate) fn read_values(alloc: Global, document: &Table) -> Result<Values, Val
     ensures good { OnOk result (first_bad_value (table_view document.now) ≡ None) }
     ensures err { IfErr result (TellsFirst (first_bad_value (table_view document.now))) }
 {
-    let (zero_ports, one_ports) = sections::ports(document)?;
+    let (zero_ports, one_ports, host_limit) = sections::ports(document)?;
     let inside = sections::inside(alloc, document)?;
     let outside = sections::outside(alloc, document, inside.network())?;
     let router = sections::router(alloc, document, outside.network())?;
@@ -60,6 +64,7 @@ pub(crate) fn read_values(alloc: Global, document: &Table) -> Result<Values, Val
     Ok(Values {
         zero_ports,
         one_ports,
+        host_limit,
         inside,
         outside,
         router,

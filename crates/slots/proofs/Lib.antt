@@ -3,5 +3,7 @@ mod Rows
 mod Edits
 mod Stored
 mod LookUps
+mod Counted
+mod Held
 mod Due
 pub mod Offered

@@ -1,8 +1,10 @@
 -- What callers see of an index from endpoints to slots.
-use Rattle.std.specs.Prelude.{ℕ, List, [], ◌∷◌, Option, None, Some, if◌then◌else◌}
+use Rattle.std.specs.Prelude.{◌≡◌, ℕ, ◌-◌, Bool, List, [], ◌∷◌, Option, None, Some, count_by, length, min, if◌then◌else◌}
+use Rattle.addresses.specs.declared.internet.Ip.{Ip}
 use Rattle.nat_types.specs.declared.pairs.Endpoint.{Endpoint}
 use Rattle.nat_types.specs.Same.{same_endpoint}
 use Rattle.slots.specs.declared.numbers.SlotNumber.{SlotNumber}
+use Rattle.slots.specs.Counts.{AddressCounts, is_address, count_at}
 
 -- the endpoints with their slots, in no certain order, and how many more fit without memory
 pub record EndpointIndex : Type 0 where
@@ -20,3 +22,18 @@ slot_of index x = look_up index.entries x
 -- the same slots but for this endpoint
 abbrev pub set_at : (Endpoint → Option SlotNumber) → Endpoint → Option SlotNumber → Endpoint → Option SlotNumber
 set_at slots x slot q = (if same_endpoint x q then slot else slots q)
+
+abbrev pub is_of : Ip → Endpoint × SlotNumber → Bool
+is_of address e = is_address e.0.address address
+
+-- how many endpoints of an address have a slot
+abbrev pub count_in : EndpointIndex → Ip → ℕ
+count_in index address = count_by (is_of address) index.entries
+
+-- the counts are those of the endpoints
+abbrev pub AreCounted : List (Endpoint × SlotNumber) → AddressCounts → Type 0
+AreCounted entries counts = (address : Ip) → count_at counts.entries address ≡ count_by (is_of address) entries
+
+-- how many more fit: into either map without memory, and so that a count fits 32 bits
+abbrev pub spare_of : List (Endpoint × SlotNumber) → ℕ → ℕ → ℕ
+spare_of entries endpoints addresses = min (min endpoints addresses) (4294967295 - length entries)

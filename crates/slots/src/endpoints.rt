@@ -1,48 +1,70 @@
 //! The slots of endpoints.
-ghost use Rattle.std.specs.Prelude.{◌≡◌, ◌+◌, ◌<◌, ◌≤◌, None, Some, IfOk, OnOk, OnErr};
+ghost use Rattle.std.specs.Prelude.{◌≡◌, ◌+◌, ◌<◌, ◌≤◌, None, Some, IsSome, IfOk, OnOk, OnErr};
+ghost use Rattle.addresses.specs.declared.internet.Ip.{Ip as Address};
 ghost use Rattle.nat_types.specs.declared.pairs.Endpoint.{Endpoint as InsidePort};
-ghost use Rattle.slots.specs.Endpoints.{slot_of, set_at};
+ghost use Rattle.slots.specs.Counts.{one_at};
+ghost use Rattle.slots.specs.Endpoints.{slot_of, set_at, count_in};
 
 use crate::SlotNumber;
+use crate::address_counts::AddressCounts;
+use addresses::Ip;
 use indexmap::IndexMap;
 use nat_types::Endpoint;
 use std::alloc::{AllocError, Global};
 use std::hash::BuildHasher;
 use std::marker::Model;
 
-/// The slot of each endpoint that has one.
+/// The most endpoints of an index, so that the count of each address fits 32 bits.
+const MOST: usize = 4_294_967_295;
+
+/// The slot of each endpoint that has one, and how many of each address have.
 #[derive(Drop)]
-pub struct EndpointIndex<S: BuildHasher + Drop> {
+pub struct EndpointIndex<S: BuildHasher + Copy + Drop> {
     numbers: IndexMap<Endpoint, SlotNumber, S>,
+    counts: AddressCounts<S>,
 }
 
-impl<S: BuildHasher + Drop> Model for EndpointIndex<S> {
-    ghost use Rattle.slots.specs.Endpoints.{EndpointIndex as Seen};
+impl<S: BuildHasher + Copy + Drop> Model for EndpointIndex<S> {
+    ghost use Rattle.std.specs.Prelude.{◌<◌, length};
+    ghost use Rattle.slots.specs.Endpoints.{EndpointIndex as Seen, AreCounted, spare_of};
 
     ghost Value = { Seen };
 
     ghost use Rattle.indexmap.specs.IndexMap.{spare};
 
-    ghost view = { λ i. record { entries = i.numbers.entries; spare = spare i.numbers } };
+    ghost view = { λ i. record {
+      entries = i.numbers.entries;
+      spare = spare_of i.numbers.entries (spare i.numbers) i.counts.spare;
+    } };
+
+    ghost invariant = { λ i. AreCounted i.numbers.entries i.counts
+        × (length i.numbers.entries < 4294967296) };
 }
 
-impl<S: BuildHasher + Drop> EndpointIndex<S> {
-    /// An index of no endpoints, that hashes by the caller's hasher.
+impl<S: BuildHasher + Copy + Drop> EndpointIndex<S> {
+    /// An index of no endpoints, that hashes endpoints and addresses by the caller's hasher.
     pub fn new(alloc: Global, hasher: S) -> EndpointIndex<S>
-        ensures { (x : InsidePort) → slot_of result x ≡ None }
+        ensures slots { (x : InsidePort) → slot_of result x ≡ None }
+        ensures counts { (a : Address) → count_in result a ≡ 0 }
     {
         EndpointIndex {
             numbers: IndexMap::with_hasher(alloc, hasher),
+            counts: AddressCounts::new(alloc, hasher),
         }
     }
 
-    /// Makes room for so many more endpoints.
+    /// Makes room for so many more endpoints. It is an error too where there would be more than
+    /// 4,294,967,295 of them.
     pub fn ready(&mut self, more: usize) -> Result<(), AllocError>
         ensures room { OnOk result (more ≤ self.new.spare) }
         ensures spare { self.old.spare ≤ self.new.spare }
         ensures same { self.new.entries ≡ self.old.entries }
     {
-        self.numbers.reserve(more)
+        if more > MOST - self.numbers.len() {
+            return Err(AllocError);
+        }
+        self.numbers.reserve(more)?;
+        self.counts.ready(more)
     }
 
     /// The slot of an endpoint.
@@ -52,15 +74,28 @@ impl<S: BuildHasher + Drop> EndpointIndex<S> {
         self.numbers.get(&endpoint).copied()
     }
 
+    /// How many endpoints of an address have a slot.
+    pub fn count_of(&self, address: Ip) -> u32
+        ensures { result ≡ count_in self.now address }
+    {
+        self.counts.get(address)
+    }
+
     /// Gives an endpoint that slot, and no other.
     pub fn put(&mut self, endpoint: Endpoint, number: SlotNumber)
         requires { 0 < self.old.spare }
         ensures slots { (x : InsidePort) → slot_of self.new x
             ≡ set_at (slot_of self.old) endpoint (Some number) x }
+        ensures counted { slot_of self.old endpoint ≡ None
+            → (a : Address) → count_in self.new a
+            ≡ count_in self.old a + one_at endpoint.address a }
+        ensures recounted { IsSome (slot_of self.old endpoint)
+            → (a : Address) → count_in self.new a ≡ count_in self.old a }
         ensures spare { self.old.spare ≤ self.new.spare + 1 }
     {
         match self.numbers.insert(endpoint, number) {
-            Ok(_) => {}
+            Ok(Some(_)) => {}
+            Ok(None) => self.counts.add_one(endpoint.address),
             Err(_) => unreachable!(),
         }
     }
@@ -69,16 +104,26 @@ impl<S: BuildHasher + Drop> EndpointIndex<S> {
     pub fn remove(&mut self, endpoint: Endpoint)
         ensures slots { (x : InsidePort) → slot_of self.new x
             ≡ set_at (slot_of self.old) endpoint None x }
+        ensures counted { IsSome (slot_of self.old endpoint)
+            → (a : Address) → count_in self.old a
+            ≡ count_in self.new a + one_at endpoint.address a }
+        ensures absent { slot_of self.old endpoint ≡ None
+            → (a : Address) → count_in self.new a ≡ count_in self.old a }
         ensures spare { self.old.spare ≤ self.new.spare }
     {
-        self.numbers.swap_remove(&endpoint);
+        match self.numbers.swap_remove(&endpoint) {
+            Some(_) => self.counts.take_one(endpoint.address),
+            None => {}
+        }
     }
 
     /// Takes all endpoints out.
     pub fn clear(&mut self)
         ensures slots { (x : InsidePort) → slot_of self.new x ≡ None }
+        ensures counts { (a : Address) → count_in self.new a ≡ 0 }
         ensures spare { self.old.spare ≤ self.new.spare }
     {
         self.numbers.clear();
+        self.counts.clear();
     }
 }

@@ -1,6 +1,7 @@
 //! Items in slots by protocol and port, and an index from endpoint to slot.
 #![tactic(auto)]
 
+mod address_counts;
 mod cells;
 mod dues;
 mod endpoints;

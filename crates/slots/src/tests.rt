@@ -65,11 +65,15 @@ fn an_index_has_either_hasher(rt: HostRuntime) -> Result<(), Fail> {
     let number = slots.insert(key(Protocol::Udp, 20000), 1);
     for hashers in [Hashers::fixed(), Hashers::drawn(&rt)?] {
         let mut index = EndpointIndex::new(alloc, hashers);
-        index.ready(1)?;
+        index.ready(2)?;
+        index.put(endpoint, number);
         index.put(endpoint, number);
         assert_eq!(rt; index.get(endpoint), Some(number));
+        assert_eq!(rt; index.count_of(endpoint.address), 1);
+        index.remove(endpoint);
         index.remove(endpoint);
         assert_eq!(rt; index.get(endpoint), None);
+        assert_eq!(rt; index.count_of(endpoint.address), 0);
     }
     Ok(())
 }

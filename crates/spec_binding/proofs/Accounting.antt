@@ -17,11 +17,11 @@ use Rattle.activity.specs.Rests.{HaveRested, IsAmong, least_rest}
 use Rattle.activity.proofs.Offered.{looks-is, accounts-idle, accounts-unused}
 use Rattle.bindings.specs.declared.entries.Entry.{Entry}
 use Rattle.bindings.specs.Entries.{slot_of, translates}
-use Rattle.bindings.specs.Lives.{idle_keys_in, is_among, is_unused_at, is_unused_by, rests_at, rests_by}
+use Rattle.bindings.specs.Lives.{idle_keys_in, is_among, may_go, is_unused_at, is_unused_by, rests_at, rests_by}
 use Rattle.bindings.proofs.Offered.{listed-is, slot-key}
 use Rattle.spec_trace.specs.Past.{Idle, IsIdle, UsedInLife, UsesAt, rest_of}
 use Rattle.spec_binding.specs.declared.changes.Transition.{Transition}
-use Rattle.spec_binding.specs.Books.{IsBook, is_synced}
+use Rattle.spec_binding.specs.Books.{IsBook, is_lone, is_synced}
 use Rattle.spec_binding.specs.Ledgers.{Ledger, ledger_after, lives_after}
 use Rattle.spec_binding.specs.Rows.{changed, noted_by, quiet}
 use Rattle.spec_binding.specs.Uses.{Accounts, KnowUses, Knows, uses_after, uses_of}
@@ -74,12 +74,12 @@ rested-idle now es ls k uses a h =
 pub rested-unused : (now : ℕ) (es : List Entry) (ls : List Activity) (k : Key) (uses : List ℕ) → Knows now es ls k uses → is_unused_at es ls k ≡ true → HaveRested (least_rest k.protocol) now uses
 rested-unused now es ls k uses a h = accounts-unused k.protocol a.0 now uses a.2 (sym a.1.2.unused ∙ ap is_unused_by (sym a.1.1) ∙ h)
 
-pub rested-listed : (now : ℕ) (l : Ledger) (h : List Note) (k : Key) (x : Entry) → IsBook l.book → Accounts now l h → slot_of l.book.entries k ≡ Some x → is_among k (idle_keys_in now l.book.entries l.lives) ≡ true
+pub rested-listed : (now : ℕ) (l : Ledger) (h : List Note) (k : Key) (x : Entry) → IsBook l.book → Accounts now l h → slot_of l.book.entries k ≡ Some x → is_among k (idle_keys_in (is_lone l.book.stage) now l.book.entries l.lives) ≡ true
     → HaveRested (least_rest k.protocol) now (uses_of l.book.id h x.pair)
 rested-listed now l h k x is a found among =
     let w = a.uses.known k x found in
-    let both : (translates x.state && is_idle k.protocol w.0 now) ≡ true = sym (listed-is now l.book.entries l.lives k x w.0 is.keys found (slot-key l.book.entries k x found) w.1) ∙ among in
-    accounts-idle k.protocol w.0 now (uses_of l.book.id h x.pair) w.2 (and_parts (translates x.state) (is_idle k.protocol w.0 now) both).1
+    let both : (may_go (is_lone l.book.stage) x.state && is_idle k.protocol w.0 now) ≡ true = sym (listed-is (is_lone l.book.stage) now l.book.entries l.lives k x w.0 is.keys found (slot-key l.book.entries k x found) w.1) ∙ among in
+    accounts-idle k.protocol w.0 now (uses_of l.book.id h x.pair) w.2 (and_parts (may_go (is_lone l.book.stage) x.state) (is_idle k.protocol w.0 now) both).1
 
 -- an entry that doesn't translate has rested
 pub rested-still : (now : ℕ) (l : Ledger) (h : List Note) (x : Entry) → Accounts now l h → slot_of l.book.entries x.pair.key ≡ Some x → translates x.state ≡ false → HaveRested (least_rest x.pair.key.protocol) now (uses_of l.book.id h x.pair)

@@ -26,7 +26,7 @@ use Rattle.spec_binding.specs.declared.changes.PortRequest.{PortRequest}
 use Rattle.spec_binding.specs.declared.changes.Want.TheVariants as want
 use Rattle.spec_binding.specs.Books.{Book, IsBook, in_ranges, is_lone, is_promised, is_synced, owns}
 use Rattle.spec_binding.specs.WellFormed.{Fits, HasPair, IsNewPair, IsWellFormedEndpoint}
-use Rattle.spec_binding.specs.Rows.{accept_row, accepted_row, answering, ask_row, asked_row, carry_row, ending, gives_way, grant_row, idle_row, install_row, is_theirs, known_wish, left_row, may_want, new_pair, new_wish, no_row, none_row, port_for, proposal, proposed_row, quiet, refuse_row, refused_row, release_row, released_row, row, row_of, stayed_row, synced_row, taken_answer, use_row, used_row, wish, wish_by, wish_of, yes_row}
+use Rattle.spec_binding.specs.Rows.{accept_row, accepted_row, answering, ask_row, asked_row, carry_row, ending, gives_way, grant_row, idle_row, install_row, is_at_limit, is_theirs, known_wish, left_row, may_want, new_pair, new_wish, no_row, none_row, port_for, proposal, proposed_row, quiet, refuse_row, refused_row, release_row, released_row, row, row_of, stayed_row, synced_row, taken_answer, use_row, used_row, wish, wish_by, wish_of, yes_row}
 use Rattle.spec_binding.proofs.Moves.{may-give, ranges-port}
 use Rattle.spec_binding.proofs.Wishing.{at-key, chosen-says}
 
@@ -192,9 +192,13 @@ module _ (c : Book) where
   pub wish-sound : (full : Bool) (e : Endpoint) → IsBook c → IsWellFormedEndpoint e → IsSound c (wish_of c full e).row
   wish-sound full e is formed = at (is_synced c.stage) refl (entry_of c.entries e) refl
     where
+      unknown : (t : Bool) → is_synced c.stage ≡ true → entry_of c.entries e ≡ None → IsSound c (let w : PortRequest = cond t (wish want.HostLimit quiet) (new_wish c full e (port_for c e)) in w).row
+      unknown true synced none = sound-quiet c
+      unknown false synced none = new-sound full e (port_for c e) is synced formed none refl
+
       at : (b : Bool) → is_synced c.stage ≡ b → (o : Option Entry) → entry_of c.entries e ≡ o → IsSound c (let w : PortRequest = cond b (wish_by c full e o) (wish want.NotNow quiet) in w).row
       at true synced (Some x) found = known-sound x.pair x.state
-      at true synced None none = new-sound full e (port_for c e) is synced formed none refl
+      at true synced None none = unknown (is_at_limit c e.address) synced none
       at false unsynced o found = sound-quiet c
 
   -- ---- idle pairs, and packets

@@ -401,8 +401,8 @@ revived-keeps b s rs is synced after_it formed paired = record {
   unnamed = λ a n. absurd (both_ways (is_synced s) a after_it);
 }
 
-pub empty-keeps : (id : GatewayId) (zero one : PortBounds) → AreBounds zero → AreBounds one → IsPort zero.highest.0 → IsPort one.highest.0 → IsBook (empty_book id zero one)
-empty-keeps id z o az ao hz ho = record {
+pub empty-keeps : (id : GatewayId) (zero one : PortBounds) (limit : Option ℕ) → AreBounds zero → AreBounds one → IsPort zero.highest.0 → IsPort one.highest.0 → IsBook (empty_book id zero one limit)
+empty-keeps id z o limit az ao hz ho = record {
   zero = az;
   one = ao;
   highest = (hz, ho);
@@ -424,15 +424,15 @@ empty-keeps id z o az ao hz ho = record {
 pub restart-keeps : (b : Book) → IsBook b → IsBook (restarted b)
 restart-keeps b is = at (is_synced b.stage) refl
   where
-    at : (t : Bool) → is_synced b.stage ≡ t → IsBook (let b2 : Book = cond t (begun_anew b) (empty_book b.id b.zero b.one) in b2)
+    at : (t : Bool) → is_synced b.stage ≡ t → IsBook (let b2 : Book = cond t (begun_anew b) (empty_book b.id b.zero b.one b.limit) in b2)
     at true synced = revived-keeps b Paired (restart_batch b) is synced refl (batch-formed b is) (λ w. refl)
-    at false unsynced = empty-keeps b.id b.zero b.one is.zero is.one is.highest.0 is.highest.1
+    at false unsynced = empty-keeps b.id b.zero b.one b.limit is.zero is.one is.highest.0 is.highest.1
 
 -- each entry then is an agreed pair
 pub restart-agrees : (b : Book) → IsBook b → (k : Key) (x : Entry) → slot_of (restarted b).entries k ≡ Some x → (is_settled x.state ≡ true) × (is_pair x.state ≡ true)
 restart-agrees b is k x = at (is_synced b.stage)
   where
-    at : (t : Bool) → slot_of (let b2 : Book = cond t (begun_anew b) (empty_book b.id b.zero b.one) in b2).entries k ≡ Some x → (is_settled x.state ≡ true) × (is_pair x.state ≡ true)
+    at : (t : Bool) → slot_of (let b2 : Book = cond t (begun_anew b) (empty_book b.id b.zero b.one b.limit) in b2).entries k ≡ Some x → (is_settled x.state ≡ true) × (is_pair x.state ≡ true)
     at true h = let w = was-there b.entries k x is.keys h in (ap is_settled w.state ∙ woken-settled w.entry.state w.pair, ap is_pair w.state ∙ woken-pair w.entry.state w.pair)
     at false h = absurd (cc)
 
@@ -496,8 +496,8 @@ founded-owns z o p are = range-is z p are ∙ at (in_bounds z p) (in_bounds o p)
     at false true = refl
     at false false = refl
 
-pub founded-keeps : (zero one : PortBounds) → AreBounds zero → AreBounds one → IsPort zero.highest.0 → IsPort one.highest.0 → IsBook (founded_book zero one)
-founded-keeps z o az ao hz ho = record {
+pub founded-keeps : (zero one : PortBounds) (limit : Option ℕ) → AreBounds zero → AreBounds one → IsPort zero.highest.0 → IsPort one.highest.0 → IsBook (founded_book zero one limit)
+founded-keeps z o limit az ao hz ho = record {
   zero = az;
   one = ao;
   highest = (hz, ho);
@@ -516,6 +516,6 @@ founded-keeps z o az ao hz ho = record {
   unnamed = λ a n. absurd (cc);
 }
 
-pub founded-box : (zero one : PortBounds) (capacity : ℕ) → AreBounds zero → box_at (founded_book zero one) (fresh Zero 1 capacity) [] 0 ≡ founder (λ p. in_either zero one p && in_bounds zero p)
-founded-box z o capacity az = same_boxes (box_at (founded_book z o) (fresh Zero 1 capacity) [] 0) (founder (λ p. in_either z o p && in_bounds z p))
+pub founded-box : (zero one : PortBounds) (limit : Option ℕ) (capacity : ℕ) → AreBounds zero → box_at (founded_book zero one limit) (fresh Zero 1 capacity) [] 0 ≡ founder (λ p. in_either zero one p && in_bounds zero p)
+founded-box z o limit capacity az = same_boxes (box_at (founded_book z o limit) (fresh Zero 1 capacity) [] 0) (founder (λ p. in_either z o p && in_bounds z p))
     (record { up = refl; boot = refl; synced = refl; lone = refl; peer = refl; table = λ k. refl; sent = refl; taken = refl; loading = refl; owned = λ p. founded-owns z o p az; wants = refl; named = refl; promised = refl })

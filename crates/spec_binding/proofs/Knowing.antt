@@ -1,8 +1,9 @@
 -- What entries with their lives know of the uses of their pairs, as they change.
-use Rattle.std.proofs.Common.{◌≡◌, ℕ, suc, ◌+◌, ◌≤◌, nat_le, Bool, true, false, cond, ◌&&◌, Option, Some, None, inl, inr, List, [], ◌∷◌, length, refl, sym, ap, subst, ◌∙◌, arith}
+use Rattle.std.proofs.Common.{◌≡◌, ℕ, suc, ◌+◌, ◌≤◌, nat_le, Bool, true, false, cond, ◌&&◌, Option, Some, None, inl, inr, List, [], ◌∷◌, length, map, refl, sym, ap, subst, ◌∙◌, arith}
 use Rattle.std.specs.List.{insert}
 use Rattle.std.specs.Option.{option_map}
 use Rattle.std.proofs.lemmas.Bool.{both_ways, cases_Bool, cond-true, cond-false, false_from_ne_true, le-leb, leb-true}
+use Rattle.std.proofs.lemmas.List.{length-map}
 use Rattle.addresses.specs.declared.transport.Protocol.{Protocol}
 use Rattle.addresses.specs.declared.transport.Protocol.TheVariants.{Tcp, Udp}
 use Rattle.nat_types.specs.Same.{same_key}
@@ -16,7 +17,7 @@ use Rattle.activity.specs.Lives.{History, Activity, Agrees, came, is_unused, lif
 use Rattle.activity.specs.Rests.{HaveRested, least_rest}
 use Rattle.activity.specs.Places.{is_nowhere}
 use Rattle.activity.specs.Kept.{session_place}
-use Rattle.activity.proofs.Offered.{agrees-tcp, agrees-udp, accounts-came, accounts-renewed, accounts-later, accounts-more, rested-later}
+use Rattle.activity.proofs.Offered.{agrees-tcp, agrees-udp, accounts-came, accounts-renewed, accounts-anew, accounts-later, accounts-more, rested-later}
 use Rattle.bindings.specs.declared.entries.Entry.{Entry}
 use Rattle.bindings.specs.Entries.{has_key, slot_of, entry_in, is_pair, translates, HasDistinctKeys}
 use Rattle.bindings.specs.Lists.{place_in, put_in, with_state, without}
@@ -240,6 +241,26 @@ know-renew now es ls u k x found rested w =
     anew =
         let a = w.known k x found in
         (renewed now a.0, (life_renewed now a.1.0, life-here (life_renewed now) k es ls a.1.0 a.1.1, agrees-renewed k.protocol a.0 a.1.0 now a.1.2), accounts-renewed k.protocol a.0 now (u x.pair) rested)
+
+-- each key's life is changed
+life-each : (f : Activity → Activity) (es : List Entry) (ls : List Activity) (k : Key) (life : Activity) → life_in es ls k ≡ Some life → life_in es (map f ls) k ≡ Some (f life)
+life-each f [] ls k life h = cc
+life-each f (e ∷ es) [] k life h = cc
+life-each f (e ∷ es) (l ∷ ls) k life h = at (has_key k e) refl h (life-each f es ls k life)
+  where
+    at : (b : Bool) → has_key k e ≡ b → cond b (Some l) (life_in es ls k) ≡ Some life → (life_in es ls k ≡ Some life → life_in es (map f ls) k ≡ Some (f life)) → life_in (e ∷ es) (f l ∷ map f ls) k ≡ Some (f life)
+    at true here is rest = cond-true (has_key k e) (Some (f l)) (life_in es (map f ls) k) here ∙ ap (λ (z : Activity). Some (f z)) (let both : Some l ≡ Some life = is in let one : l ≡ life = cc in one)
+    at false here is rest = cond-false (has_key k e) (Some (f l)) (life_in es (map f ls) k) here ∙ rest is
+
+-- each life begins anew, while its pair may be in use
+pub know-anew : (now : ℕ) (es : List Entry) (ls : List Activity) (u : Pair → List ℕ) → KnowUses now es ls u → KnowUses now es (map (life_renewed now) ls) u
+know-anew now es ls u w = record {
+  alike = length-map ls (life_renewed now) ∙ w.alike;
+  known = λ q y h.
+      let a = w.known q y h in
+      (renewed now a.0, (life_renewed now a.1.0, life-each (life_renewed now) es ls q a.1.0 a.1.1, agrees-renewed q.protocol a.0 a.1.0 now a.1.2), accounts-anew q.protocol a.0 now (u y.pair) a.2);
+  rested = w.rested;
+}
 
 -- a pair that translates carries a packet: of the uses v it has one more than of u
 pub know-carry : (since : ℕ) (es : List Entry) (ls : List Activity) (u v : Pair → List ℕ) (k : Key) (x : Entry) (p : Packet) → slot_of es k ≡ Some x → translates x.state ≡ true → since ≤ p.at

@@ -31,7 +31,7 @@ use Rattle.spec_binding.specs.declared.changes.Want.TheVariants as want
 use Rattle.spec_binding.specs.Books.{Book, IsBook, is_lone, is_promised, is_synced, load_of}
 use Rattle.spec_binding.specs.WellFormed.{IsBeside, IsSameBatch}
 use Rattle.spec_binding.specs.Resets.{restart_batch}
-use Rattle.spec_binding.specs.Rows.{accept_row, accepted_row, after, carry_row, changed, grant_row, idle_row, known_wish, left_row, load_taken, may_want, new_pair, new_wish, no_row, none_row, numbers_of, port_for, proposal, quiet, refuse_row, refused_row, release_row, released_row, row, row_of, stage_after, stayed_row, synced_row, taken_answer, taken_book, unsynced_after, use_row, used_row, wish, wish_by, wish_of, yes_row}
+use Rattle.spec_binding.specs.Rows.{accept_row, accepted_row, after, carry_row, changed, grant_row, idle_row, is_at_limit, known_wish, left_row, load_taken, may_want, new_pair, new_wish, no_row, none_row, numbers_of, port_for, proposal, quiet, refuse_row, refused_row, release_row, released_row, row, row_of, stage_after, stayed_row, synced_row, taken_answer, taken_book, unsynced_after, use_row, used_row, wish, wish_by, wish_of, yes_row}
 use Rattle.spec_binding.proofs.Members.{gained-is}
 use Rattle.spec_binding.proofs.Restarting.{batch-count}
 use Rattle.spec_binding.proofs.Unbroken.{machine_runs}
@@ -39,20 +39,20 @@ use Rattle.spec_binding.proofs.Working.{loaded-keeps}
 use Rattle.spec_binding.proofs.Wishing.{at-key}
 
 beside : (b : Book) → IsBeside b b
-beside b = record { id = refl; zero = refl; one = refl; stage = refl; begun = refl; named = refl; coming = refl }
+beside b = record { id = refl; zero = refl; one = refl; limit = refl; stage = refl; begun = refl; named = refl; coming = refl }
 
 pub change-leaves : (b : Book) (ch : Change) → IsBeside b (changed ch b)
 change-leaves b Keep = beside b
-change-leaves b (Add e) = record { id = refl; zero = refl; one = refl; stage = refl; begun = refl; named = refl; coming = refl }
-change-leaves b (Turn k s) = record { id = refl; zero = refl; one = refl; stage = refl; begun = refl; named = refl; coming = refl }
-change-leaves b (Renew k) = record { id = refl; zero = refl; one = refl; stage = refl; begun = refl; named = refl; coming = refl }
-change-leaves b (Drop k) = record { id = refl; zero = refl; one = refl; stage = refl; begun = refl; named = refl; coming = refl }
-change-leaves b (Yield q p) = record { id = refl; zero = refl; one = refl; stage = refl; begun = refl; named = refl; coming = refl }
-change-leaves b Want = record { id = refl; zero = refl; one = refl; stage = refl; begun = refl; named = refl; coming = refl }
-change-leaves b (Give g) = record { id = refl; zero = refl; one = refl; stage = refl; begun = refl; named = refl; coming = refl }
+change-leaves b (Add e) = record { id = refl; zero = refl; one = refl; limit = refl; stage = refl; begun = refl; named = refl; coming = refl }
+change-leaves b (Turn k s) = record { id = refl; zero = refl; one = refl; limit = refl; stage = refl; begun = refl; named = refl; coming = refl }
+change-leaves b (Renew k) = record { id = refl; zero = refl; one = refl; limit = refl; stage = refl; begun = refl; named = refl; coming = refl }
+change-leaves b (Drop k) = record { id = refl; zero = refl; one = refl; limit = refl; stage = refl; begun = refl; named = refl; coming = refl }
+change-leaves b (Yield q p) = record { id = refl; zero = refl; one = refl; limit = refl; stage = refl; begun = refl; named = refl; coming = refl }
+change-leaves b Want = record { id = refl; zero = refl; one = refl; limit = refl; stage = refl; begun = refl; named = refl; coming = refl }
+change-leaves b (Give g) = record { id = refl; zero = refl; one = refl; limit = refl; stage = refl; begun = refl; named = refl; coming = refl }
 change-leaves b (Gain g) =
     let is = gained-is b (numbers_of g) in
-    record { id = ap (λ (x : Book). x.id) is; zero = ap (λ (x : Book). x.zero) is; one = ap (λ (x : Book). x.one) is; stage = ap (λ (x : Book). x.stage) is; begun = ap (λ (x : Book). x.begun) is; named = ap (λ (x : Book). x.named) is; coming = ap (λ (x : Book). x.coming) is }
+    record { id = ap (λ (x : Book). x.id) is; zero = ap (λ (x : Book). x.zero) is; one = ap (λ (x : Book). x.one) is; limit = ap (λ (x : Book). x.limit) is; stage = ap (λ (x : Book). x.stage) is; begun = ap (λ (x : Book). x.begun) is; named = ap (λ (x : Book). x.named) is; coming = ap (λ (x : Book). x.coming) is }
 
 -- ---- answers
 
@@ -235,9 +235,13 @@ module _ (b : Book) where
   pub wish-stays : (full : Bool) (e : Endpoint) → is_lone b.stage ≡ false → IsSameBatch b (after b (wish_of b full e).row)
   wish-stays full e lone = at (is_synced b.stage) (entry_of b.entries e)
     where
+      unknown : (t : Bool) → IsSameBatch b (after b (let w : PortRequest = cond t (wish want.HostLimit quiet) (new_wish b full e (port_for b e)) in w).row)
+      unknown true = same-batch b
+      unknown false = new-stays full e (port_for b e) lone
+
       at : (t : Bool) (o : Option Entry) → IsSameBatch b (after b (let w : PortRequest = cond t (wish_by b full e o) (wish want.NotNow quiet) in w).row)
       at true (Some x) = known-stays x.pair x.state
-      at true None = new-stays full e (port_for b e) lone
+      at true None = unknown (is_at_limit b e.address)
       at false o = same-batch b
 
   released-stays : IsBook b → (lone ask : Bool) → lone ≡ false → (x : Entry) (s : EntryState) → x.state ≡ s → slot_of b.entries x.pair.key ≡ Some x → IsSameBatch b (after b (released_row lone ask x.pair s))

@@ -39,7 +39,7 @@ use Rattle.spec_binding.specs.Rows.{after, answered, carry_row, changed, idle_ro
 use Rattle.spec_binding.specs.Uses.{Accounts, KnowUses, uses_after, uses_of}
 use Rattle.spec_binding.proofs.Accounting.{rested-listed, reversed-join, reversed-more, stays-accounts}
 use Rattle.spec_binding.proofs.Keeping.{idle-keeps}
-use Rattle.spec_binding.proofs.Knowing.{WasAt, was-at, know-add, know-as, know-carry, know-later, know-none, know-revived}
+use Rattle.spec_binding.proofs.Knowing.{WasAt, was-at, know-add, know-anew, know-as, know-carry, know-later, know-none, know-revived}
 use Rattle.spec_binding.proofs.Leaving.{change-leaves}
 use Rattle.spec_binding.proofs.Loads.{is-fresh}
 use Rattle.spec_binding.proofs.Staying.{idle-stays, row-stays, wish-stays}
@@ -211,14 +211,14 @@ pub restarted-accounts : (now : ℕ) (l : Ledger) (h : List Note) → IsBook l.b
 restarted-accounts now l h is a = at (is_synced l.book.stage) refl
   where
     at : (t : Bool) → is_synced l.book.stage ≡ t → Accounts now (record {
-      book = cond t (begun_anew l.book) (empty_book l.book.id l.book.zero l.book.one);
+      book = cond t (begun_anew l.book) (empty_book l.book.id l.book.zero l.book.one l.book.limit);
       lives = cond t (lives_of_pairs l.book.entries l.lives) [];
     }) (reverse (let ns : List Note = cond t (retaken l.book.id now (back_in l.book.entries)) [] in ns) ++ h)
     at true synced = record { uses = revived-uses now l h is a; none = λ un. absurd (cc); idle = retaken-idle l.book.id now (back_in l.book.entries) h a.idle }
     at false loads = record { uses = know-none now (uses_of l.book.id h) (a.none loads); none = λ un. a.none loads; idle = a.idle }
 
-pub alone-accounts : (now : ℕ) (l : Ledger) (h : List Note) → IsBook l.book → Accounts now l h → Accounts now (alone_ledger l) (reverse (retaken l.book.id now (back_in l.book.entries)) ++ h)
-alone-accounts now l h is a = record { uses = revived-uses now l h is a; none = λ un. absurd (cc); idle = retaken-idle l.book.id now (back_in l.book.entries) h a.idle }
+pub alone-accounts : (now : ℕ) (l : Ledger) (h : List Note) → IsBook l.book → Accounts now l h → Accounts now (alone_ledger now l) (reverse (retaken l.book.id now (back_in l.book.entries)) ++ h)
+alone-accounts now l h is a = record { uses = know-anew now (revived_entries l.book.entries) (lives_of_pairs l.book.entries l.lives) (uses_of l.book.id (reverse (retaken l.book.id now (back_in l.book.entries)) ++ h)) (revived-uses now l h is a); none = λ un. absurd (cc); idle = retaken-idle l.book.id now (back_in l.book.entries) h a.idle }
 
 -- ---- the idle pairs of a tick
 
@@ -299,5 +299,5 @@ let-go-rested now (k ∷ ks) l e h is a rest =
     (let-go-rested now ks l2 e2 h2 (idle-keeps l.book (may_ask now e) k is) here left)
 
 pub let-go-accounts : (now : ℕ) (l : Ledger) (e : Link) (h : List Note) → IsBook l.book → Accounts now l h
-    → Accounts now (let_go now (idle_keys_in now l.book.entries l.lives) l e).ledger (reverse (let_go now (idle_keys_in now l.book.entries l.lives) l e).notes ++ h)
-let-go-accounts now l e h is a = let-go-rested now (idle_keys_in now l.book.entries l.lives) l e h is a (λ k x among found. rested-listed now l h k x is a found among)
+    → Accounts now (let_go now (idle_keys_in (is_lone l.book.stage) now l.book.entries l.lives) l e).ledger (reverse (let_go now (idle_keys_in (is_lone l.book.stage) now l.book.entries l.lives) l e).notes ++ h)
+let-go-accounts now l e h is a = let-go-rested now (idle_keys_in (is_lone l.book.stage) now l.book.entries l.lives) l e h is a (λ k x among found. rested-listed now l h k x is a found among)

@@ -31,7 +31,7 @@ use Rattle.spec_binding.specs.declared.changes.PortRequest.{PortRequest}
 use Rattle.spec_binding.specs.declared.changes.Want.TheVariants as want
 use Rattle.spec_binding.specs.Books.{Book, IsBook, is_lone, is_promised, is_synced}
 use Rattle.spec_binding.specs.Ledgers.{Ledger, lives_after, rests_for}
-use Rattle.spec_binding.specs.Rows.{accept_row, accepted_row, answering, ask_row, asked_row, ending, gives_way, grant_row, idle_row, install_row, is_theirs, known_wish, left_row, may_want, new_pair, new_wish, no_row, noted_by, numbers_of, port_for, proposal, proposed_row, quiet, refuse_row, refused_row, release_row, released_row, row, row_of, stayed_row, synced_row, wish, wish_by, wish_of, yes_row}
+use Rattle.spec_binding.specs.Rows.{accept_row, accepted_row, answering, ask_row, asked_row, ending, gives_way, grant_row, idle_row, install_row, is_at_limit, is_theirs, known_wish, left_row, may_want, new_pair, new_wish, no_row, noted_by, numbers_of, port_for, proposal, proposed_row, quiet, refuse_row, refused_row, release_row, released_row, row, row_of, stayed_row, synced_row, wish, wish_by, wish_of, yes_row}
 use Rattle.spec_binding.specs.Uses.{Accounts, KnowUses, uses_of}
 use Rattle.spec_binding.proofs.Accounting.{Stays, idle-by, rested-idle, rested-still, rested-unused, stays-quiet}
 use Rattle.spec_binding.proofs.Knowing.{know-add, know-as, know-drop, know-renew, know-turn}
@@ -276,7 +276,11 @@ module _ (now : ℕ) (l : Ledger) (h : List Note) (is : IsBook l.book) (a : Acco
   pub wish-stays : (full : Bool) (e : Endpoint) → Stays now l h (wish_of l.book full e).row
   wish-stays full e = at (is_synced l.book.stage) (entry_of l.book.entries e)
     where
+      unknown : (t : Bool) → Stays now l h (let w : PortRequest = cond t (wish want.HostLimit quiet) (new_wish l.book full e (port_for l.book e)) in w).row
+      unknown true = stays-quiet now l h a
+      unknown false = new-stays full e (port_for l.book e) refl
+
       at : (t : Bool) (o : Option Entry) → Stays now l h (let w : PortRequest = cond t (wish_by l.book full e o) (wish want.NotNow quiet) in w).row
       at true (Some x) = known-stays x.pair x.state
-      at true None = new-stays full e (port_for l.book e) refl
+      at true None = unknown (is_at_limit l.book e.address)
       at false o = stays-quiet now l h a

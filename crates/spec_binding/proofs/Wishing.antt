@@ -31,7 +31,7 @@ use Rattle.spec_binding.specs.declared.changes.PortRequest.{PortRequest}
 use Rattle.spec_binding.specs.declared.changes.Want.TheVariants as want
 use Rattle.spec_binding.specs.Books.{Book, is_synced, is_lone, owns}
 use Rattle.spec_binding.specs.Machine.{box_at, machine_records, ranges_of, slots_of, Stands, Works}
-use Rattle.spec_binding.specs.Rows.{after, answered, asking, carry_row, idle_row, known_wish, may_want, new_pair, new_wish, none_row, noted_by, port_for, proposal, pushed_by, quiet, release_row, released_row, row, use_row, used_row, wish, wish_by, wish_of}
+use Rattle.spec_binding.specs.Rows.{after, answered, asking, carry_row, idle_row, is_at_limit, known_wish, may_want, new_pair, new_wish, none_row, noted_by, port_for, proposal, pushed_by, quiet, release_row, released_row, row, use_row, used_row, wish, wish_by, wish_of}
 use Rattle.spec_binding.proofs.Parts.{act-step}
 use Rattle.spec_binding.proofs.Slots.{slots-at, slots-drop, slots-none, slots-put, slots-turn}
 use Rattle.spec_binding.proofs.Taking.{is-unbound}
@@ -147,7 +147,11 @@ module _ (now : ℕ) (c : Book) (e : Link) (h : List Record) (n : ℕ) (letters 
 
   by-steps : is_synced c.stage ≡ true → (full : Bool) (x : Endpoint) (o : Option Entry) → entry_of c.entries x ≡ o → WishSteps (wish_by c full x o).row
   by-steps synced full x (Some y) found = known-steps y.pair y.state
-  by-steps synced full x None found = new-steps synced full x found (port_for c x) refl
+  by-steps synced full x None found = unknown (is_at_limit c x.address)
+    where
+      unknown : (t : Bool) → WishSteps (let w : PortRequest = cond t (wish want.HostLimit quiet) (new_wish c full x (port_for c x)) in w).row
+      unknown true = rest-row
+      unknown false = new-steps synced full x found (port_for c x) refl
 
   pub wish-steps : (full : Bool) (x : Endpoint) → WishSteps (wish_of c full x).row
   wish-steps full x = at (is_synced c.stage) refl

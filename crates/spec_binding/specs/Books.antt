@@ -1,5 +1,5 @@
 -- What the binding protocol knows of a gateway: its book.
-use Rattle.std.specs.Prelude.{◌≡◌, ℕ, Bool, true, false, IsTrue, List, [], ◌∷◌, Some, ◌+◌, ◌-◌}
+use Rattle.std.specs.Prelude.{◌≡◌, ℕ, Bool, true, false, IsTrue, List, [], ◌∷◌, Option, Some, ◌+◌, ◌-◌}
 use Rattle.nat_types.specs.declared.gateways.GatewayId.{GatewayId}
 use Rattle.nat_types.specs.declared.pairs.Key.{Key}
 use Rattle.nat_types.specs.declared.records.Record.{Record}
@@ -17,13 +17,14 @@ use Rattle.resync.specs.Loading.{Load}
 use Rattle.spec_binding.specs.declared.setups.Stage.{Stage}
 use Rattle.spec_binding.specs.declared.setups.Stage.TheVariants.{Unsynced, Paired, Lone}
 
--- Who it is, both ranges, how far it is, whether Begin was taken and not yet Done, the last port that an Owner named,
+-- Who it is, both ranges, the most pairs that one inside address may have, how far it is, whether Begin was taken and not yet Done, the last port that an Owner named,
 -- its entries, the ports that it owns (loading: is to own), whether a Want of its is open, and the records of a promised
 -- batch that are still to be handed in.
 pub record Book : Type 0 where
   pub id : GatewayId
   pub zero : PortBounds
   pub one : PortBounds
+  pub limit : Option ℕ
   pub stage : Stage
   pub begun : Bool
   pub named : ℕ
@@ -58,11 +59,12 @@ abbrev pub owns : Book → ℕ → Bool
 owns b port = is_listed port b.owned
 
 -- a gateway without a table, whose peer may be known
-abbrev pub empty_book : GatewayId → PortBounds → PortBounds → Book
-empty_book id zero one = record {
+abbrev pub empty_book : GatewayId → PortBounds → PortBounds → Option ℕ → Book
+empty_book id zero one limit = record {
   id = id;
   zero = zero;
   one = one;
+  limit = limit;
   stage = Unsynced;
   begun = false;
   named = 0;
@@ -77,8 +79,8 @@ abbrev pub ports_of : PortBounds → List ℕ
 ports_of range = range_with_len range.lowest.0 (range.highest.0 + 1 - range.lowest.0)
 
 -- gateway 0 as it is founded: alone, with range zero
-abbrev pub founded_book : PortBounds → PortBounds → Book
-founded_book zero one = record (empty_book Zero zero one) { stage = Lone; owned = ports_of zero }
+abbrev pub founded_book : PortBounds → PortBounds → Option ℕ → Book
+founded_book zero one limit = record (empty_book Zero zero one limit) { stage = Lone; owned = ports_of zero }
 
 -- the table that is loaded
 abbrev pub load_of : Book → Load

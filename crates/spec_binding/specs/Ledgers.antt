@@ -1,5 +1,5 @@
 -- A book with what its pairs carried, and what each call makes of both.
-use Rattle.std.specs.Prelude.{ℕ, ◌-◌, Bool, true, false, not, is_some, nat_le, ◌&&◌, ◌||◌, List, [], ◌∷◌, ◌++◌, Option, Some, None, if◌then◌else◌}
+use Rattle.std.specs.Prelude.{ℕ, ◌-◌, Bool, true, false, not, is_some, nat_le, ◌&&◌, ◌||◌, List, [], ◌∷◌, ◌++◌, map, Option, Some, None, if◌then◌else◌}
 use Rattle.std.specs.List.{insert}
 use Rattle.nat_types.specs.declared.pairs.EntryState.{EntryState}
 use Rattle.nat_types.specs.declared.pairs.EntryState.TheVariants.{Pending, Doomed, Live, Closing, Held}
@@ -82,9 +82,9 @@ restarted_ledger l = record {
   lives = if is_synced l.book.stage then lives_of_pairs l.book.entries l.lives else [];
 }
 
--- the operator says that the peer is off
-abbrev pub alone_ledger : Ledger → Ledger
-alone_ledger l = record { book = put_alone l.book; lives = lives_of_pairs l.book.entries l.lives }
+-- the operator says that the peer is off: the life of each pair begins anew
+abbrev pub alone_ledger : ℕ → Ledger → Ledger
+alone_ledger now l = record { book = put_alone l.book; lives = map (life_renewed now) (lives_of_pairs l.book.entries l.lives) }
 
 -- ---- the idle pairs of a tick
 

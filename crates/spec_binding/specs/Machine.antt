@@ -75,6 +75,7 @@ pub record IsSameHouse (b b2 : Book) : Type 0 where
   pub id : b2.id ≡ b.id
   pub zero : b2.zero ≡ b.zero
   pub one : b2.one ≡ b.one
+  pub limit : b2.limit ≡ b.limit
 
 -- From h, what was pushed before, a part of a step leads the book and its end of the link, of which so many records are
 -- taken, there: a list of pushed records that agrees then, and acts of the machine with these notes.

@@ -38,7 +38,7 @@ abbrev pub restarted : Book → Book
 restarted b =
     if is_synced b.stage
     then begun_anew b
-    else empty_book b.id b.zero b.one
+    else empty_book b.id b.zero b.one b.limit
 
 abbrev pub restart_notes : Book → ℕ → List Note
 restart_notes b now = (if is_synced b.stage then retaken b.id now (back_in b.entries) else [])

@@ -1,6 +1,7 @@
 -- The record table: what a record, or a wish of the own side, makes of a book, what is answered and what is noted.
-use Rattle.std.specs.Prelude.{ℕ, ◌+◌, ◌-◌, ◌/◌, zero, suc, min, Bool, true, false, ◌&&◌, not, is_none, nat_lt, Option, Some, None, List, [], ◌∷◌, length, take, map, if◌then◌else◌}
+use Rattle.std.specs.Prelude.{ℕ, ◌+◌, ◌-◌, ◌/◌, zero, suc, min, Bool, true, false, ◌&&◌, not, is_none, nat_le, nat_lt, Option, Some, None, List, [], ◌∷◌, length, take, map, if◌then◌else◌}
 use Rattle.std.specs.List.{filter}
+use Rattle.addresses.specs.declared.internet.Ip.{Ip}
 use Rattle.addresses.specs.declared.transport.Port.{Port}
 use Rattle.addresses.specs.Transport.{parity_of}
 use Rattle.nat_types.specs.Same.{same}
@@ -19,7 +20,7 @@ use Rattle.nat_types.specs.declared.records.Record.{Record}
 use Rattle.nat_types.specs.declared.records.Record.TheVariants as record_of
 use Rattle.nat_types.specs.declared.records.Record.TheVariants.{Install, Accept, Refuse, Ask, Yes, No, Begin, Put, Done, Grant, Owner}
 use Rattle.bindings.specs.declared.entries.Entry.{Entry}
-use Rattle.bindings.specs.Entries.{slot_of, entry_of, entry_in}
+use Rattle.bindings.specs.Entries.{slot_of, entry_of, entry_in, pairs_of}
 use Rattle.bindings.specs.Lists.{put_in, with_state, without}
 use Rattle.bindings.specs.Ports.{chosen_port, is_vacant, is_spare, lowest_of, highest_of}
 use Rattle.bindings.specs.Runs.{own_in}
@@ -236,9 +237,25 @@ new_wish b full e (Some port) =
 abbrev pub port_for : Book → Endpoint → Option Port
 port_for b e = chosen_port b.entries b.owned b.zero b.one e.protocol (parity_of e.port.0)
 
+-- so many pairs are the limit, or more
+abbrev pub reached : Option ℕ → ℕ → Bool
+reached None pairs = false
+reached (Some limit) pairs = nat_le limit pairs
+
+-- an inside address has as many pairs as it may have, or more: those of both gateways count
+abbrev pub is_at_limit : Book → Ip → Bool
+is_at_limit b address = reached b.limit (pairs_of address b.entries)
+
+-- the endpoint has no pair: one is made, where its address isn't at the limit
+abbrev pub unknown_wish : Book → Bool → Endpoint → PortRequest
+unknown_wish b full e =
+    if is_at_limit b e.address
+    then wish want.TheVariants.HostLimit quiet
+    else new_wish b full e (port_for b e)
+
 abbrev pub wish_by : Book → Bool → Endpoint → Option Entry → PortRequest
 wish_by b full e (Some x) = known_wish x.pair x.state
-wish_by b full e None = new_wish b full e (port_for b e)
+wish_by b full e None = unknown_wish b full e
 
 -- what comes of a packet's wish for a port; full says that the link is
 abbrev pub wish_of : Book → Bool → Endpoint → PortRequest

@@ -57,6 +57,7 @@ pub record IsBeside (b b2 : Book) : Type 0 where
   pub id : b2.id ≡ b.id
   pub zero : b2.zero ≡ b.zero
   pub one : b2.one ≡ b.one
+  pub limit : b2.limit ≡ b.limit
   pub stage : b2.stage ≡ b.stage
   pub begun : b2.begun ≡ b.begun
   pub named : b2.named ≡ b.named

@@ -46,6 +46,8 @@ pub enum Want {
     Wait,
     /// No port is free.
     NoPort,
+    /// Its inside address has as many pairs as one may have.
+    HostLimit,
     /// It can't wait: the link is full, or the pair is being closed, or the gateway isn't synced.
     NotNow,
 }

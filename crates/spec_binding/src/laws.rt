@@ -2,7 +2,7 @@
 //! a function that does nothing.
 
 ghost use Rattle.std.specs.Prelude.{◌≡◌, ◌↔◌, ℕ, ◌+◌, ◌<◌, ◌≤◌, ◌∷◌, ◌++◌, ◌&&◌, [], suc, List, Bool, true, false};
-ghost use Rattle.std.specs.Prelude.{IfSome, None, Some, length, reverse, slice_get};
+ghost use Rattle.std.specs.Prelude.{IfSome, None, Option, Some, length, reverse, slice_get};
 ghost use Rattle.std.specs.List.{AllByRecursion};
 ghost use Rattle.nat_types.specs.Granted.{IsPort};
 ghost use Rattle.nat_types.specs.declared.gateways.GatewayId.{GatewayId};
@@ -119,14 +119,15 @@ pub fn books_keep()
 
 /// A gateway without a table, and the founded one: they are books, and the boxes with which the machine begins.
 pub fn books_begin()
-    ensures empty { (id : GatewayId) (zero one : PortBounds) → AreBounds zero → AreBounds one
-        → IsPort zero.highest.0 → IsPort one.highest.0 → IsBook (empty_book id zero one) }
-    ensures founded { (zero one : PortBounds) → AreBounds zero → AreBounds one
-        → IsPort zero.highest.0 → IsPort one.highest.0 → IsBook (founded_book zero one) }
-    ensures booted { (id : GatewayId) (zero one : PortBounds) (boot capacity : ℕ)
-        → box_at (empty_book id zero one) (fresh id boot capacity) [] 0 ≡ booted boot }
-    ensures founder { (zero one : PortBounds) (capacity : ℕ) → AreBounds zero
-        → let b = founded_book zero one in let r = ranges_of b in
+    ensures empty { (id : GatewayId) (zero one : PortBounds) (limit : Option ℕ) → AreBounds zero
+        → AreBounds one → IsPort zero.highest.0 → IsPort one.highest.0
+        → IsBook (empty_book id zero one limit) }
+    ensures founded { (zero one : PortBounds) (limit : Option ℕ) → AreBounds zero → AreBounds one
+        → IsPort zero.highest.0 → IsPort one.highest.0 → IsBook (founded_book zero one limit) }
+    ensures booted { (id : GatewayId) (zero one : PortBounds) (limit : Option ℕ) (boot capacity : ℕ)
+        → box_at (empty_book id zero one limit) (fresh id boot capacity) [] 0 ≡ booted boot }
+    ensures founder { (zero one : PortBounds) (limit : Option ℕ) (capacity : ℕ) → AreBounds zero
+        → let b = founded_book zero one limit in let r = ranges_of b in
         box_at b (fresh Zero 1 capacity) [] 0 ≡ founder (λ p. r.in_ranges p && r.at_start p) }
 {}
 
@@ -273,12 +274,12 @@ pub fn records_come()
 /// noted of it put in front; so each release comes where its pair is idle: at least 30,000 cs (UDP) or 24,000 cs (TCP)
 /// after each use of it by the gateway in the same life. It begins so at each boot of the gateway (`begun`, `founded`).
 pub fn accounts_kept()
-    ensures begun { (now : ℕ) (id : GatewayId) (zero one : PortBounds) (h : List Note)
-        → ((p : Pair) → uses_of id h p ≡ []) → Idle h
-        → Accounts now (record { book = empty_book id zero one; lives = [] }) h }
-    ensures founded { (now : ℕ) (zero one : PortBounds) (h : List Note)
+    ensures begun { (now : ℕ) (id : GatewayId) (zero one : PortBounds) (limit : Option ℕ)
+        (h : List Note) → ((p : Pair) → uses_of id h p ≡ []) → Idle h
+        → Accounts now (record { book = empty_book id zero one limit; lives = [] }) h }
+    ensures founded { (now : ℕ) (zero one : PortBounds) (limit : Option ℕ) (h : List Note)
         → ((p : Pair) → uses_of Zero h p ≡ []) → Idle h
-        → Accounts now (record { book = founded_book zero one; lives = [] }) h }
+        → Accounts now (record { book = founded_book zero one limit; lives = [] }) h }
     ensures later { (since now : ℕ) (l : Ledger) (h : List Note) → since ≤ now
         → Accounts since l h → Accounts now l h }
     // What the other gateway notes.
@@ -301,10 +302,11 @@ pub fn accounts_kept()
         → Accounts now l h
         → Accounts now (restarted_ledger l) (reverse (restart_notes l.book now) ++ h) }
     ensures alone { (now : ℕ) (l : Ledger) (h : List Note) → IsBook l.book → Accounts now l h
-        → Accounts now (alone_ledger l)
+        → Accounts now (alone_ledger now l)
         (reverse (retaken l.book.id now (back_in l.book.entries)) ++ h) }
     // The idle pairs of a tick.
     ensures let_go { (now : ℕ) (l : Ledger) (e : Link) (h : List Note) → IsBook l.book
-        → Accounts now l h → let keys = idle_keys_in now l.book.entries l.lives in
+        → Accounts now l h
+        → let keys = idle_keys_in (is_lone l.book.stage) now l.book.entries l.lives in
         Accounts now (let_go now keys l e).ledger (reverse (let_go now keys l e).notes ++ h) }
 {}

@@ -20,7 +20,7 @@ use Rattle.link.specs.Link.{Link, after_take, closed_at, is_due_on_tick, is_rest
 use Rattle.link.specs.Reading.{reading}
 use Rattle.link.proofs.Offered.{all_taken, reading_takes}
 use Rattle.resync.specs.Loading.{Load, loaded}
-use Rattle.spec_binding.specs.Books.{Book, IsBook, empty_book, is_synced, load_of}
+use Rattle.spec_binding.specs.Books.{Book, empty_book, is_lone, is_synced, IsBook, load_of}
 use Rattle.spec_binding.specs.Ledgers.{Ledger, alone_ledger, ledger_after, let_go, may_ask, restarted_ledger, rests_for, taken_ledger}
 use Rattle.spec_binding.specs.Resets.{back_in, begun_anew, restart_link, restart_notes, restarted, retaken}
 use Rattle.spec_binding.specs.Rows.{after, answered, load_taken, noted_by, row_of, taken_answer, taken_book, taken_ended, taken_what, unsynced_after, idle_row}
@@ -153,7 +153,7 @@ restart-own b now = at (is_synced b.stage)
 restarted-id : (b : Book) → (restarted b).id ≡ b.id
 restarted-id b = at (is_synced b.stage)
   where
-    at : (t : Bool) → (let x : Book = cond t (begun_anew b) (empty_book b.id b.zero b.one) in x).id ≡ b.id
+    at : (t : Bool) → (let x : Book = cond t (begun_anew b) (empty_book b.id b.zero b.one b.limit) in x).id ≡ b.id
     at true = refl
     at false = refl
 
@@ -196,8 +196,8 @@ taken-rests : Reads → (s : GatewayAndOutput) (n : ℕ) → is_synced s.shown.l
 taken-rests reads s n synced =
     let g = s.shown in let b = g.ledger.book in
     let notes = retaken b.id g.moment (back_in b.entries) in
-    let mid = scene (record g { ledger = alone_ledger g.ledger; link = closed_at g.link n }) (with_notes s.told notes) in
-    let first : Resting s mid = resting-noted s (alone_ledger g.ledger) (closed_at g.link n) notes
+    let mid = scene (record g { ledger = alone_ledger g.moment g.ledger; link = closed_at g.link n }) (with_notes s.told notes) in
+    let first : Resting s mid = resting-noted s (alone_ledger g.moment g.ledger) (closed_at g.link n) notes
     (retaken-own b.id g.moment (back_in b.entries)) refl (λ is. alone-keeps b is synced)
     (λ before is a. alone-accounts g.moment g.ledger before is a) in
     resting-then s mid (word_taken s n) first (released-rests reads mid AllPairs)
@@ -231,7 +231,7 @@ all-idle-keep s (k ∷ ks) is = all-idle-keep (idle_done s k) ks (idle-keeps s.s
 idle-rests : (s : GatewayAndOutput) → Resting s (idle_taken s)
 idle-rests s =
     let g = s.shown in let l = g.ledger in
-    let ks = idle_keys_in g.moment l.book.entries l.lives in
+    let ks = idle_keys_in (is_lone l.book.stage) g.moment l.book.entries l.lives in
     let r = let_go g.moment ks l g.link in
     let own = let-go-own g.moment ks l g.link in
     let same = idle-at-once s ks in

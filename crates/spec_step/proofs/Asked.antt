@@ -1,5 +1,5 @@
--- What a plan to keep a packet says: it has a place; of one that waits for a pair, whose; and of one that asks for its next
--- hop, its way, its pairs, and that no hardware address is known for that host.
+-- What a plan says of a packet that waits for a pair, whose, and that it has a place; of one that asks for its next hop, its
+-- way, its pairs, and that no hardware address is known for that host; and of one that waits for it, that it has a place.
 use Rattle.std.proofs.Common.{◌≡◌, Bool, true, false, cond, Option, Some, None, Result, Ok, Err, refl}
 use Rattle.addresses.specs.declared.ethernet.Mac.{Mac}
 use Rattle.addresses.specs.declared.internet.Ip.{Ip}
@@ -23,7 +23,7 @@ use Rattle.packet_rules.specs.Frames.{way_of}
 use Rattle.packet_rules.specs.Networks.{direction_of}
 use Rattle.packet_rules.specs.Steps.{and_then}
 use Rattle.spec_step.specs.declared.plans.Plan.{Plan}
-use Rattle.spec_step.specs.declared.plans.Plan.TheVariants.{Send, Ask, Wait as WaitFor}
+use Rattle.spec_step.specs.declared.plans.Plan.TheVariants.{Send, Ask, AskAgain, Wait as WaitFor}
 use Rattle.spec_step.specs.Shown.{Shown}
 use Rattle.spec_step.specs.Verdict.{exit_by, hop_by, look_for, next_by, plan_by, plan_from, plan_of, plan_on, plan_to, target_pair}
 use Rattle.spec_step.proofs.Sends.{AreFound}
@@ -33,11 +33,11 @@ pub record IsAsked (g : Shown) (side : Side) (flow : Flow) (by : Translation) (h
   pub pairs : AreFound g flow by
   pub hop_is : hop ≡ hop_by g by flow
   pub unknown : next_by g by flow ≡ None
-  pub place : has_place g.kept (wait.Hop (exit_by by) hop) ≡ true
 
 abbrev pub PlanSays : Shown → Side → Flow → Result Plan Reason → Type 0
 PlanSays g side flow (Ok (Send by next)) = Unit {0}
-PlanSays g side flow (Ok (Ask by hop)) = IsAsked g side flow by hop
+PlanSays g side flow (Ok (Ask by hop)) = IsAsked g side flow by hop × (has_place g.kept (wait.Hop (exit_by by) hop) ≡ true)
+PlanSays g side flow (Ok (AskAgain by hop)) = IsAsked g side flow by hop
 PlanSays g side flow (Ok (WaitFor e)) = (e ≡ source_of flow) × (has_place g.kept (wait.Pair e) ≡ true)
 PlanSays g side flow (Err reason) = Unit {0}
 
@@ -49,9 +49,9 @@ module _ (g : Shown) (side : Side) (flow : Flow) where
   to-says by goes (Some next) is = tt
   to-says by goes None is = at (has_place g.kept (wait.Hop (exit_by by) (hop_by g by flow))) refl
     where
-      at : (b : Bool) → has_place g.kept (wait.Hop (exit_by by) (hop_by g by flow)) ≡ b → PlanSays g side flow (let r : Result Plan Reason = cond b (Ok (Ask by (hop_by g by flow))) (Err CannotWait) in r)
-      at true place = record { way = goes.0; pairs = goes.1; hop_is = refl; unknown = is; place = place }
-      at false place = tt
+      at : (b : Bool) → has_place g.kept (wait.Hop (exit_by by) (hop_by g by flow)) ≡ b → PlanSays g side flow (let r : Result Plan Reason = cond b (Ok (Ask by (hop_by g by flow))) (Ok (AskAgain by (hop_by g by flow))) in r)
+      at true place = (record { way = goes.0; pairs = goes.1; hop_is = refl; unknown = is }, place)
+      at false place = record { way = goes.0; pairs = goes.1; hop_is = refl; unknown = is }
 
   from-says : (by : Pair → Translation) (w : Want) → look_for g flow ≡ w → ((port : Port) → look_for g flow ≡ want.Port port → Goes-by (by (new_pair (source_of flow) port))) → PlanSays g side flow (plan_from g flow by w)
   from-says by (want.Port port) is goes = to-says (by (new_pair (source_of flow) port)) (goes port is) (next_by g (by (new_pair (source_of flow) port)) flow) refl
@@ -62,6 +62,7 @@ module _ (g : Shown) (side : Side) (flow : Flow) where
       at false place = tt
   from-says by want.NoPort is goes = tt
   from-says by want.NotNow is goes = tt
+  from-says by want.HostLimit is goes = tt
 
   on-says : (w : Direction) → direction_of g.networks side flow.source.0 flow.destination.0 ≡ Ok w → PlanSays g side flow (plan_on g flow w)
   on-says way.Outward there = from-says Outward (look_for g flow) refl (λ port is. (there, (port, (is, refl))))

@@ -1,17 +1,18 @@
--- The other frames of parts of a step: requests for next hops, one for each packet that comes to wait for one.
-use Rattle.std.proofs.Common.{◌≡◌, ℕ, Bool, true, false, cond, not, inl, inr, ◌||◌, List, [], ◌∷◌, ◌++◌, filter, Result, Ok, Err, refl, sym, ap, subst, ◌∙◌, append_assoc}
+-- The other frames of parts of a step: requests for next hops.
+use Rattle.std.proofs.Common.{◌≡◌, ℕ, Bool, true, false, cond, not, inl, inr, ◌||◌, List, [], ◌∷◌, ◌++◌, filter, Result, Ok, Err, refl, sym, ap, subst, ◌∙◌, append_assoc, ◌≤◌, map, IsPermutation, arith}
 use Rattle.std.specs.List.{AllByRecursion}
-use Rattle.std.proofs.lemmas.List.{append-nil}
+use Rattle.std.proofs.lemmas.List.{append-nil, map-append}
 use Rattle.std.proofs.lemmas.List.Elements.{filter-append}
-use Rattle.std.proofs.lemmas.List.Sorted.{IsPermutation-refl}
-use Rattle.std.proofs.lemmas.Grind.{flat_map-append}
+use Rattle.std.proofs.lemmas.List.Sorted.{IsPermutation-refl, IsPermutation-append_right, IsPermutation-trans}
 use Rattle.addresses.specs.declared.internet.Ip.{Ip}
+use Rattle.addresses.specs.declared.ethernet.Mac.{Mac}
 use Rattle.nat_types.specs.declared.gateways.Side.{Side}
 use Rattle.nat_types.specs.declared.gateways.Side.TheVariants.{Inside, Outside}
 use Rattle.nat_types.specs.declared.notes.Note.{Note}
 use Rattle.nat_types.specs.declared.pairs.Endpoint.{Endpoint}
 use Rattle.nat_types.specs.declared.pairs.Pair.{Pair}
-use Rattle.arp.specs.Neighbours.{mac_at}
+use Rattle.arp.specs.Neighbours.{Neighbours, asks_at, mac_at}
+use Rattle.arp.proofs.Offered.{asked-six, forgetful-asked}
 use Rattle.ipv4.specs.declared.flows.Flow.{Flow}
 use Rattle.ipv4.specs.declared.packets.Packet.{Packet as PacketRead}
 use Rattle.bindings.specs.declared.entries.Entry.{Entry}
@@ -24,7 +25,7 @@ use Rattle.waiting.specs.declared.waits.Ended.{Ended}
 use Rattle.waiting.specs.declared.waits.Ended.TheVariants.{AllPairs, One}
 use Rattle.waiting.specs.declared.waits.WaitsFor.{WaitsFor}
 use Rattle.waiting.specs.declared.waits.WaitsFor.TheVariants as wait
-use Rattle.waiting.specs.Packets.{HeldPacket, ended_by, left_by}
+use Rattle.waiting.specs.Packets.{HeldPacket, asks_again, ended_by, hop_count, left_by, with_asked, with_room}
 use Rattle.waiting.specs.Waits.{ends, is_for_pair}
 use Rattle.packet_rules.specs.declared.networks.Network.{Network}
 use Rattle.packet_rules.specs.declared.readings.Reading.{Reading}
@@ -34,23 +35,26 @@ use Rattle.packet_rules.specs.declared.translations.Translation.{Translation}
 use Rattle.packet_rules.specs.declared.translations.Translation.TheVariants.{Outward, Inward, Hairpin}
 use Rattle.packet_rules.specs.Arping.{request_frame}
 use Rattle.packet_rules.specs.Flows.{flow_in, source_of}
-use Rattle.packet_rules.specs.Frames.{is_translation, sent_frame}
+use Rattle.packet_rules.specs.Frames.{is_translation, sent_frame, way_of}
 use Rattle.packet_rules.specs.Steps.{IsForwardable}
+use Rattle.packet_rules.specs.Networks.{direction_of}
 use Rattle.interfaces.specs.Stations.{is_active}
 use Rattle.output.specs.Output.{Sent}
 use Rattle.spec_step.specs.declared.plans.Plan.{Plan}
-use Rattle.spec_step.specs.declared.plans.Plan.TheVariants.{Send, Ask, Wait as WaitFor}
-use Rattle.spec_step.specs.Others.{MayGoBy, IsAskedBy, IsItsWait, IsNew, other_frames, request_for, requests, retaken_pairs, targets}
-use Rattle.spec_step.specs.Parts.{all_taken, by_plan, by_row, by_verdict, carried_all, flags_in, flow_taken, framed, released, retaken_by, taken_again, wanted_by, wanted_for}
+use Rattle.spec_step.specs.declared.plans.Plan.TheVariants.{Send, Ask, AskAgain, Wait as WaitFor}
+use Rattle.spec_step.specs.Others.{Asking, Cause, Drops, IsCause, IsDue, IsItsWait, IsNew, IsNextHop, IsUnknown, MayGoBy, Sends, Waits, all_noted, firsts, has_come, hops_of, other_frames, packets_asked, request_of, requests, retaken_pairs, targets, waiting_by, within_limit}
+use Rattle.spec_step.specs.Parts.{all_taken, asked_again, by_plan, by_row, by_verdict, carried_all, flags_in, flow_taken, framed, neighbour_asked, released, renewed_behind, request_by, retaken_by, taken_again, waiting, wanted_by, wanted_for}
 use Rattle.spec_step.specs.Shown.{GatewayAndOutput, Shown, id_of, is_up, scene, station_on}
 use Rattle.spec_step.specs.Truly.{AreItsPairs, AreWired, AtHand, Known, known_of, near_on, packets_of}
 use Rattle.spec_step.specs.Verdict.{exit_by, hop_by, plan_of, reading_on, target_pair}
 use Rattle.spec_step.proofs.Asked.{IsAsked, PlanSays, plan-says}
-use Rattle.spec_step.proofs.Freeing.{Comes-of, comes-off, comes-then, filter-all, filter-left}
+use Rattle.spec_step.proofs.Freeing.{Comes-of, comes-off, comes-then, filter-all, filter-left, filter-none, shuffled}
+use Rattle.spec_step.proofs.Limits.{IsByWait, KeepsHops, TakesNone, asks-before, asks-left, count-left, count-noted, hops-stay, limit-count, limit-more, limit-same, noted-taken, noted-then}
+use Rattle.spec_step.proofs.Near.{asks-asked}
 use Rattle.spec_step.proofs.Packets.{refusal-leaves}
 use Rattle.spec_step.proofs.Rooting.{RowRoots, in-left, in-right, retaken-join, same-rooted, wish-roots}
 use Rattle.spec_step.proofs.Saying.{reading-synced}
-use Rattle.spec_step.proofs.Sending.{Frames, all_notes, carried-leaves, near-is, next-six, own-six}
+use Rattle.spec_step.proofs.Sending.{Frames, all_notes, carried-leaves, near-mac, next-six, own-six}
 use Rattle.spec_step.proofs.Sends.{AreFound, plan-sends}
 use Rattle.spec_step.proofs.Telling.{at_hand}
 use Rattle.spec_step.proofs.Translating.{target-translates}
@@ -62,6 +66,10 @@ NetsStay g g2 = (g2.inside.network ≡ g.inside.network) × (g2.outside.network 
 pub net-stays : (g g2 : Shown) → NetsStay g g2 → (side : Side) → (station_on g2 side).network ≡ (station_on g side).network
 net-stays g g2 nets Inside = nets.0
 net-stays g g2 nets Outside = nets.1
+
+-- a neighbour that is to be asked for afterwards was so before
+abbrev pub NearStays : ℕ → Shown → Shown → Type 0
+NearStays now g g2 = (side : Side) (host : ℕ) → asks_at host now (station_on g2 side).neighbours ≡ true → asks_at host now (station_on g side).neighbours ≡ true
 
 -- whose wait is over: nobody's
 abbrev pub nobody : HeldPacket → Bool
@@ -79,56 +87,68 @@ all-append : (P : HeldPacket → Type 0) (ws vs : List HeldPacket) → AllByRecu
 all-append P [] vs x y = y
 all-append P (w ∷ ws) vs x y = (x.0, all-append P ws vs x.1 y)
 
+-- who waits after a part: of those before the ones that a test leaves, and those that came, at this moment
+pub record Waiting (now : ℕ) (over : HeldPacket → Bool) (askings : List Asking) (came old kept : List HeldPacket) : Type 0 where
+  pub hops_are : hops_of came ≡ map (waiting_by now) (firsts askings)
+  pub kept_are : kept ≡ all_noted now askings (within_limit (filter (λ w. not (over w)) old ++ came))
+
 -- From a scene to a later one, with these packets in hand, and the waits over that a test says: the other frames are requests
--- for the next hops of the packets that came to wait.
+-- for next hops.
 pub record Asks (hand : List AtHand) (over : HeldPacket → Bool) (s s2 : GatewayAndOutput) : Type 0 where
   pub frames : List Sent
   pub frames_are : s2.told.frames ≡ s.told.frames ++ frames
   pub notes : List Note
   pub notes_are : s2.told.notes ≡ s.told.notes ++ notes
   pub roots : (p : Pair) → IsTranslated s2.shown.ledger.book.entries p → MayGoBy s.shown notes p
+  pub askings : List Asking
+  pub due : AllByRecursion (IsDue s.shown (known_of s2.shown) (MayGoBy s.shown notes)) askings
+  pub others : other_frames frames ≡ requests s.shown askings
   pub came : List HeldPacket
-  pub kept_are : s2.shown.kept ≡ filter (λ w. not (over w)) s.shown.kept ++ came
-  pub gone : List AtHand
-  pub of_hand : Comes-of hand (filter over s.shown.kept) came gone
   pub new : AllByRecursion (IsNew (known_of s2.shown) (MayGoBy s.shown notes)) came
+  pub waiting : Waiting s.shown.moment over askings came s.shown.kept s2.shown.kept
+  pub gone : List AtHand
+  pub of_hand : Comes-of hand (filter over s.shown.kept) came (packets_asked askings ++ gone)
   pub known : known_of s2.shown ≡ known_of s.shown
-  pub others : other_frames frames ≡ requests s.shown came
+  pub near : NearStays s.shown.moment s.shown s2.shown
   pub nets : NetsStay s.shown s2.shown
   pub wired : AreWired s2.shown
 
--- and no wait for a next hop is over
-pub record Asking (hand : List AtHand) (over : HeldPacket → Bool) (s s2 : GatewayAndOutput) : Type 0 where
+-- and no wait for a next hop is over, nor does the test look at when a packet's hop was asked for
+pub record IsAsking (hand : List AtHand) (over : HeldPacket → Bool) (s s2 : GatewayAndOutput) : Type 0 where
   pub asks : Asks hand over s s2
-  pub hops : (w : HeldPacket) → is_for_pair w.wait ≡ false → over w ≡ false
+  pub hops : TakesNone over
+  pub waits : IsByWait over
+
+-- where at most 64 wait for next hops
+abbrev pub IsFit : Shown → Type 0
+IsFit g = AreWired g × (hop_count g.kept ≤ 64)
 
 abbrev pub Ask-on : List AtHand → (HeldPacket → Bool) → GatewayAndOutput → GatewayAndOutput → Type 0
-Ask-on hand over s s2 = AreWired s.shown → Asking hand over s s2
+Ask-on hand over s s2 = IsFit s.shown → IsAsking hand over s s2
+
+pub asks-fit : (hand : List AtHand) (over : HeldPacket → Bool) (s s2 : GatewayAndOutput) → Asks hand over s s2 → IsFit s2.shown
+asks-fit hand over s s2 x =
+    let all = filter (λ (w : HeldPacket). not (over w)) s.shown.kept ++ x.came in
+    let same = ap (λ (ws : List HeldPacket). hop_count ws) x.waiting.kept_are ∙ count-noted s.shown.moment x.askings (within_limit all) in
+    (x.wired, omega (arith, same, limit-count all))
 
 -- ---- lists of requests
 
-request-same : (g g2 : Shown) → NetsStay g g2 → (w : WaitsFor) → request_for g2 w ≡ request_for g w
-request-same g g2 nets (wait.Hop side host) =
-    ap (λ (n : Network). let x : Sent = record { side = side; bytes = request_frame n host } in x ∷ []) (net-stays g g2 nets side)
-request-same g g2 nets (wait.Pair e) = refl
-
-pub requests-same : (g g2 : Shown) → NetsStay g g2 → (ws : List HeldPacket) → requests g2 ws ≡ requests g ws
+pub requests-same : (g g2 : Shown) → NetsStay g g2 → (qs : List Asking) → requests g2 qs ≡ requests g qs
 requests-same g g2 nets [] = refl
-requests-same g g2 nets (w ∷ ws) =
-    ap (λ (fs : List Sent). fs ++ requests g2 ws) (request-same g g2 nets w.wait) ∙ ap (λ (fs : List Sent). request_for g w.wait ++ fs) (requests-same g g2 nets ws)
+requests-same g g2 nets (a ∷ qs) =
+    ap (λ (n : Network). let x : Sent = record { side = a.exit; bytes = request_frame n a.host } in x ∷ requests g2 qs) (net-stays g g2 nets a.exit)
+    ∙ ap (λ (fs : List Sent). request_of g a ∷ fs) (requests-same g g2 nets qs)
 
-requests-left : (g : Shown) (f : HeldPacket → Bool) → ((w : HeldPacket) → is_for_pair w.wait ≡ false → f w ≡ true) → (ws : List HeldPacket) → requests g (filter f ws) ≡ requests g ws
-requests-left g f hops [] = refl
-requests-left g f hops (w ∷ ws) = at (f w) refl (requests-left g f hops ws)
-  where
-    none : (x : WaitsFor) → (is_for_pair x ≡ false → ⊥) → request_for g x ≡ []
-    none (wait.Pair e) never = refl
-    none (wait.Hop side host) never = absurd (never refl)
+packets-join : (qs bs : List Asking) → packets_asked (qs ++ bs) ≡ packets_asked qs ++ packets_asked bs
+packets-join qs bs =
+    let other = λ (a : Asking). not (has_come a.cause) in
+    ap (map (λ (a : Asking). a.packet)) (filter-append other qs bs) ∙ map-append (λ (a : Asking). a.packet) (filter other qs) (filter other bs)
 
-    at : (b : Bool) → f w ≡ b → requests g (filter f ws) ≡ requests g ws → requests g (let xs : List HeldPacket = cond b (w ∷ filter f ws) (filter f ws) in xs) ≡ requests g (w ∷ ws)
-    at true is rest = ap (λ (fs : List Sent). request_for g w.wait ++ fs) rest
-    at false is rest =
-        rest ∙ ap (λ (fs : List Sent). fs ++ requests g ws) (sym (none w.wait (λ hop. let clash : true ≡ false = sym (hops w hop) ∙ is in absurd (cc))))
+firsts-join : (now : ℕ) (qs bs : List Asking) → map (waiting_by now) (firsts (qs ++ bs)) ≡ map (waiting_by now) (firsts qs) ++ map (waiting_by now) (firsts bs)
+firsts-join now qs bs =
+    let first = λ (a : Asking). has_come a.cause in
+    ap (map (waiting_by now)) (filter-append first qs bs) ∙ map-append (waiting_by now) (filter first qs) (filter first bs)
 
 -- ---- the pairs that a gateway has
 
@@ -147,64 +167,183 @@ module _ (k : Known) (P Q : Pair → Type 0) (more : (p : Pair) → P p → Q p)
   targets-more (Inward p) all = (more p all.0, tt)
   targets-more (Hairpin own other) all = (more other all.0, tt)
 
+  hop-more : (packet : AtHand) (by : Translation) (exit : Side) (host : Ip) → IsNextHop k P packet by exit host → IsNextHop k Q packet by exit host
+  hop-more packet by exit host a = record { way = a.way; pairs = a.pairs; target = targets-more by a.target; exit_is = a.exit_is; hop = a.hop }
+
   wait-more : (packet : AtHand) (w : WaitsFor) → IsItsWait k P packet w → IsItsWait k Q packet w
   wait-more packet (wait.Pair e) is = is
-  wait-more packet (wait.Hop exit host) is =
-      let a = is.1 in
-      (is.0, record { way = a.way; pairs = a.pairs; target = targets-more is.0 a.target; exit_is = a.exit_is; hop = a.hop; unknown = a.unknown })
+  wait-more packet (wait.Hop exit host) is = (is.0, (hop-more packet is.0 exit host is.1.0, is.1.1))
 
   pub new-more : (ws : List HeldPacket) → AllByRecursion (IsNew k P) ws → AllByRecursion (IsNew k Q) ws
   new-more [] all = tt
-  new-more (w ∷ ws) all = (record { since = all.0.since; wait = wait-more (at_hand w.side w.bytes) w.wait all.0.wait }, new-more ws all.1)
+  new-more (w ∷ ws) all = (record { since = all.0.since; asked = all.0.asked; wait = wait-more (at_hand w.side w.bytes) w.wait all.0.wait }, new-more ws all.1)
+
+  -- what is due after a part was so before it
+  pub due-more : (g g2 : Shown) → NearStays k.moment g g2 → ((side : Side) (host : Ip) → asks_again k.moment (wait.Hop side host) g2.kept ≡ true → asks_again k.moment (wait.Hop side host) g.kept ≡ true)
+      → (qs : List Asking) → AllByRecursion (IsDue g2 k P) qs → AllByRecursion (IsDue g k Q) qs
+  due-more g g2 near again [] all = tt
+  due-more g g2 near again (a ∷ qs) all =
+      (record { hop = hop-more a.packet a.by a.exit a.host all.0.hop; cause = at a.exit a.host a.cause all.0.cause }, due-more g g2 near again qs all.1)
+    where
+      at : (exit : Side) (host : Ip) (c : Cause) → IsCause g2 k exit host c → IsCause g k exit host c
+      at exit host Waits is = is
+      at exit host Sends is = near exit host.0 is
+      at exit host Drops is = (is.0, again exit host is.1)
+
+new-asked : (k : Known) (P : Pair → Type 0) (now : ℕ) → k.moment ≡ now → (ws : List HeldPacket) → AllByRecursion (IsNew k P) ws → AllByRecursion (λ (w : HeldPacket). w.asked ≡ now) ws
+new-asked k P now is [] all = tt
+new-asked k P now is (w ∷ ws) all = (all.0.asked ∙ is, new-asked k P now is ws all.1)
 
 -- ---- one part behind the other
 
-pub asks-then : (h h2 : List AtHand) (f g : HeldPacket → Bool) (a b c : GatewayAndOutput) → Asks h f a b → Asking h2 g b c → Asks (h ++ h2) (λ w. f w || g w) a c
+keeps-hops : (g : HeldPacket → Bool) → TakesNone g → KeepsHops (λ w. not (g w))
+keeps-hops g none w hop = ap not (none w hop)
+
+waiting-then : (now : ℕ) (f g : HeldPacket → Bool) (qs bs : List Asking) (came came2 a b c : List HeldPacket) → TakesNone g → IsByWait g → AllByRecursion (λ (w : HeldPacket). w.asked ≡ now) came2
+    → Waiting now f qs came a b → Waiting now g bs came2 b c → Waiting now (λ w. f w || g w) (qs ++ bs) (filter (λ w. not (g w)) came ++ came2) a c
+waiting-then now f g qs bs came came2 a b c none by new x y =
+    let stays = λ (w : HeldPacket). not (g w) in
+    let old = filter (λ (w : HeldPacket). not (f w)) a in
+    let left = filter stays came in
+    let rest = filter (λ (w : HeldPacket). not (f w || g w)) a in
+    record {
+      hops_are = filter-append (λ (w : HeldPacket). not (is_for_pair w.wait)) left came2
+          ∙ ap (λ (ws : List HeldPacket). ws ++ hops_of came2) (hops-stay g none came ∙ x.hops_are)
+          ∙ ap (λ (ws : List HeldPacket). map (waiting_by now) (firsts qs) ++ ws) y.hops_are
+          ∙ sym (firsts-join now qs bs);
+      kept_are = y.kept_are
+          ∙ ap (λ (ws : List HeldPacket). all_noted now bs (within_limit (filter stays ws ++ came2))) x.kept_are
+          ∙ noted-then now qs bs stays old came came2 (keeps-hops g none) (λ w n. ap not (by w n)) new
+          ∙ ap (λ (ws : List HeldPacket). all_noted now (qs ++ bs) (within_limit (ws ++ came2))) (filter-append stays old came ∙ ap (λ (ws : List HeldPacket). ws ++ left) (filter-left f g a))
+          ∙ ap (λ (ws : List HeldPacket). all_noted now (qs ++ bs) (within_limit ws)) (append_assoc rest left came2);
+    }
+
+pub asks-then : (h h2 : List AtHand) (f g : HeldPacket → Bool) (a b c : GatewayAndOutput) → Asks h f a b → IsAsking h2 g b c → Asks (h ++ h2) (λ w. f w || g w) a c
 asks-then h h2 f g a b c x y =
     let z = y.asks in
+    let now = a.shown.moment in
+    let mid : b.shown.moment ≡ now = ap (λ (k : Known). k.moment) x.known in
+    let end : (known_of c.shown).moment ≡ now = ap (λ (k : Known). k.moment) (z.known ∙ x.known) in
     let old = filter (λ (w : HeldPacket). not (f w)) a.shown.kept in
     let stays = λ (w : HeldPacket). not (g w) in
     let left = filter stays x.came in
     let has = MayGoBy a.shown (x.notes ++ z.notes) in
     let then_has = has-then a.shown b.shown x.notes z.notes x.roots in
+    let more = has-more a.shown x.notes z.notes in
+    let new1 = subst (λ (k : Known). AllByRecursion (IsNew k (MayGoBy a.shown x.notes)) x.came) (sym z.known) x.new in
+    let due1 = subst (λ (k : Known). AllByRecursion (IsDue a.shown k (MayGoBy a.shown x.notes)) x.askings) (sym z.known) x.due in
+    let newest1 = new-asked (known_of b.shown) (MayGoBy a.shown x.notes) now mid x.came x.new in
+    let newest2 = new-asked (known_of c.shown) (MayGoBy b.shown z.notes) now end z.came z.new in
+    let waits2 = subst (λ (n : ℕ). Waiting n g z.askings z.came b.shown.kept c.shown.kept) mid z.waiting in
+    let near2 = subst (λ (n : ℕ). NearStays n b.shown c.shown) mid z.near in
+    let near_end = subst (λ (n : ℕ). NearStays n a.shown b.shown) (sym end) x.near in
+    let again : (side : Side) (host : Ip) → asks_again now (wait.Hop side host) b.shown.kept ≡ true → asks_again now (wait.Hop side host) a.shown.kept ≡ true =
+    λ side host t. asks-before now (wait.Hop side host) x.askings (λ w. not (f w)) a.shown.kept x.came newest1
+    (subst (λ (ws : List HeldPacket). asks_again now (wait.Hop side host) ws ≡ true) x.waiting.kept_are t) in
+    let again_end = subst (λ (n : ℕ). (side : Side) (host : Ip) → asks_again n (wait.Hop side host) b.shown.kept ≡ true → asks_again n (wait.Hop side host) a.shown.kept ≡ true) (sym end) again in
+    let taken : packets_of (filter g b.shown.kept) ≡ packets_of (filter g (old ++ x.came)) =
+    ap (λ (ws : List HeldPacket). packets_of (filter g ws)) x.waiting.kept_are ∙ noted-taken now x.askings g (old ++ x.came) y.hops y.waits in
+    let hands = comes-then f g a.shown.kept x.came z.came h h2 (packets_asked x.askings ++ x.gone) (packets_asked z.askings ++ z.gone) x.of_hand
+    (subst (λ (ps : List AtHand). IsPermutation (h2 ++ ps) (packets_of z.came ++ (packets_asked z.askings ++ z.gone))) taken z.of_hand) in
     record {
       frames = x.frames ++ z.frames;
       frames_are = z.frames_are ∙ ap (λ (fs : List Sent). fs ++ z.frames) x.frames_are ∙ append_assoc a.told.frames x.frames z.frames;
       notes = x.notes ++ z.notes;
       notes_are = z.notes_are ∙ ap (λ (ns : List Note). ns ++ z.notes) x.notes_are ∙ append_assoc a.told.notes x.notes z.notes;
       roots = λ p t. then_has p (z.roots p t);
-      came = left ++ z.came;
-      kept_are = z.kept_are
-          ∙ ap (λ (ws : List HeldPacket). filter stays ws ++ z.came) x.kept_are
-          ∙ ap (λ (ws : List HeldPacket). ws ++ z.came) (filter-append stays old x.came ∙ ap (λ (ws : List HeldPacket). ws ++ left) (filter-left f g a.shown.kept))
-          ∙ append_assoc (filter (λ (w : HeldPacket). not (f w || g w)) a.shown.kept) left z.came;
-      gone = x.gone ++ z.gone;
-      of_hand = comes-then f g a.shown.kept x.came z.came h h2 x.gone z.gone x.of_hand
-          (subst (λ (ws : List HeldPacket). Comes-of h2 (filter g ws) z.came z.gone) x.kept_are z.of_hand);
-      new = all-append (IsNew (known_of c.shown) has) left z.came
-          (all-filter (IsNew (known_of c.shown) has) stays x.came
-          (new-more (known_of c.shown) (MayGoBy a.shown x.notes) has (has-more a.shown x.notes z.notes) x.came
-          (subst (λ (k : Known). AllByRecursion (IsNew k (MayGoBy a.shown x.notes)) x.came) (sym z.known) x.new)))
-          (new-more (known_of c.shown) (MayGoBy b.shown z.notes) has then_has z.came z.new);
-      known = z.known ∙ x.known;
+      askings = x.askings ++ z.askings;
+      due = due-append a.shown (known_of c.shown) has x.askings z.askings
+          (due-more (known_of c.shown) (MayGoBy a.shown x.notes) has more a.shown a.shown (λ side host t. t) (λ side host t. t) x.askings due1)
+          (due-more (known_of c.shown) (MayGoBy b.shown z.notes) has then_has a.shown b.shown near_end again_end z.askings z.due);
       others = filter-append (λ (f : Sent). not (is_translation f.bytes)) x.frames z.frames
           ∙ ap (λ (fs : List Sent). fs ++ other_frames z.frames) x.others
-          ∙ ap (λ (fs : List Sent). requests a.shown x.came ++ fs) (z.others ∙ requests-same a.shown b.shown x.nets z.came)
-          ∙ ap (λ (fs : List Sent). fs ++ requests a.shown z.came) (sym (requests-left a.shown stays (λ w hop. ap not (y.hops w hop)) x.came))
-          ∙ sym (flat_map-append (λ (w : HeldPacket). request_for a.shown w.wait) left z.came);
+          ∙ ap (λ (fs : List Sent). requests a.shown x.askings ++ fs) (z.others ∙ requests-same a.shown b.shown x.nets z.askings)
+          ∙ sym (map-append (request_of a.shown) x.askings z.askings);
+      came = left ++ z.came;
+      new = all-append (IsNew (known_of c.shown) has) left z.came
+          (all-filter (IsNew (known_of c.shown) has) stays x.came (new-more (known_of c.shown) (MayGoBy a.shown x.notes) has more x.came new1))
+          (new-more (known_of c.shown) (MayGoBy b.shown z.notes) has then_has z.came z.new);
+      waiting = waiting-then now f g x.askings z.askings x.came z.came a.shown.kept b.shown.kept c.shown.kept y.hops y.waits newest2 x.waiting waits2;
+      gone = x.gone ++ z.gone;
+      of_hand = subst (λ (ps : List AtHand). Comes-of (h ++ h2) (filter (λ w. f w || g w) a.shown.kept) (left ++ z.came) (ps ++ (x.gone ++ z.gone))) (sym (packets-join x.askings z.askings))
+          (IsPermutation-trans _ _ _ hands (IsPermutation-append_right (packets_of (left ++ z.came)) _ _ (shuffled (packets_asked x.askings) x.gone (packets_asked z.askings) z.gone)));
+      known = z.known ∙ x.known;
+      near = λ side host t. x.near side host (near2 side host t);
       nets = (z.nets.0 ∙ x.nets.0, z.nets.1 ∙ x.nets.1);
       wired = z.wired;
     }
+  where
+    due-append : (g : Shown) (k : Known) (P : Pair → Type 0) (qs bs : List Asking) → AllByRecursion (IsDue g k P) qs → AllByRecursion (IsDue g k P) bs → AllByRecursion (IsDue g k P) (qs ++ bs)
+    due-append g k P [] bs x y = y
+    due-append g k P (a ∷ qs) bs x y = (x.0, due-append g k P qs bs x.1 y)
 
 pub asking-then : (h h2 : List AtHand) (f g : HeldPacket → Bool) (a b c : GatewayAndOutput) → Ask-on h f a b → Ask-on h2 g b c → Ask-on (h ++ h2) (λ w. f w || g w) a c
 asking-then h h2 f g a b c x y = λ w.
     let one = x w in
-    let two = y one.asks.wired in
-    record { asks = asks-then h h2 f g a b c one.asks two; hops = λ p hop. both (f p) (g p) (one.hops p hop) (two.hops p hop) }
+    let two = y (asks-fit h f a b one.asks) in
+    record {
+      asks = asks-then h h2 f g a b c one.asks two;
+      hops = λ p hop. both (f p) (g p) (one.hops p hop) (two.hops p hop);
+      waits = λ p n. ap (λ t. t || g (record p { asked = n })) (one.waits p n) ∙ ap (λ t. f p || t) (two.waits p n);
+    }
   where
     both : (b c : Bool) → b ≡ false → c ≡ false → (b || c) ≡ false
     both true c x y = x
     both false c x y = y
+
+-- a part at which no wait is over
+asks-by : (hand : List AtHand) (s s2 : GatewayAndOutput) (frames : List Sent) (notes : List Note) (askings : List Asking) (came : List HeldPacket) (gone : List AtHand)
+    → s2.told.frames ≡ s.told.frames ++ frames → s2.told.notes ≡ s.told.notes ++ notes → ((p : Pair) → IsTranslated s2.shown.ledger.book.entries p → MayGoBy s.shown notes p)
+    → AllByRecursion (IsDue s.shown (known_of s.shown) (MayGoBy s.shown notes)) askings → other_frames frames ≡ requests s.shown askings → AllByRecursion (IsNew (known_of s.shown) (MayGoBy s.shown notes)) came
+    → hops_of came ≡ map (waiting_by s.shown.moment) (firsts askings) → s2.shown.kept ≡ all_noted s.shown.moment askings (within_limit (s.shown.kept ++ came))
+    → IsPermutation hand (packets_of came ++ (packets_asked askings ++ gone)) → known_of s2.shown ≡ known_of s.shown → NearStays s.shown.moment s.shown s2.shown → NetsStay s.shown s2.shown → AreWired s2.shown → IsAsking hand nobody s s2
+asks-by hand s s2 frames notes askings came gone frames_are notes_are roots due others new hops kept of_hand known near nets wired =
+    let none : packets_of (filter nobody s.shown.kept) ≡ [] = ap packets_of (filter-none s.shown.kept) in
+    let end = packets_of came ++ (packets_asked askings ++ gone) in
+    record {
+      asks = record {
+        frames = frames;
+        frames_are = frames_are;
+        notes = notes;
+        notes_are = notes_are;
+        roots = roots;
+        askings = askings;
+        due = subst (λ (k : Known). AllByRecursion (IsDue s.shown k (MayGoBy s.shown notes)) askings) (sym known) due;
+        others = others;
+        came = came;
+        new = subst (λ (k : Known). AllByRecursion (IsNew k (MayGoBy s.shown notes)) came) (sym known) new;
+        waiting = record {
+          hops_are = hops;
+          kept_are = kept ∙ ap (λ (ws : List HeldPacket). all_noted s.shown.moment askings (within_limit (ws ++ came))) (sym (filter-all s.shown.kept));
+        };
+        gone = gone;
+        of_hand = subst (λ (ps : List AtHand). IsPermutation (hand ++ ps) end) (sym none) (subst (λ (ps : List AtHand). IsPermutation ps end) (sym (append-nil hand)) of_hand);
+        known = known;
+        near = near;
+        nets = nets;
+        wired = wired;
+      };
+      hops = λ x hop. refl;
+      waits = λ x n. refl;
+    }
+
+-- the packets are the same, within the limit
+pub kept-here : (kept : List HeldPacket) → hop_count kept ≤ 64 → kept ≡ within_limit (kept ++ [])
+kept-here kept few =
+    let same : kept ++ [] ≡ kept = append-nil kept in
+    let few2 : hop_count (kept ++ []) ≤ 64 = subst (λ (ws : List HeldPacket). hop_count ws ≤ 64) (sym same) few in
+    sym (limit-same (kept ++ []) few2 ∙ same)
+
+-- the interfaces are the same but for their routers
+abbrev pub SameStations : Shown → Shown → Type 0
+SameStations g g2 = NetsStay g g2 × ((g2.inside.neighbours ≡ g.inside.neighbours) × (g2.outside.neighbours ≡ g.outside.neighbours))
+
+same-nets : (g g2 : Shown) → SameStations g g2 → NetsStay g g2
+same-nets g g2 same = same.0
+
+same-near : (now : ℕ) (g g2 : Shown) → SameStations g g2 → NearStays now g g2
+same-near now g g2 same Inside host t = subst (λ (n : Neighbours). asks_at host now n ≡ true) same.1.0 t
+same-near now g g2 same Outside host t = subst (λ (n : Neighbours). asks_at host now n ≡ true) same.1.1 t
 
 -- a part that sends no frame and leaves the packets that wait
 pub record IsQuiet (s s2 : GatewayAndOutput) : Type 0 where
@@ -214,42 +353,26 @@ pub record IsQuiet (s s2 : GatewayAndOutput) : Type 0 where
   pub roots : (p : Pair) → IsTranslated s2.shown.ledger.book.entries p → MayGoBy s.shown notes p
   pub kept : s2.shown.kept ≡ s.shown.kept
   pub known : known_of s2.shown ≡ known_of s.shown
-  pub nets : NetsStay s.shown s2.shown
+  pub stations : SameStations s.shown s2.shown
   pub wired : AreWired s.shown → AreWired s2.shown
 
 -- those at hand are gone
 pub quiet-asks : (hand : List AtHand) (s s2 : GatewayAndOutput) → IsQuiet s s2 → Ask-on hand nobody s s2
-quiet-asks hand s s2 q = λ w. record {
-  asks = record {
-    frames = [];
-    frames_are = q.frames ∙ sym (append-nil s.told.frames);
-    notes = q.notes;
-    notes_are = q.notes_are;
-    roots = q.roots;
-    came = [];
-    kept_are = q.kept ∙ (sym (filter-all s.shown.kept) ∙ sym (append-nil (filter (λ (x : HeldPacket). true) s.shown.kept)));
-    gone = hand ++ packets_of (filter nobody s.shown.kept);
-    of_hand = IsPermutation-refl (hand ++ packets_of (filter nobody s.shown.kept));
-    new = tt;
-    known = q.known;
-    others = refl;
-    nets = q.nets;
-    wired = q.wired w;
-  };
-  hops = λ x hop. refl;
-}
+quiet-asks hand s s2 q = λ w.
+    asks-by hand s s2 [] q.notes [] [] hand (q.frames ∙ sym (append-nil s.told.frames)) q.notes_are q.roots tt refl tt refl (q.kept ∙ kept-here s.shown.kept w.1)
+    (IsPermutation-refl hand) q.known (same-near s.shown.moment s.shown s2.shown q.stations) (same-nets s.shown s2.shown q.stations) (q.wired w.0)
 
 -- and that notes nothing and leaves the table
 pub quiet-by : (s s2 : GatewayAndOutput) → s2.told.frames ≡ s.told.frames → s2.told.notes ≡ s.told.notes → s2.shown.ledger.book.entries ≡ s.shown.ledger.book.entries → s2.shown.kept ≡ s.shown.kept → known_of s2.shown ≡ known_of s.shown
-    → NetsStay s.shown s2.shown → (AreWired s.shown → AreWired s2.shown) → IsQuiet s s2
-quiet-by s s2 frames notes entries kept known nets wired = record {
+    → SameStations s.shown s2.shown → (AreWired s.shown → AreWired s2.shown) → IsQuiet s s2
+quiet-by s s2 frames notes entries kept known stations wired = record {
   frames = frames;
   notes = [];
   notes_are = notes ∙ sym (append-nil s.told.notes);
   roots = same-rooted s.shown.ledger.book.entries s2.shown.ledger.book.entries [] entries;
   kept = kept;
   known = known;
-  nets = nets;
+  stations = stations;
   wired = wired;
 }
 
@@ -261,12 +384,12 @@ row-quiet s row roots = record {
   roots = roots (id_of s.shown) s.shown.moment;
   kept = refl;
   known = refl;
-  nets = (refl, refl);
+  stations = ((refl, refl), (refl, refl));
   wired = λ w. w;
 }
 
 nothing-quiet : (s : GatewayAndOutput) → IsQuiet s s
-nothing-quiet s = quiet-by s s refl refl refl refl refl (refl, refl) (λ w. w)
+nothing-quiet s = quiet-by s s refl refl refl refl refl ((refl, refl), (refl, refl)) (λ w. w)
 
 pub nothing-asks : (hand : List AtHand) (s : GatewayAndOutput) → Ask-on hand nobody s s
 nothing-asks hand s = quiet-asks hand s s (nothing-quiet s)
@@ -282,58 +405,34 @@ wanted-for-quiet s flow (Outward p) = wanted-quiet s (source_of flow)
 wanted-for-quiet s flow (Inward p) = nothing-quiet s
 wanted-for-quiet s flow (Hairpin own other) = wanted-quiet s (source_of flow)
 
--- behind such a part a packet is kept, and these frames are sent
-keeping-asks : (s one s2 : GatewayAndOutput) (packet : HeldPacket) (frames : List Sent) → (q : IsQuiet s one) → s2.told.frames ≡ one.told.frames ++ frames → s2.told.notes ≡ one.told.notes → s2.shown.ledger.book.entries ≡ one.shown.ledger.book.entries
-    → s2.shown.kept ≡ one.shown.kept ++ packet ∷ [] → other_frames frames ≡ request_for s.shown packet.wait → IsNew (known_of s.shown) (MayGoBy s.shown q.notes) packet → known_of s2.shown ≡ known_of one.shown → NetsStay one.shown s2.shown
-    → (AreWired one.shown → AreWired s2.shown) → Ask-on (at_hand packet.side packet.bytes ∷ []) nobody s s2
-keeping-asks s one s2 packet frames q frames_are notes entries kept others new known nets wired = λ w. record {
-  asks = record {
-    frames = frames;
-    frames_are = frames_are ∙ ap (λ (fs : List Sent). fs ++ frames) q.frames;
-    notes = q.notes;
-    notes_are = notes ∙ q.notes_are;
-    roots = λ p t. q.roots p (subst (λ (es : List Entry). IsTranslated es p) entries t);
-    came = packet ∷ [];
-    kept_are = kept ∙ ap (λ (ws : List HeldPacket). ws ++ packet ∷ []) (q.kept ∙ sym (filter-all s.shown.kept));
-    gone = packets_of (filter nobody s.shown.kept);
-    of_hand = IsPermutation-refl (at_hand packet.side packet.bytes ∷ packets_of (filter nobody s.shown.kept));
-    new = (subst (λ (k : Known). IsNew k (MayGoBy s.shown q.notes) packet) (sym (known ∙ q.known)) new, tt);
-    known = known ∙ q.known;
-    others = others ∙ sym (append-nil (request_for s.shown packet.wait));
-    nets = (nets.0 ∙ q.nets.0, nets.1 ∙ q.nets.1);
-    wired = wired (q.wired w);
-  };
-  hops = λ x hop. refl;
-}
+-- behind such a part a packet is kept, and its next hop may be asked for
+keeping-asks : (s one s2 : GatewayAndOutput) (side : Side) (bytes : List ℕ) (what : WaitsFor) (frames : List Sent) (askings : List Asking) → (q : IsQuiet s one)
+    → s2.told.frames ≡ one.told.frames ++ frames → s2.told.notes ≡ one.told.notes → s2.shown.ledger.book.entries ≡ one.shown.ledger.book.entries
+    → s2.shown.kept ≡ with_room what one.shown.kept ++ waiting side bytes one.shown.moment what ∷ [] → AllByRecursion (IsDue s.shown (known_of s.shown) (MayGoBy s.shown q.notes)) askings
+    → other_frames frames ≡ requests s.shown askings → IsNew (known_of s.shown) (MayGoBy s.shown q.notes) (waiting side bytes s.shown.moment what)
+    → hops_of (waiting side bytes s.shown.moment what ∷ []) ≡ map (waiting_by s.shown.moment) (firsts askings) → ((ws : List HeldPacket) → all_noted s.shown.moment askings ws ≡ ws) → packets_asked askings ≡ []
+    → known_of s2.shown ≡ known_of one.shown → SameStations one.shown s2.shown → (AreWired one.shown → AreWired s2.shown) → Ask-on (at_hand side bytes ∷ []) nobody s s2
+keeping-asks s one s2 side bytes what frames askings q frames_are notes entries kept due others new hops unnoted all_come known stations wired = λ w.
+    let now = s.shown.moment in
+    let moment : one.shown.moment ≡ now = ap (λ (k : Known). k.moment) q.known in
+    let packet = waiting side bytes now what in
+    let hand = at_hand side bytes ∷ [] in
+    let more = limit-more what s.shown.kept side bytes now w.1 in
+    asks-by hand s s2 frames q.notes askings (packet ∷ []) []
+    (frames_are ∙ ap (λ (fs : List Sent). fs ++ frames) q.frames) (notes ∙ q.notes_are) (λ p t. q.roots p (subst (λ (es : List Entry). IsTranslated es p) entries t))
+    due others (new, tt) hops
+    (kept
+    ∙ ap (λ (n : ℕ). with_room what one.shown.kept ++ waiting side bytes n what ∷ []) moment
+    ∙ ap (λ (ws : List HeldPacket). with_room what ws ++ packet ∷ []) q.kept
+    ∙ more
+    ∙ sym (unnoted (within_limit (s.shown.kept ++ packet ∷ []))))
+    (subst (λ (ps : List AtHand). IsPermutation hand (hand ++ (ps ++ []))) (sym all_come) (IsPermutation-refl hand))
+    (known ∙ q.known)
+    (λ exit host t. same-near now s.shown one.shown q.stations exit host (same-near now one.shown s2.shown stations exit host t))
+    (stations.0.0 ∙ q.stations.0.0, stations.0.1 ∙ q.stations.0.1)
+    (wired (q.wired w.0))
 
 -- ---- one packet
-
--- the frame of a packet that is sent on is a translation
-sent-asks : (s : GatewayAndOutput) (side : Side) (flow : Flow) (bytes : List ℕ) (by : Translation) (frame : List ℕ) → is_translation frame ≡ true
-    → Ask-on (at_hand side bytes ∷ []) nobody s (carried_all (framed s (exit_by by) frame) flow (flags_in bytes) by)
-sent-asks s side flow bytes by frame is = λ w.
-    let c = carried-leaves (framed s (exit_by by) frame) flow (flags_in bytes) by in
-    let x : Sent = record { side = exit_by by; bytes = frame } in
-    let hand = at_hand side bytes ∷ [] in
-    record {
-      asks = record {
-        frames = x ∷ [];
-        frames_are = c.frames;
-        notes = all_notes s.shown by;
-        notes_are = c.notes;
-        roots = λ p t. inl (subst (λ (b : Book). IsTranslated b.entries p) c.book t);
-        came = [];
-        kept_are = c.kept ∙ (sym (filter-all s.shown.kept) ∙ sym (append-nil (filter (λ (p : HeldPacket). true) s.shown.kept)));
-        gone = hand ++ packets_of (filter nobody s.shown.kept);
-        of_hand = IsPermutation-refl (hand ++ packets_of (filter nobody s.shown.kept));
-        new = tt;
-        known = c.known;
-        others = rw is refl;
-        nets = c.nets;
-        wired = c.wired w;
-      };
-      hops = λ p hop. refl;
-    }
 
 -- the pairs of a packet that is to wait are its own
 its-pairs : (g : Shown) (flow : Flow) (by : Translation) → is_synced g.ledger.book.stage ≡ true → AreFound g flow by → AreItsPairs flow by
@@ -357,46 +456,195 @@ targets-there g flow (Outward p) notes synced found = tt
 targets-there g flow (Inward p) notes synced found = (target-there g flow p notes synced found, tt)
 targets-there g flow (Hairpin own other) notes synced found = (target-there g flow other notes synced found.1, tt)
 
-asked-by : (g : Shown) (side : Side) (bytes : List ℕ) (flow : Flow) (by : Translation) (hop : Ip) (notes : List Note) → IsRead g bytes flow → IsAsked g side flow by hop → IsAskedBy (known_of g) (MayGoBy g notes) (at_hand side bytes) by (exit_by by) hop
-asked-by g side bytes flow by hop notes read asked =
-    let a = subst (λ (f : Flow). IsAsked g side f by hop) read.flow_is asked in
-    let near = near_on (known_of g) (exit_by by) in
+-- what the plan says of a packet's next hop
+next-hop : (g : Shown) (side : Side) (bytes : List ℕ) (flow : Flow) (by : Translation) (hop : Ip) (notes : List Note) → IsRead g bytes flow
+    → direction_of g.networks side flow.source.0 flow.destination.0 ≡ Ok (way_of by) → AreFound g flow by → hop ≡ hop_by g by flow → IsNextHop (known_of g) (MayGoBy g notes) (at_hand side bytes) by (exit_by by) hop
+next-hop g side bytes flow by hop notes read way found hop_is =
     record {
-      way = a.way;
-      pairs = its-pairs g (flow_in bytes) by read.synced a.pairs;
-      target = targets-there g (flow_in bytes) by notes read.synced a.pairs;
+      way = subst (λ (f : Flow). direction_of g.networks side f.source.0 f.destination.0 ≡ Ok (way_of by)) read.flow_is way;
+      pairs = subst (λ (f : Flow). AreItsPairs f by) read.flow_is (its-pairs g flow by read.synced found);
+      target = targets-there g flow by notes read.synced found;
       exit_is = refl;
-      hop = ap (λ (h : Ip). h.0) a.hop_is;
-      unknown = ap (λ (h : Ip). mac_at h.0 g.moment near) a.hop_is ∙ ap (mac_at (hop_by g by (flow_in bytes)).0 g.moment) (near-is g (exit_by by)) ∙ a.unknown;
+      hop = ap (λ (h : Ip). h.0) (hop_is ∙ ap (hop_by g by) read.flow_is);
     }
+
+asked-by : (g : Shown) (side : Side) (bytes : List ℕ) (flow : Flow) (by : Translation) (hop : Ip) (notes : List Note) → IsRead g bytes flow → IsAsked g side flow by hop
+    → IsNextHop (known_of g) (MayGoBy g notes) (at_hand side bytes) by (exit_by by) hop × IsUnknown (known_of g) (exit_by by) hop
+asked-by g side bytes flow by hop notes read a = (
+  next-hop g side bytes flow by hop notes read a.way a.pairs a.hop_is,
+  ap (λ (h : Ip). mac_at h.0 g.moment (near_on (known_of g) (exit_by by))) a.hop_is ∙ near-mac g (exit_by by) (hop_by g by flow).0 ∙ a.unknown,
+)
+
+-- a packet is sent on, and behind it its next hop may be asked for
+abbrev asking_for : Side → List ℕ → Translation → Ip → Cause → Asking
+asking_for side bytes by hop cause = record { packet = at_hand side bytes; by = by; exit = exit_by by; host = hop; cause = cause }
+
+one-other : (x : Sent) → is_translation x.bytes ≡ false → other_frames (x ∷ []) ≡ x ∷ []
+one-other x is = rw is refl
+
+behind-other : (x y : Sent) → is_translation x.bytes ≡ true → is_translation y.bytes ≡ false → other_frames (x ∷ y ∷ []) ≡ y ∷ []
+behind-other x y is none = rw (is, none) refl
+
+module _ (frames : Frames) (s two : GatewayAndOutput) (side : Side) (bytes : List ℕ) (by : Translation) (hop : Ip) (x : Sent) (notes : List Note) where
+  abbrev IsSentFrom : Type 0
+  IsSentFrom = (two.told.frames ≡ s.told.frames ++ x ∷ []) × ((is_translation x.bytes ≡ true) × ((two.told.notes ≡ s.told.notes ++ notes)
+      × (((p : Pair) → IsTranslated two.shown.ledger.book.entries p → MayGoBy s.shown notes p) × ((two.shown.kept ≡ s.shown.kept) × ((known_of two.shown ≡ known_of s.shown)
+      × (SameStations s.shown two.shown × ((AreWired s.shown → AreWired two.shown) × IsNextHop (known_of s.shown) (MayGoBy s.shown notes) (at_hand side bytes) by (exit_by by) hop)))))))
+
+  renewed-asks : IsSentFrom → Ask-on (at_hand side bytes ∷ []) nobody s (renewed_behind two (exit_by by) hop)
+  renewed-asks (frames_are, (is, (notes_are, (roots, (kept, (known, (stations, (wired, next)))))))) = λ w. at w (exit_by by) refl (asks_at hop.0 two.shown.moment (station_on two.shown (exit_by by)).neighbours) refl
+    where
+      hand : List AtHand
+      hand = at_hand side bytes ∷ []
+
+      now : two.shown.moment ≡ s.shown.moment
+      now = ap (λ (k : Known). k.moment) known
+
+      ask : Asking
+      ask = asking_for side bytes by hop Sends
+
+      near-here : (exit : Side) → asks_at hop.0 two.shown.moment (station_on two.shown exit).neighbours ≡ true → asks_at hop.0 s.shown.moment (station_on s.shown exit).neighbours ≡ true
+      near-here exit t = same-near s.shown.moment s.shown two.shown stations exit hop.0 (subst (λ (n : ℕ). asks_at hop.0 n (station_on two.shown exit).neighbours ≡ true) now t)
+
+      known-asked : (exit : Side) → known_of (neighbour_asked two.shown exit hop) ≡ known_of two.shown
+      known-asked Inside = ap (λ (n : Neighbours). let k : Known = record (known_of two.shown) { near_inside = n } in k) (forgetful-asked hop.0 two.shown.moment two.shown.inside.neighbours)
+      known-asked Outside = ap (λ (n : Neighbours). let k : Known = record (known_of two.shown) { near_outside = n } in k) (forgetful-asked hop.0 two.shown.moment two.shown.outside.neighbours)
+
+      near-asked : (exit : Side) → NearStays s.shown.moment two.shown (neighbour_asked two.shown exit hop)
+      near-asked exit = subst (λ (n : ℕ). NearStays n two.shown (neighbour_asked two.shown exit hop)) now (by_sides exit)
+        where
+          by_sides : (exit : Side) → NearStays two.shown.moment two.shown (neighbour_asked two.shown exit hop)
+          by_sides Inside Inside host t = asks-asked host hop.0 two.shown.moment two.shown.inside.neighbours t
+          by_sides Inside Outside host t = t
+          by_sides Outside Inside host t = t
+          by_sides Outside Outside host t = asks-asked host hop.0 two.shown.moment two.shown.outside.neighbours t
+
+      nets-asked : (exit : Side) → NetsStay two.shown (neighbour_asked two.shown exit hop)
+      nets-asked Inside = (refl, refl)
+      nets-asked Outside = (refl, refl)
+
+      wired-asked : (exit : Side) → AreWired two.shown → AreWired (neighbour_asked two.shown exit hop)
+      wired-asked Inside v = (v.0, (record { own = v.1.0.own; known = asked-six hop.0 two.shown.moment two.shown.inside.neighbours v.1.0.known }, v.1.1))
+      wired-asked Outside v = (v.0, (v.1.0, record { own = v.1.1.own; known = asked-six hop.0 two.shown.moment two.shown.outside.neighbours v.1.1.known }))
+
+      kept-asked : (exit : Side) → (neighbour_asked two.shown exit hop).kept ≡ two.shown.kept
+      kept-asked Inside = refl
+      kept-asked Outside = refl
+
+      entries-asked : (exit : Side) → (neighbour_asked two.shown exit hop).ledger.book.entries ≡ two.shown.ledger.book.entries
+      entries-asked Inside = refl
+      entries-asked Outside = refl
+
+      at : IsFit s.shown → (exit : Side) → exit_by by ≡ exit → (b : Bool) → asks_at hop.0 two.shown.moment (station_on two.shown (exit_by by)).neighbours ≡ b
+          → IsAsking hand nobody s (let y : GatewayAndOutput = cond b (framed (scene (neighbour_asked two.shown (exit_by by) hop) two.told) (exit_by by) (request_by two.shown (exit_by by) hop)) two in y)
+      at w exit is_exit true asks =
+          let e = exit_by by in
+          let y : Sent = record { side = e; bytes = request_by two.shown e hop } in
+          let other = frames.request (station_on two.shown e).network hop (own-six two.shown (wired w.0) e) in
+          let g2 = neighbour_asked two.shown e hop in
+          let net = net-stays s.shown two.shown stations.0 e in
+          asks-by hand s (framed (scene g2 two.told) e (request_by two.shown e hop)) (x ∷ y ∷ []) notes (ask ∷ []) [] []
+          (ap (λ (fs : List Sent). fs ++ y ∷ []) frames_are ∙ append_assoc s.told.frames (x ∷ []) (y ∷ [])) notes_are
+          (λ p t. roots p (subst (λ (es : List Entry). IsTranslated es p) (entries-asked e) t))
+          (record { hop = next; cause = near-here e asks }, tt)
+          (behind-other x y is other ∙ ap (λ (n : Network). let z : Sent = record { side = e; bytes = request_frame n hop } in z ∷ []) net)
+          tt refl (kept-asked e ∙ kept ∙ kept-here s.shown.kept w.1) (IsPermutation-refl hand) (known-asked e ∙ known)
+          (λ t host a. same-near s.shown.moment s.shown two.shown stations t host (near-asked e t host a))
+          (let n = nets-asked e in (n.0 ∙ stations.0.0, n.1 ∙ stations.0.1)) (wired-asked e (wired w.0))
+      at w exit is_exit false asks =
+          asks-by hand s two (x ∷ []) notes [] [] hand frames_are notes_are roots tt (rw is refl) tt refl (kept ∙ kept-here s.shown.kept w.1) (IsPermutation-refl hand) known
+          (same-near s.shown.moment s.shown two.shown stations) stations.0 (wired w.0)
+
+-- a packet is dropped, and the next hop may be asked for again
+again-asks : Frames → (s : GatewayAndOutput) (side : Side) (bytes : List ℕ) (by : Translation) (hop : Ip)
+    → IsNextHop (known_of s.shown) (MayGoBy s.shown []) (at_hand side bytes) by (exit_by by) hop × IsUnknown (known_of s.shown) (exit_by by) hop
+    → Ask-on (at_hand side bytes ∷ []) nobody s (asked_again s (exit_by by) hop)
+again-asks frames s side bytes by hop says = λ w. at w (asks_again s.shown.moment (wait.Hop (exit_by by) hop) s.shown.kept) refl
+  where
+    hand : List AtHand
+    hand = at_hand side bytes ∷ []
+
+    exit : Side
+    exit = exit_by by
+
+    kept : List HeldPacket
+    kept = with_asked s.shown.moment (wait.Hop exit hop) s.shown.kept
+
+    roots : (p : Pair) → IsTranslated s.shown.ledger.book.entries p → MayGoBy s.shown [] p
+    roots p t = inl t
+
+    at : IsFit s.shown → (b : Bool) → asks_again s.shown.moment (wait.Hop exit hop) s.shown.kept ≡ b
+        → IsAsking hand nobody s (let y : GatewayAndOutput = cond b (framed (scene (record s.shown { kept = kept }) s.told) exit (request_by s.shown exit hop)) s in y)
+    at w true asks =
+        let y : Sent = record { side = exit; bytes = request_by s.shown exit hop } in
+        let other = frames.request (station_on s.shown exit).network hop (own-six s.shown w.0 exit) in
+        let ask = asking_for side bytes by hop Drops in
+        asks-by hand s (framed (scene (record s.shown { kept = kept }) s.told) exit (request_by s.shown exit hop)) (y ∷ []) [] (ask ∷ []) [] []
+        refl (sym (append-nil s.told.notes)) roots (record { hop = says.0; cause = (says.1, asks) }, tt) (one-other y other) tt refl
+        (ap (with_asked s.shown.moment (wait.Hop exit hop)) (kept-here s.shown.kept w.1)) (IsPermutation-refl hand) refl (λ t host a. sides t host a) (refl, refl) w.0
+      where
+        sides : NearStays s.shown.moment s.shown (record s.shown { kept = kept })
+        sides Inside host t = t
+        sides Outside host t = t
+    at w false asks = nothing-asks hand s w
+
+-- the scene in which a packet was sent on and carried
+abbrev sent_scene : GatewayAndOutput → List ℕ → Flow → Translation → Mac → GatewayAndOutput
+sent_scene s bytes flow by next = carried_all (framed (wanted_for s flow by) (exit_by by) (sent_frame s.shown.networks by next bytes)) flow (flags_in bytes) by
+
+sent-stations : (s : GatewayAndOutput) (bytes : List ℕ) (flow : Flow) (by : Translation) (next : Mac) → SameStations s.shown (sent_scene s bytes flow by next).shown
+sent-stations s bytes flow (Outward p) next = ((refl, refl), (refl, refl))
+sent-stations s bytes flow (Inward p) next = ((refl, refl), (refl, refl))
+sent-stations s bytes flow (Hairpin own other) next = ((refl, refl), (refl, refl))
 
 plan-asks : Frames → (s : GatewayAndOutput) (side : Side) (bytes : List ℕ) (flow : Flow) (plan : Plan) → IsRead s.shown bytes flow → plan_of s.shown side flow ≡ Ok plan → PlanSays s.shown side flow (Ok plan)
     → Ask-on (at_hand side bytes ∷ []) nobody s (by_plan s side bytes flow plan)
 plan-asks frames s side bytes flow (Send by next) read plan says = λ w.
     let one = wanted_for s flow by in
+    let q = wanted-for-quiet s flow by in
+    let frame = sent_frame s.shown.networks by next bytes in
+    let mid = framed one (exit_by by) frame in
+    let two = sent_scene s bytes flow by next in
+    let x : Sent = record { side = exit_by by; bytes = frame } in
+    let c = carried-leaves mid flow (flags_in bytes) by in
+    let notes = q.notes ++ all_notes mid.shown by in
     let planned = plan-sends s.shown side flow by next plan in
-    let is = frames.sent s.shown.networks by next bytes w.0 (next-six s.shown flow by next w planned.next_is) read.passes in
-    asking-then [] (at_hand side bytes ∷ []) nobody nobody s one (by_plan s side bytes flow (Send by next)) (quiet-asks [] s one (wanted-for-quiet s flow by))
-    (sent-asks one side flow bytes by (sent_frame s.shown.networks by next bytes) is) w
+    let is = frames.sent s.shown.networks by next bytes w.0.0 (next-six s.shown flow by next w.0 planned.next_is) read.passes in
+    renewed-asks frames s two side bytes by (hop_by s.shown by flow) x notes (
+      c.frames ∙ ap (λ (fs : List Sent). fs ++ x ∷ []) q.frames,
+      (
+        is,
+        (
+          c.notes ∙ ap (λ (ns : List Note). ns ++ all_notes mid.shown by) q.notes_are ∙ append_assoc s.told.notes q.notes (all_notes mid.shown by),
+          (
+            λ p t. has-more s.shown q.notes (all_notes mid.shown by) p (q.roots p (subst (λ (b : Book). IsTranslated b.entries p) c.book t)),
+            (
+              c.kept ∙ q.kept,
+              (
+                c.known ∙ q.known,
+                (sent-stations s bytes flow by next, (λ v. c.wired (q.wired v), next-hop s.shown side bytes flow by (hop_by s.shown by flow) notes read planned.way planned.pairs refl)),
+              ),
+            ),
+          ),
+        ),
+      ),
+    ) w
 plan-asks frames s side bytes flow (Ask by hop) read plan says = λ w.
     let one = wanted_for s flow by in
     let q = wanted-for-quiet s flow by in
     let exit = exit_by by in
-    let network = (station_on s.shown exit).network in
-    let x : Sent = record { side = exit; bytes = request_frame network hop } in
-    let packet : HeldPacket = record { side = side; bytes = bytes; since = one.shown.moment; wait = wait.Hop exit hop } in
-    let new : IsNew (known_of s.shown) (MayGoBy s.shown q.notes) packet =
-    record { since = ap (λ (k : Known). k.moment) q.known; wait = (by, asked-by s.shown side bytes flow by hop q.notes read says) } in
-    keeping-asks s one (by_plan s side bytes flow (Ask by hop)) packet (x ∷ []) q refl refl refl refl (alone x (frames.request network hop (own-six s.shown w exit))) new refl (refl, refl) (λ v. v) w
-  where
-    alone : (x : Sent) → is_translation x.bytes ≡ false → other_frames (x ∷ []) ≡ x ∷ []
-    alone x is = rw is refl
+    let x : Sent = record { side = exit; bytes = request_by s.shown exit hop } in
+    let ask = asking_for side bytes by hop Waits in
+    let asked = asked-by s.shown side bytes flow by hop q.notes read says.0 in
+    let new : IsNew (known_of s.shown) (MayGoBy s.shown q.notes) (waiting side bytes s.shown.moment (wait.Hop exit hop)) = record { since = refl; asked = refl; wait = (by, asked) } in
+    keeping-asks s one (by_plan s side bytes flow (Ask by hop)) side bytes (wait.Hop exit hop) (x ∷ []) (ask ∷ []) q refl refl refl refl (record { hop = asked.0; cause = asked.1 }, tt)
+    (one-other x (frames.request (station_on s.shown exit).network hop (own-six s.shown w.0 exit))) new refl (λ ws. refl) refl refl ((refl, refl), (refl, refl)) (λ v. v) w
+plan-asks frames s side bytes flow (AskAgain by hop) read plan says = again-asks frames s side bytes by hop (asked-by s.shown side bytes flow by hop [] read says)
 plan-asks frames s side bytes flow (WaitFor e) read plan says =
     let one = wanted_by s e in
     let q = wanted-quiet s e in
-    let packet : HeldPacket = record { side = side; bytes = bytes; since = one.shown.moment; wait = wait.Pair e } in
-    let new : IsNew (known_of s.shown) (MayGoBy s.shown q.notes) packet = record { since = refl; wait = says.0 ∙ ap source_of read.flow_is } in
-    keeping-asks s one (by_plan s side bytes flow (WaitFor e)) packet [] q (sym (append-nil one.told.frames)) refl refl refl refl new refl (refl, refl) (λ v. v)
+    let new : IsNew (known_of s.shown) (MayGoBy s.shown q.notes) (waiting side bytes s.shown.moment (wait.Pair e)) = record { since = refl; asked = refl; wait = says.0 ∙ ap source_of read.flow_is } in
+    keeping-asks s one (by_plan s side bytes flow (WaitFor e)) side bytes (wait.Pair e) [] [] q (sym (append-nil one.told.frames)) refl refl refl tt refl new refl (λ ws. refl) refl refl ((refl, refl), (refl, refl)) (λ v. v)
 
 flow-asks : Frames → (s : GatewayAndOutput) (side : Side) (bytes : List ℕ) (flow : Flow) → IsRead s.shown bytes flow → Ask-on (at_hand side bytes ∷ []) nobody s (flow_taken s side bytes flow)
 flow-asks frames s side bytes flow read = at (plan_of s.shown side flow) refl (plan-says s.shown side flow)
@@ -426,32 +674,45 @@ all-ask frames s (w ∷ ws) =
     (retaken-asks frames s w.side w.bytes (reading_on s.shown w.side w.bytes) refl) (all-ask frames (taken_again s w) ws)
 
 -- packets go off the list, and are at hand then
-pub released-asks : Frames → (s : GatewayAndOutput) (ended : Ended) → AreWired s.shown → Asks [] (λ w. ends ended w.wait) s (released s ended)
+pub released-asks : Frames → (s : GatewayAndOutput) (ended : Ended) → IsFit s.shown → Asks [] (λ w. ends ended w.wait) s (released s ended)
 released-asks frames s ended w =
     let start = scene (record s.shown { kept = left_by ended s.shown.kept }) s.told in
     let freed = ended_by ended s.shown.kept in
     let left = left_by ended s.shown.kept in
-    let x = (all-ask frames start freed w).asks in
+    let few = count-left (λ (v : HeldPacket). not (ends ended v.wait)) s.shown.kept in
+    let x = (all-ask frames start freed (w.0, omega (arith, few, w.1))).asks in
+    let back : (side : Side) (host : Ip) → asks_again (known_of (released s ended).shown).moment (wait.Hop side host) left ≡ true → asks_again (known_of (released s ended).shown).moment (wait.Hop side host) s.shown.kept ≡ true =
+    λ side host t. asks-left (known_of (released s ended).shown).moment (wait.Hop side host) (λ (v : HeldPacket). not (ends ended v.wait)) s.shown.kept t in
     record {
       frames = x.frames;
       frames_are = x.frames_are;
       notes = x.notes;
       notes_are = x.notes_are;
       roots = x.roots;
+      askings = x.askings;
+      due = due-more (known_of (released s ended).shown) (MayGoBy s.shown x.notes) (MayGoBy s.shown x.notes) (λ p h. h) s.shown start.shown (sides (known_of (released s ended).shown).moment) back x.askings x.due;
+      others = x.others ∙ requests-same s.shown start.shown (refl, refl) x.askings;
       came = x.came;
-      kept_are = x.kept_are ∙ ap (λ (ws : List HeldPacket). ws ++ x.came) (filter-all left);
-      gone = x.gone;
-      of_hand = comes-off freed left x.came x.gone x.of_hand;
       new = x.new;
+      waiting = record {
+        hops_are = x.waiting.hops_are;
+        kept_are = x.waiting.kept_are ∙ ap (λ (ws : List HeldPacket). all_noted s.shown.moment x.askings (within_limit (ws ++ x.came))) (filter-all left);
+      };
+      gone = x.gone;
+      of_hand = comes-off freed left x.came (packets_asked x.askings ++ x.gone) x.of_hand;
       known = x.known;
-      others = x.others ∙ requests-same s.shown start.shown (refl, refl) x.came;
+      near = λ side host t. sides s.shown.moment side host (x.near side host t);
       nets = x.nets;
       wired = x.wired;
     }
+  where
+    sides : (now : ℕ) (side : Side) (host : ℕ) → asks_at host now (station_on (record s.shown { kept = left_by ended s.shown.kept }) side).neighbours ≡ true → asks_at host now (station_on s.shown side).neighbours ≡ true
+    sides now Inside host t = t
+    sides now Outside host t = t
 
 -- a wait for a pair is over
 pub pairs-ask : Frames → (s : GatewayAndOutput) (ended : Ended) → ((x : WaitsFor) → is_for_pair x ≡ false → ends ended x ≡ false) → Ask-on [] (λ w. ends ended w.wait) s (released s ended)
-pairs-ask frames s ended apart = λ w. record { asks = released-asks frames s ended w; hops = λ p hop. apart p.wait hop }
+pairs-ask frames s ended apart = λ w. record { asks = released-asks frames s ended w; hops = λ p hop. apart p.wait hop; waits = λ p n. refl }
 
 pub all-apart : (x : WaitsFor) → is_for_pair x ≡ false → ends AllPairs x ≡ false
 all-apart x is = is

@@ -1,9 +1,10 @@
 -- How many notes each part of a step makes, how many packets it keeps more, and that no step makes more than it may.
-use Rattle.std.proofs.Common.{◌≡◌, ◌≤◌, ℕ, zero, suc, ◌+◌, ◌-◌, ◌*◌, Bool, true, false, cond, not, ◌&&◌, List, [], ◌∷◌, ◌++◌, length, filter, Option, Some, None, Result, Ok, Err, refl, sym, ap, subst, ◌∙◌, arith}
+use Rattle.std.proofs.Common.{◌≡◌, ◌≤◌, ℕ, zero, suc, ◌+◌, ◌-◌, ◌*◌, Bool, true, false, cond, not, ◌&&◌, List, [], ◌∷◌, ◌++◌, length, filter, Option, Some, None, Result, Ok, Err, refl, sym, ap, subst, ◌∙◌, arith, nat_lt}
 use Rattle.std.proofs.lemmas.List.{length-append, length-drop, length-map}
 use Rattle.std.proofs.lemmas.List.Filters.{length-filter_both}
 use Rattle.addresses.specs.declared.ethernet.Mac.{Mac}
 use Rattle.addresses.specs.declared.transport.TcpFlags.{TcpFlags}
+use Rattle.addresses.specs.declared.internet.Ip.{Ip}
 use Rattle.nat_types.specs.declared.gateways.GatewayId.{GatewayId}
 use Rattle.nat_types.specs.declared.gateways.Side.{Side}
 use Rattle.nat_types.specs.declared.gateways.Side.TheVariants.{Inside, Outside}
@@ -15,6 +16,7 @@ use Rattle.nat_types.specs.declared.pairs.Key.{Key}
 use Rattle.nat_types.specs.declared.pairs.Pair.{Pair}
 use Rattle.nat_types.specs.declared.records.Record.{Record}
 use Rattle.arp.specs.declared.packets.ArpPacket.{ArpPacket}
+use Rattle.arp.specs.Neighbours.{asks_at}
 use Rattle.ipv4.specs.declared.flows.Flow.{Flow}
 use Rattle.activity.specs.Lives.{Activity}
 use Rattle.activity.specs.declared.packets.Packet.{Packet as Carried}
@@ -28,7 +30,7 @@ use Rattle.link.specs.Link.{Link, after_take, closed_at, free_places, is_beginni
 use Rattle.link.specs.Reading.{reading}
 use Rattle.link.proofs.Offered.{length-takeable, reading_takes}
 use Rattle.spec_binding.specs.declared.changes.Transition.{Transition}
-use Rattle.spec_binding.specs.Books.{Book, is_synced}
+use Rattle.spec_binding.specs.Books.{Book, is_lone, is_synced}
 use Rattle.spec_binding.specs.Ledgers.{Ledger, alone_ledger, may_ask, restarted_ledger, rests_for, taken_ledger}
 use Rattle.spec_binding.specs.Resets.{back_in, restart_link, restart_notes, retaken}
 use Rattle.spec_binding.specs.Rows.{answered, carry_row, idle_row, is_full, noted_by, taken_answer, taken_ended, taken_what, wish_of}
@@ -36,8 +38,9 @@ use Rattle.waiting.specs.declared.waits.Ended.{Ended}
 use Rattle.waiting.specs.declared.waits.Ended.TheVariants.{AllPairs, One}
 use Rattle.waiting.specs.declared.waits.WaitsFor.{WaitsFor}
 use Rattle.waiting.specs.declared.waits.WaitsFor.TheVariants as wait
-use Rattle.waiting.specs.Packets.{HeldPacket, ended_by, is_young, left_by}
-use Rattle.waiting.specs.Waits.{ends}
+use Rattle.waiting.specs.Packets.{HeldPacket, asks_again, ended_by, hop_count, is_young, left_by, with_asked, with_room, without_first_hop}
+use Rattle.waiting.specs.Waits.{ends, is_for_pair}
+use Rattle.waiting.proofs.Offered.{length-asked}
 use Rattle.packet_rules.specs.declared.readings.Reading.{Reading}
 use Rattle.packet_rules.specs.declared.readings.Reading.TheVariants.{Arp, Advert, Packet}
 use Rattle.packet_rules.specs.declared.reasons.Reason.{Reason}
@@ -45,6 +48,7 @@ use Rattle.packet_rules.specs.declared.translations.Translation.{Translation}
 use Rattle.packet_rules.specs.declared.translations.Translation.TheVariants.{Outward, Inward, Hairpin}
 use Rattle.packet_rules.specs.Arping.{answer_to, is_learnable}
 use Rattle.packet_rules.specs.Flows.{source_of}
+use Rattle.packet_rules.specs.Frames.{sent_frame}
 use Rattle.interfaces.specs.Stations.{Interface, after_arp, is_active}
 use Rattle.output.specs.Output.{Output, with_datagram}
 use Rattle.vrrp_states.specs.Table as table
@@ -52,13 +56,13 @@ use Rattle.vrrp_states.specs.Table.{Event as RouterEvent}
 use Rattle.spec_step.specs.declared.events.Event.{Event}
 use Rattle.spec_step.specs.declared.events.Event.TheVariants.{Frame, Datagram as Comes, Tick, Stop, PeerOff}
 use Rattle.spec_step.specs.declared.plans.Plan.{Plan}
-use Rattle.spec_step.specs.declared.plans.Plan.TheVariants.{Send, Ask, Wait as WaitFor}
+use Rattle.spec_step.specs.declared.plans.Plan.TheVariants.{Send, Ask, AskAgain, Wait as WaitFor}
 use Rattle.spec_step.specs.Machine.{AreBytes, HasBytes}
-use Rattle.spec_step.specs.Parts.{all_framed, all_idle_done, all_taken, answered_by, arp_taken, by_plan, by_row, by_verdict, carried_all, carried_by, datagram_in, datagram_read, flow_taken, framed, frames_of, handed_in, has_synced, heard_by, heard_unless, idle_done, idle_taken, keeping, link_answered, link_ticked, old_dropped, record_done, record_shown, record_told, records_done, released, reset, retaken_by, started, taken_again, wait_ended, wanted_by, wanted_for, with_link, word_taken}
+use Rattle.spec_step.specs.Parts.{all_framed, all_idle_done, all_taken, answered_by, arp_taken, asked_again, by_plan, by_row, by_verdict, carried_all, carried_by, datagram_in, datagram_read, flags_in, flow_taken, framed, frames_of, handed_in, has_synced, heard_by, heard_unless, idle_done, idle_taken, keeping, link_answered, link_ticked, neighbour_asked, old_dropped, record_done, record_shown, record_told, records_done, released, renewed_behind, request_by, reset, retaken_by, started, taken_again, wait_ended, waiting, wanted_by, wanted_for, with_link, word_taken}
 use Rattle.spec_step.specs.Rests.{most_notes}
 use Rattle.spec_step.specs.Shown.{GatewayAndOutput, Shown, id_of, scene, station_on, with_notes, with_station}
 use Rattle.spec_step.specs.Steps.{BothAct, Does, FrameDoes, IsStepOn, RouterActs, ended_on, ticked, word_by, word_refusal}
-use Rattle.spec_step.specs.Verdict.{plan_of, reading_on}
+use Rattle.spec_step.specs.Verdict.{exit_by, hop_by, plan_of, reading_on}
 use Rattle.spec_step.proofs.Packets.{refusal-leaves}
 
 -- from one scene to another at most n notes more, and at most k packets more are kept
@@ -117,26 +121,61 @@ wanted-for-adds s flow (Hairpin own other) = wanted-adds s (source_of flow)
 framed-adds : (s : GatewayAndOutput) (side : Side) (bytes : List ℕ) → Adds 0 0 s (framed s side bytes)
 framed-adds s side bytes = adds-none s (framed s side bytes) refl refl
 
+length-left : (ws : List HeldPacket) → length (without_first_hop ws) ≤ length ws
+length-left [] = omega arith
+length-left (w ∷ ws) = at (is_for_pair w.wait) (length-left ws)
+  where
+    at : (b : Bool) → length (without_first_hop ws) ≤ length ws → length (let xs : List HeldPacket = cond b (w ∷ without_first_hop ws) ws in xs) ≤ suc (length ws)
+    at true fewer = omega (arith, fewer)
+    at false fewer = omega arith
+
+length-room : (w : WaitsFor) (ws : List HeldPacket) → length (with_room w ws) ≤ length ws
+length-room (wait.Pair e) ws = omega arith
+length-room (wait.Hop exit host) ws = at (nat_lt (hop_count ws) 64)
+  where
+    at : (b : Bool) → length (let xs : List HeldPacket = cond b ws (without_first_hop ws) in xs) ≤ length ws
+    at true = omega arith
+    at false = length-left ws
+
 keeping-adds : (s : GatewayAndOutput) (side : Side) (bytes : List ℕ) (w : WaitsFor) → Adds 0 1 s (keeping s side bytes w)
 keeping-adds s side bytes w =
-    let one : HeldPacket = record { side = side; bytes = bytes; since = s.shown.moment; wait = w } in
-    record { notes = omega arith; kept = omega (arith, length-append s.shown.kept (one ∷ [])) }
+    let one = waiting side bytes s.shown.moment w in
+    record { notes = omega arith; kept = omega (arith, length-append (with_room w s.shown.kept) (one ∷ []), length-room w s.shown.kept) }
+
+renewed-adds : (s : GatewayAndOutput) (exit : Side) (hop : Ip) → Adds 0 0 s (renewed_behind s exit hop)
+renewed-adds s exit hop = at exit (asks_at hop.0 s.shown.moment (station_on s.shown exit).neighbours)
+  where
+    at : (side : Side) (b : Bool) → Adds 0 0 s (let x : GatewayAndOutput = cond b (framed (scene (neighbour_asked s.shown side hop) s.told) side (request_by s.shown side hop)) s in x)
+    at Inside true = adds-none s _ refl refl
+    at Outside true = adds-none s _ refl refl
+    at side false = adds-none s s refl refl
+
+again-adds : (s : GatewayAndOutput) (exit : Side) (hop : Ip) → Adds 0 0 s (asked_again s exit hop)
+again-adds s exit hop = at (asks_again s.shown.moment (wait.Hop exit hop) s.shown.kept)
+  where
+    at : (b : Bool) → Adds 0 0 s (let x : GatewayAndOutput = cond b (framed (scene (record s.shown { kept = with_asked s.shown.moment (wait.Hop exit hop) s.shown.kept }) s.told) exit (request_by s.shown exit hop)) s in x)
+    at true = record { notes = omega arith; kept = omega (arith, length-asked s.shown.moment (wait.Hop exit hop) s.shown.kept) }
+    at false = adds-none s s refl refl
 
 plan-adds : (s : GatewayAndOutput) (side : Side) (bytes : List ℕ) (flow : Flow) (plan : Plan) → Adds 3 1 s (by_plan s side bytes flow plan)
 plan-adds s side bytes flow (Send by next) =
     let one = wanted_for s flow by in
+    let two = framed one (exit_by by) (sent_frame s.shown.networks by next bytes) in
+    let three = carried_all two flow (flags_in bytes) by in
     adds-fewer 3 0 3 1 s _ (omega arith) (omega arith)
     (adds-then 1 0 2 0 s one _ (wanted-for-adds s flow by)
-    (adds-then 0 0 2 0 one _ _ (framed-adds one _ _) (carried-all-adds _ flow _ by)))
+    (adds-then 0 0 2 0 one two _ (framed-adds one _ _)
+    (adds-then 2 0 0 0 two three _ (carried-all-adds two flow (flags_in bytes) by) (renewed-adds three (exit_by by) (hop_by s.shown by flow)))))
 plan-adds s side bytes flow (Ask by hop) =
     let one = wanted_for s flow by in
     adds-fewer 1 1 3 1 s _ (omega arith) (omega arith)
     (adds-then 1 0 0 1 s one _ (wanted-for-adds s flow by)
-    (adds-then 0 1 0 0 one _ _ (keeping-adds one side bytes _) (framed-adds _ _ _)))
+    (adds-then 0 1 0 0 one _ _ (keeping-adds one side bytes (wait.Hop (exit_by by) hop)) (framed-adds _ _ _)))
+plan-adds s side bytes flow (AskAgain by hop) = adds-fewer 0 0 3 1 s _ (omega arith) (omega arith) (again-adds s (exit_by by) hop)
 plan-adds s side bytes flow (WaitFor e) =
     let one = wanted_by s e in
     adds-fewer 1 1 3 1 s _ (omega arith) (omega arith)
-    (adds-then 1 0 0 1 s one _ (wanted-adds s e) (keeping-adds one side bytes _))
+    (adds-then 1 0 0 1 s one _ (wanted-adds s e) (keeping-adds one side bytes (wait.Pair e)))
 
 -- a packet makes at most three notes, and at most it itself is kept
 verdict-adds : (s : GatewayAndOutput) (side : Side) (bytes : List ℕ) (flow : Flow) (plan : Result Plan Reason) → Adds 3 1 s (by_verdict s side bytes flow plan)
@@ -363,7 +402,7 @@ taken-within : (c : ℕ) (s : GatewayAndOutput) (n : ℕ) → Within c (length s
 taken-within c s n =
     let g = s.shown in let b = g.ledger.book in
     let notes = retaken b.id g.moment (back_in b.entries) in
-    let mid = scene (record g { ledger = alone_ledger g.ledger; link = closed_at g.link n }) (with_notes s.told notes) in
+    let mid = scene (record g { ledger = alone_ledger g.moment g.ledger; link = closed_at g.link n }) (with_notes s.told notes) in
     within-then c (length b.entries) (3 * c) s mid (word_taken s n)
     (within-adds c (length b.entries) s mid (adds-noted (length b.entries) s mid notes (few-retaken b.id g.moment b.entries) refl refl))
     (released-within c mid AllPairs)
@@ -374,10 +413,10 @@ word-within c s n (Some reason) = nothing-within c _ s
 
 -- ---- ticks
 
-few-idle : (now : ℕ) (es : List Entry) (ls : List Activity) → length (idle_keys_in now es ls) ≤ length es
-few-idle now [] ls = omega arith
-few-idle now (e ∷ es) [] = omega arith
-few-idle now (e ∷ es) (l ∷ ls) = at (is_idle_row now e l) (idle_keys_in now es ls) (few-idle now es ls)
+few-idle : (lone : Bool) (now : ℕ) (es : List Entry) (ls : List Activity) → length (idle_keys_in lone now es ls) ≤ length es
+few-idle lone now [] ls = omega arith
+few-idle lone now (e ∷ es) [] = omega arith
+few-idle lone now (e ∷ es) (l ∷ ls) = at (is_idle_row lone now e l) (idle_keys_in lone now es ls) (few-idle lone now es ls)
   where
     at : (b : Bool) (ks : List Key) → length ks ≤ length es → length (let xs : List Key = cond b (e.pair.key ∷ ks) ks in xs) ≤ suc (length es)
     at true ks few = omega (arith, few)
@@ -393,8 +432,8 @@ all-idle-adds s (k ∷ ks) =
 idle-adds : (s : GatewayAndOutput) → Adds (length s.shown.ledger.book.entries) 0 s (idle_taken s)
 idle-adds s =
     let l = s.shown.ledger in
-    let ks = idle_keys_in s.shown.moment l.book.entries l.lives in
-    adds-fewer (length ks) 0 (length l.book.entries) 0 s _ (few-idle s.shown.moment l.book.entries l.lives) (omega arith) (all-idle-adds s ks)
+    let ks = idle_keys_in (is_lone l.book.stage) s.shown.moment l.book.entries l.lives in
+    adds-fewer (length ks) 0 (length l.book.entries) 0 s _ (few-idle (is_lone l.book.stage) s.shown.moment l.book.entries l.lives) (omega arith) (all-idle-adds s ks)
 
 old-adds : (s : GatewayAndOutput) → Adds 0 0 s (old_dropped s)
 old-adds s = record {

@@ -74,7 +74,7 @@ word-taken : Reads → (s : GatewayAndOutput) (number : ℕ) (h : List Record) �
 word-taken reads s number h synced stands is =
     let g = s.shown in let b = g.ledger.book in let e = g.link in
     let notes = retaken b.id g.moment (back_in b.entries) in
-    let mid = scene (record g { ledger = alone_ledger g.ledger; link = closed_at e number }) (with_notes s.told notes) in
+    let mid = scene (record g { ledger = alone_ledger g.moment g.ledger; link = closed_at e number }) (with_notes s.told notes) in
     let first : Passes [] (number ∷ []) s e.taken mid 0 h = record {
       notes = notes;
       notes_are = refl;
@@ -110,7 +110,7 @@ all-come l boot known n (r ∷ rs) turn formed = (
 restarted-together : (b : Book) → is_lone (restarted b).stage ≡ false
 restarted-together b = at (is_synced b.stage)
   where
-    at : (t : Bool) → is_lone (let x : Book = cond t (begun_anew b) (empty_book b.id b.zero b.one) in x).stage ≡ false
+    at : (t : Bool) → is_lone (let x : Book = cond t (begun_anew b) (empty_book b.id b.zero b.one b.limit) in x).stage ≡ false
     at true = refl
     at false = refl
 

@@ -8,6 +8,8 @@ mod Ending
 mod Freeing
 mod Hearing
 mod Idle
+mod Limits
+mod Near
 mod Others
 mod Packets
 mod Passing

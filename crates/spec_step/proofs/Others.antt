@@ -1,5 +1,5 @@
 -- The other frames of each part of a step, and so of a whole step.
-use Rattle.std.proofs.Common.{◌≡◌, ℕ, Bool, true, false, cond, not, ◌⊎◌, ◌&&◌, ◌||◌, List, [], ◌∷◌, ◌++◌, filter, length, Option, Some, None, Result, Ok, Err, refl, sym, ap, subst, ◌∙◌, append_assoc}
+use Rattle.std.proofs.Common.{◌≡◌, ℕ, Bool, true, false, cond, not, ◌⊎◌, ◌&&◌, ◌||◌, List, [], ◌∷◌, ◌++◌, filter, length, Option, Some, None, Result, Ok, Err, refl, sym, ap, subst, ◌∙◌, append_assoc, map, arith}
 use Rattle.std.specs.List.{AllByRecursion}
 use Rattle.std.proofs.lemmas.List.{append-nil}
 use Rattle.std.proofs.lemmas.List.Elements.{filter-append}
@@ -13,6 +13,7 @@ use Rattle.nat_types.specs.declared.pairs.Key.{Key}
 use Rattle.nat_types.specs.declared.pairs.Pair.{Pair}
 use Rattle.nat_types.specs.declared.records.Record.{Record}
 use Rattle.arp.specs.declared.packets.ArpPacket.{ArpPacket}
+use Rattle.arp.specs.Neighbours.{asks_at}
 use Rattle.bindings.specs.declared.entries.Entry.{Entry}
 use Rattle.bindings.specs.Lives.{idle_keys_in}
 use Rattle.link.specs.declared.datagrams.Datagram.{Datagram}
@@ -20,14 +21,14 @@ use Rattle.link.specs.declared.faults.LinkFault.{LinkFault}
 use Rattle.link.specs.Link.{Link, sent_on_answer, after_take, closed_at, is_due_on_tick, is_restart, records_taken, refusal, sent_on_tick}
 use Rattle.link.specs.Reading.{reading}
 use Rattle.spec_pair.specs.Box.{In}
-use Rattle.spec_binding.specs.Books.{IsBook}
+use Rattle.spec_binding.specs.Books.{is_lone, IsBook}
 use Rattle.spec_binding.specs.Uses.{IsTranslated}
 use Rattle.spec_binding.specs.Ledgers.{Ledger, alone_ledger, may_ask, restarted_ledger, rests_for, taken_ledger}
 use Rattle.spec_binding.specs.Resets.{back_in, restart_link, restart_notes, retaken}
 use Rattle.spec_binding.specs.Rows.{answered, idle_row, noted_by, taken_answer, taken_ended, taken_what}
 use Rattle.waiting.specs.declared.waits.Ended.TheVariants.{AllPairs, One}
 use Rattle.waiting.specs.declared.waits.WaitsFor.TheVariants as wait
-use Rattle.waiting.specs.Packets.{HeldPacket, is_young}
+use Rattle.waiting.specs.Packets.{HeldPacket, asks_again, is_young}
 use Rattle.waiting.specs.Waits.{ends}
 use Rattle.packet_rules.specs.declared.networks.Network.{Network}
 use Rattle.packet_rules.specs.declared.readings.Reading.{Reading}
@@ -41,14 +42,16 @@ use Rattle.vrrp_states.specs.Table as table
 use Rattle.vrrp_states.specs.Table.{Event as RouterEvent}
 use Rattle.spec_step.specs.declared.events.Event.{Event}
 use Rattle.spec_step.specs.declared.events.Event.TheVariants.{Frame, Datagram as Comes, Tick, Stop, PeerOff}
-use Rattle.spec_step.specs.Others.{AreOfBoth, AreOthers, FrameOwes, MayGoBy, IsNew, Owes, answers_by, free_by, frees_as, frees_for, frees_heard, frees_read, frees_unless, is_freed, is_old, other_frames, packet_as, packet_in, requests, retaken_pairs, sent_on}
+use Rattle.spec_step.specs.Others.{AreOfBoth, AreOthers, Asking, FrameOwes, IsDue, IsNew, MayGoBy, Owes, all_noted, answers_by, firsts, free_by, frees_as, frees_for, frees_heard, frees_read, frees_unless, hops_of, is_freed, is_old, other_frames, packet_as, packet_in, packets_asked, requests, retaken_pairs, sent_on, waiting_by, within_limit}
 use Rattle.spec_step.specs.Parts.{acted, all_framed, all_idle_done, answered_by, arp_taken, datagram_in, datagram_read, datagram_taken, flow_taken, framed, frames_of, handed_in, has_synced, heard_by, heard_unless, idle_done, idle_taken, link_answered, link_ticked, old_dropped, record_done, record_shown, record_told, records_done, released, reset, started, wait_ended, with_link, word_taken}
 use Rattle.spec_step.specs.Shown.{GatewayAndOutput, Shown, id_of, scene, station_on, with_notes, with_station}
 use Rattle.spec_step.specs.Steps.{BothAct, Does, FrameDoes, IsStepOn, RouterActs, clock_after, ended_on, stopped, ticked, word_by, word_refusal}
-use Rattle.spec_step.specs.Truly.{AreWired, AtHand, Known, known_of, packets_of}
+use Rattle.spec_step.specs.Truly.{AtHand, Known, known_of, packets_of}
 use Rattle.spec_step.specs.Verdict.{reading_on}
-use Rattle.spec_step.proofs.Asking.{Ask-on, Asks, NetsStay, all-apart, asking-then, IsQuiet, net-stays, nobody, nothing-asks, one-apart, packet-asks, pairs-ask, quiet-asks, quiet-by, released-asks, requests-same}
+use Rattle.spec_step.proofs.Asking.{Ask-on, Asks, IsFit, IsQuiet, NearStays, NetsStay, Waiting, all-apart, asking-then, due-more, kept-here, net-stays, new-more, nobody, nothing-asks, one-apart, packet-asks, pairs-ask, quiet-asks, quiet-by, released-asks, requests-same}
 use Rattle.spec_step.proofs.Freeing.{Comes-of, filter-same}
+use Rattle.spec_step.proofs.Limits.{count-left}
+use Rattle.spec_step.proofs.Near.{asks-learnt}
 use Rattle.spec_step.proofs.Rooting.{Rooted, alone-rooted, restart-rooted, taken-roots}
 use Rattle.spec_step.proofs.Sending.{Frames, own-six}
 use Rattle.spec_step.proofs.Telling.{at_hand}
@@ -63,8 +66,9 @@ pub record Gives (own : List Sent) (s s2 : GatewayAndOutput) : Type 0 where
   pub apart : other_frames own ≡ own
   pub kept : s2.shown.kept ≡ s.shown.kept
   pub moment : s2.shown.moment ≡ s.shown.moment
+  pub near : NearStays s.shown.moment s.shown s2.shown
   pub nets : NetsStay s.shown s2.shown
-  pub wired : AreWired s2.shown
+  pub fit : IsFit s2.shown
 
 gives-then : (f h : List Sent) (a b c : GatewayAndOutput) → Gives f a b → Gives h b c → Gives (f ++ h) a c
 gives-then f h a b c x y = record {
@@ -74,24 +78,34 @@ gives-then f h a b c x y = record {
   entries = y.entries ∙ x.entries;
   kept = y.kept ∙ x.kept;
   moment = y.moment ∙ x.moment;
+  near = λ side host t. x.near side host (subst (λ (n : ℕ). NearStays n b.shown c.shown) x.moment y.near side host t);
   nets = (y.nets.0 ∙ x.nets.0, y.nets.1 ∙ x.nets.1);
-  wired = y.wired;
+  fit = y.fit;
 }
 
-gives-nothing : (s s2 : GatewayAndOutput) → s2.told ≡ s.told → s2.shown.ledger ≡ s.shown.ledger → s2.shown.kept ≡ s.shown.kept → s2.shown.moment ≡ s.shown.moment → NetsStay s.shown s2.shown → AreWired s2.shown → Gives [] s s2
-gives-nothing s s2 told ledger kept moment nets wired = record {
+gives-nothing : (s s2 : GatewayAndOutput) → s2.told ≡ s.told → s2.shown.ledger ≡ s.shown.ledger → s2.shown.kept ≡ s.shown.kept → s2.shown.moment ≡ s.shown.moment → NearStays s.shown.moment s.shown s2.shown → NetsStay s.shown s2.shown → IsFit s2.shown → Gives [] s s2
+gives-nothing s s2 told ledger kept moment near nets fit = record {
   frames_are = ap (λ (x : Output). x.frames) told ∙ sym (append-nil s.told.frames);
   notes = ap (λ (x : Output). x.notes) told;
   entries = ap (λ (l : Ledger). l.book.entries) ledger;
   apart = refl;
   kept = kept;
   moment = moment;
+  near = near;
   nets = nets;
-  wired = wired;
+  fit = fit;
 }
 
-gives-one : (s : GatewayAndOutput) (side : Side) (bytes : List ℕ) → is_translation bytes ≡ false → AreWired s.shown → Gives (let x : Sent = record { side = side; bytes = bytes } in x ∷ []) s (framed s side bytes)
-gives-one s side bytes none w = record { frames_are = refl; notes = refl; entries = refl; apart = rw none refl; kept = refl; moment = refl; nets = (refl, refl); wired = w }
+gives-one : (s : GatewayAndOutput) (side : Side) (bytes : List ℕ) → is_translation bytes ≡ false → IsFit s.shown → Gives (let x : Sent = record { side = side; bytes = bytes } in x ∷ []) s (framed s side bytes)
+gives-one s side bytes none w = record { frames_are = refl; notes = refl; entries = refl; apart = rw none refl; kept = refl; moment = refl; near = λ t host a. sides t host a; nets = (refl, refl); fit = w }
+  where
+    sides : NearStays s.shown.moment s.shown (framed s side bytes).shown
+    sides Inside host t = t
+    sides Outside host t = t
+
+-- nothing at all
+gives-here : (s : GatewayAndOutput) → IsFit s.shown → Gives [] s s
+gives-here s w = gives-nothing s s refl refl refl refl (λ side host t. t) (refl, refl) w
 
 -- what is sent by itself, and the requests behind
 pub record Sends-others (owes : List Sent → Type 0) (hand : List AtHand) (over : HeldPacket → Bool) (s s2 : GatewayAndOutput) : Type 0 where
@@ -101,12 +115,14 @@ pub record Sends-others (owes : List Sent → Type 0) (hand : List AtHand) (over
   pub notes_are : s2.told.notes ≡ s.told.notes ++ notes
   pub own : List Sent
   pub owed : owes own
+  pub askings : List Asking
+  pub due : AllByRecursion (IsDue s.shown (known_of s2.shown) (MayGoBy s.shown notes)) askings
+  pub others : other_frames frames ≡ own ++ requests s.shown askings
   pub came : List HeldPacket
-  pub kept_are : s2.shown.kept ≡ filter (λ w. not (over w)) s.shown.kept ++ came
-  pub gone : List AtHand
-  pub of_hand : Comes-of hand (filter over s.shown.kept) came gone
   pub new : AllByRecursion (IsNew (known_of s2.shown) (MayGoBy s.shown notes)) came
-  pub others : other_frames frames ≡ own ++ requests s.shown came
+  pub waiting : Waiting s2.shown.moment over askings came s.shown.kept s2.shown.kept
+  pub gone : List AtHand
+  pub of_hand : Comes-of hand (filter over s.shown.kept) came (packets_asked askings ++ gone)
 
 others-then : (owes : List Sent → Type 0) (hand : List AtHand) (over : HeldPacket → Bool) (own : List Sent) (a b c : GatewayAndOutput) → owes own → Gives own a b → Asks hand over b c → Sends-others owes hand over a c
 others-then owes hand over own a b c owed x y = record {
@@ -116,15 +132,24 @@ others-then owes hand over own a b c owed x y = record {
   notes_are = y.notes_are ∙ ap (λ (ns : List Note). ns ++ y.notes) x.notes;
   own = own;
   owed = owed;
-  came = y.came;
-  kept_are = y.kept_are ∙ ap (λ (ws : List HeldPacket). filter (λ w. not (over w)) ws ++ y.came) x.kept;
-  gone = y.gone;
-  of_hand = subst (λ (ws : List HeldPacket). Comes-of hand (filter over ws) y.came y.gone) x.kept y.of_hand;
-  new = subst (λ (es : List Entry). AllByRecursion (IsNew (known_of c.shown) (λ (p : Pair). IsTranslated es p ⊎ In p (retaken_pairs y.notes))) y.came) x.entries y.new;
+  askings = y.askings;
+  due = due-more (known_of c.shown) (MayGoBy b.shown y.notes) (MayGoBy a.shown y.notes) may a.shown b.shown near (λ side host t. subst (λ (ws : List HeldPacket). asks_again (known_of c.shown).moment (wait.Hop side host) ws ≡ true) x.kept t) y.askings y.due;
   others = filter-append (λ (z : Sent). not (is_translation z.bytes)) own y.frames
       ∙ ap (λ (fs : List Sent). fs ++ other_frames y.frames) x.apart
-      ∙ ap (λ (fs : List Sent). own ++ fs) (y.others ∙ requests-same a.shown b.shown x.nets y.came);
+      ∙ ap (λ (fs : List Sent). own ++ fs) (y.others ∙ requests-same a.shown b.shown x.nets y.askings);
+  came = y.came;
+  new = new-more (known_of c.shown) (MayGoBy b.shown y.notes) (MayGoBy a.shown y.notes) may y.came y.new;
+  waiting = subst (λ (n : ℕ). Waiting n over y.askings y.came a.shown.kept c.shown.kept) (sym (ap (λ (k : Known). k.moment) y.known))
+      (subst (λ (ws : List HeldPacket). Waiting b.shown.moment over y.askings y.came ws c.shown.kept) x.kept y.waiting);
+  gone = y.gone;
+  of_hand = subst (λ (ws : List HeldPacket). Comes-of hand (filter over ws) y.came (packets_asked y.askings ++ y.gone)) x.kept y.of_hand;
 }
+  where
+    may : (p : Pair) → MayGoBy b.shown y.notes p → MayGoBy a.shown y.notes p
+    may p m = subst (λ (es : List Entry). IsTranslated es p ⊎ In p (retaken_pairs y.notes)) x.entries m
+
+    near : NearStays (known_of c.shown).moment a.shown b.shown
+    near = subst (λ (n : ℕ). NearStays n a.shown b.shown) (sym (ap (λ (k : Known). k.moment) y.known ∙ x.moment)) x.near
 
 -- ---- ARP
 
@@ -136,18 +161,41 @@ after-net station p now = at (is_learnable station.network p)
     at true = refl
     at false = refl
 
-station-gives : (s : GatewayAndOutput) (side : Side) (station : Interface) → station.network ≡ (station_on s.shown side).network → IsWired station → AreWired s.shown → Gives [] s (scene (with_station s.shown side station) s.told)
-station-gives s Inside station same wired w = gives-nothing s (scene (with_station s.shown Inside station) s.told) refl refl refl refl (same, refl) (w.0, (wired, w.1.1))
-station-gives s Outside station same wired w = gives-nothing s (scene (with_station s.shown Outside station) s.told) refl refl refl refl (refl, same) (w.0, (w.1.0, wired))
+-- what is to be asked for by an interface was so by another
+abbrev IsNearer : ℕ → Interface → Interface → Type 0
+IsNearer now old new = (host : ℕ) → asks_at host now new.neighbours ≡ true → asks_at host now old.neighbours ≡ true
 
-answered-gives : Frames → (s : GatewayAndOutput) (station : Interface) (side : Side) (p : ArpPacket) (o : Option Mac) → length p.sender_mac.0 ≡ 6 → (station_on s.shown side).network ≡ station.network → AreWired s.shown
+station-gives : (s : GatewayAndOutput) (side : Side) (station : Interface) → station.network ≡ (station_on s.shown side).network → IsNearer s.shown.moment (station_on s.shown side) station → IsWired station → IsFit s.shown
+    → Gives [] s (scene (with_station s.shown side station) s.told)
+station-gives s Inside station same nearer wired w =
+    gives-nothing s (scene (with_station s.shown Inside station) s.told) refl refl refl refl (λ t host a. sides t host a) (same, refl) ((w.0.0, (wired, w.0.1.1)), w.1)
+  where
+    sides : NearStays s.shown.moment s.shown (with_station s.shown Inside station)
+    sides Inside host t = nearer host t
+    sides Outside host t = t
+station-gives s Outside station same nearer wired w =
+    gives-nothing s (scene (with_station s.shown Outside station) s.told) refl refl refl refl (λ t host a. sides t host a) (refl, same) ((w.0.0, (w.0.1.0, wired)), w.1)
+  where
+    sides : NearStays s.shown.moment s.shown (with_station s.shown Outside station)
+    sides Inside host t = t
+    sides Outside host t = nearer host t
+
+after-nearer : (station : Interface) (p : ArpPacket) (now : ℕ) → IsNearer now station (after_arp station p now)
+unfolding after_arp
+after-nearer station p now = at (is_learnable station.network p)
+  where
+    at : (b : Bool) → IsNearer now station (let x : Interface = cond b (with_neighbour station p now) station in x)
+    at true = λ host t. asks-learnt host now p.sender_ip p.sender_mac station.neighbours t
+    at false = λ host t. t
+
+answered-gives : Frames → (s : GatewayAndOutput) (station : Interface) (side : Side) (p : ArpPacket) (o : Option Mac) → length p.sender_mac.0 ≡ 6 → (station_on s.shown side).network ≡ station.network → IsFit s.shown
     → Gives (sent_on side (answers_by station p o)) s (answered_by s side p o)
 answered-gives frames s station side p (Some mac) six same w =
     subst (λ (n : Network). Gives (sent_on side (answer_frame n p mac ∷ [])) s (answered_by s side p (Some mac))) same
-    (gives-one s side (answer_frame (station_on s.shown side).network p mac) (frames.answer (station_on s.shown side).network p mac (own-six s.shown w side) six) w)
-answered-gives frames s station side p None six same w = gives-nothing s s refl refl refl refl (refl, refl) w
+    (gives-one s side (answer_frame (station_on s.shown side).network p mac) (frames.answer (station_on s.shown side).network p mac (own-six s.shown w.0 side) six) w)
+answered-gives frames s station side p None six same w = gives-here s w
 
-arp-others : Frames → (s : GatewayAndOutput) (side : Side) (p : ArpPacket) → length p.sender_mac.0 ≡ 6 → AreWired s.shown
+arp-others : Frames → (s : GatewayAndOutput) (side : Side) (p : ArpPacket) → length p.sender_mac.0 ≡ 6 → IsFit s.shown
     → Sends-others (FrameOwes s.shown side (Ok (Arp p))) [] (frees_as s.shown side (Ok (Arp p))) s (arp_taken s side p)
 arp-others frames s side p six w =
     let station = station_on s.shown side in
@@ -156,31 +204,32 @@ arp-others frames s side p six w =
     let o = answer_to station.network (is_active station) p in
     let told = answered_by heard side p o in
     let own = sent_on side (answers_by station p o) in
-    let first = station-gives s side after (after-net station p s.shown.moment) (after-wired station p s.shown.moment six (wired-on s.shown w side)) w in
-    let second = answered-gives frames heard station side p o six (net-stays s.shown heard.shown first.nets side) first.wired in
+    let first = station-gives s side after (after-net station p s.shown.moment) (after-nearer station p s.shown.moment) (after-wired station p s.shown.moment six (wired-on s.shown w.0 side)) w in
+    let second = answered-gives frames heard station side p o six (net-stays s.shown heard.shown first.nets side) first.fit in
     others-then (FrameOwes s.shown side (Ok (Arp p))) [] (frees_as s.shown side (Ok (Arp p))) own s told (arp_taken s side p) refl
-    (gives-then [] own s heard told first second) (at (is_learnable station.network p) told second.wired)
+    (gives-then [] own s heard told first second) (at (is_learnable station.network p) told second.fit)
   where
-    at : (b : Bool) (told : GatewayAndOutput) → AreWired told.shown → Asks [] (λ w. b && ends (One (wait.Hop side p.sender_ip)) w.wait) told (let x : GatewayAndOutput = cond b (released told (One (wait.Hop side p.sender_ip))) told in x)
+    at : (b : Bool) (told : GatewayAndOutput) → IsFit told.shown → Asks [] (λ w. b && ends (One (wait.Hop side p.sender_ip)) w.wait) told (let x : GatewayAndOutput = cond b (released told (One (wait.Hop side p.sender_ip))) told in x)
     at true told v = released-asks frames told (One (wait.Hop side p.sender_ip)) v
     at false told v = (nothing-asks [] told v).asks
 
 -- ---- routers
 
-all-framed-gives : (s : GatewayAndOutput) (side : Side) (fs : List (List ℕ)) → AllOther fs → AreWired s.shown → Gives (sent_on side fs) s (all_framed s side fs)
-all-framed-gives s side [] all w = gives-nothing s s refl refl refl refl (refl, refl) w
+all-framed-gives : (s : GatewayAndOutput) (side : Side) (fs : List (List ℕ)) → AllOther fs → IsFit s.shown → Gives (sent_on side fs) s (all_framed s side fs)
+all-framed-gives s side [] all w = gives-here s w
 all-framed-gives s side (f ∷ fs) all w =
     gives-then (let x : Sent = record { side = side; bytes = f } in x ∷ []) (sent_on side fs) s (framed s side f) (all_framed s side (f ∷ fs)) (gives-one s side f all.0 w) (all-framed-gives (framed s side f) side fs all.1 w)
 
-router-gives : Frames → (s : GatewayAndOutput) (side : Side) (event : RouterEvent) (s2 : GatewayAndOutput) → (a : RouterActs s side event s2) → AreWired s.shown → Gives (sent_on side (frames_of a.station a.action)) s s2
+router-gives : Frames → (s : GatewayAndOutput) (side : Side) (event : RouterEvent) (s2 : GatewayAndOutput) → (a : RouterActs s side event s2) → IsFit s.shown → Gives (sent_on side (frames_of a.station a.action)) s s2
 router-gives frames s side event s2 a w =
     let station = a.station in
     let mid = scene (with_station s.shown side station) s.told in
     let own = sent_on side (frames_of station a.action) in
-    let wired : IsWired station = subst IsWired (sym a.step.rest) (routed-wired (station_on s.shown side) station.router (wired-on s.shown w side)) in
-    let first = station-gives s side station (ap (λ (x : Interface). x.network) a.step.rest) wired w in
+    let wired : IsWired station = subst IsWired (sym a.step.rest) (routed-wired (station_on s.shown side) station.router (wired-on s.shown w.0 side)) in
+    let nearer : IsNearer s.shown.moment (station_on s.shown side) station = λ host t. subst (λ (x : Interface). asks_at host s.shown.moment x.neighbours ≡ true) a.step.rest t in
+    let first = station-gives s side station (ap (λ (x : Interface). x.network) a.step.rest) nearer wired w in
     subst (λ (x : GatewayAndOutput). Gives own s x) (sym a.is)
-    (gives-then [] own s mid (acted s side station a.action) first (all-framed-gives mid side (frames_of station a.action) (action-frames frames station a.action) first.wired))
+    (gives-then [] own s mid (acted s side station a.action) first (all-framed-gives mid side (frames_of station a.action) (action-frames frames station a.action) first.fit))
 
 pub all-framed-shown : (s : GatewayAndOutput) (side : Side) (fs : List (List ℕ)) → (all_framed s side fs).shown ≡ s.shown
 all-framed-shown s side [] = refl
@@ -192,13 +241,13 @@ pub record BothGive (s : GatewayAndOutput) (event : RouterEvent) (s2 : GatewayAn
   pub owed : AreOfBoth s.shown event s.shown.moment own
   pub gives : Gives own s s2
 
-both-give : Frames → (s : GatewayAndOutput) (event : RouterEvent) (s2 : GatewayAndOutput) → BothAct s event s2 → AreWired s.shown → BothGive s event s2
+both-give : Frames → (s : GatewayAndOutput) (event : RouterEvent) (s2 : GatewayAndOutput) → BothAct s event s2 → IsFit s.shown → BothGive s event s2
 both-give frames s event s2 both w =
     let mid = both.between in
     let one = sent_on Inside (frames_of both.inside.station both.inside.action) in
     let two = sent_on Outside (frames_of both.outside.station both.outside.action) in
     let first = router-gives frames s Inside event mid both.inside w in
-    let second = router-gives frames mid Outside event s2 both.outside first.wired in
+    let second = router-gives frames mid Outside event s2 both.outside first.fit in
     let same : mid.shown ≡ with_station s.shown Inside both.inside.station =
     ap (λ (x : GatewayAndOutput). x.shown) both.inside.is ∙ all-framed-shown (scene (with_station s.shown Inside both.inside.station) s.told) Inside (frames_of both.inside.station both.inside.action) in
     let step : IsRouterStep s.shown.outside event s.shown.moment both.outside.action both.outside.station =
@@ -217,7 +266,7 @@ both-give frames s event s2 both w =
 
 -- ---- a frame
 
-frame-others : Frames → (s : GatewayAndOutput) (side : Side) (bytes : List ℕ) (r : Result Reading Reason) (s2 : GatewayAndOutput) → reading_on s.shown side bytes ≡ r → AreWired s.shown → FrameDoes s side bytes r s2
+frame-others : Frames → (s : GatewayAndOutput) (side : Side) (bytes : List ℕ) (r : Result Reading Reason) (s2 : GatewayAndOutput) → reading_on s.shown side bytes ≡ r → IsFit s.shown → FrameDoes s side bytes r s2
     → Sends-others (FrameOwes s.shown side r) (packet_as side bytes r) (frees_as s.shown side r) s s2
 frame-others frames s side bytes (Ok (Arp p)) s2 read w does =
     let at = station_on s.shown side in
@@ -228,15 +277,15 @@ frame-others frames s side bytes (Ok (Advert a from)) s2 read w does =
     let own = sent_on side (frames_of does.station does.action) in
     let gives = router-gives frames s side (table.Heard a.priority a.interval from.0) s2 does w in
     others-then (FrameOwes s.shown side (Ok (Advert a from))) [] (frees_as s.shown side (Ok (Advert a from))) own s s2 s2
-    (record { station = does.station; action = does.action; step = does.step; are = refl }) gives (nothing-asks [] s2 gives.wired).asks
+    (record { station = does.station; action = does.action; step = does.step; are = refl }) gives (nothing-asks [] s2 gives.fit).asks
 frame-others frames s side bytes (Ok (Packet packet)) s2 read w does =
     subst (λ (x : GatewayAndOutput). Sends-others (FrameOwes s.shown side (Ok (Packet packet))) (at_hand side bytes ∷ []) (frees_as s.shown side (Ok (Packet packet))) s x) (sym does)
     (others-then (FrameOwes s.shown side (Ok (Packet packet))) (at_hand side bytes ∷ []) (frees_as s.shown side (Ok (Packet packet))) [] s s (flow_taken s side bytes packet.flow) refl
-    (gives-nothing s s refl refl refl refl (refl, refl) w) (packet-asks frames s side bytes packet read w).asks)
+    (gives-here s w) (packet-asks frames s side bytes packet read w).asks)
 frame-others frames s side bytes (Err reason) s2 read w does =
     subst (λ (x : GatewayAndOutput). Sends-others (FrameOwes s.shown side (Err reason)) [] (frees_as s.shown side (Err reason)) s x) (sym does)
     (others-then (FrameOwes s.shown side (Err reason)) [] (frees_as s.shown side (Err reason)) [] s s s refl
-    (gives-nothing s s refl refl refl refl (refl, refl) w) (nothing-asks [] s w).asks)
+    (gives-here s w) (nothing-asks [] s w).asks)
 
 -- ---- records
 
@@ -244,7 +293,7 @@ routed-asks : (now : ℕ) (g : Shown) (told : Output) (b : Bool) → Ask-on [] n
 routed-asks now g told true =
     let s2 = scene (record g { inside = started g.inside now; outside = started g.outside now }) told in
     quiet-asks [] (scene g told) s2
-    (quiet-by (scene g told) s2 refl refl refl refl refl (refl, refl) (λ w. (w.0, (record { own = w.1.0.own; known = w.1.0.known }, record { own = w.1.1.own; known = w.1.1.known }))))
+    (quiet-by (scene g told) s2 refl refl refl refl refl ((refl, refl), (refl, refl)) (λ w. (w.0, (record { own = w.1.0.own; known = w.1.0.known }, record { own = w.1.1.own; known = w.1.1.known }))))
 routed-asks now g told false = nothing-asks [] (scene g told)
 
 ended-asks : Frames → (s : GatewayAndOutput) (o : Option Endpoint) → Ask-on [] (frees_for o) s (wait_ended o s)
@@ -253,7 +302,7 @@ ended-asks frames s (Some e) = pairs-ask frames s (One (wait.Pair e)) (one-apart
 
 -- the table is another, and this is noted
 table-quiet : (s : GatewayAndOutput) (l : Ledger) (e : Link) (notes : List Note) → Rooted s.shown.ledger.book.entries l.book.entries (retaken_pairs notes) → IsQuiet s (scene (record s.shown { ledger = l; link = e }) (with_notes s.told notes))
-table-quiet s l e notes roots = record { frames = refl; notes = notes; notes_are = refl; roots = roots; kept = refl; known = refl; nets = (refl, refl); wired = λ w. w }
+table-quiet s l e notes roots = record { frames = refl; notes = notes; notes_are = refl; roots = roots; kept = refl; known = refl; stations = ((refl, refl), (refl, refl)); wired = λ w. w }
 
 record-asks : Frames → (s : GatewayAndOutput) (r : Record) → Ask-on [] (frees_for (taken_ended s.shown.ledger.book (rests_for s.shown.moment s.shown.ledger r) r)) s (record_done s r)
 record-asks frames s r =
@@ -294,7 +343,7 @@ heard-asks frames s d is = at (is_restart s.shown.link d)
     after : Ask-on [] nobody s (with_link s (after_take s.shown.link d s.shown.moment))
     after =
         let x = with_link s (after_take s.shown.link d s.shown.moment) in
-        quiet-asks [] s x (quiet-by s x refl refl refl refl refl (refl, refl) (λ w. w))
+        quiet-asks [] s x (quiet-by s x refl refl refl refl refl ((refl, refl), (refl, refl)) (λ w. w))
 
     at : (b : Bool)
         → (let x = with_link s (after_take s.shown.link d s.shown.moment) in let rs = records_taken s.shown.link d in
@@ -320,9 +369,9 @@ datagram-asks frames s (Err fault) is = nothing-asks [] s
 word-asks : Frames → (s : GatewayAndOutput) (n : ℕ) (o : Option Reason) → IsBook s.shown.ledger.book → Ask-on [] (frees_unless o) s (word_by s n o)
 word-asks frames s n None is =
     let g = s.shown in let b = g.ledger.book in
-    let mid = scene (record g { ledger = alone_ledger g.ledger; link = closed_at g.link n }) (with_notes s.told (retaken (id_of g) g.moment (back_in b.entries))) in
+    let mid = scene (record g { ledger = alone_ledger g.moment g.ledger; link = closed_at g.link n }) (with_notes s.told (retaken (id_of g) g.moment (back_in b.entries))) in
     asking-then [] [] nobody of_pairs s mid (word_taken s n)
-    (quiet-asks [] s mid (table-quiet s (alone_ledger g.ledger) (closed_at g.link n) (retaken (id_of g) g.moment (back_in b.entries)) (alone-rooted b (id_of g) g.moment is.keys))) (pairs-ask frames mid AllPairs all-apart)
+    (quiet-asks [] s mid (table-quiet s (alone_ledger g.moment g.ledger) (closed_at g.link n) (retaken (id_of g) g.moment (back_in b.entries)) (alone-rooted b (id_of g) g.moment is.keys))) (pairs-ask frames mid AllPairs all-apart)
 word-asks frames s n (Some reason) is = nothing-asks [] s
 
 -- ---- ticks
@@ -343,15 +392,16 @@ all-idle-leave s (k ∷ ks) =
     record { frames = rest.frames; notes = noted ++ rest.notes; notes_are = rest.notes_are ∙ append_assoc s.told.notes noted rest.notes; kept = rest.kept }
 
 -- nobody comes to wait, and the old ones leave
-tick-others : Frames → (s : GatewayAndOutput) (now : ℕ) (middle : GatewayAndOutput) → BothAct (ticked s now) table.Tick middle → AreWired s.shown → AreOthers s (Tick now) (idle_taken (old_dropped middle))
+tick-others : Frames → (s : GatewayAndOutput) (now : ℕ) (middle : GatewayAndOutput) → BothAct (ticked s now) table.Tick middle → IsFit s.shown → AreOthers s (Tick now) (idle_taken (old_dropped middle))
 tick-others frames s now middle acts w =
     let both = both-give frames (ticked s now) table.Tick middle acts w in
     let o = both.owed in
     let x = both.gives in
     let young = old_dropped middle in
     let l = young.shown.ledger in
-    let idle = all-idle-leave young (idle_keys_in young.shown.moment l.book.entries l.lives) in
-    let keeps : filter (is_young middle.shown.moment) middle.shown.kept ≡ filter (λ w. not (is_old s.shown (Tick now) w || false)) s.shown.kept =
+    let idle = all-idle-leave young (idle_keys_in (is_lone l.book.stage) young.shown.moment l.book.entries l.lives) in
+    let left = filter (λ (w : HeldPacket). not (is_old s.shown (Tick now) w || false)) s.shown.kept in
+    let keeps : filter (is_young middle.shown.moment) middle.shown.kept ≡ left =
     ap (λ (m : ℕ). filter (is_young m) middle.shown.kept) x.moment
     ∙ ap (filter (is_young (clock_after s.shown.moment now))) x.kept
     ∙ filter-same (is_young (clock_after s.shown.moment now)) (λ w. not (is_old s.shown (Tick now) w || false)) (λ w. twice (is_young (clock_after s.shown.moment now) w)) s.shown.kept in
@@ -368,12 +418,15 @@ tick-others frames s now middle acts w =
         outside = record { station = o.outside.station; action = o.outside.action; step = o.outside.step; are = o.outside.are };
         are = o.are;
       };
+      askings = [];
+      due = tt;
+      others = x.apart ∙ sym (append-nil both.own);
       came = [];
-      kept_are = idle.kept ∙ keeps ∙ sym (append-nil (filter (λ w. not (is_old s.shown (Tick now) w || false)) s.shown.kept));
+      new = tt;
+      hops = refl;
+      kept_are = idle.kept ∙ keeps ∙ kept-here left (omega (arith, count-left (λ w. not (is_old s.shown (Tick now) w || false)) s.shown.kept, w.1));
       gone = packets_of (filter (is_freed s (Tick now)) s.shown.kept);
       of_hand = IsPermutation-refl (packets_of (filter (is_freed s (Tick now)) s.shown.kept));
-      new = tt;
-      others = x.apart ∙ sym (append-nil both.own);
     }
   where
     twice : (b : Bool) → b ≡ not (not b || false)
@@ -391,21 +444,24 @@ others-at s event done young x = record {
   notes_are = x.notes_are;
   own = x.own;
   owed = x.owed;
+  askings = x.askings;
+  due = x.due;
+  others = x.others;
   came = x.came;
-  kept_are = x.kept_are
-      ∙ ap (λ (ws : List HeldPacket). ws ++ x.came)
+  new = x.new;
+  hops = x.waiting.hops_are;
+  kept_are = x.waiting.kept_are
+      ∙ ap (λ (ws : List HeldPacket). all_noted done.shown.moment x.askings (within_limit (ws ++ x.came)))
       (filter-same (λ w. not (is_freed s event w)) (λ w. not (is_old s.shown event w || is_freed s event w)) (λ w. ap (λ b. not (b || is_freed s event w)) (sym (young w))) s.shown.kept);
   gone = x.gone;
   of_hand = x.of_hand;
-  new = x.new;
-  others = x.others;
 }
 
 -- one that has the gateway send nothing by itself
-asks-alone : (s : GatewayAndOutput) (event : Event) (done : GatewayAndOutput) → Owes s.shown event [] → AreWired s.shown → Asks (packet_in s.shown event) (is_freed s event) s done → Sends-others (Owes s.shown event) (packet_in s.shown event) (is_freed s event) s done
-asks-alone s event done owed w asks = others-then (Owes s.shown event) (packet_in s.shown event) (is_freed s event) [] s s done owed (gives-nothing s s refl refl refl refl (refl, refl) w) asks
+asks-alone : (s : GatewayAndOutput) (event : Event) (done : GatewayAndOutput) → Owes s.shown event [] → IsFit s.shown → Asks (packet_in s.shown event) (is_freed s event) s done → Sends-others (Owes s.shown event) (packet_in s.shown event) (is_freed s event) s done
+asks-alone s event done owed w asks = others-then (Owes s.shown event) (packet_in s.shown event) (is_freed s event) [] s s done owed (gives-here s w) asks
 
-does-others : Frames → (s : GatewayAndOutput) (event : Event) (done : GatewayAndOutput) → Does s event done → IsBook s.shown.ledger.book → AreWired s.shown → AreOthers s event done
+does-others : Frames → (s : GatewayAndOutput) (event : Event) (done : GatewayAndOutput) → Does s event done → IsBook s.shown.ledger.book → IsFit s.shown → AreOthers s event done
 does-others frames s (Frame side bytes) done does is w =
     others-at s (Frame side bytes) done (λ p. refl) (frame-others frames s side bytes.now (reading_on s.shown side bytes.now) done refl w does)
 does-others frames s (Comes bytes) done does is w =
@@ -415,7 +471,7 @@ does-others frames s (Tick now) done does is w = subst (λ (x : GatewayAndOutput
 does-others frames s Stop done does is w =
     let middle = does.0 in
     let both = both-give frames s table.Stop middle does.1 w in
-    let asks = (quiet-asks [] middle (stopped middle) (quiet-by middle (stopped middle) refl refl refl refl refl (refl, refl) (λ v. v)) both.gives.wired).asks in
+    let asks = (quiet-asks [] middle (stopped middle) (quiet-by middle (stopped middle) refl refl refl refl refl ((refl, refl), (refl, refl)) (λ v. v)) both.gives.fit).asks in
     subst (λ (x : GatewayAndOutput). AreOthers s Stop x) (sym does.2)
     (others-at s Stop (stopped middle) (λ p. refl) (others-then (Owes s.shown Stop) [] nobody both.own s middle (stopped middle) both.owed both.gives asks))
 does-others frames s (PeerOff n) done does is w =
@@ -439,13 +495,20 @@ others-end s event done end e x = record {
   notes_are = e.notes ∙ x.notes_are;
   own = x.own;
   owed = x.owed;
+  askings = x.askings;
+  due = subst (λ (k : Known). AllByRecursion (IsDue s.shown k (MayGoBy s.shown x.notes)) x.askings) (sym e.known) x.due;
+  others = x.others;
   came = x.came;
-  kept_are = e.kept ∙ x.kept_are;
+  new = subst (λ (k : Known). AllByRecursion (IsNew k (MayGoBy s.shown x.notes)) x.came) (sym e.known) x.new;
+  hops = subst (λ (n : ℕ). hops_of x.came ≡ map (waiting_by n) (firsts x.askings)) (sym now) x.hops;
+  kept_are = e.kept ∙ x.kept_are
+      ∙ ap (λ (n : ℕ). all_noted n x.askings (within_limit (filter (λ w. not (is_old s.shown event w || is_freed s event w)) s.shown.kept ++ x.came))) (sym now);
   gone = x.gone;
   of_hand = x.of_hand;
-  new = subst (λ (k : Known). AllByRecursion (IsNew k (MayGoBy s.shown x.notes)) x.came) (sym e.known) x.new;
-  others = x.others;
 }
+  where
+    now : end.shown.moment ≡ done.shown.moment
+    now = ap (λ (k : Known). k.moment) e.known
 
 answered-ends : (s : GatewayAndOutput) → Ends s (link_answered s)
 answered-ends s = at (handed_in s.shown).link.due
@@ -469,6 +532,6 @@ end-others s Stop done x = others-end s Stop done (link_answered done) (answered
 end-others s (PeerOff n) done x = others-end s (PeerOff n) done (link_answered done) (answered-ends done) x
 
 -- a whole step
-pub step-others : Frames → (s : GatewayAndOutput) (event : Event) (s2 : GatewayAndOutput) → IsStepOn s event s2 → IsBook s.shown.ledger.book → AreWired s.shown → AreOthers s event s2
+pub step-others : Frames → (s : GatewayAndOutput) (event : Event) (s2 : GatewayAndOutput) → IsStepOn s event s2 → IsBook s.shown.ledger.book → IsFit s.shown → AreOthers s event s2
 step-others frames s event s2 step is w =
     subst (λ (x : GatewayAndOutput). AreOthers s event x) (sym step.sends) (end-others s event step.done (does-others frames s event step.done step.does is w))

@@ -5,7 +5,9 @@ use Rattle.byteorder.specs.Numbers.{big_from-lt}
 use Rattle.addresses.specs.declared.ethernet.Mac.{Mac}
 use Rattle.addresses.specs.declared.internet.Ip.{Ip}
 use Rattle.addresses.specs.declared.transport.TcpFlags.{TcpFlags}
+use Rattle.arp.specs.Neighbours.{asks_at}
 use Rattle.nat_types.specs.declared.gateways.Side.{Side}
+use Rattle.nat_types.specs.declared.gateways.Side.TheVariants.{Inside, Outside}
 use Rattle.nat_types.specs.declared.pairs.Endpoint.{Endpoint}
 use Rattle.nat_types.specs.declared.pairs.EntryState.{EntryState}
 use Rattle.nat_types.specs.declared.pairs.EntryState.TheVariants as state
@@ -33,14 +35,16 @@ use Rattle.spec_binding.specs.Rows.{after, answered, carry_row, is_full, noted_b
 use Rattle.spec_binding.proofs.Offered.{wish-keeps, carry-works, wish-works}
 use Rattle.waiting.specs.declared.waits.Ended.{Ended}
 use Rattle.waiting.specs.declared.waits.WaitsFor.{WaitsFor}
-use Rattle.waiting.specs.Packets.{HeldPacket, ended_by, left_by}
+use Rattle.waiting.specs.declared.waits.WaitsFor.TheVariants as wait
+use Rattle.waiting.specs.Packets.{HeldPacket, asks_again, ended_by, left_by, with_asked}
+use Rattle.waiting.proofs.Offered.{all-asked, all-room}
 use Rattle.packet_rules.specs.declared.networks.Direction.{Direction}
 use Rattle.packet_rules.specs.declared.networks.Direction.TheVariants as way
 use Rattle.packet_rules.specs.declared.networks.Network.{Network}
 use Rattle.packet_rules.specs.declared.readings.Reading.{Reading}
 use Rattle.packet_rules.specs.declared.readings.Reading.TheVariants.{Arp, Advert, Packet}
 use Rattle.packet_rules.specs.declared.reasons.Reason.{Reason}
-use Rattle.packet_rules.specs.declared.reasons.Reason.TheVariants.{ShortFrame, NotMine, BadHeader, BadLength, BadHeaderSum, Fragment, TtlOver, NotUdpTcp, BadTransport, BadArp, BadAdvert, NotUp, NoBinding, NoPort, CannotWait, BadDatagram, OldWord}
+use Rattle.packet_rules.specs.declared.reasons.Reason.TheVariants.{ShortFrame, NotMine, BadHeader, BadLength, BadHeaderSum, Fragment, TtlOver, NotUdpTcp, BadTransport, BadArp, BadAdvert, NotUp, NoBinding, NoPort, CannotWait, BadDatagram, OldWord, HostLimit}
 use Rattle.packet_rules.specs.declared.translations.Translation.{Translation}
 use Rattle.packet_rules.specs.declared.translations.Translation.TheVariants.{Outward, Inward, Hairpin}
 use Rattle.packet_rules.specs.Flows.{flow_in, source_of}
@@ -48,11 +52,11 @@ use Rattle.packet_rules.specs.Networks.{direction_of}
 use Rattle.packet_rules.specs.Steps.{Carries, IsForwardable, reading_of, and_then}
 use Rattle.interfaces.specs.Stations.{is_active}
 use Rattle.spec_step.specs.declared.plans.Plan.{Plan}
-use Rattle.spec_step.specs.declared.plans.Plan.TheVariants.{Send, Ask, Wait as WaitFor}
+use Rattle.spec_step.specs.declared.plans.Plan.TheVariants.{Send, Ask, AskAgain, Wait as WaitFor}
 use Rattle.spec_step.specs.Machine.{AreBytes}
-use Rattle.spec_step.specs.Parts.{all_taken, by_plan, by_refusal, by_verdict, carried, carried_all, carried_by, flags_in, flow_taken, framed, keeping, released, remote, retaken_by, taken_again, wanted_by, wanted_for}
+use Rattle.spec_step.specs.Parts.{all_taken, asked_again, by_plan, by_refusal, by_verdict, carried, carried_all, carried_by, flags_in, flow_taken, framed, keeping, neighbour_asked, released, remote, renewed_behind, request_by, retaken_by, taken_again, wanted_by, wanted_for}
 use Rattle.spec_step.specs.Shown.{GatewayAndOutput, Shown, is_up, scene, station_on}
-use Rattle.spec_step.specs.Verdict.{look_for, plan_by, plan_from, plan_of, plan_on, plan_to, reading_on, target_pair}
+use Rattle.spec_step.specs.Verdict.{exit_by, hop_by, look_for, plan_by, plan_from, plan_of, plan_on, plan_to, reading_on, target_pair}
 use Rattle.spec_step.proofs.Passing.{Going, given, going-then, going-unseen, nothing, row-goes}
 
 -- ---- the endpoint of a packet's source
@@ -76,6 +80,7 @@ source-formed bytes are is =
 abbrev pub PlanFits : Result Plan Reason → Type 0
 PlanFits (Ok (Send by next)) = Unit {0}
 PlanFits (Ok (Ask by hop)) = Unit {0}
+PlanFits (Ok (AskAgain by hop)) = Unit {0}
 PlanFits (Ok (WaitFor e)) = IsWellFormedEndpoint e
 PlanFits (Err reason) = Unit {0}
 
@@ -83,7 +88,7 @@ to-fits : (g : Shown) (by : Translation) (hop : Ip) (next : Option Mac) → Plan
 to-fits g by hop (Some next) = tt
 to-fits g by hop None = at _
   where
-    at : (b : Bool) → PlanFits (let r : Result Plan Reason = cond b (Ok (Ask by hop)) (Err CannotWait) in r)
+    at : (b : Bool) → PlanFits (let r : Result Plan Reason = cond b (Ok (Ask by hop)) (Ok (AskAgain by hop)) in r)
     at true = tt
     at false = tt
 
@@ -99,6 +104,7 @@ from-fits g flow by want.Wait formed = at _
     at false = tt
 from-fits g flow by want.NoPort formed = tt
 from-fits g flow by want.NotNow formed = tt
+from-fits g flow by want.HostLimit formed = tt
 
 on-fits : (g : Shown) (flow : Flow) (w : Direction) → IsWellFormedEndpoint (source_of flow) → PlanFits (plan_on g flow w)
 on-fits g flow way.Outward formed = from-fits g flow Outward (look_for g flow) formed
@@ -173,6 +179,7 @@ refusal-leaves P s flow NoBinding same wanted = same
 refusal-leaves P s flow CannotWait same wanted = same
 refusal-leaves P s flow BadDatagram same wanted = same
 refusal-leaves P s flow OldWord same wanted = same
+refusal-leaves P s flow HostLimit same wanted = same
 
 -- what is known of a frame by what it is read as
 abbrev pub Reads : Type 0
@@ -226,23 +233,43 @@ module _ (letters : List Letter) (words : List ℕ) where
   framed-goes s side bytes = going-unseen letters words s (framed s side bytes) refl refl refl refl refl (λ k. k)
 
   pub keeping-goes : (s : GatewayAndOutput) (side : Side) (bytes : List ℕ) (w : WaitsFor) → AreBytes bytes → Going letters words s (keeping s side bytes w)
-  keeping-goes s side bytes w are = going-unseen letters words s (keeping s side bytes w) refl refl refl refl refl (λ k. kept-more s.shown.kept _ k are)
+  keeping-goes s side bytes w are = going-unseen letters words s (keeping s side bytes w) refl refl refl refl refl (λ k. kept-more _ _ (all-room (λ (x : HeldPacket). AreBytes x.bytes) w s.shown.kept k) are)
+
+  pub renewed-goes : (s : GatewayAndOutput) (exit : Side) (hop : Ip) → Going letters words s (renewed_behind s exit hop)
+  renewed-goes s exit hop = at exit (asks_at hop.0 s.shown.moment (station_on s.shown exit).neighbours)
+    where
+      at : (side : Side) (b : Bool) → Going letters words s (let x : GatewayAndOutput = cond b (framed (scene (neighbour_asked s.shown side hop) s.told) side (request_by s.shown side hop)) s in x)
+      at Inside true = going-unseen letters words s _ refl refl refl refl refl (λ k. k)
+      at Outside true = going-unseen letters words s _ refl refl refl refl refl (λ k. k)
+      at side false = here s
+
+  pub again-goes : (s : GatewayAndOutput) (exit : Side) (hop : Ip) → Going letters words s (asked_again s exit hop)
+  again-goes s exit hop = at (asks_again s.shown.moment (wait.Hop exit hop) s.shown.kept)
+    where
+      at : (b : Bool) → Going letters words s (let x : GatewayAndOutput = cond b (framed (scene (record s.shown { kept = with_asked s.shown.moment (wait.Hop exit hop) s.shown.kept }) s.told) exit (request_by s.shown exit hop)) s in x)
+      at true = going-unseen letters words s _ refl refl refl refl refl (λ k. all-asked (λ (x : HeldPacket). AreBytes x.bytes) (λ w n is. is) s.shown.moment (wait.Hop exit hop) s.shown.kept k)
+      at false = here s
 
   plan-goes : (s : GatewayAndOutput) (side : Side) (bytes : List ℕ) (flow : Flow) (plan : Plan) → AreBytes bytes → IsWellFormedEndpoint (source_of flow) → PlanFits (Ok plan) → Going letters words s (by_plan s side bytes flow plan)
   plan-goes s side bytes flow (Send by next) are formed fits =
       let one = wanted_for s flow by in
-      going-then letters words s (framed one _ _) _
+      let two = carried_all (framed one _ _) flow (flags_in bytes) by in
+      going-then letters words s two _
+      (going-then letters words s (framed one _ _) two
       (going-then letters words s one (framed one _ _) (wanted-for-goes s flow by formed) (framed-goes one _ _))
-      (carried-all-goes (framed one _ _) flow (flags_in bytes) by)
+      (carried-all-goes (framed one _ _) flow (flags_in bytes) by))
+      (renewed-goes two (exit_by by) (hop_by s.shown by flow))
   plan-goes s side bytes flow (Ask by hop) are formed fits =
       let one = wanted_for s flow by in
-      let two = keeping one side bytes _ in
+      let what = wait.Hop (exit_by by) hop in
+      let two = keeping one side bytes what in
       going-then letters words s two _
-      (going-then letters words s one two (wanted-for-goes s flow by formed) (keeping-goes one side bytes _ are))
+      (going-then letters words s one two (wanted-for-goes s flow by formed) (keeping-goes one side bytes what are))
       (framed-goes two _ _)
+  plan-goes s side bytes flow (AskAgain by hop) are formed fits = again-goes s (exit_by by) hop
   plan-goes s side bytes flow (WaitFor e) are formed fits =
       let one = wanted_by s e in
-      going-then letters words s one _ (wanted-goes s e fits) (keeping-goes one side bytes _ are)
+      going-then letters words s one _ (wanted-goes s e fits) (keeping-goes one side bytes (wait.Pair e) are)
 
   refusal-goes : (s : GatewayAndOutput) (flow : Flow) (reason : Reason) → IsWellFormedEndpoint (source_of flow) → Going letters words s (by_refusal s flow reason)
   refusal-goes s flow reason formed = refusal-leaves (λ x. Going letters words s x) s flow reason (here s) (wanted-goes s (source_of flow) formed)

@@ -1,15 +1,17 @@
 -- A gateway's ledger accounts for the trace after each part of a step, and each note of a part is its own: rows, packets,
 -- and those whose wait is over.
-use Rattle.std.proofs.Common.{◌≡◌, ℕ, List, [], ◌∷◌, ◌++◌, reverse, Option, Some, None, Result, Ok, Err, refl, sym, ap, subst, ◌∙◌, append_assoc}
+use Rattle.std.proofs.Common.{◌≡◌, ℕ, List, [], ◌∷◌, ◌++◌, reverse, Option, Some, None, Result, Ok, Err, refl, sym, ap, subst, ◌∙◌, append_assoc, Bool, true, false, cond}
 use Rattle.std.specs.List.{AllByRecursion}
 use Rattle.std.proofs.lemmas.List.{append-nil}
 use Rattle.addresses.specs.declared.transport.TcpFlags.{TcpFlags}
+use Rattle.addresses.specs.declared.internet.Ip.{Ip}
 use Rattle.nat_types.specs.declared.gateways.GatewayId.{GatewayId}
 use Rattle.nat_types.specs.declared.gateways.Side.{Side}
 use Rattle.nat_types.specs.declared.notes.NoteKind.{NoteKind}
 use Rattle.nat_types.specs.declared.notes.Note.{Note}
 use Rattle.nat_types.specs.declared.pairs.Endpoint.{Endpoint}
 use Rattle.nat_types.specs.declared.pairs.Key.{Key}
+use Rattle.nat_types.specs.declared.gateways.Side.TheVariants.{Inside, Outside}
 use Rattle.ipv4.specs.declared.flows.Flow.{Flow}
 use Rattle.activity.specs.declared.packets.Remote.{Remote}
 use Rattle.activity.specs.declared.packets.Way.{Way}
@@ -23,20 +25,23 @@ use Rattle.spec_binding.proofs.Offered.{reversed-join, wish-keeps, change-leaves
 use Rattle.spec_binding.specs.WellFormed.{IsWellFormedEndpoint}
 use Rattle.waiting.specs.declared.waits.Ended.{Ended}
 use Rattle.waiting.specs.declared.waits.WaitsFor.{WaitsFor}
-use Rattle.waiting.specs.Packets.{HeldPacket, ended_by, left_by}
+use Rattle.waiting.specs.declared.waits.WaitsFor.TheVariants as wait
+use Rattle.waiting.specs.Packets.{HeldPacket, asks_again, ended_by, left_by, with_asked}
+use Rattle.waiting.proofs.Offered.{all-asked, all-room}
 use Rattle.packet_rules.specs.declared.readings.Reading.{Reading}
 use Rattle.packet_rules.specs.declared.readings.Reading.TheVariants.{Arp, Advert, Packet}
 use Rattle.packet_rules.specs.declared.reasons.Reason.{Reason}
 use Rattle.packet_rules.specs.declared.translations.Translation.{Translation}
 use Rattle.packet_rules.specs.declared.translations.Translation.TheVariants.{Outward, Inward, Hairpin}
 use Rattle.packet_rules.specs.Flows.{source_of}
+use Rattle.arp.specs.Neighbours.{asks_at}
 use Rattle.spec_step.specs.declared.plans.Plan.{Plan}
-use Rattle.spec_step.specs.declared.plans.Plan.TheVariants.{Send, Ask, Wait as WaitFor}
+use Rattle.spec_step.specs.declared.plans.Plan.TheVariants.{Send, Ask, AskAgain, Wait as WaitFor}
 use Rattle.spec_step.specs.Machine.{AreBytes, KeepsBytes}
-use Rattle.spec_step.specs.Parts.{all_taken, by_plan, by_verdict, carried, carried_all, carried_by, flags_in, flow_taken, framed, keeping, released, remote, retaken_by, taken_again, wanted_by, wanted_for}
+use Rattle.spec_step.specs.Parts.{all_taken, asked_again, by_plan, by_verdict, carried, carried_all, carried_by, flags_in, flow_taken, framed, keeping, neighbour_asked, released, remote, renewed_behind, request_by, retaken_by, taken_again, wanted_by, wanted_for}
 use Rattle.spec_step.specs.Rests.{AreBy}
-use Rattle.spec_step.specs.Shown.{GatewayAndOutput, id_of, scene, with_notes}
-use Rattle.spec_step.specs.Verdict.{plan_of, reading_on}
+use Rattle.spec_step.specs.Shown.{GatewayAndOutput, id_of, scene, station_on, with_notes}
+use Rattle.spec_step.specs.Verdict.{exit_by, hop_by, plan_of, reading_on}
 use Rattle.spec_step.proofs.Packets.{PlanFits, Reads, kept-filter, kept-more, plan-fits, read-formed, refusal-leaves}
 use Rattle.spec_step.proofs.Passing.{IsSound}
 
@@ -147,23 +152,43 @@ pub framed-rests : (s : GatewayAndOutput) (side : Side) (bytes : List ℕ) → R
 framed-rests s side bytes = resting-unseen s (framed s side bytes) refl refl refl (λ k. k)
 
 keeping-rests : (s : GatewayAndOutput) (side : Side) (bytes : List ℕ) (w : WaitsFor) → AreBytes bytes → Resting s (keeping s side bytes w)
-keeping-rests s side bytes w are = resting-unseen s (keeping s side bytes w) refl refl refl (λ k. kept-more s.shown.kept _ k are)
+keeping-rests s side bytes w are = resting-unseen s (keeping s side bytes w) refl refl refl (λ k. kept-more _ _ (all-room (λ (x : HeldPacket). AreBytes x.bytes) w s.shown.kept k) are)
+
+renewed-rests : (s : GatewayAndOutput) (exit : Side) (hop : Ip) → Resting s (renewed_behind s exit hop)
+renewed-rests s exit hop = at exit (asks_at hop.0 s.shown.moment (station_on s.shown exit).neighbours)
+  where
+    at : (side : Side) (b : Bool) → Resting s (let x : GatewayAndOutput = cond b (framed (scene (neighbour_asked s.shown side hop) s.told) side (request_by s.shown side hop)) s in x)
+    at Inside true = resting-unseen s _ refl refl refl (λ k. k)
+    at Outside true = resting-unseen s _ refl refl refl (λ k. k)
+    at side false = resting-nothing s
+
+again-rests : (s : GatewayAndOutput) (exit : Side) (hop : Ip) → Resting s (asked_again s exit hop)
+again-rests s exit hop = at (asks_again s.shown.moment (wait.Hop exit hop) s.shown.kept)
+  where
+    at : (b : Bool) → Resting s (let x : GatewayAndOutput = cond b (framed (scene (record s.shown { kept = with_asked s.shown.moment (wait.Hop exit hop) s.shown.kept }) s.told) exit (request_by s.shown exit hop)) s in x)
+    at true = resting-unseen s _ refl refl refl (λ k. all-asked (λ (x : HeldPacket). AreBytes x.bytes) (λ w n is. is) s.shown.moment (wait.Hop exit hop) s.shown.kept k)
+    at false = resting-nothing s
 
 plan-rests : (s : GatewayAndOutput) (side : Side) (bytes : List ℕ) (flow : Flow) (plan : Plan) → AreBytes bytes → IsWellFormedEndpoint (source_of flow) → PlanFits (Ok plan) → Resting s (by_plan s side bytes flow plan)
 plan-rests s side bytes flow (Send by next) are formed fits =
     let one = wanted_for s flow by in
-    resting-then s (framed one _ _) _
+    let two = carried_all (framed one _ _) flow (flags_in bytes) by in
+    resting-then s two _
+    (resting-then s (framed one _ _) two
     (resting-then s one (framed one _ _) (wanted-for-rests s flow by formed) (framed-rests one _ _))
-    (carried-all-rests (framed one _ _) flow (flags_in bytes) by)
+    (carried-all-rests (framed one _ _) flow (flags_in bytes) by))
+    (renewed-rests two (exit_by by) (hop_by s.shown by flow))
 plan-rests s side bytes flow (Ask by hop) are formed fits =
     let one = wanted_for s flow by in
-    let two = keeping one side bytes _ in
+    let what = wait.Hop (exit_by by) hop in
+    let two = keeping one side bytes what in
     resting-then s two _
-    (resting-then s one two (wanted-for-rests s flow by formed) (keeping-rests one side bytes _ are))
+    (resting-then s one two (wanted-for-rests s flow by formed) (keeping-rests one side bytes what are))
     (framed-rests two _ _)
+plan-rests s side bytes flow (AskAgain by hop) are formed fits = again-rests s (exit_by by) hop
 plan-rests s side bytes flow (WaitFor e) are formed fits =
     let one = wanted_by s e in
-    resting-then s one _ (wanted-rests s e fits) (keeping-rests one side bytes _ are)
+    resting-then s one _ (wanted-rests s e fits) (keeping-rests one side bytes (wait.Pair e) are)
 
 verdict-rests : (s : GatewayAndOutput) (side : Side) (bytes : List ℕ) (flow : Flow) (plan : Result Plan Reason) → AreBytes bytes → IsWellFormedEndpoint (source_of flow) → PlanFits plan → Resting s (by_verdict s side bytes flow plan)
 verdict-rests s side bytes flow (Ok plan) are formed fits = plan-rests s side bytes flow plan are formed fits

@@ -31,7 +31,7 @@ use Rattle.spec_binding.specs.declared.changes.PortRequest.{PortRequest}
 use Rattle.spec_binding.specs.declared.changes.Want.TheVariants as want
 use Rattle.spec_binding.specs.Books.{Book, empty_book, is_lone, is_promised, is_synced, load_of}
 use Rattle.spec_binding.specs.Resets.{back_in, begun_anew, put_alone, restart_notes, restarted, retaken}
-use Rattle.spec_binding.specs.Rows.{accept_row, accepted_row, after, answering, ask_row, asked_row, ending, gives_way, grant_row, install_row, is_theirs, known_wish, left_row, load_taken, load_what, may_want, new_pair, new_wish, no_row, none_row, noted_by, numbers_of, port_for, proposal, proposed_row, quiet, refuse_row, refused_row, row, row_of, stayed_row, synced_row, taken_book, taken_what, unsynced_after, unsynced_what, wish, wish_by, wish_of, yes_row}
+use Rattle.spec_binding.specs.Rows.{accept_row, accepted_row, after, answering, ask_row, asked_row, ending, gives_way, grant_row, install_row, is_at_limit, is_theirs, known_wish, left_row, load_taken, load_what, may_want, new_pair, new_wish, no_row, none_row, noted_by, numbers_of, port_for, proposal, proposed_row, quiet, refuse_row, refused_row, row, row_of, stayed_row, synced_row, taken_book, taken_what, unsynced_after, unsynced_what, wish, wish_by, wish_of, yes_row}
 use Rattle.spec_binding.specs.Uses.{IsTranslated}
 use Rattle.spec_binding.proofs.Offered.{gained-is, was-there, at-key, chosen-says}
 use Rattle.spec_step.specs.Others.{retaken_in, retaken_pairs}
@@ -161,9 +161,13 @@ new-roots b full e (Some port) is = at (is_lone b.stage) full
 pub wish-roots : (b : Book) (full : Bool) (e : Endpoint) → RowRoots b (wish_of b full e).row
 wish-roots b full e = at (is_synced b.stage) (entry_of b.entries e)
   where
+    limited : (t : Bool) → RowRoots b (let w : PortRequest = cond t (wish want.HostLimit quiet) (new_wish b full e (port_for b e)) in w.row)
+    limited true = quiet-roots b
+    limited false = new-roots b full e (port_for b e) refl
+
     by : (o : Option Entry) → RowRoots b (wish_by b full e o).row
     by (Some x) = known-roots b x.pair x.state
-    by None = new-roots b full e (port_for b e) refl
+    by None = limited (is_at_limit b e.address)
 
     at : (t : Bool) (o : Option Entry) → RowRoots b (let w : PortRequest = cond t (wish_by b full e o) (wish want.NotNow quiet) in w.row)
     at true o = by o
@@ -346,6 +350,6 @@ alone-rooted b i now keys = subst (λ (ps : List Pair). Rooted b.entries (revive
 pub restart-rooted : (b : Book) (now : ℕ) → HasDistinctKeys b.entries → Rooted b.entries (restarted b).entries (retaken_pairs (restart_notes b now))
 restart-rooted b now keys = at (is_synced b.stage)
   where
-    at : (t : Bool) → Rooted b.entries (let x : Book = cond t (begun_anew b) (empty_book b.id b.zero b.one) in x.entries) (retaken_pairs (let ns : List Note = cond t (retaken b.id now (back_in b.entries)) [] in ns))
+    at : (t : Bool) → Rooted b.entries (let x : Book = cond t (begun_anew b) (empty_book b.id b.zero b.one b.limit) in x.entries) (retaken_pairs (let ns : List Note = cond t (retaken b.id now (back_in b.entries)) [] in ns))
     at true = alone-rooted b b.id now keys
     at false = λ p u. let none = u.found in absurd (cc)

@@ -1,9 +1,11 @@
 -- One packet, and those whose wait is over: what is told of them is true, and what that rests on holds again.
-use Rattle.std.proofs.Common.{◌≡◌, ℕ, Bool, true, false, not, ◌&&◌, List, [], ◌∷◌, ◌++◌, Option, Some, None, Result, Ok, Err, refl, sym, ap, subst, ◌∙◌}
+use Rattle.std.proofs.Common.{◌≡◌, ℕ, Bool, true, false, not, ◌&&◌, List, [], ◌∷◌, ◌++◌, Option, Some, None, Result, Ok, Err, refl, sym, ap, subst, ◌∙◌, cond, IsPermutation}
 use Rattle.std.specs.List.{AllByRecursion}
 use Rattle.addresses.specs.declared.ethernet.Mac.{Mac}
+use Rattle.addresses.specs.declared.internet.Ip.{Ip}
 use Rattle.nat_types.specs.declared.gateways.Side.{Side}
 use Rattle.nat_types.specs.declared.pairs.Endpoint.{Endpoint}
+use Rattle.nat_types.specs.declared.gateways.Side.TheVariants.{Inside, Outside}
 use Rattle.ipv4.specs.declared.flows.Flow.{Flow}
 use Rattle.ipv4.specs.declared.packets.Packet.{Packet as PacketRead}
 use Rattle.spec_binding.specs.declared.changes.Transition.{Transition}
@@ -14,7 +16,8 @@ use Rattle.spec_binding.proofs.Offered.{wish-keeps}
 use Rattle.waiting.specs.declared.waits.Ended.{Ended}
 use Rattle.waiting.specs.declared.waits.WaitsFor.{WaitsFor}
 use Rattle.waiting.specs.declared.waits.WaitsFor.TheVariants as wait
-use Rattle.waiting.specs.Packets.{HeldPacket, ended_by, left_by}
+use Rattle.waiting.specs.Packets.{HeldPacket, asks_again, ended_by, left_by, with_asked}
+use Rattle.waiting.proofs.Offered.{all-asked, all-room, map-asked}
 use Rattle.packet_rules.specs.declared.readings.Reading.{Reading}
 use Rattle.packet_rules.specs.declared.readings.Reading.TheVariants.{Arp, Advert, Packet}
 use Rattle.packet_rules.specs.declared.reasons.Reason.{Reason}
@@ -26,20 +29,23 @@ use Rattle.packet_rules.specs.Frames.{is_translation, sent_frame}
 use Rattle.packet_rules.specs.Steps.{IsForwardable, unless, up_refusal}
 use Rattle.interfaces.specs.Stations.{is_active}
 use Rattle.output.specs.Output.{Sent}
+use Rattle.arp.specs.Neighbours.{Neighbours, asks_at}
+use Rattle.arp.proofs.Offered.{asked-six, forgetful-asked}
 use Rattle.spec_step.specs.declared.plans.Plan.{Plan}
-use Rattle.spec_step.specs.declared.plans.Plan.TheVariants.{Send, Ask, Wait as WaitFor}
+use Rattle.spec_step.specs.declared.plans.Plan.TheVariants.{Send, Ask, AskAgain, Wait as WaitFor}
 use Rattle.spec_step.specs.Machine.{AreBytes}
-use Rattle.spec_step.specs.Parts.{all_taken, by_plan, by_refusal, by_row, by_verdict, carried_all, flags_in, flow_taken, framed, keeping, released, retaken_by, taken_again, wanted_by, wanted_for}
+use Rattle.spec_step.specs.Parts.{all_taken, asked_again, by_plan, by_refusal, by_row, by_verdict, carried_all, flags_in, flow_taken, framed, keeping, neighbour_asked, released, renewed_behind, request_by, retaken_by, taken_again, wanted_by, wanted_for}
 use Rattle.spec_step.specs.Shown.{GatewayAndOutput, Shown, id_of, is_up, scene, station_on}
 use Rattle.spec_step.specs.Truly.{AreWired, AtHand, IsSentBy, Known, Tells, known_of, packets_of}
-use Rattle.spec_step.specs.Verdict.{exit_by, plan_of, reading_on}
+use Rattle.spec_step.specs.Verdict.{exit_by, hop_by, plan_of, reading_on}
 use Rattle.spec_step.proofs.Packets.{PlanFits, kept-filter, kept-more, plan-fits, refusal-leaves, source-formed}
 use Rattle.spec_step.proofs.Passing.{IsSound}
 use Rattle.spec_step.proofs.Sending.{AllTranslate, Frames, carried-leaves, found-translate, is-sent, next-six, own-six, sending-tells}
 use Rattle.spec_step.proofs.Sends.{plan-sends}
 use Rattle.spec_step.proofs.Takings.{IsUseless, keeping-tells, wanted-for-known, wish-useless}
 use Rattle.spec_step.proofs.Telling.{at_hand, framed-tells, split-kept, tells-nothing, tells-quietly, tells-then}
-use Rattle.std.proofs.lemmas.List.Sorted.{IsPermutation-sym, IsPermutation-trans}
+use Rattle.std.proofs.lemmas.List.Sorted.{IsPermutation-sym, IsPermutation-trans, IsPermutation-refl}
+use Rattle.std.proofs.lemmas.List.{append-nil}
 
 -- what is told from one scene to another is true, and what that rests on holds afterwards
 pub record Says (hand : List AtHand) (s s2 : GatewayAndOutput) : Type 0 where
@@ -107,7 +113,7 @@ keeping-says : (s : GatewayAndOutput) (side : Side) (bytes : List ℕ) (w : Wait
 keeping-says s side bytes w are = λ is wired. (
   record {
     tells = keeping-tells s side bytes w;
-    sound = record { book = is.book; kept = kept-more s.shown.kept _ is.kept are };
+    sound = record { book = is.book; kept = kept-more _ _ (all-room (λ (x : HeldPacket). AreBytes x.bytes) w s.shown.kept is.kept) are };
     wired = wired;
   },
   refl,
@@ -122,6 +128,75 @@ record IsRead (s : GatewayAndOutput) (bytes : List ℕ) (flow : Flow) : Type 0 w
 
 read-from : (s : GatewayAndOutput) (bytes : List ℕ) (flow : Flow) → IsRead s bytes flow → IsWellFormedEndpoint (source_of flow)
 read-from s bytes flow read = subst (λ (f : Flow). IsWellFormedEndpoint (source_of f)) (sym read.flow_is) (source-formed bytes read.are read.passes)
+
+-- ---- a next hop is asked for
+
+renewed-says : Frames → (s : GatewayAndOutput) (exit : Side) (hop : Ip) → Saying [] s (renewed_behind s exit hop)
+renewed-says frames s exit hop = at exit (asks_at hop.0 s.shown.moment (station_on s.shown exit).neighbours)
+  where
+    wired : (side : Side) → AreWired s.shown → AreWired (neighbour_asked s.shown side hop)
+    wired Inside w = (w.0, (record { own = w.1.0.own; known = asked-six hop.0 s.shown.moment s.shown.inside.neighbours w.1.0.known }, w.1.1))
+    wired Outside w = (w.0, (w.1.0, record { own = w.1.1.own; known = asked-six hop.0 s.shown.moment s.shown.outside.neighbours w.1.1.known }))
+
+    known : (side : Side) → known_of (neighbour_asked s.shown side hop) ≡ known_of s.shown
+    known Inside = ap (λ (n : Neighbours). let k : Known = record (known_of s.shown) { near_inside = n } in k) (forgetful-asked hop.0 s.shown.moment s.shown.inside.neighbours)
+    known Outside = ap (λ (n : Neighbours). let k : Known = record (known_of s.shown) { near_outside = n } in k) (forgetful-asked hop.0 s.shown.moment s.shown.outside.neighbours)
+
+    -- the neighbours alone are others
+    asked : (side : Side) → Saying [] s (scene (neighbour_asked s.shown side hop) s.told)
+    asked Inside = λ is w. (
+      record { tells = tells-quietly s _ [] refl (sym (append-nil s.told.notes)) refl refl; sound = record { book = is.book; kept = is.kept }; wired = wired Inside w },
+      known Inside,
+    )
+    asked Outside = λ is w. (
+      record { tells = tells-quietly s _ [] refl (sym (append-nil s.told.notes)) refl refl; sound = record { book = is.book; kept = is.kept }; wired = wired Outside w },
+      known Outside,
+    )
+
+    at : (side : Side) (b : Bool) → Saying [] s (let x : GatewayAndOutput = cond b (framed (scene (neighbour_asked s.shown side hop) s.told) side (request_by s.shown side hop)) s in x)
+    at side true =
+        let mid = scene (neighbour_asked s.shown side hop) s.told in
+        λ is w. saying-then [] [] s mid (framed mid side (request_by s.shown side hop)) (asked side)
+        (framed-says mid side (request_by s.shown side hop) (λ x. frames.request (station_on s.shown side).network hop (own-six s.shown w side))) is w
+    at side false = saying-nothing s []
+
+again-says : Frames → (s : GatewayAndOutput) (exit : Side) (hop : Ip) → Saying [] s (asked_again s exit hop)
+again-says frames s exit hop = at (asks_again s.shown.moment (wait.Hop exit hop) s.shown.kept)
+  where
+    kept : List HeldPacket
+    kept = with_asked s.shown.moment (wait.Hop exit hop) s.shown.kept
+
+    same : packets_of kept ≡ packets_of s.shown.kept
+    same = map-asked (λ (w : HeldPacket). at_hand w.side w.bytes) (λ w n. refl) s.shown.moment (wait.Hop exit hop) s.shown.kept
+
+    mid : GatewayAndOutput
+    mid = scene (record s.shown { kept = kept }) s.told
+
+    asked : Saying [] s mid
+    asked = λ is w. (
+      record {
+        tells = record {
+          frames = [];
+          frames_are = sym (append-nil s.told.frames);
+          notes = [];
+          notes_are = sym (append-nil s.told.notes);
+          done = [];
+          translated = refl;
+          used = refl;
+          each = tt;
+          dropped = [];
+          once = subst (λ (ps : List AtHand). IsPermutation (packets_of s.shown.kept) ps) (sym same) (IsPermutation-refl (packets_of s.shown.kept));
+        };
+        sound = record { book = is.book; kept = all-asked (λ (x : HeldPacket). AreBytes x.bytes) (λ x n are. are) s.shown.moment (wait.Hop exit hop) s.shown.kept is.kept };
+        wired = w;
+      },
+      refl,
+    )
+
+    at : (b : Bool) → Saying [] s (let x : GatewayAndOutput = cond b (framed mid exit (request_by s.shown exit hop)) s in x)
+    at true = λ is w. saying-then [] [] s mid (framed mid exit (request_by s.shown exit hop)) asked
+        (framed-says mid exit (request_by s.shown exit hop) (λ x. frames.request (station_on s.shown exit).network hop (own-six s.shown w exit))) is w
+    at false = saying-nothing s []
 
 -- ---- a packet that is sent on
 
@@ -157,8 +232,11 @@ sent-says frames s side bytes by next read plan =
     let flow = flow_in bytes in
     let one = wanted_for s flow by in
     let frame = sent_frame s.shown.networks by next bytes in
+    let two = carried_all (framed one (exit_by by) frame) flow (flags_in bytes) by in
     let first = wanted-for-says s flow by (read-from s bytes flow read) in
-    λ is w. saying-then [] (at_hand side bytes ∷ []) s one (by_plan s side bytes flow (Send by next)) first (sending-says frames s one side bytes by next read plan refl is.book w) is w
+    λ is w. saying-then (at_hand side bytes ∷ []) [] s two (by_plan s side bytes flow (Send by next))
+    (saying-then [] (at_hand side bytes ∷ []) s one two first (sending-says frames s one side bytes by next read plan refl is.book w))
+    (renewed-says frames two (exit_by by) (hop_by s.shown by flow)) is w
 
 -- ---- any plan, and none
 
@@ -177,6 +255,9 @@ plan-says frames s side bytes flow (Ask by hop) read plan fits =
     let first = saying-then [] hand s one two (wanted-for-says s flow by (read-from s bytes flow read)) (keeping-says one side bytes (wait.Hop (exit_by by) hop) read.are) in
     λ is w. saying-then hand [] s two (framed two (exit_by by) (request_frame network hop)) first
     (framed-says two (exit_by by) (request_frame network hop) (λ x. frames.request network hop (own-six s.shown w (exit_by by)))) is w
+plan-says frames s side bytes flow (AskAgain by hop) read plan fits =
+    let hand = at_hand side bytes ∷ [] in
+    saying-then hand [] s s (asked_again s (exit_by by) hop) (saying-nothing s hand) (again-says frames s (exit_by by) hop)
 plan-says frames s side bytes flow (WaitFor e) read plan fits =
     saying-then [] (at_hand side bytes ∷ []) s (wanted_by s e) (by_plan s side bytes flow (WaitFor e)) (wanted-says s e fits) (keeping-says (wanted_by s e) side bytes (wait.Pair e) read.are)
 

@@ -13,7 +13,7 @@ use Rattle.nat_types.specs.declared.pairs.Pair.{Pair}
 use Rattle.arp.specs.declared.packets.ArpPacket.{ArpPacket}
 use Rattle.arp.specs.Macs.{KnowsMacs}
 use Rattle.arp.specs.Neighbours.{mac_at}
-use Rattle.arp.proofs.Offered.{near-six}
+use Rattle.arp.proofs.Offered.{mac-forgetful, near-six}
 use Rattle.ipv4.specs.declared.flows.Flow.{Flow}
 use Rattle.spec_binding.specs.Books.{Book, IsBook, is_synced}
 use Rattle.spec_binding.specs.Rows.{carry_row, is_full, noted_by}
@@ -31,7 +31,7 @@ use Rattle.packet_rules.specs.Steps.{IsForwardable}
 use Rattle.output.specs.Output.{Sent}
 use Rattle.spec_step.specs.Parts.{carried_all, framed, wanted_for}
 use Rattle.spec_step.specs.Shown.{GatewayAndOutput, Shown, id_of, station_on}
-use Rattle.spec_step.specs.Truly.{AreItsPairs, AreWired, IsSentBy, Known, Sending, Tells, known_of, near_on, packets_of, used_in, used_pairs}
+use Rattle.spec_step.specs.Truly.{AreItsPairs, AreWired, IsSentBy, Known, Sending, Tells, known_of, near_on, packets_of, unasked, used_in, used_pairs}
 use Rattle.spec_step.specs.Verdict.{exit_by, hop_by, next_by}
 use Rattle.spec_step.proofs.Packets.{Reads}
 use Rattle.spec_step.proofs.Sends.{AreFound, IsOwn, IsPlanned}
@@ -47,9 +47,13 @@ pub record Frames : Type 0 where
   pub gratuitous : (network : Network) → is_translation (gratuitous_frame network) ≡ false
   pub advert : (network : Network) (priority interval : ℕ) → is_translation (advert_frame network priority interval) ≡ false
 
-pub near-is : (g : Shown) (side : Side) → near_on (known_of g) side ≡ (station_on g side).neighbours
+pub near-is : (g : Shown) (side : Side) → near_on (known_of g) side ≡ unasked (station_on g side).neighbours
 near-is g Inside = refl
 near-is g Outside = refl
+
+-- which hardware address is known
+pub near-mac : (g : Shown) (side : Side) (host : ℕ) → mac_at host g.moment (near_on (known_of g) side) ≡ mac_at host g.moment (station_on g side).neighbours
+near-mac g side host = ap (mac_at host g.moment) (near-is g side) ∙ mac-forgetful host g.moment (station_on g side).neighbours
 
 pub known-on : (g : Shown) → AreWired g → (side : Side) → KnowsMacs (station_on g side).neighbours
 known-on g w Inside = w.1.0.known
@@ -136,7 +140,7 @@ is-sent g side bytes by next plan pairs = record {
   pairs = pairs;
   side = refl;
   next = next;
-  hop = ap (mac_at (hop_of g.networks by (flow_in bytes).destination.0) g.moment) (near-is g (exit_by by)) ∙ plan.next_is;
+  hop = near-mac g (exit_by by) (hop_of g.networks by (flow_in bytes).destination.0) ∙ plan.next_is;
   bytes_are = refl;
 }
 

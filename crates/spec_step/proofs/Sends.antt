@@ -22,7 +22,7 @@ use Rattle.packet_rules.specs.Frames.{way_of}
 use Rattle.packet_rules.specs.Networks.{direction_of}
 use Rattle.packet_rules.specs.Steps.{and_then}
 use Rattle.spec_step.specs.declared.plans.Plan.{Plan}
-use Rattle.spec_step.specs.declared.plans.Plan.TheVariants.{Send, Ask, Wait as WaitFor}
+use Rattle.spec_step.specs.declared.plans.Plan.TheVariants.{Send, Ask, AskAgain, Wait as WaitFor}
 use Rattle.spec_step.specs.Shown.{Shown}
 use Rattle.spec_step.specs.Verdict.{exit_by, hop_by, look_for, next_by, plan_by, plan_from, plan_of, plan_on, plan_to, target_pair}
 
@@ -48,7 +48,7 @@ to-send : (g : Shown) (by : Translation) (hop : Ip) (o : Option Mac) (by2 : Tran
 to-send g by hop (Some m) by2 next is = (cc, cc)
 to-send g by hop None by2 next is = at (has_place g.kept (wait.Hop (exit_by by) hop)) is
   where
-    at : (b : Bool) → (let r : Result Plan Reason = cond b (Ok (Ask by hop)) (Err CannotWait) in r) ≡ Ok (Send by2 next) → (by ≡ by2) × ((let o : Option Mac = None in o) ≡ Some next)
+    at : (b : Bool) → (let r : Result Plan Reason = cond b (Ok (Ask by hop)) (Ok (AskAgain by hop)) in r) ≡ Ok (Send by2 next) → (by ≡ by2) × ((let o : Option Mac = None in o) ≡ Some next)
     at true is = absurd (cc)
     at false is = absurd (cc)
 
@@ -69,6 +69,7 @@ from-send g flow by want.Wait by2 next is = at (has_place g.kept (wait.Pair (sou
     at false is = absurd (cc)
 from-send g flow by want.NoPort by2 next is = absurd (cc)
 from-send g flow by want.NotNow by2 next is = absurd (cc)
+from-send g flow by want.HostLimit by2 next is = absurd (cc)
 
 on-send : (g : Shown) (side : Side) (flow : Flow) (w : Direction) (by : Translation) (next : Mac)
     → direction_of g.networks side flow.source.0 flow.destination.0 ≡ Ok w → plan_on g flow w ≡ Ok (Send by next) → IsPlanned g side flow by next

@@ -3,6 +3,7 @@
 use Rattle.std.proofs.Common.{◌≡◌, ◌⊎◌, ℕ, Bool, true, false, cond, not, ◌&&◌, ◌||◌, List, [], ◌∷◌, Option, Some, None, Result, Ok, Err, inl, inr, refl, sym, ap, subst, ◌∙◌, arith}
 use Rattle.addresses.specs.declared.ethernet.Mac.{Mac}
 use Rattle.addresses.specs.declared.transport.TcpFlags.{TcpFlags}
+use Rattle.addresses.specs.declared.internet.Ip.{Ip}
 use Rattle.nat_types.specs.declared.gateways.GatewayId.{GatewayId}
 use Rattle.nat_types.specs.declared.gateways.Side.{Side}
 use Rattle.nat_types.specs.declared.gateways.Side.TheVariants.{Inside, Outside}
@@ -11,6 +12,7 @@ use Rattle.nat_types.specs.declared.pairs.Key.{Key}
 use Rattle.nat_types.specs.declared.records.Record.{Record}
 use Rattle.settings.specs.declared.whole.Settings.{Settings}
 use Rattle.arp.specs.declared.packets.ArpPacket.{ArpPacket}
+use Rattle.arp.specs.Neighbours.{asks_at}
 use Rattle.ipv4.specs.declared.flows.Flow.{Flow}
 use Rattle.bindings.specs.Lives.{idle_keys_in}
 use Rattle.link.specs.declared.datagrams.Datagram.{Datagram}
@@ -18,7 +20,7 @@ use Rattle.link.specs.declared.faults.LinkFault.{LinkFault}
 use Rattle.link.specs.Link.{after_take, is_due_on_tick, is_restart, is_time, records_taken, refusal, sent_on_tick}
 use Rattle.link.specs.Reading.{reading}
 use Rattle.spec_binding.specs.declared.changes.Transition.{Transition}
-use Rattle.spec_binding.specs.Books.{Book, empty_book, is_synced}
+use Rattle.spec_binding.specs.Books.{Book, empty_book, is_lone, is_synced}
 use Rattle.spec_binding.specs.Ledgers.{alone_ledger, may_ask, restarted_ledger, rests_for, taken_ledger}
 use Rattle.spec_binding.specs.Resets.{begun_anew, restarted}
 use Rattle.spec_binding.specs.Rows.{after, answered, idle_row, is_full, row_of, taken_answer, taken_book, taken_ended, unsynced_after, wish_of}
@@ -27,8 +29,8 @@ use Rattle.waiting.specs.declared.waits.Ended.{Ended}
 use Rattle.waiting.specs.declared.waits.Ended.TheVariants.{AllPairs, One}
 use Rattle.waiting.specs.declared.waits.WaitsFor.{WaitsFor}
 use Rattle.waiting.specs.declared.waits.WaitsFor.TheVariants as wait
-use Rattle.waiting.specs.Packets.{IsKept, HeldPacket, ended_by, has_place, left_by}
-use Rattle.waiting.proofs.Offered.{kept-filter, kept-push}
+use Rattle.waiting.specs.Packets.{IsKept, HeldPacket, ended_by, has_place, left_by, asks_again, with_asked}
+use Rattle.waiting.proofs.Offered.{kept-asked, kept-filter, kept-push}
 use Rattle.packet_rules.specs.declared.readings.Reading.{Reading}
 use Rattle.packet_rules.specs.declared.readings.Reading.TheVariants.{Arp, Advert, Packet}
 use Rattle.packet_rules.specs.declared.reasons.Reason.{Reason}
@@ -47,13 +49,13 @@ use Rattle.vrrp_states.specs.Table.{Event as RouterEvent, IsDue, Line, Router, S
 use Rattle.spec_step.specs.declared.events.Event.{Event}
 use Rattle.spec_step.specs.declared.events.Event.TheVariants.{Frame, Datagram as Comes, Tick, Stop, PeerOff}
 use Rattle.spec_step.specs.declared.plans.Plan.{Plan}
-use Rattle.spec_step.specs.declared.plans.Plan.TheVariants.{Send, Ask, Wait as WaitFor}
+use Rattle.spec_step.specs.declared.plans.Plan.TheVariants.{Send, Ask, AskAgain, Wait as WaitFor}
 use Rattle.spec_step.specs.Founding.{begun, founded}
-use Rattle.spec_step.specs.Parts.{all_idle_done, all_taken, answered_by, arp_taken, by_plan, by_row, by_verdict, carried_all, datagram_in, datagram_read, flags_in, flow_taken, framed, frames_of, handed_in, has_synced, heard_by, heard_unless, idle_done, idle_taken, keeping, link_answered, link_ticked, old_dropped, record_done, record_shown, record_told, records_done, released, reset, retaken_by, started, taken_again, wait_ended, wanted_by, wanted_for, with_link, with_routers}
+use Rattle.spec_step.specs.Parts.{all_idle_done, all_taken, answered_by, arp_taken, asked_again, by_plan, by_row, by_verdict, carried_all, datagram_in, datagram_read, flags_in, flow_taken, framed, frames_of, handed_in, has_synced, heard_by, heard_unless, idle_done, idle_taken, keeping, link_answered, link_ticked, neighbour_asked, old_dropped, record_done, record_shown, record_told, records_done, released, renewed_behind, request_by, reset, retaken_by, started, taken_again, wait_ended, waiting, wanted_by, wanted_for, with_link, with_routers}
 use Rattle.spec_step.specs.Settled.{HasIdleRouters, IsSettled}
 use Rattle.spec_step.specs.Shown.{GatewayAndOutput, Shown, is_up, scene, station_on, with_station}
 use Rattle.spec_step.specs.Steps.{BothAct, Does, FrameDoes, IsStepOn, RouterActs, ended_on, stopped, ticked, word_by, word_refusal}
-use Rattle.spec_step.specs.Verdict.{exit_by, plan_of, reading_on}
+use Rattle.spec_step.specs.Verdict.{exit_by, hop_by, plan_of, reading_on}
 use Rattle.spec_step.proofs.Others.{all-framed-shown}
 use Rattle.spec_step.proofs.Packets.{refusal-leaves}
 use Rattle.spec_step.proofs.Asked.{PlanSays, plan-says}
@@ -109,17 +111,37 @@ carried-all-calms s flow flags (Hairpin own other) = calm-by s.shown (carried_al
 keeping-calms : (s : GatewayAndOutput) (side : Side) (bytes : List ℕ) (w : WaitsFor) → has_place s.shown.kept w ≡ true → Calming s (keeping s side bytes w)
 keeping-calms s side bytes w place =
     calm-by s.shown (keeping s side bytes w).shown (λ d. d) refl refl
-    (λ k. kept-push s.shown.kept (record { side = side; bytes = bytes; since = s.shown.moment; wait = w }) k place)
+    (λ k. kept-push s.shown.kept (waiting side bytes s.shown.moment w) k place)
+
+-- a neighbour is asked for, or a next hop again
+renewed-calms : (s : GatewayAndOutput) (exit : Side) (hop : Ip) → Calming s (renewed_behind s exit hop)
+renewed-calms s exit hop = at exit (asks_at hop.0 s.shown.moment (station_on s.shown exit).neighbours)
+  where
+    at : (side : Side) (b : Bool) → Calming s (let x : GatewayAndOutput = cond b (framed (scene (neighbour_asked s.shown side hop) s.told) side (request_by s.shown side hop)) s in x)
+    at Inside true = calm-by s.shown (neighbour_asked s.shown Inside hop) (λ d. d) refl refl (λ k. k)
+    at Outside true = calm-by s.shown (neighbour_asked s.shown Outside hop) (λ d. d) refl refl (λ k. k)
+    at side false = nothing-calms s
+
+again-calms : (s : GatewayAndOutput) (exit : Side) (hop : Ip) → Calming s (asked_again s exit hop)
+again-calms s exit hop = at (asks_again s.shown.moment (wait.Hop exit hop) s.shown.kept)
+  where
+    at : (b : Bool) → Calming s (let x : GatewayAndOutput = cond b (framed (scene (record s.shown { kept = with_asked s.shown.moment (wait.Hop exit hop) s.shown.kept }) s.told) exit (request_by s.shown exit hop)) s in x)
+    at true = calm-by s.shown (record s.shown { kept = with_asked s.shown.moment (wait.Hop exit hop) s.shown.kept }) (λ d. d) refl refl (kept-asked s.shown.moment (wait.Hop exit hop) s.shown.kept)
+    at false = nothing-calms s
 
 plan-calms : (s : GatewayAndOutput) (side : Side) (bytes : List ℕ) (flow : Flow) (plan : Plan) → PlanSays s.shown side flow (Ok plan) → Calming s (by_plan s side bytes flow plan)
 plan-calms s side bytes flow (Send by next) says =
     let one = wanted_for s flow by in
     let two = framed one (exit_by by) (sent_frame s.shown.networks by next bytes) in
-    calming-then s one (by_plan s side bytes flow (Send by next)) (wanted-for-calms s flow by) (λ is. carried-all-calms two flow (flags_in bytes) by (record { routers = is.routers; places = is.places }))
+    let three = carried_all two flow (flags_in bytes) by in
+    calming-then s three (by_plan s side bytes flow (Send by next))
+    (calming-then s one three (wanted-for-calms s flow by) (λ is. carried-all-calms two flow (flags_in bytes) by (record { routers = is.routers; places = is.places })))
+    (renewed-calms three (exit_by by) (hop_by s.shown by flow))
 plan-calms s side bytes flow (Ask by hop) says =
     let one = wanted_for s flow by in
-    let place = ap (λ (ws : List HeldPacket). has_place ws (wait.Hop (exit_by by) hop)) (wanted-for-kept s flow by) ∙ says.place in
+    let place = ap (λ (ws : List HeldPacket). has_place ws (wait.Hop (exit_by by) hop)) (wanted-for-kept s flow by) ∙ says.1 in
     calming-then s one (by_plan s side bytes flow (Ask by hop)) (wanted-for-calms s flow by) (keeping-calms one side bytes (wait.Hop (exit_by by) hop) place)
+plan-calms s side bytes flow (AskAgain by hop) says = again-calms s (exit_by by) hop
 plan-calms s side bytes flow (WaitFor e) says =
     let one = wanted_by s e in
     calming-then s one (by_plan s side bytes flow (WaitFor e)) (wanted-calms s e) (keeping-calms one side bytes (wait.Pair e) says.1)
@@ -303,7 +325,7 @@ records-calm s (r ∷ rs) = calming-then s (record_done s r) (records_done s (r 
 restart-synced : (b : Book) → is_synced b.stage ≡ is_synced (restarted b).stage
 restart-synced b = at (is_synced b.stage) refl
   where
-    at : (t : Bool) → is_synced b.stage ≡ t → is_synced b.stage ≡ is_synced (let x : Book = cond t (begun_anew b) (empty_book b.id b.zero b.one) in x).stage
+    at : (t : Bool) → is_synced b.stage ≡ t → is_synced b.stage ≡ is_synced (let x : Book = cond t (begun_anew b) (empty_book b.id b.zero b.one b.limit) in x).stage
     at true is = is
     at false is = is
 
@@ -336,7 +358,7 @@ datagram-calms s (Err fault) = nothing-calms s
 word-calms : (s : GatewayAndOutput) (n : ℕ) (o : Option Reason) → Calming s (word_by s n o)
 word-calms s n None = λ is.
     let g = s.shown in
-    let mid : Shown = record g { ledger = alone_ledger g.ledger; link = _ } in
+    let mid : Shown = record g { ledger = alone_ledger g.moment g.ledger; link = _ } in
     released-calms (scene mid _) AllPairs
     (calm-by g mid (λ d. up-back (is_synced g.ledger.book.stage) true (not g.stopped) (λ t. refl) d) refl refl (λ k. k) is)
 word-calms s n (Some reason) = nothing-calms s
@@ -356,7 +378,7 @@ tick-calms s now middle both = λ is.
     let young = old_dropped middle in
     let l = young.shown.ledger in
     let first = both-calm (ticked s now) table.Tick middle (λ no. absurd (cc)) both (record { routers = is.routers; places = is.places }) in
-    all-idle-calm young (idle_keys_in young.shown.moment l.book.entries l.lives) (old-calms middle first)
+    all-idle-calm young (idle_keys_in (is_lone l.book.stage) young.shown.moment l.book.entries l.lives) (old-calms middle first)
 
 -- ---- an event's own parts
 

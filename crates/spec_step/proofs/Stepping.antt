@@ -3,7 +3,7 @@ use Rattle.std.proofs.Common.{◌≡◌, ℕ, List, [], ◌∷◌, Result, Ok, E
 use Rattle.nat_types.specs.declared.gateways.Side.{Side}
 use Rattle.nat_types.specs.declared.records.Record.{Record}
 use Rattle.link.specs.Reading.{reading}
-use Rattle.spec_binding.specs.Books.{IsBook}
+use Rattle.spec_binding.specs.Books.{is_lone, IsBook}
 use Rattle.bindings.specs.Lives.{idle_keys_in}
 use Rattle.packet_rules.specs.declared.readings.Reading.{Reading}
 use Rattle.packet_rules.specs.declared.readings.Reading.TheVariants.{Arp, Advert, Packet}
@@ -48,7 +48,7 @@ does-arrives reads s (Tick now) done h does has stands is alone =
     let ledger = young.shown.ledger in
     let going = going-then [] [] start middle (idle_taken young) (both-go [] [] start table.Tick middle does.1)
     (going-then [] [] middle young (idle_taken young) (old-goes [] [] middle)
-    (all-idle-goes [] [] young (idle_keys_in young.shown.moment ledger.book.entries ledger.lives))) in
+    (all-idle-goes [] [] young (idle_keys_in (is_lone ledger.book.stage) young.shown.moment ledger.book.entries ledger.lives))) in
     arrives-by [] [] start done h (subst (λ (x : GatewayAndOutput). Going [] [] start x) (sym does.2) going) stands (record { book = is.book; kept = is.kept }) alone
 does-arrives reads s Stop done h does has stands is alone =
     let middle = does.0 in

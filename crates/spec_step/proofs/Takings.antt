@@ -1,7 +1,7 @@
 -- A wish for a port uses no pair, and a packet that is kept is told of truly.
-use Rattle.std.proofs.Common.{◌≡◌, ℕ, Bool, true, false, cond, List, [], ◌∷◌, Option, Some, None, IsPermutation, refl, sym, subst}
+use Rattle.std.proofs.Common.{◌≡◌, ℕ, Bool, true, false, cond, List, [], ◌∷◌, Option, Some, None, IsPermutation, refl, sym, subst, nat_lt, ◌++◌}
 use Rattle.std.proofs.lemmas.List.{append-nil, map-append}
-use Rattle.std.proofs.lemmas.List.Sorted.{IsPermutation-append_comm}
+use Rattle.std.proofs.lemmas.List.Sorted.{IsPermutation-append_comm, IsPermutation-append_right, IsPermutation-cons, IsPermutation-refl, IsPermutation-trans}
 use Rattle.addresses.specs.declared.transport.Port.{Port}
 use Rattle.nat_types.specs.declared.gateways.GatewayId.{GatewayId}
 use Rattle.nat_types.specs.declared.gateways.Side.{Side}
@@ -20,15 +20,17 @@ use Rattle.spec_binding.specs.declared.changes.Transition.{Transition}
 use Rattle.spec_binding.specs.declared.changes.PortRequest.{PortRequest}
 use Rattle.spec_binding.specs.declared.changes.Want.TheVariants as want
 use Rattle.spec_binding.specs.Books.{Book, is_lone, is_synced}
-use Rattle.spec_binding.specs.Rows.{known_wish, may_want, new_pair, new_wish, none_row, noted_by, port_for, proposal, quiet, row, wish, wish_by, wish_of}
+use Rattle.spec_binding.specs.Rows.{is_at_limit, known_wish, may_want, new_pair, new_wish, none_row, noted_by, port_for, proposal, quiet, row, wish, wish_by, wish_of}
 use Rattle.waiting.specs.declared.waits.WaitsFor.{WaitsFor}
-use Rattle.waiting.specs.Packets.{HeldPacket}
+use Rattle.waiting.specs.declared.waits.WaitsFor.TheVariants as wait
+use Rattle.waiting.specs.Packets.{HeldPacket, hop_count, with_room, without_first_hop}
+use Rattle.waiting.specs.Waits.{is_for_pair}
 use Rattle.packet_rules.specs.declared.translations.Translation.{Translation}
 use Rattle.packet_rules.specs.declared.translations.Translation.TheVariants.{Outward, Inward, Hairpin}
-use Rattle.spec_step.specs.Parts.{keeping, wanted_for}
+use Rattle.spec_step.specs.Parts.{keeping, waiting, wanted_for}
 use Rattle.spec_step.specs.Shown.{GatewayAndOutput}
 use Rattle.spec_step.specs.Truly.{Tells, known_of, packets_of, used_pairs}
-use Rattle.spec_step.proofs.Telling.{at_hand}
+use Rattle.spec_step.proofs.Telling.{at_hand, swap-front}
 
 -- ---- what decides where packets go
 
@@ -68,15 +70,44 @@ new-useless b full e (Some port) =
 
 by-useless : (b : Book) (full : Bool) (e : Endpoint) (o : Option Entry) → IsUseless (wish_by b full e o).row
 by-useless b full e (Some x) = known-useless x.pair x.state
-by-useless b full e None = new-useless b full e (port_for b e)
+by-useless b full e None =
+    either-wish (is_at_limit b e.address) (wish want.HostLimit quiet) (new_wish b full e (port_for b e)) (λ i now. refl) (new-useless b full e (port_for b e))
 
 pub wish-useless : (b : Book) (full : Bool) (e : Endpoint) → IsUseless (wish_of b full e).row
 wish-useless b full e = either-wish (is_synced b.stage) (wish_by b full e (entry_of b.entries e)) (wish want.NotNow quiet) (by-useless b full e (entry_of b.entries e)) (λ i now. refl)
+
+-- a list that makes room loses these
+record IsMade (w : WaitsFor) (kept : List HeldPacket) : Type 0 where
+  lost : List HeldPacket
+  are : IsPermutation (packets_of kept) (packets_of lost ++ packets_of (with_room w kept))
+
+first-lost : (kept : List HeldPacket) → (lost : List HeldPacket) × IsPermutation (packets_of kept) (packets_of lost ++ packets_of (without_first_hop kept))
+first-lost [] = ([], IsPermutation-refl [])
+first-lost (w ∷ ws) = at (is_for_pair w.wait) (first-lost ws)
+  where
+    at : (b : Bool) → (lost : List HeldPacket) × IsPermutation (packets_of ws) (packets_of lost ++ packets_of (without_first_hop ws))
+        → (lost : List HeldPacket) × IsPermutation (packets_of (w ∷ ws)) (packets_of lost ++ packets_of (let xs : List HeldPacket = cond b (w ∷ without_first_hop ws) ws in xs))
+    at true rest =
+        let p = at_hand w.side w.bytes in (
+          rest.0,
+          IsPermutation-trans _ _ _ (IsPermutation-cons p _ _ rest.1) (swap-front (p ∷ []) (packets_of rest.0) (packets_of (without_first_hop ws))),
+        )
+    at false rest = (w ∷ [], IsPermutation-refl (packets_of (w ∷ ws)))
+
+room-made : (w : WaitsFor) (kept : List HeldPacket) → IsMade w kept
+room-made (wait.Pair e) kept = record { lost = []; are = IsPermutation-refl (packets_of kept) }
+room-made (wait.Hop exit host) kept = let m = at (nat_lt (hop_count kept) 64) (first-lost kept) in record { lost = m.0; are = m.1 }
+  where
+    at : (b : Bool) → (lost : List HeldPacket) × IsPermutation (packets_of kept) (packets_of lost ++ packets_of (without_first_hop kept))
+        → (lost : List HeldPacket) × IsPermutation (packets_of kept) (packets_of lost ++ packets_of (let xs : List HeldPacket = cond b kept (without_first_hop kept) in xs))
+    at true first = ([], IsPermutation-refl (packets_of kept))
+    at false first = first
 
 -- a packet is kept
 pub keeping-tells : (s : GatewayAndOutput) (side : Side) (bytes : List ℕ) (w : WaitsFor) → Tells (at_hand side bytes ∷ []) s (keeping s side bytes w)
 keeping-tells s side bytes w =
     let view = λ (x : HeldPacket). at_hand x.side x.bytes in
+    let made = room-made w s.shown.kept in
     record {
       frames = [];
       frames_are = sym (append-nil s.told.frames);
@@ -86,6 +117,9 @@ keeping-tells s side bytes w =
       translated = refl;
       used = refl;
       each = tt;
-      dropped = [];
-      once = subst (λ ps. IsPermutation (at_hand side bytes ∷ packets_of s.shown.kept) ps) (sym (map-append view s.shown.kept _)) (IsPermutation-append_comm (at_hand side bytes ∷ []) (packets_of s.shown.kept));
+      dropped = packets_of made.lost;
+      once = subst (λ ps. IsPermutation (at_hand side bytes ∷ packets_of s.shown.kept) (packets_of made.lost ++ ps)) (sym (map-append view (with_room w s.shown.kept) (waiting side bytes s.shown.moment w ∷ [])))
+          (IsPermutation-trans _ _ _ (IsPermutation-cons (at_hand side bytes) _ _ made.are)
+          (IsPermutation-trans _ _ _ (swap-front (at_hand side bytes ∷ []) (packets_of made.lost) (packets_of (with_room w s.shown.kept)))
+          (IsPermutation-append_right (packets_of made.lost) _ _ (IsPermutation-append_comm (at_hand side bytes ∷ []) (packets_of (with_room w s.shown.kept))))));
     }

@@ -24,7 +24,7 @@ use Rattle.spec_binding.specs.declared.changes.Transition.{Transition}
 use Rattle.spec_binding.specs.declared.changes.Want.TheVariants as want
 use Rattle.spec_binding.specs.declared.changes.PortRequest.{PortRequest}
 use Rattle.spec_binding.specs.Books.{Book, IsBook, is_lone, is_synced}
-use Rattle.spec_binding.specs.Rows.{after, carry_row, known_wish, may_want, new_pair, new_wish, none_row, noted_by, port_for, proposal, quiet, row, use_row, used_row, wish, wish_by, wish_of}
+use Rattle.spec_binding.specs.Rows.{after, carry_row, is_at_limit, known_wish, may_want, new_pair, new_wish, none_row, noted_by, port_for, proposal, quiet, row, use_row, used_row, wish, wish_by, wish_of}
 use Rattle.spec_binding.proofs.Offered.{at-key, chosen-says}
 use Rattle.packet_rules.specs.Flows.{target_of}
 use Rattle.spec_step.specs.Shown.{Shown}
@@ -121,7 +121,12 @@ module _ (b : Book) (full : Bool) (e : Endpoint) (is : IsBook b) where
 
   by-says : is_synced b.stage ≡ true → (o : Option Entry) → entry_of b.entries e ≡ o → (port : Port) → (wish_by b full e o).answer ≡ want.Port port → Translates (after b (wish_by b full e o).row) (new_pair e port)
   by-says synced (Some x) there port says = known-says synced x there x.pair x.state refl refl port says
-  by-says synced None there port says = new-says synced (port_for b e) refl port says
+  by-says synced None there port says = at (is_at_limit b e.address) says
+    where
+      at : (t : Bool) → (let w : PortRequest = cond t (wish want.HostLimit quiet) (new_wish b full e (port_for b e)) in w.answer) ≡ want.Port port
+          → Translates (after b (let w : PortRequest = cond t (wish want.HostLimit quiet) (new_wish b full e (port_for b e)) in w.row)) (new_pair e port)
+      at true says = absurd (cc)
+      at false says = new-says synced (port_for b e) refl port says
 
   -- an endpoint that is answered with a port has a pair that translates then
   pub wish-owns : (port : Port) → (wish_of b full e).answer ≡ want.Port port → Translates (after b (wish_of b full e).row) (new_pair e port)
@@ -180,9 +185,13 @@ module _ (b : Book) (full : Bool) (e : Endpoint) (is : IsBook b) where
     pub wish-still : Translates (after b (wish_of b full e).row) p
     wish-still = at (is_synced b.stage)
       where
+        limited : (c : Bool) → Translates (after b (let w : PortRequest = cond c (wish want.HostLimit quiet) (new_wish b full e (port_for b e)) in w.row)) p
+        limited true = same-still
+        limited false = new-still (port_for b e) refl
+
         by : (o : Option Entry) → entry_of b.entries e ≡ o → Translates (after b (wish_by b full e o).row) p
         by (Some x) there = known-still x.pair x.state
-        by None there = new-still (port_for b e) refl
+        by None there = limited (is_at_limit b e.address)
 
         at : (c : Bool) → Translates (after b (let w : PortRequest = cond c (wish_by b full e (entry_of b.entries e)) (wish want.NotNow quiet) in w.row)) p
         at true = by (entry_of b.entries e) refl

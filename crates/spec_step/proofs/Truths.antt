@@ -18,7 +18,7 @@ use Rattle.link.specs.Grammar.{IsWellFormed, IsWellFormedRecord}
 use Rattle.link.specs.Link.{Link, after_take, closed_at, is_due_on_tick, is_restart, records_taken, refusal, sent_on_answer, sent_on_tick}
 use Rattle.link.specs.Reading.{reading}
 use Rattle.link.proofs.Offered.{all_taken, reading_takes}
-use Rattle.spec_binding.specs.Books.{is_synced}
+use Rattle.spec_binding.specs.Books.{is_lone, is_synced}
 use Rattle.spec_binding.specs.Ledgers.{alone_ledger, may_ask, restarted_ledger, rests_for, taken_ledger}
 use Rattle.spec_binding.specs.Resets.{back_in, restart_link, restart_notes, retaken}
 use Rattle.spec_binding.specs.Rows.{answered, idle_row, noted_by, taken_answer, taken_ended, taken_what}
@@ -43,7 +43,7 @@ use Rattle.spec_step.specs.Machine.{AreBytes, HasBytes}
 use Rattle.spec_step.specs.Parts.{acted, all_framed, all_idle_done, answered_by, arp_taken, datagram_in, datagram_read, flow_taken, framed, frames_of, handed_in, has_synced, heard_by, heard_unless, idle_done, idle_taken, link_answered, link_ticked, old_dropped, record_done, record_shown, record_told, records_done, released, reset, started, wait_ended, with_link, word_taken}
 use Rattle.spec_step.specs.Shown.{GatewayAndOutput, Shown, id_of, scene, station_on, with_notes, with_station}
 use Rattle.spec_step.specs.Steps.{BothAct, Does, FrameDoes, IsStepOn, RouterActs, ended_on, stopped, ticked, word_by, word_refusal}
-use Rattle.spec_step.specs.Truly.{AreWired, AtHand, Known, Tells, hand_of, known_of}
+use Rattle.spec_step.specs.Truly.{AreWired, AtHand, Known, Tells, hand_of, known_of, unasked}
 use Rattle.spec_step.specs.Verdict.{reading_on}
 use Rattle.spec_step.proofs.Packets.{kept-filter}
 use Rattle.spec_step.proofs.Passing.{IsSound}
@@ -74,8 +74,8 @@ station-speaks s Outside station wired = λ is w. record {
 }
 
 station-known : (g : Shown) (side : Side) (station : Interface) → station.neighbours ≡ (station_on g side).neighbours → known_of (with_station g side station) ≡ known_of g
-station-known g Inside station same = ap (λ (n : Neighbours). let k : Known = record (known_of g) { near_inside = n } in k) same
-station-known g Outside station same = ap (λ (n : Neighbours). let k : Known = record (known_of g) { near_outside = n } in k) same
+station-known g Inside station same = ap (λ (n : Neighbours). let k : Known = record (known_of g) { near_inside = unasked n } in k) same
+station-known g Outside station same = ap (λ (n : Neighbours). let k : Known = record (known_of g) { near_outside = unasked n } in k) same
 
 pub wired-on : (g : Shown) → AreWired g → (side : Side) → IsWired (station_on g side)
 wired-on g w Inside = w.1.0
@@ -88,7 +88,7 @@ unfolding after_arp
 after-wired station p now six w = at (is_learnable station.network p)
   where
     at : (b : Bool) → IsWired (let x : Interface = cond b (with_neighbour station p now) station in x)
-    at true = record { own = w.own; known = learn-six station.neighbours (record { address = p.sender_ip; mac = p.sender_mac; at = now }) w.known six }
+    at true = record { own = w.own; known = learn-six station.neighbours (record { address = p.sender_ip; mac = p.sender_mac; at = now; asked = now }) w.known six }
     at false = w
 
 answered-says : Frames → (s : GatewayAndOutput) (side : Side) (p : ArpPacket) (o : Option Mac) → length p.sender_mac.0 ≡ 6 → Saying [] s (answered_by s side p o)
@@ -253,7 +253,7 @@ taken-says : Frames → (s : GatewayAndOutput) (n : ℕ) → is_synced s.shown.l
 taken-says frames s n synced =
     let g = s.shown in let b = g.ledger.book in
     let notes = retaken (id_of g) g.moment (back_in b.entries) in
-    let mid = scene (record g { ledger = alone_ledger g.ledger; link = closed_at g.link n }) (with_notes s.told notes) in
+    let mid = scene (record g { ledger = alone_ledger g.moment g.ledger; link = closed_at g.link n }) (with_notes s.told notes) in
     let first : Saying [] s mid = λ is w. (
       record {
         tells = tells-quietly s mid notes refl refl (retaken-useless (id_of g) g.moment (back_in b.entries)) refl;
@@ -315,7 +315,7 @@ does-speak frames s (Tick now) done does has =
     let young = old_dropped middle in
     let l = young.shown.ledger in
     let parts = saying-then [] [] start middle (idle_taken young) (both-say frames start table.Tick middle does.1)
-    (saying-then [] [] middle young (idle_taken young) (old-says middle) (all-idle-say young (idle_keys_in young.shown.moment l.book.entries l.lives))) in
+    (saying-then [] [] middle young (idle_taken young) (old-says middle) (all-idle-say young (idle_keys_in (is_lone l.book.stage) young.shown.moment l.book.entries l.lives))) in
     subst (λ (x : GatewayAndOutput). Speaks [] s x) (sym does.2) (speaks-then [] [] s start (idle_taken young) (ticked-speaks s now) parts)
 does-speak frames s Stop done does has =
     let middle = does.0 in

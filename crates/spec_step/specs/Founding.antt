@@ -32,7 +32,7 @@ begun settings id boot =
       networks = networks_of settings id;
       moment = 0;
       stopped = false;
-      ledger = record { book = empty_book id zero one; lives = [] };
+      ledger = record { book = empty_book id zero one settings.ports.host_limit; lives = [] };
       link = fresh id boot (link_places zero one);
       inside = new_station settings id Inside;
       outside = new_station settings id Outside;
@@ -43,7 +43,7 @@ begun settings id boot =
 unfoldable pub founded : Settings → ℕ → Shown
 founded settings boot =
     let g = begun settings Zero boot in
-    let book = founded_book (bounds_of settings.ports.zero) (bounds_of settings.ports.one) in
+    let book = founded_book (bounds_of settings.ports.zero) (bounds_of settings.ports.one) settings.ports.host_limit in
     record g {
       ledger = record { book = book; lives = [] };
       inside = started g.inside 0;

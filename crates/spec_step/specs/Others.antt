@@ -1,6 +1,6 @@
--- The other frames of a step, whose packet wasn't translated: an answer to an ARP request, requests for next hops, and the
--- frames of the routers' actions.
-use Rattle.std.specs.Prelude.{◌≡◌, ◌⊎◌, ℕ, Bool, false, not, ◌&&◌, ◌||◌, Option, Some, None, Result, Ok, Err, List, [], ◌∷◌, ◌++◌, map, if◌then◌else◌}
+-- The other frames of a step, whose packet wasn't translated: an answer to an ARP request, the frames of the routers' actions,
+-- and requests for next hops.
+use Rattle.std.specs.Prelude.{◌≡◌, ◌⊎◌, ℕ, zero, suc, ◌-◌, Bool, true, false, not, ◌&&◌, ◌||◌, Option, Some, None, Result, Ok, Err, List, [], ◌∷◌, ◌++◌, map, if◌then◌else◌}
 use Rattle.std.specs.List.{AllByRecursion, filter, flat_map}
 use Rattle.std.specs.List.Sorted.{IsPermutation}
 use Rattle.addresses.specs.declared.ethernet.Mac.{Mac}
@@ -14,7 +14,7 @@ use Rattle.nat_types.specs.declared.pairs.Endpoint.{Endpoint}
 use Rattle.nat_types.specs.declared.pairs.Pair.{Pair}
 use Rattle.nat_types.specs.declared.records.Record.{Record}
 use Rattle.arp.specs.declared.packets.ArpPacket.{ArpPacket}
-use Rattle.arp.specs.Neighbours.{mac_at}
+use Rattle.arp.specs.Neighbours.{asks_at, mac_at}
 use Rattle.link.specs.declared.datagrams.Datagram.{Datagram as Letters}
 use Rattle.link.specs.declared.faults.LinkFault.{LinkFault}
 use Rattle.link.specs.Link.{after_take, is_restart, records_taken, refusal}
@@ -26,14 +26,14 @@ use Rattle.spec_binding.specs.Uses.{IsTranslated}
 use Rattle.waiting.specs.declared.waits.Ended.TheVariants.{AllPairs, One}
 use Rattle.waiting.specs.declared.waits.WaitsFor.{WaitsFor}
 use Rattle.waiting.specs.declared.waits.WaitsFor.TheVariants as wait
-use Rattle.waiting.specs.Packets.{HeldPacket, is_young}
-use Rattle.waiting.specs.Waits.{ends}
+use Rattle.waiting.specs.Packets.{HeldPacket, asks_again, hop_count, is_young, with_asked, without_first_hop}
+use Rattle.waiting.specs.Waits.{ends, is_for_pair}
 use Rattle.packet_rules.specs.declared.readings.Reading.{Reading}
 use Rattle.packet_rules.specs.declared.readings.Reading.TheVariants.{Arp, Advert, Packet}
 use Rattle.packet_rules.specs.declared.reasons.Reason.{Reason}
 use Rattle.packet_rules.specs.declared.translations.Translation.{Translation}
 use Rattle.packet_rules.specs.declared.translations.Translation.TheVariants.{Outward, Inward, Hairpin}
-use Rattle.packet_rules.specs.Arping.{answer_frame, answer_to, is_learnable, request_frame}
+use Rattle.packet_rules.specs.Arping.{answer_frame, answer_to, is_learnable}
 use Rattle.packet_rules.specs.Flows.{flow_in, source_of}
 use Rattle.packet_rules.specs.Frames.{hop_of, is_translation, way_of}
 use Rattle.packet_rules.specs.Networks.{direction_of}
@@ -44,7 +44,7 @@ use Rattle.vrrp_states.specs.Table as table
 use Rattle.vrrp_states.specs.Table.{Event as RouterEvent}
 use Rattle.spec_step.specs.declared.events.Event.{Event}
 use Rattle.spec_step.specs.declared.events.Event.TheVariants.{Frame, Datagram, Tick, Stop, PeerOff}
-use Rattle.spec_step.specs.Parts.{frames_of, record_done, reset, with_link}
+use Rattle.spec_step.specs.Parts.{frames_of, record_done, request_by, reset, waiting, with_link}
 use Rattle.spec_step.specs.Shown.{GatewayAndOutput, Shown, station_on}
 use Rattle.spec_step.specs.Steps.{clock_after, word_refusal}
 use Rattle.spec_step.specs.Truly.{AreItsPairs, AtHand, Known, known_of, near_on, packets_of}
@@ -92,14 +92,6 @@ Owes g (Datagram bytes) own = own ≡ []
 Owes g (Tick now) own = AreOfBoth g table.Tick (clock_after g.moment now) own
 Owes g Stop own = AreOfBoth g table.Stop g.moment own
 Owes g (PeerOff n) own = own ≡ []
-
--- the request for a next hop
-abbrev pub request_for : Shown → WaitsFor → List Sent
-request_for g (wait.Hop side host) = record { side = side; bytes = request_frame (station_on g side).network host } ∷ []
-request_for g (wait.Pair endpoint) = []
-
-abbrev pub requests : Shown → List HeldPacket → List Sent
-requests g waiting = flat_map (λ w. request_for g w.wait) waiting
 
 -- ---- the packets whose wait an event ends
 
@@ -192,8 +184,8 @@ targets (Inward pair) = pair ∷ []
 targets (Hairpin own other) = other ∷ []
 
 -- The host is the next hop of a packet, at the side at which it leaves: it goes the way that the rules say, by its pairs, and
--- it may go by that of the port that it goes to; and no hardware address is known for that host.
-pub record IsAskedBy (k : Known) (may : Pair → Type 0) (packet : AtHand) (by : Translation) (exit : Side) (host : Ip)
+-- it may go by that of the port that it goes to.
+pub record IsNextHop (k : Known) (may : Pair → Type 0) (packet : AtHand) (by : Translation) (exit : Side) (host : Ip)
     : Type 0 where
   pub way : let flow = flow_in packet.bytes in
       direction_of k.networks packet.side flow.source.0 flow.destination.0 ≡ Ok (way_of by)
@@ -201,22 +193,103 @@ pub record IsAskedBy (k : Known) (may : Pair → Type 0) (packet : AtHand) (by :
   pub target : AllByRecursion may (targets by)
   pub exit_is : exit ≡ exit_by by
   pub hop : host.0 ≡ hop_of k.networks by (flow_in packet.bytes).destination.0
-  pub unknown : mac_at host.0 k.moment (near_on k exit) ≡ None
+
+-- no hardware address is known for a host
+abbrev pub IsUnknown : Known → Side → Ip → Type 0
+IsUnknown k exit host = mac_at host.0 k.moment (near_on k exit) ≡ None
 
 -- a packet waits for the pair of its own endpoint, or for its own next hop
 abbrev pub IsItsWait : Known → (Pair → Type 0) → AtHand → WaitsFor → Type 0
 IsItsWait k may packet (wait.Pair e) = e ≡ source_of (flow_in packet.bytes)
-IsItsWait k may packet (wait.Hop exit host) = (by : Translation) × IsAskedBy k may packet by exit host
+IsItsWait k may packet (wait.Hop exit host) = (by : Translation) × (IsNextHop k may packet by exit host × IsUnknown k exit host)
 
 -- it does so since now
 pub record IsNew (k : Known) (may : Pair → Type 0) (w : HeldPacket) : Type 0 where
   pub since : w.since ≡ k.moment
+  pub asked : w.asked ≡ k.moment
   pub wait : IsItsWait k may (record { side = w.side; bytes = w.bytes }) w.wait
 
--- The other frames in their order: what the event has the gateway send by itself, then a request for each packet that comes
--- to wait for its next hop. The packets that waited before still do, but for those whose wait the event ends and for old
--- ones; behind them wait those that came. These are, each once at most, of the event's own packet and of those whose wait
--- it ended.
+-- ---- requests
+
+-- Why a packet's next hop is asked for: the packet comes to wait for it; it was sent to it just now; or it is dropped, because
+-- another waits for it.
+pub data Cause : Type 0 where
+  Waits : Cause
+  Sends : Cause
+  Drops : Cause
+
+abbrev pub has_come : Cause → Bool
+has_come Waits = true
+has_come Sends = false
+has_come Drops = false
+
+-- one request: of which packet, by which pairs it leaves, its next hop and the side, and why
+pub record Asking : Type 0 where
+  pub packet : AtHand
+  pub by : Translation
+  pub exit : Side
+  pub host : Ip
+  pub cause : Cause
+
+abbrev pub request_of : Shown → Asking → Sent
+request_of g a = record { side = a.exit; bytes = request_by g a.exit a.host }
+
+abbrev pub requests : Shown → List Asking → List Sent
+requests g askings = map (request_of g) askings
+
+-- Of one that comes to wait and of one that is dropped no hardware address is known for the host; the packet that waited
+-- before for it was last asked for 100 cs ago or more. Behind a packet that was sent, the host is a neighbour that was learnt
+-- or renewed 90,000 cs ago or more, and last asked for 100 cs ago or more.
+abbrev pub IsCause : Shown → Known → Side → Ip → Cause → Type 0
+IsCause g k exit host Waits = IsUnknown k exit host
+IsCause g k exit host Sends = asks_at host.0 k.moment (station_on g exit).neighbours ≡ true
+IsCause g k exit host Drops = IsUnknown k exit host × (asks_again k.moment (wait.Hop exit host) g.kept ≡ true)
+
+pub record IsDue (g : Shown) (k : Known) (may : Pair → Type 0) (a : Asking) : Type 0 where
+  pub hop : IsNextHop k may a.packet a.by a.exit a.host
+  pub cause : IsCause g k a.exit a.host a.cause
+
+-- those of packets that come to wait, and the packets of the others
+abbrev pub firsts : List Asking → List Asking
+firsts askings = filter (λ a. has_come a.cause) askings
+
+abbrev pub packets_asked : List Asking → List AtHand
+packets_asked askings = map (λ a. a.packet) (filter (λ a. not (has_come a.cause)) askings)
+
+-- the packet of a request as it waits from now on
+abbrev pub waiting_by : ℕ → Asking → HeldPacket
+waiting_by now a = waiting a.packet.side a.packet.bytes now (wait.Hop a.exit a.host)
+
+-- the packets that wait for next hops
+abbrev pub hops_of : List HeldPacket → List HeldPacket
+hops_of kept = filter (λ w. not (is_for_pair w.wait)) kept
+
+-- ---- who waits afterwards
+
+-- the packets without the first so many of those that wait for next hops
+abbrev pub without_hops : ℕ → List HeldPacket → List HeldPacket
+without_hops zero kept = kept
+without_hops (suc n) kept = without_hops n (without_first_hop kept)
+
+-- of those that wait for next hops the last 64
+abbrev pub within_limit : List HeldPacket → List HeldPacket
+within_limit kept = without_hops (hop_count kept - 64) kept
+
+-- a request that goes out again is noted at the packet that waits for its host
+abbrev pub noted_at : ℕ → Side → Ip → Cause → List HeldPacket → List HeldPacket
+noted_at now exit host Waits kept = kept
+noted_at now exit host Sends kept = kept
+noted_at now exit host Drops kept = with_asked now (wait.Hop exit host) kept
+
+abbrev pub all_noted : ℕ → List Asking → List HeldPacket → List HeldPacket
+all_noted now [] kept = kept
+all_noted now (a ∷ askings) kept = all_noted now askings (noted_at now a.exit a.host a.cause kept)
+
+-- The other frames in their order: what the event has the gateway send by itself, then requests for next hops. One goes out
+-- for each packet that comes to wait for its next hop. The packets that waited before still do, but for those whose wait the
+-- event ends, for old ones, and for the first of those for next hops where there would be more than 64; behind them wait those
+-- that came. These, and the packets of the other requests, are, each once at most, of the event's own packet and of those
+-- whose wait it ended.
 pub record AreOthers (s : GatewayAndOutput) (event : Event) (s2 : GatewayAndOutput) : Type 0 where
   pub frames : List Sent
   pub frames_are : s2.told.frames ≡ s.told.frames ++ frames
@@ -224,10 +297,14 @@ pub record AreOthers (s : GatewayAndOutput) (event : Event) (s2 : GatewayAndOutp
   pub notes_are : s2.told.notes ≡ s.told.notes ++ notes
   pub own : List Sent
   pub owed : Owes s.shown event own
+  pub askings : List Asking
+  pub due : AllByRecursion (IsDue s.shown (known_of s2.shown) (MayGoBy s.shown notes)) askings
+  pub others : other_frames frames ≡ own ++ requests s.shown askings
   pub came : List HeldPacket
-  pub kept_are : s2.shown.kept ≡ filter (λ w. not (is_old s.shown event w || is_freed s event w)) s.shown.kept ++ came
+  pub new : AllByRecursion (IsNew (known_of s2.shown) (MayGoBy s.shown notes)) came
+  pub hops : hops_of came ≡ map (waiting_by s2.shown.moment) (firsts askings)
+  pub kept_are : s2.shown.kept ≡ all_noted s2.shown.moment askings
+      (within_limit (filter (λ w. not (is_old s.shown event w || is_freed s event w)) s.shown.kept ++ came))
   pub gone : List AtHand
   pub of_hand : let freed = filter (is_freed s event) s.shown.kept in
-      IsPermutation (packet_in s.shown event ++ packets_of freed) (packets_of came ++ gone)
-  pub new : AllByRecursion (IsNew (known_of s2.shown) (MayGoBy s.shown notes)) came
-  pub others : other_frames frames ≡ own ++ requests s.shown came
+      IsPermutation (packet_in s.shown event ++ packets_of freed) (packets_of came ++ (packets_asked askings ++ gone))

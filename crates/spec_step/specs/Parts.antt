@@ -11,6 +11,7 @@ use Rattle.nat_types.specs.declared.pairs.Endpoint.{Endpoint}
 use Rattle.nat_types.specs.declared.pairs.Key.{Key}
 use Rattle.nat_types.specs.declared.records.Record.{Record}
 use Rattle.arp.specs.declared.packets.ArpPacket.{ArpPacket}
+use Rattle.arp.specs.Neighbours.{asked_at, asks_at}
 use Rattle.frames.specs.Frame.{frame_of}
 use Rattle.ipv4.specs.declared.flows.Flow.{Flow}
 use Rattle.ipv4.specs.Header.{payload_of}
@@ -26,7 +27,7 @@ use Rattle.link.specs.Grammar.{spelling}
 use Rattle.link.specs.Link.{Link, after_take, closed_at, datagram_of, is_due_on_tick, is_restart, records_taken, refusal, sent_on_answer, sent_on_tick, wanted, with_fed}
 use Rattle.link.specs.Reading.{reading}
 use Rattle.spec_binding.specs.declared.changes.Transition.{Transition}
-use Rattle.spec_binding.specs.Books.{is_synced}
+use Rattle.spec_binding.specs.Books.{is_lone, is_synced}
 use Rattle.spec_binding.specs.Ledgers.{alone_ledger, carried_ledger, ledger_after, may_ask, rests_for, restarted_ledger, taken_ledger}
 use Rattle.spec_binding.specs.Resets.{back_in, restart_link, restart_notes, retaken}
 use Rattle.spec_binding.specs.Rows.{answered, carry_row, idle_row, is_full, noted_by, taken_answer, taken_ended, taken_what, wish_of}
@@ -34,11 +35,11 @@ use Rattle.waiting.specs.declared.waits.Ended.{Ended}
 use Rattle.waiting.specs.declared.waits.Ended.TheVariants.{One, AllPairs}
 use Rattle.waiting.specs.declared.waits.WaitsFor.{WaitsFor}
 use Rattle.waiting.specs.declared.waits.WaitsFor.TheVariants as wait
-use Rattle.waiting.specs.Packets.{HeldPacket, ended_by, is_young, left_by}
+use Rattle.waiting.specs.Packets.{HeldPacket, asks_again, ended_by, is_young, left_by, with_asked, with_room}
 use Rattle.packet_rules.specs.declared.readings.Reading.{Reading}
 use Rattle.packet_rules.specs.declared.readings.Reading.TheVariants.{Arp, Advert, Packet}
 use Rattle.packet_rules.specs.declared.reasons.Reason.{Reason}
-use Rattle.packet_rules.specs.declared.reasons.Reason.TheVariants.{ShortFrame, NotMine, BadHeader, BadLength, BadHeaderSum, Fragment, TtlOver, NotUdpTcp, BadTransport, BadArp, BadAdvert, NotUp, NoBinding, NoPort, CannotWait, BadDatagram, OldWord}
+use Rattle.packet_rules.specs.declared.reasons.Reason.TheVariants.{ShortFrame, NotMine, BadHeader, BadLength, BadHeaderSum, Fragment, TtlOver, NotUdpTcp, BadTransport, BadArp, BadAdvert, NotUp, NoBinding, NoPort, CannotWait, BadDatagram, OldWord, HostLimit}
 use Rattle.packet_rules.specs.declared.translations.Translation.{Translation}
 use Rattle.packet_rules.specs.declared.translations.Translation.TheVariants.{Outward, Inward, Hairpin}
 use Rattle.packet_rules.specs.Adverts.{advert_frame}
@@ -53,9 +54,9 @@ use Rattle.vrrp_states.specs.declared.State.TheVariants.{Initialize, Backup, Act
 use Rattle.vrrp_states.specs.Table.{Router, active_down_interval}
 use Rattle.output.specs.Output.{Output, with_datagram, with_frame}
 use Rattle.spec_step.specs.declared.plans.Plan.{Plan}
-use Rattle.spec_step.specs.declared.plans.Plan.TheVariants.{Send, Ask, Wait as WaitFor}
+use Rattle.spec_step.specs.declared.plans.Plan.TheVariants.{Send, Ask, AskAgain, Wait as WaitFor}
 use Rattle.spec_step.specs.Shown.{GatewayAndOutput, Shown, id_of, scene, station_on, with_notes, with_station}
-use Rattle.spec_step.specs.Verdict.{exit_by, plan_of, reading_on}
+use Rattle.spec_step.specs.Verdict.{exit_by, hop_by, plan_of, reading_on}
 
 -- ---- rows of the binding protocol
 
@@ -109,21 +110,55 @@ wanted_for s flow (Hairpin own other) = wanted_by s (source_of flow)
 abbrev pub framed : GatewayAndOutput → Side → List ℕ → GatewayAndOutput
 framed s side bytes = scene s.shown (with_frame s.told side bytes)
 
--- a packet is kept as it came
+-- a packet as it came, which waits for this from a moment on
+abbrev pub waiting : Side → List ℕ → ℕ → WaitsFor → HeldPacket
+waiting side bytes now what = record { side = side; bytes = bytes; since = now; wait = what; asked = now }
+
+-- a packet is kept as it came; where it waits for a next hop and 64 do, the first of these makes room
 abbrev pub keeping : GatewayAndOutput → Side → List ℕ → WaitsFor → GatewayAndOutput
-keeping s side bytes what =
-    scene (record s.shown { kept = s.shown.kept ++ (record { side = side; bytes = bytes; since = s.shown.moment; wait = what }) ∷ [] }) s.told
+keeping s side bytes what = let g = s.shown in
+    scene (record g { kept = with_room what g.kept ++ waiting side bytes g.moment what ∷ [] }) s.told
+
+-- ---- requests for next hops
+
+-- the frame that asks for a next hop
+abbrev pub request_by : Shown → Side → Ip → List ℕ
+request_by g exit hop = request_frame (station_on g exit).network hop
+
+-- a neighbour on a side is asked for now
+abbrev pub neighbour_asked : Shown → Side → Ip → Shown
+neighbour_asked g exit hop = let station = station_on g exit in
+    with_station g exit (record station { neighbours = asked_at hop.0 g.moment station.neighbours })
+
+-- behind a packet that was sent to it, a neighbour learnt or renewed long ago is asked for, where it wasn't just now
+abbrev pub renewed_behind : GatewayAndOutput → Side → Ip → GatewayAndOutput
+renewed_behind s exit hop = let g = s.shown in
+    if asks_at hop.0 g.moment (station_on g exit).neighbours
+    then framed (scene (neighbour_asked g exit hop) s.told) exit (request_by g exit hop)
+    else s
+
+-- a next hop for which another packet waits is asked for again, where it wasn't just now
+abbrev pub asked_again : GatewayAndOutput → Side → Ip → GatewayAndOutput
+asked_again s exit hop = let g = s.shown in let what = wait.Hop exit hop in
+    if asks_again g.moment what g.kept
+    then framed (scene (record g { kept = with_asked g.moment what g.kept }) s.told) exit (request_by g exit hop)
+    else s
+
+-- ---- plans
 
 -- a plan is done
 abbrev pub by_plan : GatewayAndOutput → Side → List ℕ → Flow → Plan → GatewayAndOutput
 by_plan s side bytes flow (Send by next) =
-    carried_all
+    renewed_behind
+    (carried_all
     (framed (wanted_for s flow by) (exit_by by) (sent_frame s.shown.networks by next bytes))
-    flow (flags_in bytes) by
+    flow (flags_in bytes) by)
+    (exit_by by) (hop_by s.shown by flow)
 by_plan s side bytes flow (Ask by hop) =
     framed
     (keeping (wanted_for s flow by) side bytes (wait.Hop (exit_by by) hop))
-    (exit_by by) (request_frame (station_on s.shown (exit_by by)).network hop)
+    (exit_by by) (request_by s.shown (exit_by by) hop)
+by_plan s side bytes flow (AskAgain by hop) = asked_again s (exit_by by) hop
 by_plan s side bytes flow (WaitFor endpoint) =
     keeping (wanted_by s endpoint) side bytes (wait.Pair endpoint)
 
@@ -146,6 +181,7 @@ by_refusal s flow NoBinding = s
 by_refusal s flow CannotWait = s
 by_refusal s flow BadDatagram = s
 by_refusal s flow OldWord = s
+by_refusal s flow HostLimit = s
 
 abbrev pub by_verdict : GatewayAndOutput → Side → List ℕ → Flow → Result Plan Reason → GatewayAndOutput
 by_verdict s side bytes flow (Ok plan) = by_plan s side bytes flow plan
@@ -289,7 +325,7 @@ datagram_taken s bytes = datagram_read s (reading bytes)
 abbrev pub word_taken : GatewayAndOutput → ℕ → GatewayAndOutput
 word_taken s n = let g = s.shown in let book = g.ledger.book in
     released
-    (scene (record g { ledger = alone_ledger g.ledger; link = closed_at g.link n })
+    (scene (record g { ledger = alone_ledger g.moment g.ledger; link = closed_at g.link n })
     (with_notes s.told (retaken (id_of g) g.moment (back_in book.entries))))
     AllPairs
 
@@ -306,7 +342,7 @@ all_idle_done s (k ∷ ks) = all_idle_done (idle_done s k) ks
 
 -- the idle pairs of a moment, by protocol (tcp first) and port
 abbrev pub idle_taken : GatewayAndOutput → GatewayAndOutput
-idle_taken s = let l = s.shown.ledger in all_idle_done s (idle_keys_in s.shown.moment l.book.entries l.lives)
+idle_taken s = let l = s.shown.ledger in all_idle_done s (idle_keys_in (is_lone l.book.stage) s.shown.moment l.book.entries l.lives)
 
 -- kept packets of 300 centiseconds and more are dropped
 abbrev pub old_dropped : GatewayAndOutput → GatewayAndOutput

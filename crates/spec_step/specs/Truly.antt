@@ -10,6 +10,7 @@ use Rattle.nat_types.specs.declared.notes.NoteKind.{NoteKind}
 use Rattle.nat_types.specs.declared.notes.NoteKind.TheVariants.{Used, Released, Retaken, Synced, Crashed, Booted}
 use Rattle.nat_types.specs.declared.notes.Note.{Note}
 use Rattle.nat_types.specs.declared.pairs.Pair.{Pair}
+use Rattle.arp.specs.declared.caches.CacheEntry.{CacheEntry}
 use Rattle.arp.specs.Neighbours.{Neighbours, mac_at}
 use Rattle.ipv4.specs.declared.flows.Flow.{Flow}
 use Rattle.waiting.specs.Packets.{HeldPacket}
@@ -56,6 +57,10 @@ hand_of (PeerOff n) = []
 abbrev pub packets_of : List HeldPacket → List AtHand
 packets_of kept = map (λ w. record { side = w.side; bytes = w.bytes }) kept
 
+-- neighbours, but for when they were last asked for
+abbrev pub unasked : Neighbours → Neighbours
+unasked known = record known { learnt = map (λ (e : CacheEntry). record e { asked = 0 }) known.learnt }
+
 -- what decides where a translated packet goes
 pub record Known : Type 0 where
   pub networks : Networks
@@ -67,8 +72,8 @@ abbrev pub known_of : Shown → Known
 known_of g = record {
   networks = g.networks;
   moment = g.moment;
-  near_inside = g.inside.neighbours;
-  near_outside = g.outside.neighbours;
+  near_inside = unasked g.inside.neighbours;
+  near_outside = unasked g.outside.neighbours;
 }
 
 abbrev pub near_on : Known → Side → Neighbours

@@ -20,7 +20,7 @@ use Rattle.packet_rules.specs.declared.networks.Direction.TheVariants as way
 use Rattle.packet_rules.specs.declared.readings.Reading.{Reading}
 use Rattle.packet_rules.specs.declared.readings.Reading.TheVariants.{Arp, Advert, Packet}
 use Rattle.packet_rules.specs.declared.reasons.Reason.{Reason}
-use Rattle.packet_rules.specs.declared.reasons.Reason.TheVariants.{NoBinding, NoPort, CannotWait}
+use Rattle.packet_rules.specs.declared.reasons.Reason.TheVariants.{NoBinding, NoPort, CannotWait, HostLimit}
 use Rattle.packet_rules.specs.declared.translations.Translation.{Translation}
 use Rattle.packet_rules.specs.declared.translations.Translation.TheVariants.{Outward, Inward, Hairpin}
 use Rattle.packet_rules.specs.Flows.{source_of, target_of}
@@ -31,7 +31,7 @@ use Rattle.interfaces.specs.Stations.{is_active}
 use Rattle.spec_step.specs.declared.events.Outcome.{Outcome}
 use Rattle.spec_step.specs.declared.events.Outcome.TheVariants.{Sent, Waiting, Done, Dropped}
 use Rattle.spec_step.specs.declared.plans.Plan.{Plan}
-use Rattle.spec_step.specs.declared.plans.Plan.TheVariants.{Send, Ask, Wait}
+use Rattle.spec_step.specs.declared.plans.Plan.TheVariants.{Send, Ask, AskAgain, Wait}
 use Rattle.spec_step.specs.Shown.{Shown, is_up, station_on}
 
 -- the side at which a translated packet leaves
@@ -45,10 +45,10 @@ hop_by g by flow = record { 0 = hop_of g.networks by flow.destination.0 }
 abbrev pub next_by : Shown → Translation → Flow → Option Mac
 next_by g by flow = mac_at (hop_by g by flow).0 g.moment (station_on g (exit_by by)).neighbours
 
--- a packet whose pairs are known goes on, or waits for its next hop where there is a place
+-- a packet whose pairs are known goes on, or waits for its next hop where no other packet does
 abbrev pub plan_to : Shown → Translation → Ip → Option Mac → Result Plan Reason
 plan_to g by hop (Some next) = Ok (Send by next)
-plan_to g by hop None = (if has_place g.kept (wait.TheVariants.Hop (exit_by by) hop) then Ok (Ask by hop) else Err CannotWait)
+plan_to g by hop None = (if has_place g.kept (wait.TheVariants.Hop (exit_by by) hop) then Ok (Ask by hop) else Ok (AskAgain by hop))
 
 abbrev pub plan_by : Shown → Flow → Translation → Result Plan Reason
 plan_by g flow by = plan_to g by (hop_by g by flow) (next_by g by flow)
@@ -60,6 +60,7 @@ plan_from g flow by want.TheVariants.Wait =
     (if has_place g.kept (wait.TheVariants.Pair (source_of flow)) then Ok (Wait (source_of flow)) else Err CannotWait)
 plan_from g flow by want.TheVariants.NoPort = Err NoPort
 plan_from g flow by want.TheVariants.NotNow = Err CannotWait
+plan_from g flow by want.TheVariants.HostLimit = Err HostLimit
 
 -- what the endpoint of a packet's source is given
 abbrev pub look_for : Shown → Flow → Want
@@ -100,6 +101,7 @@ reading_on g side bytes =
 abbrev pub outcome_by : Result Plan Reason → Outcome
 outcome_by (Ok (Send by next)) = Sent
 outcome_by (Ok (Ask by hop)) = Waiting
+outcome_by (Ok (AskAgain by hop)) = Dropped CannotWait
 outcome_by (Ok (Wait endpoint)) = Waiting
 outcome_by (Err reason) = Dropped reason
 

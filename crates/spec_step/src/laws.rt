@@ -10,6 +10,7 @@ ghost use Rattle.nat_types.specs.Same.{same};
 ghost use Rattle.settings.specs.declared.whole.Settings.{Settings};
 ghost use Rattle.spec_trace.specs.Past.{Idle};
 ghost use Rattle.spec_pair.specs.Talk.{note};
+ghost use Rattle.waiting.specs.Packets.{hop_count};
 ghost use Rattle.spec_binding.specs.Books.{IsBook};
 ghost use Rattle.spec_binding.specs.Ledgers.{let_go};
 ghost use Rattle.spec_step.specs.declared.events.Event.{Event};
@@ -67,11 +68,12 @@ pub fn steps_tell()
 }
 
 /// All other frames of a step are, in their order: an answer to the ARP request that came in, or the
-/// frames of the routers' actions; then a request for each packet that comes to wait for its next
-/// hop. It says which packets wait on, which may come to wait, and for which host each asks.
+/// frames of the routers' actions; then requests for next hops. It says of which packet each is, and
+/// why it is sent, which packets wait on, and which may come to wait.
 pub fn other_frames()
     ensures { (s : GatewayAndOutput) (event : Event) (s2 : GatewayAndOutput) → IsStepOn s event s2
-        → IsBook s.shown.ledger.book → AreWired s.shown → AreOthers s event s2 }
+        → IsBook s.shown.ledger.book → AreWired s.shown → hop_count s.shown.kept ≤ 64
+        → AreOthers s event s2 }
 {
     readings_law();
     frames_law();

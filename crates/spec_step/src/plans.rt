@@ -4,13 +4,15 @@ use addresses::{Ip, Mac};
 use nat_types::Endpoint;
 use packet_rules::Translation;
 
-/// What a packet that isn't refused is to do.
+/// What a packet that isn't refused at once is to do.
 #[derive(Clone, Copy, Debug, PartialEq, Eq)]
 pub enum Plan {
     /// It goes on at once, to a next hop that is known.
     Send { by: Translation, next: Mac },
     /// Its next hop is asked for, and it waits.
     Ask { by: Translation, hop: Ip },
+    /// Another packet waits for its next hop: it is dropped, and that hop may be asked for again.
+    AskAgain { by: Translation, hop: Ip },
     /// It waits for the answer to the proposal of its source's pair.
     Wait(Endpoint),
 }

@@ -1,3 +1,4 @@
+mod Asked
 mod Moving
 mod Places
 mod Singles

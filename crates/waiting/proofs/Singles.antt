@@ -1,5 +1,5 @@
 -- The packet that waits for one thing, where no two wait for the same.
-use Rattle.std.proofs.Common.{◌≡◌, ℕ, zero, suc, ◌+◌, ◌<◌, ◌≤◌, Bool, true, false, cond, not, nat_lt, Option, Some, None, List, [], ◌∷◌, ◌++◌, length, get_or, take, drop, refl, ap, subst, ◌∙◌, ◌⊎◌, inl, inr, nat_eq, arith}
+use Rattle.std.proofs.Common.{◌≡◌, ℕ, zero, suc, ◌+◌, ◌<◌, ◌≤◌, Bool, true, false, cond, not, nat_lt, Option, Some, None, List, [], ◌∷◌, ◌++◌, length, get_or, set, map, take, drop, refl, ap, subst, ◌∙◌, ◌⊎◌, inl, inr, nat_eq, arith}
 use Rattle.std.specs.List.{filter, position, position_or_len}
 use Rattle.std.proofs.lemmas.Bool.{and_parts, and_from, eqb-true, eq-eqb, both_ways, cases_order, ltb-false}
 use Rattle.std.proofs.lemmas.List.Quantifiers.{position-Some}
@@ -50,9 +50,16 @@ filter-no p w ws isnt = rw isnt refl
 pub record NonePass (p : HeldPacket → Bool) (ws : List HeldPacket) : Type 0 where
   pub off : filter p ws ≡ []
   pub left : filter (λ w. not (p w)) ws ≡ ws
+  pub mapped : (f : HeldPacket → HeldPacket) → map (λ w. cond (p w) (f w) w) ws ≡ ws
+
+map-yes : (p : HeldPacket → Bool) (f : HeldPacket → HeldPacket) (w : HeldPacket) (ws : List HeldPacket) → p w ≡ true → map (λ v. cond (p v) (f v) v) (w ∷ ws) ≡ f w ∷ map (λ v. cond (p v) (f v) v) ws
+map-yes p f w ws is = ap (λ (b : Bool). cond b (f w) w ∷ map (λ v. cond (p v) (f v) v) ws) is
+
+map-no : (p : HeldPacket → Bool) (f : HeldPacket → HeldPacket) (w : HeldPacket) (ws : List HeldPacket) → p w ≡ false → map (λ v. cond (p v) (f v) v) (w ∷ ws) ≡ w ∷ map (λ v. cond (p v) (f v) v) ws
+map-no p f w ws isnt = ap (λ (b : Bool). cond b (f w) w ∷ map (λ v. cond (p v) (f v) v) ws) isnt
 
 none-pass : (p : HeldPacket → Bool) (ws : List HeldPacket) → ((k : ℕ) (d : HeldPacket) → k < length ws → p (get_or ws k d) ≡ false) → NonePass p ws
-none-pass p [] none = record { off = refl; left = refl }
+none-pass p [] none = record { off = refl; left = refl; mapped = λ f. refl }
 none-pass p (w ∷ ws) none =
     let no : p w ≡ false = none 0 w (omega arith) in
     let yes : not (p w) ≡ true = ap not no in
@@ -60,11 +67,13 @@ none-pass p (w ∷ ws) none =
     record {
       off = filter-no p w ws no ∙ rest.off;
       left = filter-yes (λ v. not (p v)) w ws yes ∙ ap (λ vs. w ∷ vs) rest.left;
+      mapped = λ f. map-no p f w ws no ∙ ap (λ (vs : List HeldPacket). w ∷ vs) (rest.mapped f);
     }
 
 pub record OnePasses (p : HeldPacket → Bool) (ws : List HeldPacket) (i : ℕ) (d : HeldPacket) : Type 0 where
   pub off : filter p ws ≡ get_or ws i d ∷ []
   pub left : filter (λ w. not (p w)) ws ≡ take i ws ++ drop (suc i) ws
+  pub mapped : (f : HeldPacket → HeldPacket) → map (λ w. cond (p w) (f w) w) ws ≡ set ws i (f (get_or ws i d))
 
 one-passes : (p : HeldPacket → Bool) (ws : List HeldPacket) (i : ℕ) (d : HeldPacket) → i < length ws → p (get_or ws i d) ≡ true
     → ((k : ℕ) (e : HeldPacket) → k < length ws → (k ≡ i → ⊥) → p (get_or ws k e) ≡ false) → OnePasses p ws i d
@@ -75,6 +84,7 @@ one-passes p (w ∷ ws) zero d below is others =
     record {
       off = filter-yes p w ws is ∙ ap (λ vs. w ∷ vs) rest.off;
       left = filter-no (λ v. not (p v)) w ws no ∙ rest.left;
+      mapped = λ f. map-yes p f w ws is ∙ ap (λ (vs : List HeldPacket). f w ∷ vs) (rest.mapped f);
     }
 one-passes p (w ∷ ws) (suc i) d below is others =
     let no : p w ≡ false = others 0 w (omega arith) (λ same. omega arith) in
@@ -83,6 +93,7 @@ one-passes p (w ∷ ws) (suc i) d below is others =
     record {
       off = filter-no p w ws no ∙ rest.off;
       left = filter-yes (λ v. not (p v)) w ws yes ∙ ap (λ vs. w ∷ vs) rest.left;
+      mapped = λ f. map-no p f w ws no ∙ ap (λ (vs : List HeldPacket). w ∷ vs) (rest.mapped f);
     }
 
 -- ---- the packet that waits for one thing
@@ -104,12 +115,15 @@ no-place : (b : Bool) (n : ℕ) → (let o : Option ℕ = cond b (Some n) None i
 no-place true n e = cc
 no-place false n e = refl
 
+-- none passes
+pub passes-none : (p : HeldPacket → Bool) (ws : List HeldPacket) → position p ws ≡ None → (k : ℕ) (d : HeldPacket) → k < length ws → p (get_or ws k d) ≡ false
+passes-none p ws none = none-first p ws (ltb-false (position_or_len p ws) (length ws) (no-place (nat_lt (position_or_len p ws) (length ws)) (position_or_len p ws) none))
+
 -- nobody waits for it
 pub nobody : (w : WaitsFor) (ws : List HeldPacket) → position (λ (v : HeldPacket). same_wait w v.wait) ws ≡ None → NonePass (λ (v : HeldPacket). same_wait w v.wait) ws
 nobody w ws none =
     let p : HeldPacket → Bool = λ v. same_wait w v.wait in
-    let past : length ws ≤ position_or_len p ws = ltb-false (position_or_len p ws) (length ws) (no-place (nat_lt (position_or_len p ws) (length ws)) (position_or_len p ws) none) in
-    none-pass p ws (none-first p ws past)
+    none-pass p ws (passes-none p ws none)
 
 -- the one at that place does, and no other
 pub only : (w : WaitsFor) (ws : List HeldPacket) (i : ℕ) (d : HeldPacket) → AreApart ws → position (λ (v : HeldPacket). same_wait w v.wait) ws ≡ Some i → OnePasses (λ (v : HeldPacket). same_wait w v.wait) ws i d

@@ -1,5 +1,5 @@
 -- The packets that wait.
-use Rattle.std.specs.Prelude.{◌≡◌, ℕ, ◌-◌, ◌≤◌, Bool, false, not, ◌&&◌, nat_lt, Option, None, Some, List, [], ◌∷◌}
+use Rattle.std.specs.Prelude.{◌≡◌, ℕ, ◌-◌, ◌≤◌, Bool, true, false, not, ◌&&◌, nat_lt, nat_le, Option, None, Some, List, [], ◌∷◌, map, if◌then◌else◌}
 use Rattle.std.specs.List.{filter, count_by, list_any, AllPairs}
 use Rattle.nat_types.specs.declared.gateways.Side.{Side}
 use Rattle.waiting.specs.declared.waits.WaitsFor.{WaitsFor}
@@ -7,12 +7,14 @@ use Rattle.waiting.specs.declared.waits.WaitsFor.TheVariants.{Pair, Hop}
 use Rattle.waiting.specs.declared.waits.Ended.{Ended}
 use Rattle.waiting.specs.Waits.{is_for_pair, same_wait, ends}
 
--- a packet that waits: where it came in, as it came, since when, and for what
+-- a packet that waits: where it came in, as it came, since when, for what, and when its next hop was
+-- last asked for (of a packet that waits for a pair: since when it waits)
 pub record HeldPacket : Type 0 where
   pub side : Side
   pub bytes : List ℕ
   pub since : ℕ
   pub wait : WaitsFor
+  pub asked : ℕ
 
 -- it was kept less than 300 centiseconds ago
 abbrev pub is_young : ℕ → HeldPacket → Bool
@@ -25,15 +27,40 @@ pair_count kept = count_by (λ packet. is_for_pair packet.wait) kept
 abbrev pub hop_count : List HeldPacket → ℕ
 hop_count kept = count_by (λ packet. not (is_for_pair packet.wait)) kept
 
--- how many wait for something of this kind
-abbrev pub count_like : WaitsFor → List HeldPacket → ℕ
-count_like (Pair endpoint) kept = pair_count kept
-count_like (Hop side host) kept = hop_count kept
+-- fewer than 64 wait for pairs; of those for next hops the first makes room
+abbrev pub has_room : WaitsFor → List HeldPacket → Bool
+has_room (Pair endpoint) kept = nat_lt (pair_count kept) 64
+has_room (Hop side host) kept = true
 
--- fewer than 64 of the kind wait, and none for the same
+-- there is room, and none waits for the same
 abbrev pub has_place : List HeldPacket → WaitsFor → Bool
 has_place kept wait =
-    nat_lt (count_like wait kept) 64 && not (list_any (λ packet. same_wait packet.wait wait) kept)
+    has_room wait kept && not (list_any (λ packet. same_wait packet.wait wait) kept)
+
+-- the packets without the first that waits for a next hop
+abbrev pub without_first_hop : List HeldPacket → List HeldPacket
+without_first_hop [] = []
+without_first_hop (packet ∷ kept) =
+    if is_for_pair packet.wait then packet ∷ without_first_hop kept else kept
+
+-- the packets once one more comes: where it waits for a next hop and 64 do, the first of these goes
+abbrev pub with_room : WaitsFor → List HeldPacket → List HeldPacket
+with_room (Pair endpoint) kept = kept
+with_room (Hop side host) kept =
+    if nat_lt (hop_count kept) 64 then kept else without_first_hop kept
+
+-- a packet waits for this, and its next hop was last asked for 100 centiseconds ago or more
+abbrev pub asks_again : ℕ → WaitsFor → List HeldPacket → Bool
+asks_again now wait kept =
+    list_any (λ packet. same_wait wait packet.wait && nat_le 100 (now - packet.asked)) kept
+
+-- the packets, where the next hop of the one that waits for this was asked for at the moment `now`
+abbrev pub asked_packet : ℕ → WaitsFor → HeldPacket → HeldPacket
+asked_packet now wait packet =
+    if same_wait wait packet.wait then record packet { asked = now } else packet
+
+abbrev pub with_asked : ℕ → WaitsFor → List HeldPacket → List HeldPacket
+with_asked now wait kept = map (asked_packet now wait) kept
 
 -- the packets whose wait is over, and the others, both in the order of keeping
 abbrev pub ended_by : Ended → List HeldPacket → List HeldPacket

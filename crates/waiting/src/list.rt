@@ -1,10 +1,11 @@
 //! The list of the packets that wait.
-ghost use Rattle.std.specs.Prelude.{◌≡◌, ◌≤◌, ◌+◌, ◌++◌, ◌∷◌, [], ◌==◌, length, IfOk, IsTrue, not};
+ghost use Rattle.std.specs.Prelude.{◌≡◌, ◌≤◌, ◌+◌, ◌++◌, ◌∷◌, [], ◌==◌, ◌-◌, ◌&&◌, length, IfOk, IsTrue, not, nat_le, if◌then◌else◌};
 ghost use Rattle.std.specs.Prelude.{vec_len, vec_capacity, position};
 ghost use Rattle.std.specs.List.{filter, list_any, AllPass};
-ghost use Rattle.waiting.specs.Waits.{same_wait, ends};
+ghost use Rattle.waiting.specs.Waits.{is_for_pair, same_wait, ends};
 ghost use Rattle.waiting.specs.declared.waits.Ended.TheVariants.{One, AllPairs};
-ghost use Rattle.waiting.specs.Packets.{is_young, has_place, count_like, ended_by, left_by, IsKept};
+ghost use Rattle.waiting.specs.Packets.{is_young, has_place, has_room, pair_count, hop_count, ended_by, left_by, IsKept};
+ghost use Rattle.waiting.specs.Packets.{without_first_hop, with_room, asks_again, with_asked};
 ghost use Rattle.waiting.specs.Packets.{AreApart, listed};
 
 use crate::{Ended, WaitsFor};
@@ -14,6 +15,9 @@ use std::marker::Model;
 
 /// How many packets may wait for pairs, and how many for next hops.
 const PLACES: usize = 64;
+
+/// After how long a next hop is asked for again, in centiseconds.
+const ASKED_AFTER: u64 = 100;
 
 /// How long a packet waits, in centiseconds.
 const LONGEST_WAIT: u64 = 300;
@@ -28,6 +32,9 @@ pub struct HeldPacket {
     /// The moment since which it waits, in centiseconds.
     pub since: u64,
     pub wait: WaitsFor,
+    /// The moment at which its next hop was last asked for, in centiseconds; of a packet that waits
+    /// for a pair, since when it waits.
+    pub asked: u64,
 }
 
 impl Model for HeldPacket {
@@ -40,11 +47,13 @@ impl Model for HeldPacket {
       bytes = w.bytes.items;
       since = w.since;
       wait = w.wait;
+      asked = w.asked;
     } };
 }
 
 impl HeldPacket {
-    /// A packet that waits from now on. It takes memory for the copy of its bytes.
+    /// A packet that waits from now on; its next hop is asked for now. It takes memory for the copy
+    /// of its bytes.
     pub fn copy_of(
         alloc: Global,
         side: Side,
@@ -53,7 +62,13 @@ impl HeldPacket {
         wait: WaitsFor,
     ) -> Result<HeldPacket, AllocError>
         ensures { IfOk result (λ w. w
-            ≡ record { side = side; bytes = bytes.now; since = since; wait = wait }) }
+            ≡ record {
+              side = side;
+              bytes = bytes.now;
+              since = since;
+              wait = wait;
+              asked = since;
+            }) }
     {
         let bytes = Vec::from_slice(alloc, bytes)?;
         Ok(HeldPacket {
@@ -61,24 +76,27 @@ impl HeldPacket {
             bytes,
             since,
             wait,
+            asked: since,
         })
     }
 
-    /// The same packet, which waits from now on for something else.
+    /// The same packet, which waits from now on for something else; a next hop is asked for now.
     pub fn again(self, since: u64, wait: WaitsFor) -> HeldPacket
-        ensures { result ≡ record self { since = since; wait = wait } }
+        ensures { result ≡ record self { since = since; wait = wait; asked = since } }
     {
         let HeldPacket {
             side,
             bytes,
             since: _,
             wait: _,
+            asked: _,
         } = self;
         HeldPacket {
             side,
             bytes,
             since,
             wait,
+            asked: since,
         }
     }
 
@@ -86,6 +104,14 @@ impl HeldPacket {
         ensures { result ≡ is_young now self.now }
     {
         now.saturating_sub(self.since) < LONGEST_WAIT
+    }
+
+    /// Whether it waits for this, and its next hop was last asked for 100 centiseconds ago or more.
+    fn asks_again(&self, wait: WaitsFor, now: u64) -> bool
+        ensures { result
+            ≡ (same_wait wait self.now.wait && nat_le 100 (now - self.now.asked)) }
+    {
+        wait.is_same(self.wait) && now.saturating_sub(self.asked) >= ASKED_AFTER
     }
 }
 
@@ -107,23 +133,33 @@ impl Model for WaitingPackets {
     ghost invariant = { λ k. IsKept k.packets.items × (128 ≤ vec_capacity k.packets) };
 }
 
-/// How many packets wait for something of that kind.
-fn count_like(packets: &[HeldPacket], wait: WaitsFor) -> usize
-    ensures { result ≡ count_like wait packets.now }
+/// How many packets wait for pairs.
+fn pair_count(packets: &[HeldPacket]) -> usize
+    ensures { result ≡ pair_count packets.now }
+{
+    packets
+        .iter()
+        .filter(|packet| packet.wait.is_for_pair())
+        .count()
+}
+
+/// How many packets wait for next hops.
+fn hop_count(packets: &[HeldPacket]) -> usize
+    ensures { result ≡ hop_count packets.now }
+{
+    packets
+        .iter()
+        .filter(|packet| !packet.wait.is_for_pair())
+        .count()
+}
+
+/// Whether a packet of that kind finds room.
+fn has_room(packets: &[HeldPacket], wait: WaitsFor) -> bool
+    ensures { result ≡ has_room wait packets.now }
 {
     match wait {
-        WaitsFor::Pair(_) => {
-            packets
-                .iter()
-                .filter(|packet| packet.wait.is_for_pair())
-                .count()
-        }
-        WaitsFor::Hop(..) => {
-            packets
-                .iter()
-                .filter(|packet| !packet.wait.is_for_pair())
-                .count()
-        }
+        WaitsFor::Pair(_) => pair_count(packets) < PLACES,
+        WaitsFor::Hop(..) => true,
     }
 }
 
@@ -138,6 +174,60 @@ fn place_for(packets: &[HeldPacket], wait: WaitsFor) -> Option<usize>
     ensures { result ≡ position (λ packet. same_wait wait packet.wait) packets.now }
 {
     packets.iter().position(|packet| wait.is_same(packet.wait))
+}
+
+/// Where the first packet stands that waits for a next hop.
+fn first_hop(packets: &[HeldPacket]) -> Option<usize>
+    ensures { result ≡ position (λ packet. not (is_for_pair packet.wait)) packets.now }
+{
+    packets.iter().position(|packet| !packet.wait.is_for_pair())
+}
+
+fn drop_first_hop(packets: &mut Vec<HeldPacket>)
+    ensures items { packets.new.items ≡ without_first_hop packets.old.items }
+    ensures capacity { vec_capacity packets.new ≡ vec_capacity packets.old }
+{
+    match first_hop(packets) {
+        Some(place) => {
+            let _ = packets.remove(place);
+        }
+        None => {}
+    }
+}
+
+/// Makes room for a packet that is to wait for this: where it is a next hop and 64 packets wait for
+/// such, the first of these is dropped.
+fn make_room(packets: &mut Vec<HeldPacket>, wait: WaitsFor)
+    ensures items { packets.new.items ≡ with_room wait packets.old.items }
+    ensures capacity { vec_capacity packets.new ≡ vec_capacity packets.old }
+{
+    match wait {
+        WaitsFor::Pair(_) => {}
+        WaitsFor::Hop(..) => {
+            if hop_count(packets) >= PLACES {
+                drop_first_hop(packets);
+            }
+        }
+    }
+}
+
+/// Whether a packet waits for this whose next hop is to be asked for again.
+fn asks_again(packets: &[HeldPacket], wait: WaitsFor, now: u64) -> bool
+    ensures { result ≡ asks_again now wait packets.now }
+{
+    packets.iter().any(|packet| packet.asks_again(wait, now))
+}
+
+/// Notes that the next hop of the packet that waits for this was asked for.
+fn note_asked(packets: &mut Vec<HeldPacket>, wait: WaitsFor, now: u64)
+    requires once { AreApart packets.old.items }
+    ensures items { packets.new.items ≡ with_asked now wait packets.old.items }
+    ensures capacity { vec_capacity packets.new ≡ vec_capacity packets.old }
+{
+    match place_for(packets, wait) {
+        Some(place) => packets[place].asked = now,
+        None => {}
+    }
 }
 
 /// Moves the packets whose wait is over behind another list, which has room for them.
@@ -210,20 +300,35 @@ impl WaitingPackets {
         self.packets.is_empty()
     }
 
-    /// Whether a packet that waits for this can be kept: fewer than 64 of its kind wait, and none
-    /// for the same.
+    /// Whether a packet that waits for this can be kept: none waits for the same, and of those for
+    /// pairs there are fewer than 64.
     pub fn has_place(&self, wait: WaitsFor) -> bool
         ensures { result ≡ has_place self.now wait }
     {
-        count_like(&self.packets, wait) < PLACES && !is_awaited(&self.packets, wait)
+        has_room(&self.packets, wait) && !is_awaited(&self.packets, wait)
     }
 
-    /// Puts a packet behind the others.
+    /// Puts a packet behind the others. Where it is the 65th that waits for a next hop, the one of
+    /// these that was kept first is dropped.
     pub fn keep(&mut self, packet: HeldPacket)
         requires { IsTrue (has_place self.old packet.wait) }
-        ensures { self.new ≡ self.old ++ packet ∷ [] }
+        ensures { self.new ≡ with_room packet.wait self.old ++ packet ∷ [] }
     {
+        make_room(&mut self.packets, packet.wait);
         self.packets.push_reserved(packet);
+    }
+
+    /// Whether the next hop for which a packet waits is to be asked for again at the moment `now`, in
+    /// centiseconds: it was last asked for 100 ago or more. If so, it counts as asked for now.
+    pub fn ask_again(&mut self, wait: WaitsFor, now: u64) -> bool
+        ensures asks { result ≡ asks_again now wait self.old }
+        ensures after { self.new ≡ (if result then with_asked now wait self.old else self.old) }
+    {
+        let asks = asks_again(&self.packets, wait, now);
+        if asks {
+            note_asked(&mut self.packets, wait, now);
+        }
+        asks
     }
 
     /// Takes the packets off whose wait is over, and puts them behind a list with room for all that

@@ -14,7 +14,7 @@ pub record SoFar (l : goal.Live-loop-entry) : Type 0 where
   pub few : length (drop l.entry-index l.records) ≤ 64
   pub ready : 2 * length (drop l.entry-index l.records) ≤ l.forwarder.core.table.ready
   pub places : answers_count (drop l.entry-index l.records) ≤ free_places l.forwarder.link
-  pub frames : length (drop l.entry-index l.records) ≤ l.page.room.frames
+  pub frames : 2 * length (drop l.entry-index l.records) ≤ l.page.room.frames
   pub notes : 4 * length (drop l.entry-index l.records) ≤ l.page.room.notes
   pub datagrams : l.page.room.datagrams ≡ l.fn.page.room.datagrams
 

@@ -1,5 +1,6 @@
 use Rattle.std.proofs.Common.{arith, sym, ap, ◌∙◌, subst}
 use Rattle.bindings.specs.Table.{Table}
+use Rattle.spec_binding.specs.Books.{is_lone}
 use Rattle.bind_core.specs.Changes.{IsBetween}
 use Rattle.bind_core.specs.View.{core_of}
 use Rattle.bind_core.proofs.Performing.{same-book}
@@ -8,7 +9,7 @@ use Rattle.bind_core.proofs.cores.Core.list_idle.Goals as goal
 
 pub unreachable-requires : goal.unreachable-requires
 unreachable-requires c =
-    let few = few-idle c.args.now c.self.inside.table.entries c.self.inside.table.lives in
+    let few = few-idle (is_lone c.self.inside.stage) c.args.now c.self.inside.table.entries c.self.inside.table.lives in
     let within = c.recall.ensures.within in
     let room = c.self.invariant.room in
     let len = c.clear.ensures.len in

@@ -1,8 +1,9 @@
-use Rattle.std.proofs.Common.{refl}
+use Rattle.std.proofs.Common.{refl, ◌∙◌}
 use Rattle.slots.specs.Rows.{Row}
 use Rattle.bindings.specs.declared.store.Item.{Item}
 use Rattle.bindings.specs.Entries.{entry_in}
 use Rattle.bindings.proofs.Kept.{entries-put, lives-put}
+use Rattle.bindings.proofs.Changes.{number-none}
 use Rattle.bindings.proofs.Stored.{added, row-absent, put-rows}
 use Rattle.bindings.proofs.Timed.{added-timed}
 use Rattle.bindings.proofs.store.Store.add.Goals as goal
@@ -10,6 +11,12 @@ use Rattle.bindings.proofs.store.Store.add.Goals as goal
 pub insert-number-requires-clause-vacant : goal.insert-number-requires-clause-vacant
 insert-number-requires-clause-vacant c =
     row-absent c.self.inside.slots.rows c.key_of-key.result c.self.invariant.0.keyed (rw (← c.self.view_is, ← c.key_of-key.ensures) at c.requires.vacant)
+
+pub list_pair-requires-clause-free : goal.list_pair-requires-clause-free
+list_pair-requires-clause-free c =
+    let i = c.self.inside in
+    let free = rw (← c.self.view_is) at c.requires.free in
+    λ pair. c.self.invariant.0.indexed c.args.pair.endpoint ∙ number-none i.slots.rows c.args.pair.endpoint (free pair)
 
 pub invariant_of-self : goal.invariant_of-self
 invariant_of-self c =
@@ -23,8 +30,8 @@ invariant_of-self c =
     let keeps = rw (c.key_of-key.ensures) at c.set_in_time.ensures.others in
     let set = rw (rows, c.key_of-key.ensures) at c.set_in_time.ensures.timed in
     rw rows (
-      added i.slots i.index c.list_pair.new.index r c.self.invariant.0 refl free c.list_pair.ensures.slots,
-      added-timed i.dues c.set_in_time.new.dues r i.slots.rows none own within keeps set c.self.invariant.1,
+      added i.slots i.index c.list_pair.new.index r c.self.invariant.0 refl free c.list_pair.ensures.slots c.list_pair.ensures.counts,
+      added-timed i.alone i.dues c.set_in_time.new.dues r i.slots.rows none own within keeps set c.self.invariant.1,
     )
 
 pub returns-clause-entries : goal.returns-clause-entries

@@ -10,7 +10,7 @@ pub invariant_of-self : goal.invariant_of-self
 invariant_of-self c =
     let rows = λ (s : PortSlots Item). s.rows in (
       (changed-life c.self.inside.slots c.put_renewal.new.slots c.self.inside.index c.args.key (life_renewed c.args.now) c.self.invariant.0 c.recall.ensures.order c.put_renewal.ensures.some c.put_renewal.ensures.none).0,
-      changed-timed c.args.key (λ i. record i { life = life_renewed c.args.now i.life }) c.self.inside.dues c.set_in_time.new.dues c.self.inside.slots.rows c.put_renewal.new.slots.rows c.recall.ensures.order
+      changed-timed c.self.inside.alone c.args.key (λ i. record i { life = life_renewed c.args.now i.life }) c.self.inside.dues c.set_in_time.new.dues c.self.inside.slots.rows c.put_renewal.new.slots.rows c.recall.ensures.order
           (λ i h. ap rows (c.put_renewal.ensures.some i h)) (λ h. ap rows (c.put_renewal.ensures.none h)) c.set_in_time.ensures.others c.set_in_time.ensures.timed c.self.invariant.1,
     )
 

@@ -1,10 +1,19 @@
 use Rattle.std.proofs.Common.{sym, ap, ◌∙◌}
+use Rattle.std.specs.Option.{is_some}
 use Rattle.slots.specs.Rows.{PortSlots}
 use Rattle.bindings.specs.declared.store.Item.{Item}
 use Rattle.bindings.proofs.Kept.{entries-without, lives-without}
 use Rattle.bindings.proofs.Stored.{removed, none-removed, held-by}
+use Rattle.bindings.proofs.Counts.{numbered}
 use Rattle.bindings.proofs.Timed.{without-timed}
 use Rattle.bindings.proofs.store.Store.take_out.Goals as goal
+
+pub unlist-requires : goal.unlist-requires
+unlist-requires c =
+    let i = c.self.inside in
+    let item = sym c.in-Some.ensures.item in
+    let held = held-by i.slots.rows c.args.key c.in-Some.item c.self.invariant.0.keyed item in
+    rw c.entry_of_item-pair.ensures (record { held = λ pair. ap is_some (c.self.invariant.0.indexed c.in-Some.item.entry.pair.endpoint) ∙ numbered i.slots.rows c.args.key c.in-Some.item.entry held pair })
 
 pub invariant_of-self : goal.invariant_of-self
 invariant_of-self c =
@@ -14,7 +23,8 @@ invariant_of-self c =
     let held = held-by i.slots.rows c.args.key c.in-Some.item c.self.invariant.0.keyed item in
     let endpoints = rw (← c.self.view_is) at c.requires in
     let listed = rw c.entry_of_item-pair.ensures at c.unlist.ensures.slots in
-    rw rows (removed i.slots.rows i.index c.unlist.new.index c.args.key c.in-Some.item c.self.invariant.0 c.recall.ensures.order item (endpoints c.in-Some.item.entry held) listed, without-timed c.args.key i.dues i.slots.rows c.self.invariant.1)
+    let counts = rw c.entry_of_item-pair.ensures at c.unlist.ensures.counts in
+    rw rows (removed i.slots.rows i.index c.unlist.new.index c.args.key c.in-Some.item c.self.invariant.0 c.recall.ensures.order item (endpoints c.in-Some.item.entry held) listed counts, without-timed i.alone c.args.key i.dues i.slots.rows c.self.invariant.1)
 
 pub invariant_of-self-in_default : goal.invariant_of-self-in_default
 invariant_of-self-in_default c =

@@ -1,11 +1,19 @@
 use Rattle.std.proofs.Common.{◌≡◌, None, ap, sym, ◌∙◌}
+use Rattle.std.specs.Option.{is_some}
 use Rattle.slots.specs.Rows.{PortSlots}
 use Rattle.bindings.specs.declared.store.Item.{Item}
 use Rattle.bindings.specs.Entries.{slot_of, entry_in}
+use Rattle.bindings.proofs.Counts.{numbered}
 use Rattle.bindings.proofs.Timed.{changed-timed}
 use Rattle.bindings.proofs.Places.{turn-none}
 use Rattle.bindings.proofs.Stored.{turned}
 use Rattle.bindings.proofs.store.Store.turn.Goals as goal
+
+pub unlist_turned-requires : goal.unlist_turned-requires
+unlist_turned-requires c =
+    let i = c.self.inside in
+    let held = rw (← c.self.view_is) at (sym c.in-Some.ensures) in
+    record { held = λ pair. ap is_some (c.self.invariant.0.indexed c.in-Some.entry.pair.endpoint) ∙ numbered i.slots.rows c.args.key c.in-Some.entry held pair }
 
 pub invariant_of-self : goal.invariant_of-self
 invariant_of-self c =
@@ -14,8 +22,8 @@ invariant_of-self c =
     let pair = rw (← c.self.view_is) at c.requires.pair in
     let endpoints = rw (← c.self.view_is) at c.requires.endpoints in
     let rows = λ (s : PortSlots Item). s.rows in (
-      (turned i.slots c.put_state.new.slots i.index c.unlist_turned.new.index c.args.key c.args.state c.in-Some.entry c.self.invariant.0 c.recall.ensures.order held (pair c.in-Some.entry held) (endpoints c.in-Some.entry held) c.put_state.ensures.some c.unlist_turned.ensures.slots).0,
-      changed-timed c.args.key (λ i. record i { entry = entry_in c.args.state c.in-Some.entry.pair }) i.dues c.set_in_time.new.dues i.slots.rows c.put_state.new.slots.rows c.recall.ensures.order
+      (turned i.slots c.put_state.new.slots i.index c.unlist_turned.new.index c.args.key c.args.state c.in-Some.entry c.self.invariant.0 c.recall.ensures.order held (pair c.in-Some.entry held) (endpoints c.in-Some.entry held) c.put_state.ensures.some c.unlist_turned.ensures.slots c.unlist_turned.ensures.counts).0,
+      changed-timed i.alone c.args.key (λ i. record i { entry = entry_in c.args.state c.in-Some.entry.pair }) i.dues c.set_in_time.new.dues i.slots.rows c.put_state.new.slots.rows c.recall.ensures.order
           (λ i h. ap rows (c.put_state.ensures.some i h)) (λ h. ap rows (c.put_state.ensures.none h)) c.set_in_time.ensures.others c.set_in_time.ensures.timed c.self.invariant.1,
     )
 
@@ -25,7 +33,7 @@ returns-in-Some-clause-entries c =
     let held = rw (← c.self.view_is) at (sym c.in-Some.ensures) in
     let pair = rw (← c.self.view_is) at c.requires.pair in
     let endpoints = rw (← c.self.view_is) at c.requires.endpoints in
-    rw (← c.self.view_is) (turned i.slots c.put_state.new.slots i.index c.unlist_turned.new.index c.args.key c.args.state c.in-Some.entry c.self.invariant.0 c.recall.ensures.order held (pair c.in-Some.entry held) (endpoints c.in-Some.entry held) c.put_state.ensures.some c.unlist_turned.ensures.slots).1
+    rw (← c.self.view_is) (turned i.slots c.put_state.new.slots i.index c.unlist_turned.new.index c.args.key c.args.state c.in-Some.entry c.self.invariant.0 c.recall.ensures.order held (pair c.in-Some.entry held) (endpoints c.in-Some.entry held) c.put_state.ensures.some c.unlist_turned.ensures.slots c.unlist_turned.ensures.counts).1
 
 pub returns-in-Some-clause-lives : goal.returns-in-Some-clause-lives
 returns-in-Some-clause-lives c =
@@ -33,7 +41,7 @@ returns-in-Some-clause-lives c =
     let held = rw (← c.self.view_is) at (sym c.in-Some.ensures) in
     let pair = rw (← c.self.view_is) at c.requires.pair in
     let endpoints = rw (← c.self.view_is) at c.requires.endpoints in
-    rw (← c.self.view_is) (turned i.slots c.put_state.new.slots i.index c.unlist_turned.new.index c.args.key c.args.state c.in-Some.entry c.self.invariant.0 c.recall.ensures.order held (pair c.in-Some.entry held) (endpoints c.in-Some.entry held) c.put_state.ensures.some c.unlist_turned.ensures.slots).2
+    rw (← c.self.view_is) (turned i.slots c.put_state.new.slots i.index c.unlist_turned.new.index c.args.key c.args.state c.in-Some.entry c.self.invariant.0 c.recall.ensures.order held (pair c.in-Some.entry held) (endpoints c.in-Some.entry held) c.put_state.ensures.some c.unlist_turned.ensures.slots c.unlist_turned.ensures.counts).2
 
 pub returns-in-Some-clause-room : goal.returns-in-Some-clause-room
 returns-in-Some-clause-room c =
@@ -41,7 +49,7 @@ returns-in-Some-clause-room c =
     let held = rw (← c.self.view_is) at (sym c.in-Some.ensures) in
     let pair = rw (← c.self.view_is) at c.requires.pair in
     let endpoints = rw (← c.self.view_is) at c.requires.endpoints in
-    rw (← c.self.view_is) (turned i.slots c.put_state.new.slots i.index c.unlist_turned.new.index c.args.key c.args.state c.in-Some.entry c.self.invariant.0 c.recall.ensures.order held (pair c.in-Some.entry held) (endpoints c.in-Some.entry held) c.put_state.ensures.some c.unlist_turned.ensures.slots).3
+    rw (← c.self.view_is) (turned i.slots c.put_state.new.slots i.index c.unlist_turned.new.index c.args.key c.args.state c.in-Some.entry c.self.invariant.0 c.recall.ensures.order held (pair c.in-Some.entry held) (endpoints c.in-Some.entry held) c.put_state.ensures.some c.unlist_turned.ensures.slots c.unlist_turned.ensures.counts).3
 
 pub returns-in_default-clause-entries : goal.returns-in_default-clause-entries
 returns-in_default-clause-entries c =

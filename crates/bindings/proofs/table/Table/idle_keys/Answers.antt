@@ -10,28 +10,28 @@ pub returns-in_err-reserve-clause-listed : goal.returns-in_err-reserve-clause-li
 returns-in_err-reserve-clause-listed c =
     let i = c.self.inside in
     rw (← c.self.view_is)
-    (λ key entry past held has. listed-is c.args.now i.store.entries i.store.lives key entry past c.self.invariant.0.keys held (slot-key i.store.entries key entry held) has)
+    (λ key entry past held has. listed-is c.args.lone c.args.now i.store.entries i.store.lives key entry past c.self.invariant.0.keys held (slot-key i.store.entries key entry held) has)
 
 pub returns-clause-listed : goal.returns-clause-listed
 returns-clause-listed c =
     let i = c.self.inside in
     rw (← c.self.view_is)
-    (λ key entry past held has. listed-is c.args.now i.store.entries i.store.lives key entry past c.self.invariant.0.keys held (slot-key i.store.entries key entry held) has)
+    (λ key entry past held has. listed-is c.args.lone c.args.now i.store.entries i.store.lives key entry past c.self.invariant.0.keys held (slot-key i.store.entries key entry held) has)
 
 pub returns-in_err-reserve-clause-few : goal.returns-in_err-reserve-clause-few
 returns-in_err-reserve-clause-few c =
     let i = c.self.inside in
-    rw (← c.self.view_is) (few-idle c.args.now i.store.entries i.store.lives)
+    rw (← c.self.view_is) (few-idle c.args.lone c.args.now i.store.entries i.store.lives)
 
 pub returns-clause-few : goal.returns-clause-few
 returns-clause-few c =
     let i = c.self.inside in
-    rw (← c.self.view_is) (few-idle c.args.now i.store.entries i.store.lives)
+    rw (← c.self.view_is) (few-idle c.args.lone c.args.now i.store.entries i.store.lives)
 
 pub returns-in_err-reserve-clause-room : goal.returns-in_err-reserve-clause-room
 returns-in_err-reserve-clause-room c =
     let i = c.self.inside in
     let keys = c.list_due.new.keys.items in
     let count = rw (c.list_due.ensures.same, c.deref.ensures.value) at c.count_idle.ensures in
-    let long = ap length c.list_due.ensures.among ∙ length-filter (is_idle_key c.args.now i.store.entries i.store.lives) keys in
+    let long = ap length c.list_due.ensures.among ∙ length-filter (is_idle_key c.args.lone c.args.now i.store.entries i.store.lives) keys in
     rw (← c.self.view_is) (λ room. absurd (false≢true (c.in_err-reserve.ensures.succeeds (omega (arith, count, long, room)))))

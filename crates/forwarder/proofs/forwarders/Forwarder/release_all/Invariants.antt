@@ -9,7 +9,7 @@ use Rattle.forwarder.proofs.forwarders.Forwarder.release_all.Given as goal
 abbrev pub invariant-loop-packet : goal.invariant-loop-packet
 invariant-loop-packet l = record {
   scene : all_taken (scene_on l.self l.page) (drop (length l.yielded) (ended_by AllPairs l.fn.self.kept)) ≡ released (scene_on l.fn.self l.fn.page) AllPairs;
-  frames : l.fn.page.room.frames ≤ l.page.room.frames + length l.yielded;
+  frames : l.fn.page.room.frames ≤ l.page.room.frames + 2 * length l.yielded;
   datagrams : l.page.room.datagrams ≡ l.fn.page.room.datagrams;
   notes : l.fn.page.room.notes ≤ l.page.room.notes + 3 * length l.yielded;
   ready : l.fn.self.core.table.ready ≤ l.self.core.table.ready + length l.yielded;

@@ -1,0 +1,57 @@
+use Rattle.std.proofs.Common.{◌≡◌, [], Some, slice_get, length, sym, ap, ◌∙◌, arith}
+use Rattle.bindings.specs.Table.{idle_keys_of}
+use Rattle.spec_binding.specs.Books.{is_lone}
+use Rattle.spec_binding.specs.Ledgers.{Ledger, let_go}
+use Rattle.bind_core.specs.Cores.{Core, book_of, ledger_of}
+use Rattle.bind_core.proofs.Performing.{works-as}
+use Rattle.bind_core.proofs.Releasing.{few-idle, one-more-at, all-done, TickLaws, released-works}
+use Rattle.bind_core.proofs.cores.Core.release_idle.Goals as goal
+
+pub returns-clause-len : goal.returns-clause-len
+returns-clause-len c =
+    let few = few-idle (is_lone c.args.self.now.stage) c.args.now c.args.self.now.table.entries c.args.self.now.table.lives in
+    let end = c.idle_count-i-end.ensures in
+    let keys = ap (λ (k : Core). length k.idle) c.list_idle.ensures in
+    let len = c.loop-i.invariant.len in
+    omega (arith, few, end, keys, len)
+
+pub release-requires : goal.release-requires
+release-requires c =
+    let few = few-idle (is_lone c.args.self.now.stage) c.args.now c.args.self.now.table.entries c.args.self.now.table.lives in
+    let end = c.idle_count-i-end.ensures in
+    let keys = ap (λ (k : Core). length k.idle) c.list_idle.ensures in
+    let len = c.loop-i.invariant.len in
+    let capacity = c.loop-i.invariant.capacity in
+    let reserved = c.requires in
+    let before = c.loop-i-test.true in
+    record { reserved = omega (arith, few, end, keys, len, capacity, reserved, before) }
+
+pub loop-i-preserved : goal.loop-i-preserved
+loop-i-preserved c =
+    let keys = idle_keys_of c.args.self.now.table (is_lone c.args.self.now.stage) c.args.now in
+    let found : slice_get keys c.loop-i.i ≡ Some c.idle_key_at-key.result = sym (ap (λ ks. slice_get ks c.loop-i.i) c.loop-i.invariant.idle) ∙ c.idle_key_at-key.ensures in
+    let more = one-more-at c.args.now c.loop-i.i keys c.idle_key_at-key.result (ledger_of c.loop-i.self) c.loop-i.link c.loop-i.notes.items (ledger_of c.release.new.self) c.release.new.link c.release.new.notes.items found
+    record { ledger = c.release.ensures.ledger; link = c.release.ensures.link; notes = c.release.ensures.notes } in
+    let len = c.loop-i.invariant.len in
+    let longer = c.release.ensures.len in
+    record {
+      ledger = sym more.ledger ∙ c.loop-i.invariant.ledger;
+      link = sym more.link ∙ c.loop-i.invariant.link;
+      notes = sym more.notes ∙ c.loop-i.invariant.notes;
+      ready = c.release.ensures.ready ∙ c.loop-i.invariant.ready;
+      idle = c.release.ensures.idle ∙ c.loop-i.invariant.idle;
+      len = omega (arith, len, longer);
+      capacity = c.release.ensures.capacity ∙ c.loop-i.invariant.capacity;
+    }
+
+pub returns-clause-works : goal.returns-clause-works
+returns-clause-works c = λ h n stands.
+    let keys = idle_keys_of c.args.self.now.table (is_lone c.args.self.now.stage) c.args.now in
+    let sizes = ap (λ (k : Core). length k.idle) c.list_idle.ensures in
+    let end = c.idle_count-i-end.ensures in
+    let past = c.loop-i-test.false in
+    let none = all-done c.loop-i.i keys (omega (arith, sizes, end, past)) in
+    let laws : TickLaws = record { idle = c.idle_works.ensures; join = c.works_join.ensures; nothing = c.works_nothing.ensures } in
+    works-as c.args.now [] [] (book_of c.args.self.now) c.args.link.now n _ (book_of c.loop-i.self) _ c.loop-i.link n _ h
+    (ap (λ (l : Ledger). l.book) (sym (ap (λ ks. (let_go c.args.now ks (ledger_of c.loop-i.self) c.loop-i.link).ledger) none) ∙ c.loop-i.invariant.ledger)) (sym (ap (λ ks. (let_go c.args.now ks (ledger_of c.loop-i.self) c.loop-i.link).link) none) ∙ c.loop-i.invariant.link)
+    (released-works laws c.args.now keys (ledger_of c.args.self.now) c.args.link.now n h stands)

@@ -1,0 +1,83 @@
+-- A wish for a port leaves 64 places of the link free, where they were.
+use Rattle.std.proofs.Common.{◌≡◌, ◌≤◌, ◌+◌, ◌&&◌, Bool, true, false, cond, not, Option, Some, None, [], ◌∷◌, min, refl, arith, length-append}
+use Rattle.std.proofs.lemmas.Bool.{ltb-false}
+use Rattle.addresses.specs.declared.transport.Port.{Port}
+use Rattle.nat_types.specs.declared.notes.NoteKind.TheVariants.{Retaken}
+use Rattle.nat_types.specs.declared.pairs.Endpoint.{Endpoint}
+use Rattle.nat_types.specs.declared.pairs.EntryState.{EntryState}
+use Rattle.nat_types.specs.declared.pairs.EntryState.TheVariants as state
+use Rattle.nat_types.specs.declared.pairs.Pair.{Pair}
+use Rattle.nat_types.specs.declared.records.Record.{Record}
+use Rattle.nat_types.specs.declared.records.Record.TheVariants as record_of
+use Rattle.bindings.specs.declared.entries.Entry.{Entry}
+use Rattle.bindings.specs.Entries.{entry_in, entry_of}
+use Rattle.link.specs.Link.{Link, free_places, with_pushed}
+use Rattle.spec_binding.specs.declared.changes.Change.TheVariants as change_of
+use Rattle.spec_binding.specs.declared.changes.PortRequest.{PortRequest}
+use Rattle.spec_binding.specs.declared.changes.Transition.{Transition}
+use Rattle.spec_binding.specs.declared.changes.Want.TheVariants as want
+use Rattle.spec_binding.specs.Books.{Book, is_lone, is_synced}
+use Rattle.spec_binding.specs.Rows.{answered, is_at_limit, is_full, known_wish, new_pair, new_wish, none_row, port_for, proposal, quiet, row, wish, wish_by, wish_of}
+
+-- ---- where the link is full nothing is pushed
+
+known-mute : (p : Pair) (s : EntryState) → (known_wish p s).row.answer ≡ None
+known-mute p state.Pending = refl
+known-mute p state.Doomed = refl
+known-mute p state.Live = refl
+known-mute p state.Closing = refl
+known-mute p state.Held = refl
+
+none-mute : (b : Book) → (none_row b true).answer ≡ None
+none-mute b = at (is_lone b.stage) b.wants
+  where
+    at : (lone wants : Bool) → (let r : Transition = cond (not lone && (not wants && false)) (row change_of.Want (Some record_of.Want) None) quiet in r).answer ≡ None
+    at true wants = refl
+    at false true = refl
+    at false false = refl
+
+new-mute : (b : Book) (e : Endpoint) (o : Option Port) → (new_wish b true e o).row.answer ≡ None
+new-mute b e None = none-mute b
+new-mute b e (Some port) = at (is_lone b.stage)
+  where
+    at : (lone : Bool) → (let w : PortRequest = cond lone (wish (want.Port port) (row (change_of.Add (entry_in state.Live (new_pair e port))) None (Some (Retaken (new_pair e port))))) (wish want.NotNow quiet) in w.row).answer ≡ None
+    at true = refl
+    at false = refl
+
+by-mute : (b : Book) (e : Endpoint) (o : Option Entry) → (wish_by b true e o).row.answer ≡ None
+by-mute b e (Some x) = known-mute x.pair x.state
+by-mute b e None = at (is_at_limit b e.address)
+  where
+    at : (limited : Bool) → (let w : PortRequest = cond limited (wish want.HostLimit quiet) (new_wish b true e (port_for b e)) in w.row).answer ≡ None
+    at true = refl
+    at false = new-mute b e (port_for b e)
+
+wish-mute : (b : Book) (e : Endpoint) → (wish_of b true e).row.answer ≡ None
+wish-mute b e = at (is_synced b.stage)
+  where
+    at : (synced : Bool) → (let w : PortRequest = cond synced (wish_by b true e (entry_of b.entries e)) (wish want.NotNow quiet) in w.row).answer ≡ None
+    at true = by-mute b e (entry_of b.entries e)
+    at false = refl
+
+-- ---- what is pushed elsewhere takes one of 65 places
+
+free-pushed : (e : Link) (r : Record) → free_places e ≤ free_places (with_pushed e r) + 1
+free-pushed e r = let longer = length-append e.waiting (r ∷ []) in omega (arith, longer)
+
+answered-leaves : (e : Link) (a : Option Record) → is_full e ≡ false → min 64 (free_places e) ≤ free_places (answered e a)
+answered-leaves e None room = omega arith
+answered-leaves e (Some r) room =
+    let places = ltb-false (free_places e) 65 room in
+    let one = free-pushed e r in
+    omega (arith, places, one)
+
+mute-leaves : (e : Link) (a : Option Record) → a ≡ None → min 64 (free_places e) ≤ free_places (answered e a)
+mute-leaves e None mute = omega arith
+mute-leaves e (Some r) mute = cc
+
+pub wish-leaves : (b : Book) (l : Link) (e : Endpoint) → min 64 (free_places l) ≤ free_places (answered l (wish_of b (is_full l) e).row.answer)
+wish-leaves b l e = at (is_full l) refl
+  where
+    at : (full : Bool) → is_full l ≡ full → min 64 (free_places l) ≤ free_places (answered l (wish_of b full e).row.answer)
+    at true is = mute-leaves l (wish_of b true e).row.answer (wish-mute b e)
+    at false is = answered-leaves l (wish_of b false e).row.answer is
