@@ -5,6 +5,7 @@ use Rattle.addresses.specs.declared.ethernet.Mac.{Mac}
 use Rattle.addresses.specs.declared.transport.TcpFlags.{TcpFlags}
 use Rattle.addresses.specs.declared.internet.Ip.{Ip}
 use Rattle.nat_types.specs.declared.gateways.GatewayId.{GatewayId}
+use Rattle.nat_types.specs.declared.gateways.GatewayId.TheVariants.{Zero}
 use Rattle.nat_types.specs.declared.gateways.Side.{Side}
 use Rattle.nat_types.specs.declared.gateways.Side.TheVariants.{Inside, Outside}
 use Rattle.nat_types.specs.declared.pairs.Endpoint.{Endpoint}
@@ -480,4 +481,12 @@ begun-settles settings id boot = record { running = λ r. absurd (cc); idle = λ
 
 pub founded-settles : (settings : Settings) (boot : ℕ) → IsSettled (founded settings boot)
 unfolding founded begun
-founded-settles settings boot = record { running = λ r. (λ i. absurd (cc), λ o. absurd (cc)); idle = λ d. absurd (cc); answered = refl; places = none-kept }
+founded-settles settings boot =
+    let inside = (stations.new_station settings Zero Inside).router in
+    let outside = (stations.new_station settings Zero Outside).router in
+    record {
+      running = λ r. (started-begun inside.state inside 0 refl, started-begun outside.state outside 0 refl);
+      idle = λ d. absurd (cc);
+      answered = refl;
+      places = none-kept;
+    }
