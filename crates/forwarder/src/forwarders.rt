@@ -21,6 +21,8 @@ pub struct Forwarder {
     pub moment: u64,
     /// Whether both routers were stopped for good.
     pub stopped: bool,
+    /// Whether it gave way to the other gateway: then both routers stand in Initialize.
+    pub away: bool,
     pub core: Core,
     pub link: Link,
     pub inside: Interface,

@@ -21,6 +21,7 @@ use vrrp_states::Action;
 /// What a router is told.
 #[derive(Clone, Copy, Debug, PartialEq, Eq)]
 pub(crate) enum Cue {
+    Start,
     Tick,
     Stop,
     /// An advertisement came from this address.
@@ -89,6 +90,10 @@ fn tell(station: &mut Interface, cue: Cue, now: u64) -> Action
     ensures { IsRouterStep station.old (event_of cue) now result station.new }
 {
     match cue {
+        Cue::Start => {
+            station.start(now);
+            Action::Nothing
+        }
         Cue::Tick => station.tick(now),
         Cue::Stop => station.stop(),
         Cue::Heard(advert, from) => station.heard(&advert, from, now),
@@ -132,6 +137,7 @@ pub(crate) fn cue_both(forwarder: &mut Forwarder, page: &mut OutputBuffer, cue: 
       inside = forwarder.new.inside;
       outside = forwarder.new.outside;
     } }
+    ensures frames { page.old.room.frames ≤ page.new.room.frames + 4 }
     ensures datagrams { page.new.room.datagrams ≡ page.old.room.datagrams }
     ensures notes { page.new.room.notes ≡ page.old.room.notes }
 {
