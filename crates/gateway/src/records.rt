@@ -75,7 +75,7 @@ fn take_and_start(
     let was_synced = forwarder.core.is_synced();
     let ended = take_alone(forwarder, page, entry);
     let has_synced = !was_synced && forwarder.core.is_synced();
-    if has_synced && !forwarder.stopped && !forwarder.away {
+    if has_synced && forwarder.is_running() {
         start_routers(forwarder);
     }
     ended

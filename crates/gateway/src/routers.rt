@@ -6,7 +6,7 @@ ghost use Rattle.packet_rules.specs.Arping.{gratuitous_frame};
 ghost use Rattle.interfaces.specs.Stations.{IsRouterStep};
 ghost use Rattle.spec_step.specs.Parts.{all_framed, frames_of, started};
 ghost use Rattle.spec_step.specs.Shown.{Shown, scene, with_station};
-ghost use Rattle.spec_step.specs.Steps.{BothAct, RouterActs};
+ghost use Rattle.spec_step.specs.Routers.{BothAct, RouterActs};
 ghost use Rattle.forwarder.specs.Forwarder.{scene_on, shown_of};
 ghost use Rattle.gateway.specs.Cues.{event_of};
 
@@ -21,7 +21,6 @@ use vrrp_states::Action;
 /// What a router is told.
 #[derive(Clone, Copy, Debug, PartialEq, Eq)]
 pub(crate) enum Cue {
-    Start,
     Tick,
     Stop,
     /// An advertisement came from this address.
@@ -90,10 +89,6 @@ fn tell(station: &mut Interface, cue: Cue, now: u64) -> Action
     ensures { IsRouterStep station.old (event_of cue) now result station.new }
 {
     match cue {
-        Cue::Start => {
-            station.start(now);
-            Action::Nothing
-        }
         Cue::Tick => station.tick(now),
         Cue::Stop => station.stop(),
         Cue::Heard(advert, from) => station.heard(&advert, from, now),
@@ -152,7 +147,7 @@ fn start_station(station: &mut Interface, now: u64)
     station.start(now);
 }
 
-/// Starts both routers, of a gateway that was founded or loaded.
+/// Starts both routers, of a gateway that was founded or loaded, or came back.
 pub(crate) fn start_routers(forwarder: &mut Forwarder)
     requires { IsMoment forwarder.old.moment }
     ensures { forwarder.new ≡ record forwarder.old {

@@ -1,17 +1,20 @@
-//! Giving way: the turn with which a tick begins, and what a gateway says of itself.
+//! Giving way: the turn with which a tick begins, what a gateway says of itself, and its cables.
 ghost use Rattle.std.specs.Prelude.{◌≡◌, ◌≤◌, ◌+◌};
 ghost use Rattle.vrrp_states.specs.Table.{IsMoment};
-ghost use Rattle.spec_step.specs.GivingWay.{GivingWay, has_both_sides, turn_of};
-ghost use Rattle.spec_step.specs.Shown.{is_up, is_whole, plugged, serves};
+ghost use Rattle.output.specs.Output.{Output};
+ghost use Rattle.spec_step.specs.GivingWay.{GivingWay, TakesTurn, returned, turn_of};
+ghost use Rattle.spec_step.specs.declared.turns.Turn.TheVariants.{Leaves};
+ghost use Rattle.spec_step.specs.Parts.{side_plugged};
+ghost use Rattle.spec_step.specs.Shown.{has_side_out, is_whole, scene, serves};
 ghost use Rattle.forwarder.specs.Forwarder.{scene_on, shown_of};
 
-use crate::routers::{Cue, cue_both};
+use crate::routers::{Cue, cue_both, start_routers};
 use forwarder::Forwarder;
 use nat_types::Side;
 use output::OutputBuffer;
 use spec_step::Turn;
 
-/// Whether both sides are whole: their cables are in, and have been for long.
+/// Whether both sides are whole.
 fn is_whole(forwarder: &Forwarder) -> bool
     ensures { result ≡ is_whole (shown_of forwarder.now) }
 {
@@ -19,64 +22,98 @@ fn is_whole(forwarder: &Forwarder) -> bool
     forwarder.inside.is_whole(now) && forwarder.outside.is_whole(now)
 }
 
-/// Whether it serves: it is synced and whole. Its datagrams say so.
+/// Whether it could serve on both sides; its datagrams say so.
 pub(crate) fn serves(forwarder: &Forwarder) -> bool
     ensures { result ≡ serves (shown_of forwarder.now) }
 {
     forwarder.core.is_synced() && is_whole(forwarder)
 }
 
-/// Whether it lacks a side: a cable is out.
-fn lacks_side(forwarder: &Forwarder) -> bool
-    ensures { result ≡ lacks_side (shown_of forwarder.now) }
+/// Whether the cable of one side or of both is out.
+fn has_side_out(forwarder: &Forwarder) -> bool
+    ensures { result ≡ has_side_out (shown_of forwarder.now) }
 {
-    !forwarder.inside.is_in() || !forwarder.outside.is_in()
+    !(forwarder.inside.is_in() && forwarder.outside.is_in())
 }
 
-/// The turn that a tick takes now.
+/// The turn that a tick takes as it begins.
 fn turn_of(forwarder: &Forwarder) -> Turn
     ensures { result ≡ turn_of (shown_of forwarder.now) }
 {
-    let peer_serves = forwarder.link.peer_serves(forwarder.moment);
+    let served = forwarder.link.peer_serves(forwarder.moment);
     if forwarder.away {
-        if is_whole(forwarder) || !peer_serves {
+        if is_whole(forwarder) || !served {
             Turn::Returns
         } else {
             Turn::Stays
         }
-    } else if lacks_side(forwarder) && peer_serves {
+    } else if has_side_out(forwarder) && served {
         Turn::Leaves
     } else {
         Turn::Stays
     }
 }
 
-/// Gives way: both routers are stopped, that of the inside first.
-fn leave(forwarder: &mut Forwarder, page: &mut OutputBuffer) {
+/// Gives way: both routers are stopped.
+fn leave(forwarder: &mut Forwarder, page: &mut OutputBuffer)
+    requires moment { IsMoment forwarder.old.moment }
+    requires frames { 4 ≤ page.old.room.frames }
+    ensures turn { TakesTurn (scene_on forwarder.old page.old) Leaves
+        (scene_on forwarder.new page.new) }
+    ensures rest { forwarder.new ≡ record forwarder.old {
+      away = forwarder.new.away;
+      inside = forwarder.new.inside;
+      outside = forwarder.new.outside;
+    } }
+    ensures frames { page.old.room.frames ≤ page.new.room.frames + 4 }
+    ensures datagrams { page.new.room.datagrams ≡ page.old.room.datagrams }
+    ensures notes { page.new.room.notes ≡ page.old.room.notes }
+{
     cue_both(forwarder, page, Cue::Stop);
     forwarder.away = true;
 }
 
 /// Comes back: where it is up, both routers are started.
-fn come_back(forwarder: &mut Forwarder, page: &mut OutputBuffer) {
+fn come_back(forwarder: &mut Forwarder)
+    requires { IsMoment forwarder.old.moment }
+    ensures turn { shown_of forwarder.new ≡ returned (shown_of forwarder.old) }
+    ensures rest { forwarder.new ≡ record forwarder.old {
+      away = forwarder.new.away;
+      inside = forwarder.new.inside;
+      outside = forwarder.new.outside;
+    } }
+{
     forwarder.away = false;
     if forwarder.is_up() {
-        cue_both(forwarder, page, Cue::Start);
+        start_routers(forwarder);
     }
 }
 
 /// Takes the turn with which a tick begins.
-pub(crate) fn take_turn(forwarder: &mut Forwarder, page: &mut OutputBuffer) {
+pub(crate) fn take_turn(forwarder: &mut Forwarder, page: &mut OutputBuffer)
+    requires moment { IsMoment forwarder.old.moment }
+    requires frames { 4 ≤ page.old.room.frames }
+    ensures turn { GivingWay (scene_on forwarder.old page.old) (scene_on forwarder.new page.new) }
+    ensures rest { forwarder.new ≡ record forwarder.old {
+      away = forwarder.new.away;
+      inside = forwarder.new.inside;
+      outside = forwarder.new.outside;
+    } }
+    ensures frames { page.old.room.frames ≤ page.new.room.frames + 4 }
+    ensures datagrams { page.new.room.datagrams ≡ page.old.room.datagrams }
+    ensures notes { page.new.room.notes ≡ page.old.room.notes }
+{
     match turn_of(forwarder) {
         Turn::Leaves => leave(forwarder, page),
-        Turn::Returns => come_back(forwarder, page),
+        Turn::Returns => come_back(forwarder),
         Turn::Stays => {}
     }
 }
 
-/// The cable of a side is in or out. Nothing is told.
+/// Is told that the cable of a side is in (`up`) or out; nothing is told to anyone.
 pub(crate) fn plug(forwarder: &mut Forwarder, side: Side, up: bool)
-    ensures shown { shown_of forwarder.new ≡ plugged (shown_of forwarder.old) side up }
+    ensures plugged { (told : Output) → scene (shown_of forwarder.new) told
+        ≡ side_plugged (scene (shown_of forwarder.old) told) side up }
 {
     let now = forwarder.moment;
     match side {
