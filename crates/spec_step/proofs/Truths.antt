@@ -318,6 +318,7 @@ turn-says frames s s2 takes =
       record { tells = tells-quietly middle (left middle) [] refl (same-notes middle.told) refl refl; sound = record { book = is.book; kept = is.kept }; wired = w },
       refl,
     )
+
     back : (starts : Bool) → Saying [] s (scene (back_as starts s.shown) s.told)
     back true = λ is w. (
       record {
