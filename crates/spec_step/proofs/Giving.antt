@@ -1,5 +1,5 @@
 -- When a gateway is away after a tick: where a side is out and the peer serves, and never where the peer doesn't serve.
-use Rattle.std.proofs.Common.{◌≡◌, ◌∙◌, ℕ, Bool, true, false, cond, not, ◌&&◌, ◌||◌, Option, refl, sym, ap, subst}
+use Rattle.std.proofs.Common.{◌≡◌, ◌∙◌, ℕ, Bool, true, false, cond, not, ◌&&◌, ◌||◌, refl, sym, ap}
 use Rattle.link.specs.Hearing.{peer_serves}
 use Rattle.link.specs.Link.{is_due_on_tick, sent_on_tick}
 use Rattle.bindings.specs.Lives.{idle_keys_in}
@@ -18,7 +18,7 @@ use Rattle.spec_step.specs.Parts.{datagram_in, handed_in, idle_taken, link_ticke
 use Rattle.spec_step.specs.Routers.{BothAct}
 use Rattle.spec_step.specs.Settled.{AreIdle, HaveBegun, IsSettled}
 use Rattle.spec_step.specs.Shown.{GatewayAndOutput, Shown, has_side_out, is_up, is_whole, scene}
-use Rattle.spec_step.specs.Steps.{Does, IsStepOn, clock_after, ticked}
+use Rattle.spec_step.specs.Steps.{IsStepOn, clock_after, ticked}
 use Rattle.spec_step.proofs.Idle.{idle-at-once}
 use Rattle.spec_step.proofs.Lines.{both-shown}
 use Rattle.spec_step.proofs.Settling.{step-settles}

@@ -1,10 +1,11 @@
 -- Between its steps a gateway's routers have begun where it runs and are idle where it doesn't, its link owes no datagram, and
 -- the packets that it keeps have their places.
-use Rattle.std.proofs.Common.{◌≡◌, ◌⊎◌, ℕ, Bool, true, false, cond, not, ◌&&◌, ◌||◌, List, [], ◌∷◌, Option, Some, None, Result, Ok, Err, inl, inr, refl, sym, ap, subst, ◌∙◌, arith}
+use Rattle.std.proofs.Common.{◌≡◌, ℕ, Bool, true, false, cond, not, ◌&&◌, ◌||◌, List, [], ◌∷◌, Option, Some, None, Result, Ok, Err, refl, sym, ap, subst, ◌∙◌, arith}
 use Rattle.addresses.specs.declared.ethernet.Mac.{Mac}
 use Rattle.addresses.specs.declared.transport.TcpFlags.{TcpFlags}
 use Rattle.addresses.specs.declared.internet.Ip.{Ip}
 use Rattle.nat_types.specs.declared.gateways.GatewayId.{GatewayId}
+use Rattle.nat_types.specs.declared.gateways.GatewayId.TheVariants.{Zero}
 use Rattle.nat_types.specs.declared.gateways.Side.{Side}
 use Rattle.nat_types.specs.declared.gateways.Side.TheVariants.{Inside, Outside}
 use Rattle.nat_types.specs.declared.pairs.Endpoint.{Endpoint}
@@ -43,7 +44,6 @@ use Rattle.packet_rules.specs.Frames.{sent_frame}
 use Rattle.interfaces.specs.Stations as stations
 use Rattle.interfaces.specs.Stations.{Interface, after_arp, is_active, with_neighbour, with_plug}
 use Rattle.output.specs.Output.{with_datagram}
-use Rattle.vrrp_states.specs.declared.Action.{Action}
 use Rattle.vrrp_states.specs.declared.State.TheVariants.{Initialize}
 use Rattle.vrrp_states.specs.Table as table
 use Rattle.vrrp_states.specs.Table.{Event as RouterEvent, Router}
@@ -53,7 +53,7 @@ use Rattle.spec_step.specs.declared.plans.Plan.{Plan}
 use Rattle.spec_step.specs.declared.plans.Plan.TheVariants.{Send, Ask, AskAgain, Wait as WaitFor}
 use Rattle.spec_step.specs.Founding.{begun, founded}
 use Rattle.spec_step.specs.GivingWay.{GivingWay, left, turn_of}
-use Rattle.spec_step.specs.Parts.{all_idle_done, all_taken, answered_by, arp_taken, asked_again, by_plan, by_row, by_verdict, carried_all, datagram_in, datagram_read, flags_in, flow_taken, framed, frames_of, handed_in, has_synced, heard_by, heard_unless, idle_done, idle_taken, keeping, link_answered, link_ticked, neighbour_asked, old_dropped, record_done, record_shown, record_told, records_done, released, renewed_behind, request_by, reset, retaken_by, routers_started, side_plugged, taken_again, wait_ended, waiting, wanted_by, wanted_for, with_link, with_routers}
+use Rattle.spec_step.specs.Parts.{all_idle_done, all_taken, answered_by, arp_taken, asked_again, by_plan, by_row, by_verdict, carried_all, datagram_in, datagram_read, flags_in, flow_taken, framed, handed_in, has_synced, heard_by, heard_unless, idle_done, idle_taken, keeping, link_answered, link_ticked, neighbour_asked, old_dropped, record_done, record_shown, record_told, records_done, released, renewed_behind, request_by, reset, retaken_by, routers_started, side_plugged, taken_again, wait_ended, waiting, wanted_by, wanted_for, with_link, with_routers}
 use Rattle.spec_step.specs.Settled.{AreIdle, HaveBegun, IsSettled}
 use Rattle.spec_step.specs.Shown.{GatewayAndOutput, Shown, is_running, is_up, scene, station_on, with_station}
 use Rattle.spec_step.specs.Routers.{BothAct, RouterActs}
@@ -480,4 +480,12 @@ begun-settles settings id boot = record { running = λ r. absurd (cc); idle = λ
 
 pub founded-settles : (settings : Settings) (boot : ℕ) → IsSettled (founded settings boot)
 unfolding founded begun
-founded-settles settings boot = record { running = λ r. (λ i. absurd (cc), λ o. absurd (cc)); idle = λ d. absurd (cc); answered = refl; places = none-kept }
+founded-settles settings boot =
+    let inside = (stations.new_station settings Zero Inside).router in
+    let outside = (stations.new_station settings Zero Outside).router in
+    record {
+      running = λ r. (started-begun inside.state inside 0 refl, started-begun outside.state outside 0 refl);
+      idle = λ d. absurd (cc);
+      answered = refl;
+      places = none-kept;
+    }

@@ -1,7 +1,6 @@
 -- What holds of a gateway between its steps.
 use Rattle.std.specs.Prelude.{◌≡◌, true, false}
 use Rattle.waiting.specs.Packets.{IsKept}
-use Rattle.vrrp_states.specs.declared.State.{State}
 use Rattle.vrrp_states.specs.declared.State.TheVariants.{Initialize}
 use Rattle.spec_step.specs.Shown.{Shown, is_running}
 
