@@ -224,13 +224,13 @@ does-stays s (Frame side bytes) done does = frame-stays s side bytes.now (readin
 does-stays s (Comes bytes) done does = stays-as s.shown (datagram_taken s bytes.now) done does (read-stays s (reading bytes.now))
 does-stays s (Tick now) done does =
     let turned = does.0 in
-    let middle = does.1.0 in
+    let middle = does.1 in
     let young = old_dropped middle in
     let keys = idle_keys_in (is_lone young.shown.ledger.book.stage) young.shown.moment young.shown.ledger.book.entries young.shown.ledger.lives in
-    let turn = turn-stays (ticked s now) (turn_of (ticked s now).shown) turned does.1.1.0 in
-    let x = stays-then (ticked s now).shown turned.shown middle.shown turn (both-stay turned table.Tick middle does.1.1.1.0) in
+    let turn = turn-stays (ticked s now) (turn_of (ticked s now).shown) turned does.2 in
+    let x = stays-then (ticked s now).shown turned.shown middle.shown turn (both-stay turned table.Tick middle does.3) in
     let y = idle-stays young keys in
-    stays-as (ticked s now).shown (idle_taken young) done does.1.1.1.1
+    stays-as (ticked s now).shown (idle_taken young) done does.4
     (stays-then (ticked s now).shown middle.shown (idle_taken young).shown x
     (record { moment = y.moment; capacity = y.capacity; zero = y.zero; one = y.one }))
 does-stays s Stop done does =

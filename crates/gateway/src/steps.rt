@@ -205,7 +205,7 @@ fn take_event(
 /// Sends the datagram that is due at an event's end.
 fn end_event(forwarder: &mut Forwarder, page: &mut OutputBuffer, event: Event<'_>)
     requires promised { length forwarder.old.core.coming ≡ forwarder.old.link.promised }
-    requires datagrams { most_datagrams event.entry ≤ page.old.room.datagrams }
+    requires datagrams { most_datagrams event ≤ page.old.room.datagrams }
     ensures { scene_on forwarder.new page.new
         ≡ ended_on event.entry (scene_on forwarder.old page.old) }
 {
