@@ -1,11 +1,10 @@
 //! Giving way: the turn with which a tick begins, what a gateway says of itself, and its cables.
 ghost use Rattle.std.specs.Prelude.{◌≡◌, ◌≤◌, ◌+◌};
 ghost use Rattle.vrrp_states.specs.Table.{IsMoment};
-ghost use Rattle.output.specs.Output.{Output};
+ghost use Rattle.interfaces.specs.Stations.{with_plug};
 ghost use Rattle.spec_step.specs.GivingWay.{GivingWay, TakesTurn, returned, turn_of};
 ghost use Rattle.spec_step.specs.declared.turns.Turn.TheVariants.{Leaves};
-ghost use Rattle.spec_step.specs.Parts.{side_plugged};
-ghost use Rattle.spec_step.specs.Shown.{has_side_out, is_whole, scene, serves};
+ghost use Rattle.spec_step.specs.Shown.{has_side_out, is_whole, serves, station_on, with_station};
 ghost use Rattle.forwarder.specs.Forwarder.{scene_on, shown_of};
 
 use crate::routers::{Cue, cue_both, start_routers};
@@ -112,8 +111,8 @@ pub(crate) fn take_turn(forwarder: &mut Forwarder, page: &mut OutputBuffer)
 
 /// Is told that the cable of a side is in (`up`) or out; nothing is told to anyone.
 pub(crate) fn plug(forwarder: &mut Forwarder, side: Side, up: bool)
-    ensures plugged { (told : Output) → scene (shown_of forwarder.new) told
-        ≡ side_plugged (scene (shown_of forwarder.old) told) side up }
+    ensures { let g = shown_of forwarder.old in let station = station_on g side in
+        shown_of forwarder.new ≡ with_station g side (with_plug station up g.moment) }
 {
     let now = forwarder.moment;
     match side {
