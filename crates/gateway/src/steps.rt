@@ -4,7 +4,6 @@ ghost use Rattle.link.specs.Link.{taking};
 ghost use Rattle.link.specs.Reading.{reading};
 ghost use Rattle.vrrp_states.specs.Table.{IsMoment};
 ghost use Rattle.spec_step.specs.declared.events.Event.TheVariants.{Stop as StopEvent};
-ghost use Rattle.spec_step.specs.declared.events.Event.TheVariants.{Side as SideEvent};
 ghost use Rattle.spec_step.specs.declared.events.Event.TheVariants.{Tick as TickEvent};
 ghost use Rattle.spec_step.specs.declared.events.Outcome.TheVariants.{Done};
 ghost use Rattle.spec_step.specs.Founding.{link_places};
@@ -146,22 +145,6 @@ fn stop_came(forwarder: &mut Forwarder, page: &mut OutputBuffer) -> Result<Outco
     Ok(Outcome::Done)
 }
 
-fn side_came(
-    forwarder: &mut Forwarder,
-    page: &mut OutputBuffer,
-    side: Side,
-    up: bool,
-) -> Result<Outcome, NoMemory>
-    ensures outcome { IfOk result (λ o. o ≡ Done) }
-    ensures does { OnOk result (Does (scene_on forwarder.old page.old) (SideEvent side up)
-        (scene_on forwarder.new page.new)) }
-    ensures err { OnErr result (scene_on forwarder.new page.new
-        ≡ scene_on forwarder.old page.old) }
-{
-    plug(forwarder, side, up);
-    Ok(Outcome::Done)
-}
-
 fn word_came(
     alloc: Global,
     forwarder: &mut Forwarder,
@@ -212,7 +195,10 @@ fn take_event(
         Event::Tick(now) => clock_ticked(forwarder, page, now),
         Event::Stop => stop_came(forwarder, page),
         Event::PeerOff(boot) => word_came(alloc, forwarder, page, boot),
-        Event::Side(side, up) => side_came(forwarder, page, side, up),
+        Event::Side(side, up) => {
+            plug(forwarder, side, up);
+            Ok(Outcome::Done)
+        }
     }
 }
 
