@@ -17,7 +17,7 @@ use Rattle.spec_binding.specs.declared.changes.PortRequest.{PortRequest}
 use Rattle.spec_binding.specs.declared.changes.Transition.{Transition}
 use Rattle.spec_binding.specs.declared.changes.Want.TheVariants as want
 use Rattle.spec_binding.specs.Books.{Book, is_lone, is_synced}
-use Rattle.spec_binding.specs.Rows.{answered, is_at_limit, is_full, known_wish, new_pair, new_wish, none_row, port_for, proposal, quiet, row, wish, wish_by, wish_of}
+use Rattle.spec_binding.specs.Rows.{answered, is_at_limit, is_full, known_wish, new_pair, new_wish, none_row, port_for, quiet, row, wish, wish_by, wish_of}
 
 -- ---- where the link is full nothing is pushed
 

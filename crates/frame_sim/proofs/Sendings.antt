@@ -9,7 +9,7 @@ use Rattle.link.specs.Link.{IsLink}
 use Rattle.output.specs.Output.{Output}
 use Rattle.spec_step.specs.declared.events.Event.{Event}
 use Rattle.spec_step.specs.Machine.{HasBytes}
-use Rattle.spec_step.specs.Shown.{Shown, scene}
+use Rattle.spec_step.specs.Shown.{Shown, scene, serves}
 use Rattle.spec_step.specs.Steps.{IsStepOn}
 use Rattle.gateway.specs.Gateway.{IsGateway}
 use Rattle.frame_sim.specs.Events.{since}
@@ -33,7 +33,7 @@ sends go most g new event told told2 step bytes is link =
     let goes = go (scene g told) event (scene new told2) is.history step bytes is.book is.alone is.bytes is.pushed in
     let more = since-is told.datagrams (map spelling goes.sent) told2.datagrams goes.datagrams_are in
     record {
-      few = subst IsShort (sym more) (all-short most goes.sent goes.few (are-formed new.link _ goes.sent link goes.own));
+      few = subst IsShort (sym more) (all-short most goes.sent goes.few (are-formed new.link (serves new) goes.sent link goes.own));
       longer = omega (arith, length-append told.datagrams (map spelling goes.sent), ap length goes.datagrams_are);
     }
 

@@ -23,7 +23,7 @@ use Rattle.output.specs.Output.{Output}
 use Rattle.spec_step.specs.declared.events.Event.{Event}
 use Rattle.spec_step.specs.Founding.{bounds_of}
 use Rattle.spec_step.specs.Machine.{HasBytes, IsAlone, KeepsBytes, box_of, letters_in, words_in}
-use Rattle.spec_step.specs.Shown.{Shown, id_of, scene}
+use Rattle.spec_step.specs.Shown.{Shown, id_of, scene, serves}
 use Rattle.spec_step.specs.Steps.{IsStepOn}
 use Rattle.frame_sim.specs.World.{Half, World, gateway_at, half, with_half}
 use Rattle.frame_sim.specs.Events.{since, stepped}
@@ -115,7 +115,7 @@ step-sound go read keep anywhere account others w i g new event told told2 sound
     let there2 = subst (λ (m : List Letter). IsWorld r (with_step s i b2 (ns ++ s.trace) (ms ++ m))) (mail-is w pushed i) there in
     let noted = since-is told.notes goes.notes told2.notes goes.notes_are in
     let trace : reverse (w.trace ++ since told.notes told2.notes) ≡ ns ++ reverse w.trace = ap (λ (xs : List Note). reverse (w.trace ++ xs)) noted ∙ reverse-append w.trace goes.notes in
-    let mail = more-mail read (half w i).sent (since told.datagrams told2.datagrams) goes.sent (since-is told.datagrams _ told2.datagrams goes.datagrams_are) (are-formed new.link _ goes.sent link goes.own) in
+    let mail = more-mail read (half w i).sent (since told.datagrams told2.datagrams) goes.sent (since-is told.datagrams _ told2.datagrams goes.datagrams_are) (are-formed new.link (serves new) goes.sent link goes.own) in
     record {
       pushed = with_pushed pushed i h2;
       halves = halves-are w pushed i (record (half w i) { gateway = Some new; sent = (half w i).sent ++ since told.datagrams told2.datagrams }) h2 (w.trace ++ since told.notes told2.notes) sound.halves (record {

@@ -52,6 +52,7 @@ fn name_of(event: &Event<'_>) -> &'static str {
         Event::Tick(_) => "tick",
         Event::Stop => "stop",
         Event::PeerOff(_) => "peer-off",
+        Event::Side(..) => "side",
     }
 }
 

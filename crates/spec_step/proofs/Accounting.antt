@@ -33,19 +33,22 @@ use Rattle.packet_rules.specs.declared.readings.Reading.TheVariants.{Arp, Advert
 use Rattle.packet_rules.specs.declared.reasons.Reason.{Reason}
 use Rattle.packet_rules.specs.declared.reasons.Reason.TheVariants.{NotUp, OldWord}
 use Rattle.packet_rules.specs.Arping.{answer_to, is_learnable}
-use Rattle.interfaces.specs.Stations.{Interface, after_arp, is_active}
+use Rattle.interfaces.specs.Stations.{Interface, after_arp, is_active, with_plug}
 use Rattle.output.specs.Output.{Output, with_datagram}
 use Rattle.vrrp_states.specs.declared.Action.{Action}
 use Rattle.vrrp_states.specs.Table as table
 use Rattle.vrrp_states.specs.Table.{Event as RouterEvent}
 use Rattle.spec_step.specs.declared.events.Event.{Event}
-use Rattle.spec_step.specs.declared.events.Event.TheVariants.{Frame, Datagram as Comes, Tick, Stop, PeerOff}
+use Rattle.spec_step.specs.declared.events.Event.TheVariants.{Frame, Datagram as Comes, Tick, Stop, PeerOff, Side as SideIs}
 use Rattle.spec_step.specs.Machine.{AreBytes, HasBytes, KeepsBytes}
 use Rattle.spec_step.specs.Parts.{acted, all_framed, all_idle_done, answered_by, arp_taken, datagram_in, datagram_read, framed, frames_of, handed_in, has_synced, heard_by, heard_unless, idle_done, idle_taken, link_answered, link_ticked, old_dropped, record_done, record_shown, record_told, records_done, released, reset, started, wait_ended, with_link, word_taken}
 use Rattle.spec_step.specs.Rests.{AreBy, Rests}
-use Rattle.spec_step.specs.Shown.{GatewayAndOutput, Shown, id_of, scene, station_on, with_notes, with_station}
-use Rattle.spec_step.specs.Steps.{BothAct, Does, FrameDoes, IsStepOn, RouterActs, clock_after, ended_on, stopped, ticked, word_by, word_refusal}
+use Rattle.spec_step.specs.Shown.{GatewayAndOutput, Shown, id_of, is_running, scene, station_on, with_notes, with_station}
+use Rattle.spec_step.specs.Routers.{BothAct, RouterActs}
+use Rattle.spec_step.specs.GivingWay.{GivingWay, left, turn_of}
+use Rattle.spec_step.specs.Steps.{Does, FrameDoes, IsStepOn, clock_after, ended_on, stopped, ticked, word_by, word_refusal}
 use Rattle.spec_step.specs.Verdict.{reading_on}
+use Rattle.spec_step.proofs.Turning.{back_as, turn-by}
 use Rattle.spec_step.proofs.Idle.{idle-at-once}
 use Rattle.spec_step.proofs.Packets.{Reads, kept-filter, read-formed}
 use Rattle.spec_step.proofs.Passing.{IsSound}
@@ -130,7 +133,7 @@ record-rests reads s r formed =
     (noted-own b.id g.moment (taken_what b rests r)) (taken-id b rests r) (λ is. taken-keeps b rests r is formed)
     (λ before is a. taken-accounts g.moment g.ledger before r is a) in
     resting-then s s3 (record_done s r)
-    (resting-then s s2 s3 first (routed-rests g2.moment g2 told (has_synced g g2 && not g2.stopped)))
+    (resting-then s s2 s3 first (routed-rests g2.moment g2 told (has_synced g g2 && is_running g2)))
     (ended-rests reads s3 (taken_ended b rests r))
 
 records-rest : Reads → (s : GatewayAndOutput) (rs : List Record) → AllByRecursion IsWellFormedRecord rs → Resting s (records_done s rs)
@@ -246,6 +249,17 @@ old-rests s = resting-unseen s (old_dropped s) refl refl refl (λ k. kept-filter
 stopped-rests : (s : GatewayAndOutput) → Resting s (stopped s)
 stopped-rests s = resting-unseen s (stopped s) refl refl refl (λ k. k)
 
+-- the turn of a tick
+turn-rests : (s s2 : GatewayAndOutput) → GivingWay s s2 → Resting s s2
+turn-rests s s2 takes =
+    turn-by (λ x. Resting s x) s s2
+    (λ middle both. resting-then s middle (left middle) (both-rest s table.Stop middle both) (resting-unseen middle (left middle) refl refl refl (λ k. k)))
+    (λ starts is. back starts) (resting-nothing s) (turn_of s.shown) takes
+  where
+    back : (starts : Bool) → Resting s (scene (back_as starts s.shown) s.told)
+    back true = resting-unseen s _ refl refl refl (λ k. k)
+    back false = resting-unseen s _ refl refl refl (λ k. k)
+
 -- ---- an event's own parts
 
 does-rest : Reads → (s : GatewayAndOutput) (event : Event) (done : GatewayAndOutput) → Does s event done → HasBytes event → Resting (begun_on s event) done
@@ -254,17 +268,21 @@ does-rest reads s (Comes bytes) done does has =
     subst (λ (x : GatewayAndOutput). Resting s x) (sym does) (datagram-rests reads s bytes.now (reading bytes.now) refl has)
 does-rest reads s (Tick now) done does has =
     let start = ticked s now in
-    let middle = does.0 in
+    let turned = does.0 in
+    let middle = does.1 in
     let young = old_dropped middle in
-    subst (λ (x : GatewayAndOutput). Resting start x) (sym does.2)
-    (resting-then start middle (idle_taken young) (both-rest start table.Tick middle does.1)
-    (resting-then middle young (idle_taken young) (old-rests middle) (idle-rests young)))
+    subst (λ (x : GatewayAndOutput). Resting start x) (sym does.4)
+    (resting-then start turned (idle_taken young) (turn-rests start turned does.2)
+    (resting-then turned middle (idle_taken young) (both-rest turned table.Tick middle does.3)
+    (resting-then middle young (idle_taken young) (old-rests middle) (idle-rests young))))
 does-rest reads s Stop done does has =
     let middle = does.0 in
     subst (λ (x : GatewayAndOutput). Resting s x) (sym does.2)
     (resting-then s middle (stopped middle) (both-rest s table.Stop middle does.1) (stopped-rests middle))
 does-rest reads s (PeerOff n) done does has =
     subst (λ (x : GatewayAndOutput). Resting s x) (sym does) (word-rests reads s n (word_refusal s.shown n) refl)
+does-rest reads s (SideIs side up) done does has =
+    subst (λ (x : GatewayAndOutput). Resting s x) (sym does) (station-rests s side (with_plug (station_on s.shown side) up s.shown.moment))
 
 -- ---- the datagram at the end
 
@@ -302,6 +320,7 @@ end-rests (Comes bytes) done = answered-ends done
 end-rests (Tick now) done = ticked-ends done
 end-rests Stop done = answered-ends done
 end-rests (PeerOff n) done = answered-ends done
+end-rests (SideIs side up) done = resting-nothing done
 
 -- ---- a whole step
 
@@ -330,6 +349,7 @@ begun-leads s (Tick now) = record {
 }
 begun-leads s Stop = leads-here s
 begun-leads s (PeerOff n) = leads-here s
+begun-leads s (SideIs side up) = leads-here s
 
 step-rested : Reads → (s : GatewayAndOutput) (event : Event) (s2 : GatewayAndOutput) → IsStepOn s event s2 → HasBytes event → IsSound s.shown → Rested (begun_on s event) s2
 step-rested reads s event s2 step has is =

@@ -49,20 +49,23 @@ use Rattle.packet_rules.specs.declared.translations.Translation.TheVariants.{Out
 use Rattle.packet_rules.specs.Arping.{answer_to, is_learnable}
 use Rattle.packet_rules.specs.Flows.{source_of}
 use Rattle.packet_rules.specs.Frames.{sent_frame}
-use Rattle.interfaces.specs.Stations.{Interface, after_arp, is_active}
+use Rattle.interfaces.specs.Stations.{Interface, after_arp, is_active, with_plug}
 use Rattle.output.specs.Output.{Output, with_datagram}
 use Rattle.vrrp_states.specs.Table as table
 use Rattle.vrrp_states.specs.Table.{Event as RouterEvent}
 use Rattle.spec_step.specs.declared.events.Event.{Event}
-use Rattle.spec_step.specs.declared.events.Event.TheVariants.{Frame, Datagram as Comes, Tick, Stop, PeerOff}
+use Rattle.spec_step.specs.declared.events.Event.TheVariants.{Frame, Datagram as Comes, Tick, Stop, PeerOff, Side as SideIs}
 use Rattle.spec_step.specs.declared.plans.Plan.{Plan}
 use Rattle.spec_step.specs.declared.plans.Plan.TheVariants.{Send, Ask, AskAgain, Wait as WaitFor}
 use Rattle.spec_step.specs.Machine.{AreBytes, HasBytes}
 use Rattle.spec_step.specs.Parts.{all_framed, all_idle_done, all_taken, answered_by, arp_taken, asked_again, by_plan, by_row, by_verdict, carried_all, carried_by, datagram_in, datagram_read, flags_in, flow_taken, framed, frames_of, handed_in, has_synced, heard_by, heard_unless, idle_done, idle_taken, keeping, link_answered, link_ticked, neighbour_asked, old_dropped, record_done, record_shown, record_told, records_done, released, renewed_behind, request_by, reset, retaken_by, started, taken_again, wait_ended, waiting, wanted_by, wanted_for, with_link, word_taken}
 use Rattle.spec_step.specs.Rests.{most_notes}
-use Rattle.spec_step.specs.Shown.{GatewayAndOutput, Shown, id_of, scene, station_on, with_notes, with_station}
-use Rattle.spec_step.specs.Steps.{BothAct, Does, FrameDoes, IsStepOn, RouterActs, ended_on, ticked, word_by, word_refusal}
+use Rattle.spec_step.specs.Shown.{GatewayAndOutput, Shown, id_of, is_running, scene, station_on, with_notes, with_station}
+use Rattle.spec_step.specs.Routers.{BothAct, RouterActs}
+use Rattle.spec_step.specs.GivingWay.{GivingWay, left, turn_of}
+use Rattle.spec_step.specs.Steps.{Does, FrameDoes, IsStepOn, ended_on, ticked, word_by, word_refusal}
 use Rattle.spec_step.specs.Verdict.{exit_by, hop_by, plan_of, reading_on}
+use Rattle.spec_step.proofs.Turning.{back_as, turn-by}
 use Rattle.spec_step.proofs.Packets.{refusal-leaves}
 
 -- from one scene to another at most n notes more, and at most k packets more are kept
@@ -292,6 +295,24 @@ both-add s event s2 both = adds-then 0 0 0 0 s both.between s2 (router-adds s In
 both-book : (s : GatewayAndOutput) (event : RouterEvent) (s2 : GatewayAndOutput) → BothAct s event s2 → s2.shown.ledger ≡ s.shown.ledger
 both-book s event s2 both = router-book both.between Outside event s2 both.outside ∙ router-book s Inside event both.between both.inside
 
+-- the turn of a tick
+record Stays-few (s s2 : GatewayAndOutput) : Type 0 where
+  adds : Adds 0 0 s s2
+  same : s2.shown.ledger ≡ s.shown.ledger
+
+turn-few : (s s2 : GatewayAndOutput) → GivingWay s s2 → Stays-few s s2
+turn-few s s2 takes =
+    turn-by (λ x. Stays-few s x) s s2
+    (λ middle both. record {
+      adds = adds-then 0 0 0 0 s middle (left middle) (both-add s table.Stop middle both) (adds-none middle (left middle) refl refl);
+      same = both-book s table.Stop middle both;
+    })
+    (λ starts is. back starts) (record { adds = adds-none s s refl refl; same = refl }) (turn_of s.shown) takes
+  where
+    back : (starts : Bool) → Stays-few s (scene (back_as starts s.shown) s.told)
+    back true = record { adds = adds-none s _ refl refl; same = refl }
+    back false = record { adds = adds-none s _ refl refl; same = refl }
+
 -- ---- records
 
 routed-adds : (now : ℕ) (g : Shown) (told : Output) (b : Bool) → Adds 0 0 (scene g told) (scene (let x : Shown = cond b (record g { inside = started g.inside now; outside = started g.outside now }) g in x) told)
@@ -313,7 +334,7 @@ record-within c s r =
     let s3 = scene (record_shown g r) told in
     let first : Adds 1 0 s s2 = adds-noted 1 s s2 (noted_by b.id g.moment what) (noted-one b.id g.moment what) refl refl in
     within-then c 1 (3 * c) s s3 (record_done s r)
-    (within-adds c 1 s s3 (adds-then 1 0 0 0 s s2 s3 first (routed-adds g2.moment g2 told (has_synced g g2 && not g2.stopped))))
+    (within-adds c 1 s s3 (adds-then 1 0 0 0 s s2 s3 first (routed-adds g2.moment g2 told (has_synced g g2 && is_running g2))))
     (ended-within c s3 (taken_ended b rests r))
 
 -- at most n records, of at most m notes each
@@ -466,16 +487,21 @@ does-few s (Comes bytes) done does has =
     bounded s _ done x does
 does-few s (Tick now) done does has =
     let start = ticked s now in
-    let middle = does.0 in
+    let turned = does.0 in
+    let middle = does.1 in
     let young = old_dropped middle in
     let idle = idle-adds young in
-    let book = ap (λ (l : Ledger). length l.book.entries) (both-book start table.Tick middle does.1) in
-    omega (arith, (both-add start table.Tick middle does.1).notes, idle.notes, book, ap (λ (z : GatewayAndOutput). length z.told.notes) does.2)
+    let first = turn-few start turned does.2 in
+    let book = ap (λ (l : Ledger). length l.book.entries) (both-book turned table.Tick middle does.3) in
+    let before = ap (λ (l : Ledger). length l.book.entries) first.same in
+    omega (arith, first.adds.notes, (both-add turned table.Tick middle does.3).notes, idle.notes, book, before, ap (λ (z : GatewayAndOutput). length z.told.notes) does.4)
 does-few s Stop done does has =
     let middle = does.0 in
     omega (arith, (both-add s table.Stop middle does.1).notes, ap (λ (z : GatewayAndOutput). length z.told.notes) does.2)
 does-few s (PeerOff n) done does has =
     bounded s _ done (word-within (length s.shown.kept) s n (word_refusal s.shown n)) does
+does-few s (SideIs side up) done does has =
+    omega (arith, (station-adds s side (with_plug (station_on s.shown side) up s.shown.moment)).notes, ap (λ (z : GatewayAndOutput). length z.told.notes) does)
 
 -- ---- the datagram at the end
 
@@ -499,6 +525,7 @@ end-notes (Comes bytes) done = answered-ends done
 end-notes (Tick now) done = ticked-ends done
 end-notes Stop done = answered-ends done
 end-notes (PeerOff n) done = answered-ends done
+end-notes (SideIs side up) done = refl
 
 -- ---- a whole step
 

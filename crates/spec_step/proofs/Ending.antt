@@ -7,13 +7,13 @@ use Rattle.link.specs.Link.{Link, Agrees, datagram_of, is_due_on_tick, sent_on_a
 use Rattle.link.proofs.Offered.{within_handed, is_letter}
 use Rattle.spec_pair.specs.Box.{Letter}
 use Rattle.spec_pair.specs.Step.{IsStep}
-use Rattle.spec_binding.specs.Books.{Book, is_synced}
+use Rattle.spec_binding.specs.Books.{Book}
 use Rattle.spec_binding.specs.Machine.{box_at, letter_of, ranges_of}
 use Rattle.spec_binding.proofs.Offered.{fed-keeps, feed-works, works-sent}
 use Rattle.output.specs.Output.{Output, with_datagram}
 use Rattle.spec_step.specs.Machine.{Goes, IsAlone}
 use Rattle.spec_step.specs.Parts.{datagram_in, handed_in, link_answered, link_ticked}
-use Rattle.spec_step.specs.Shown.{GatewayAndOutput, Shown, scene}
+use Rattle.spec_step.specs.Shown.{GatewayAndOutput, Shown, scene, serves}
 use Rattle.spec_step.proofs.Hearing.{Arrives}
 use Rattle.spec_step.proofs.Passing.{IsSound, Passes, given, passes-then}
 
@@ -58,9 +58,9 @@ module _ (letters : List Letter) (words : List ℕ) (s : GatewayAndOutput) (h : 
       → Goes letters words s (scene (record g { link = ended g.link ticked }) (with_datagram told (datagram_in g))) h
   sent-goes g told ticked none x =
       let b = s.shown.ledger.book in let b2 = g.ledger.book in let e = s.shown.link in let e2 = g.link in
-      let d = datagram_of (is_synced b2.stage) e2 in
+      let d = datagram_of (serves g) e2 in
       let hs = x.works.history in
-      let is = is_letter hs b2.coming e2 (is_synced b2.stage) x.works.agrees none in
+      let is = is_letter hs b2.coming e2 (serves g) x.works.agrees none in
       let step = works-sent s.shown.moment letters words b b2 e e2 (ended e2 ticked) e.taken e2.taken e2.acknowledged (min 64 (length e2.fed + length e2.waiting)) x.notes h d x.works is (within_handed e2 none) refl refl refl in
       record {
         history = hs;
@@ -94,6 +94,10 @@ module _ (letters : List Letter) (words : List ℕ) (s : GatewayAndOutput) (h : 
         house = x.works.house;
         step = subst (λ (m : ℕ). IsStep (ranges_of b) b.id m (box_at b e h e.taken) (box_at b2 e2 hs e2.taken) letters words [] (reverse x.notes) [] []) (sym x.moment) x.works.step;
       }
+
+  -- a step that sends no datagram
+  pub ended-still : (done : GatewayAndOutput) → Arrives letters words s done h → Goes letters words s done h
+  ended-still done a = unsent-goes done.shown done.told done.shown.link.ticked done.shown.link.due a.passes
 
   pub answered-goes : (done : GatewayAndOutput) → Arrives letters words s done h → Goes letters words s (link_answered done) h
   answered-goes done a =

@@ -6,9 +6,11 @@ mod Beginning
 mod Counting
 mod Ending
 mod Freeing
+mod Giving
 mod Hearing
 mod Idle
 mod Limits
+mod Lines
 mod Near
 mod Others
 mod Packets
@@ -26,4 +28,5 @@ mod Takings
 mod Telling
 mod Translating
 mod Truths
+mod Turning
 mod Unused

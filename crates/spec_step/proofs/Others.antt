@@ -38,23 +38,32 @@ use Rattle.packet_rules.specs.Arping.{answer_frame, answer_to, is_learnable}
 use Rattle.packet_rules.specs.Frames.{is_translation}
 use Rattle.interfaces.specs.Stations.{IsRouterStep, IsWired, Interface, after_arp, is_active, with_neighbour}
 use Rattle.output.specs.Output.{Sent, Output, with_datagram}
+use Rattle.vrrp_states.specs.declared.Action.{Action}
+use Rattle.vrrp_states.specs.declared.Action.TheVariants.{Nothing}
 use Rattle.vrrp_states.specs.Table as table
 use Rattle.vrrp_states.specs.Table.{Event as RouterEvent}
 use Rattle.spec_step.specs.declared.events.Event.{Event}
-use Rattle.spec_step.specs.declared.events.Event.TheVariants.{Frame, Datagram as Comes, Tick, Stop, PeerOff}
-use Rattle.spec_step.specs.Others.{AreOfBoth, AreOthers, Asking, FrameOwes, IsDue, IsNew, MayGoBy, Owes, all_noted, answers_by, firsts, free_by, frees_as, frees_for, frees_heard, frees_read, frees_unless, hops_of, is_freed, is_old, other_frames, packet_as, packet_in, packets_asked, requests, retaken_pairs, sent_on, waiting_by, within_limit}
-use Rattle.spec_step.specs.Parts.{acted, all_framed, all_idle_done, answered_by, arp_taken, datagram_in, datagram_read, datagram_taken, flow_taken, framed, frames_of, handed_in, has_synced, heard_by, heard_unless, idle_done, idle_taken, link_answered, link_ticked, old_dropped, record_done, record_shown, record_told, records_done, released, reset, started, wait_ended, with_link, word_taken}
-use Rattle.spec_step.specs.Shown.{GatewayAndOutput, Shown, id_of, scene, station_on, with_notes, with_station}
-use Rattle.spec_step.specs.Steps.{BothAct, Does, FrameDoes, IsStepOn, RouterActs, clock_after, ended_on, stopped, ticked, word_by, word_refusal}
+use Rattle.spec_step.specs.declared.events.Event.TheVariants.{Frame, Datagram as Comes, Tick, Stop, PeerOff, Side as SideIs}
+use Rattle.spec_step.specs.declared.turns.Turn.{Turn}
+use Rattle.spec_step.specs.declared.turns.Turn.TheVariants.{Leaves, Returns, Stays}
+use Rattle.spec_step.specs.GivingWay.{GivingWay, TakesTurn, left, turn_of}
+use Rattle.spec_step.specs.Others.{AreOfBoth, TurnOwes, AreOthers, Asking, FrameOwes, IsDue, IsNew, MayGoBy, Owes, all_noted, answers_by, firsts, free_by, frees_as, frees_for, frees_heard, frees_read, frees_unless, hops_of, is_freed, is_old, other_frames, packet_as, packet_in, packets_asked, requests, retaken_pairs, sent_on, waiting_by, within_limit}
+use Rattle.spec_step.specs.Parts.{acted, all_framed, all_idle_done, answered_by, arp_taken, datagram_in, datagram_read, datagram_taken, flow_taken, framed, frames_of, handed_in, has_synced, heard_by, heard_unless, idle_done, idle_taken, link_answered, link_ticked, old_dropped, record_done, record_shown, record_told, records_done, released, reset, side_plugged, started, wait_ended, with_link, word_taken}
+use Rattle.spec_step.specs.Shown.{GatewayAndOutput, Shown, id_of, is_running, is_up, scene, station_on, with_notes, with_station}
+use Rattle.spec_step.specs.Routers.{BothAct, RouterActs}
+use Rattle.spec_step.specs.Settled.{AreIdle}
+use Rattle.spec_step.specs.Steps.{Does, FrameDoes, IsStepOn, clock_after, ended_on, stopped, ticked, word_by, word_refusal}
 use Rattle.spec_step.specs.Truly.{AtHand, Known, known_of, packets_of}
 use Rattle.spec_step.specs.Verdict.{reading_on}
 use Rattle.spec_step.proofs.Asking.{Ask-on, Asks, IsFit, IsQuiet, NearStays, NetsStay, Waiting, all-apart, asking-then, due-more, kept-here, net-stays, new-more, nobody, nothing-asks, one-apart, packet-asks, pairs-ask, quiet-asks, quiet-by, released-asks, requests-same}
 use Rattle.spec_step.proofs.Freeing.{Comes-of, filter-same}
 use Rattle.spec_step.proofs.Limits.{count-left}
+use Rattle.spec_step.proofs.Lines.{acts-shown, both-stopped, line-quiet}
 use Rattle.spec_step.proofs.Near.{asks-learnt}
 use Rattle.spec_step.proofs.Rooting.{Rooted, alone-rooted, restart-rooted, taken-roots}
 use Rattle.spec_step.proofs.Sending.{Frames, own-six}
 use Rattle.spec_step.proofs.Telling.{at_hand}
+use Rattle.spec_step.proofs.Turning.{back_as}
 use Rattle.spec_step.proofs.Truths.{AllOther, action-frames, after-wired, routed-wired, wired-on}
 
 -- From a scene to a later one: these frames were sent, none of which is a translation, nothing was noted, and nobody came to
@@ -264,6 +273,88 @@ both-give frames s event s2 both w =
       gives = gives-then one two s mid s2 first second;
     }
 
+-- ---- the turn of a tick, and its own lines
+
+-- one that is back sends what its routers' lines say
+record BackGives (starts : Bool) (s s2 : GatewayAndOutput) : Type 0 where
+  own : List Sent
+  owed : AreOfBoth (back_as starts s.shown) table.Tick s.shown.moment own
+  gives : Gives own s s2
+
+back-gives : Frames → (s middle : GatewayAndOutput) (starts : Bool) → BothAct (scene (back_as starts s.shown) s.told) table.Tick middle → IsFit s.shown → BackGives starts s middle
+back-gives frames s middle true both w =
+    let back = scene (back_as true s.shown) s.told in
+    let fit : IsFit back.shown = ((w.0.0, (record { own = w.0.1.0.own; known = w.0.1.0.known }, record { own = w.0.1.1.own; known = w.0.1.1.known })), w.1) in
+    let b = both-give frames back table.Tick middle both fit in
+    record {
+      own = b.own;
+      owed = b.owed;
+      gives = gives-then [] b.own s back middle (gives-nothing s back refl refl refl refl near (refl, refl) fit) b.gives;
+    }
+  where
+    near : NearStays s.shown.moment s.shown (back_as true s.shown)
+    near Inside host t = t
+    near Outside host t = t
+back-gives frames s middle false both w =
+    let back = scene (back_as false s.shown) s.told in
+    let fit : IsFit back.shown = (w.0, w.1) in
+    let b = both-give frames back table.Tick middle both fit in
+    record {
+      own = b.own;
+      owed = b.owed;
+      gives = gives-then [] b.own s back middle (gives-nothing s back refl refl refl refl near (refl, refl) fit) b.gives;
+    }
+  where
+    near : NearStays s.shown.moment s.shown (back_as false s.shown)
+    near Inside host t = t
+    near Outside host t = t
+
+-- one that has left sends nothing more: its routers are in Initialize
+gone-gives : Frames → (m middle : GatewayAndOutput) → AreIdle m.shown → BothAct (left m) table.Tick middle → IsFit m.shown → Gives [] m middle
+gone-gives frames m middle idle both w =
+    let gone = left m in
+    let one = both.inside in let two = both.outside in let mid = both.between in
+    let first : one.action ≡ Nothing = line-quiet one.step.line.0 m.shown.inside.router m.shown.moment one.action one.station.router one.step.line.1 idle.0 in
+    let same = ap (λ (g : Shown). g.outside.router.state) (acts-shown gone Inside table.Tick mid one) in
+    let second : two.action ≡ Nothing = line-quiet two.step.line.0 mid.shown.outside.router mid.shown.moment two.action two.station.router two.step.line.1 (same ∙ idle.1) in
+    let a : Gives [] gone mid = subst (λ (x : Action). Gives (sent_on Inside (frames_of one.station x)) gone mid) first (router-gives frames gone Inside table.Tick mid one (w.0, w.1)) in
+    let b : Gives [] mid middle = subst (λ (x : Action). Gives (sent_on Outside (frames_of two.station x)) mid middle) second (router-gives frames mid Outside table.Tick middle two a.fit) in
+    gives-then [] [] m gone middle (gives-nothing m gone refl refl refl refl near (refl, refl) (w.0, w.1)) (gives-then [] [] gone mid middle a b)
+  where
+    near : NearStays m.shown.moment m.shown (left m).shown
+    near Inside host t = t
+    near Outside host t = t
+
+record TickGives (t : Turn) (s s2 : GatewayAndOutput) : Type 0 where
+  own : List Sent
+  owed : TurnOwes t s.shown own
+  gives : Gives own s s2
+
+turn-gives : Frames → (s turned middle : GatewayAndOutput) (t : Turn) → TakesTurn s t turned → BothAct turned table.Tick middle → IsFit s.shown → TickGives t s middle
+turn-gives frames s turned middle Leaves takes both w =
+    let m = takes.0 in
+    let stop = both-give frames s table.Stop m takes.1 w in
+    let after : BothAct (left m) table.Tick middle = subst (λ (x : GatewayAndOutput). BothAct x table.Tick middle) takes.2 both in
+    let rest = gone-gives frames m middle (both-stopped s m takes.1) after stop.gives.fit in
+    record {
+      own = stop.own;
+      owed = stop.owed;
+      gives = subst (λ (fs : List Sent). Gives fs s middle) (append-nil stop.own) (gives-then stop.own [] s m middle stop.gives rest);
+    }
+turn-gives frames s turned middle Returns takes both w =
+    let x = back-gives frames s middle (is_up s.shown) (subst (λ (x : GatewayAndOutput). BothAct x table.Tick middle) takes both) w in
+    record { own = x.own; owed = x.owed; gives = x.gives }
+turn-gives frames s turned middle Stays takes both w =
+    let x = both-give frames s table.Tick middle (subst (λ (x : GatewayAndOutput). BothAct x table.Tick middle) takes both) w in
+    record { own = x.own; owed = x.owed; gives = x.gives }
+
+-- a side's cable
+plugged-asks : (s : GatewayAndOutput) (side : Side) (up : Bool) → Ask-on [] nobody s (side_plugged s side up)
+plugged-asks s Inside up = quiet-asks [] s (side_plugged s Inside up)
+    (quiet-by s (side_plugged s Inside up) refl refl refl refl refl ((refl, refl), (refl, refl)) (λ w. (w.0, (record { own = w.1.0.own; known = w.1.0.known }, w.1.1))))
+plugged-asks s Outside up = quiet-asks [] s (side_plugged s Outside up)
+    (quiet-by s (side_plugged s Outside up) refl refl refl refl refl ((refl, refl), (refl, refl)) (λ w. (w.0, (w.1.0, record { own = w.1.1.own; known = w.1.1.known }))))
+
 -- ---- a frame
 
 frame-others : Frames → (s : GatewayAndOutput) (side : Side) (bytes : List ℕ) (r : Result Reading Reason) (s2 : GatewayAndOutput) → reading_on s.shown side bytes ≡ r → IsFit s.shown → FrameDoes s side bytes r s2
@@ -315,7 +406,7 @@ record-asks frames s r =
     let o = taken_ended b rests r in
     let notes = noted_by b.id g.moment (taken_what b rests r) in
     asking-then [] [] nobody (frees_for o) s s3 (record_done s r)
-    (asking-then [] [] nobody nobody s s2 s3 (quiet-asks [] s s2 (table-quiet s (taken_ledger g.moment g.ledger r) (answered g.link (taken_answer b rests r)) notes (taken-roots b rests r b.id g.moment))) (routed-asks g2.moment g2 told (has_synced g g2 && not g2.stopped)))
+    (asking-then [] [] nobody nobody s s2 s3 (quiet-asks [] s s2 (table-quiet s (taken_ledger g.moment g.ledger r) (answered g.link (taken_answer b rests r)) notes (taken-roots b rests r b.id g.moment))) (routed-asks g2.moment g2 told (has_synced g g2 && is_running g2)))
     (ended-asks frames s3 o)
 
 records-ask : Frames → (s : GatewayAndOutput) (rs : List Record) → Ask-on [] (free_by s rs) s (records_done s rs)
@@ -377,13 +468,13 @@ word-asks frames s n (Some reason) is = nothing-asks [] s
 -- ---- ticks
 
 -- idle pairs that are let go leave the frames and the packets that wait
-pub record Leaves (s s2 : GatewayAndOutput) : Type 0 where
+pub record LeavesFrames (s s2 : GatewayAndOutput) : Type 0 where
   pub frames : s2.told.frames ≡ s.told.frames
   pub notes : List Note
   pub notes_are : s2.told.notes ≡ s.told.notes ++ notes
   pub kept : s2.shown.kept ≡ s.shown.kept
 
-all-idle-leave : (s : GatewayAndOutput) (ks : List Key) → Leaves s (all_idle_done s ks)
+all-idle-leave : (s : GatewayAndOutput) (ks : List Key) → LeavesFrames s (all_idle_done s ks)
 all-idle-leave s [] = record { frames = refl; notes = []; notes_are = sym (append-nil s.told.notes); kept = refl }
 all-idle-leave s (k ∷ ks) =
     let g = s.shown in
@@ -392,10 +483,9 @@ all-idle-leave s (k ∷ ks) =
     record { frames = rest.frames; notes = noted ++ rest.notes; notes_are = rest.notes_are ∙ append_assoc s.told.notes noted rest.notes; kept = rest.kept }
 
 -- nobody comes to wait, and the old ones leave
-tick-others : Frames → (s : GatewayAndOutput) (now : ℕ) (middle : GatewayAndOutput) → BothAct (ticked s now) table.Tick middle → IsFit s.shown → AreOthers s (Tick now) (idle_taken (old_dropped middle))
-tick-others frames s now middle acts w =
-    let both = both-give frames (ticked s now) table.Tick middle acts w in
-    let o = both.owed in
+tick-others : Frames → (s : GatewayAndOutput) (now : ℕ) (turned middle : GatewayAndOutput) → GivingWay (ticked s now) turned → BothAct turned table.Tick middle → IsFit s.shown → AreOthers s (Tick now) (idle_taken (old_dropped middle))
+tick-others frames s now turned middle takes acts w =
+    let both = turn-gives frames (ticked s now) turned middle (turn_of (ticked s now).shown) takes acts w in
     let x = both.gives in
     let young = old_dropped middle in
     let l = young.shown.ledger in
@@ -411,13 +501,7 @@ tick-others frames s now middle acts w =
       notes = idle.notes;
       notes_are = idle.notes_are ∙ ap (λ (ns : List Note). ns ++ idle.notes) x.notes;
       own = both.own;
-      owed = record {
-        one = o.one;
-        two = o.two;
-        inside = record { station = o.inside.station; action = o.inside.action; step = o.inside.step; are = o.inside.are };
-        outside = record { station = o.outside.station; action = o.outside.action; step = o.outside.step; are = o.outside.are };
-        are = o.are;
-      };
+      owed = both.owed;
       askings = [];
       due = tt;
       others = x.apart ∙ sym (append-nil both.own);
@@ -467,7 +551,7 @@ does-others frames s (Frame side bytes) done does is w =
 does-others frames s (Comes bytes) done does is w =
     subst (λ (x : GatewayAndOutput). AreOthers s (Comes bytes) x) (sym does)
     (others-at s (Comes bytes) (datagram_taken s bytes.now) (λ p. refl) (asks-alone s (Comes bytes) (datagram_taken s bytes.now) refl w (datagram-asks frames s (reading bytes.now) is w).asks))
-does-others frames s (Tick now) done does is w = subst (λ (x : GatewayAndOutput). AreOthers s (Tick now) x) (sym does.2) (tick-others frames s now does.0 does.1 w)
+does-others frames s (Tick now) done does is w = subst (λ (x : GatewayAndOutput). AreOthers s (Tick now) x) (sym does.4) (tick-others frames s now does.0 does.1 does.2 does.3 w)
 does-others frames s Stop done does is w =
     let middle = does.0 in
     let both = both-give frames s table.Stop middle does.1 w in
@@ -477,6 +561,9 @@ does-others frames s Stop done does is w =
 does-others frames s (PeerOff n) done does is w =
     subst (λ (x : GatewayAndOutput). AreOthers s (PeerOff n) x) (sym does)
     (others-at s (PeerOff n) (word_by s n (word_refusal s.shown n)) (λ p. refl) (asks-alone s (PeerOff n) (word_by s n (word_refusal s.shown n)) refl w (word-asks frames s n (word_refusal s.shown n) is w).asks))
+does-others frames s (SideIs side up) done does is w =
+    subst (λ (x : GatewayAndOutput). AreOthers s (SideIs side up) x) (sym does)
+    (others-at s (SideIs side up) (side_plugged s side up) (λ p. refl) (asks-alone s (SideIs side up) (side_plugged s side up) refl w (plugged-asks s side up w).asks))
 
 -- ---- the datagram at the end
 
@@ -530,6 +617,7 @@ end-others s (Comes bytes) done x = others-end s (Comes bytes) done (link_answer
 end-others s (Tick now) done x = others-end s (Tick now) done (link_ticked done) (ticked-ends done) x
 end-others s Stop done x = others-end s Stop done (link_answered done) (answered-ends done) x
 end-others s (PeerOff n) done x = others-end s (PeerOff n) done (link_answered done) (answered-ends done) x
+end-others s (SideIs side up) done x = x
 
 -- a whole step
 pub step-others : Frames → (s : GatewayAndOutput) (event : Event) (s2 : GatewayAndOutput) → IsStepOn s event s2 → IsBook s.shown.ledger.book → IsFit s.shown → AreOthers s event s2

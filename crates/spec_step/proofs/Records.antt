@@ -1,5 +1,5 @@
 -- What a step does with the records of a datagram, as the machine sees it.
-use Rattle.std.proofs.Common.{◌≡◌, ℕ, suc, ◌+◌, Bool, true, false, cond, not, ◌&&◌, List, [], ◌∷◌, length, Option, Some, None, refl, sym, subst, ◌∙◌, arith}
+use Rattle.std.proofs.Common.{◌≡◌, ℕ, suc, ◌+◌, Bool, true, false, cond, ◌&&◌, List, [], ◌∷◌, length, Option, Some, None, refl, sym, subst, ◌∙◌, arith}
 use Rattle.nat_types.specs.declared.pairs.Endpoint.{Endpoint}
 use Rattle.nat_types.specs.declared.records.Record.{Record}
 use Rattle.link.specs.Grammar.{IsWellFormedRecord}
@@ -14,7 +14,7 @@ use Rattle.waiting.specs.declared.waits.Ended.TheVariants.{One}
 use Rattle.waiting.specs.declared.waits.WaitsFor.TheVariants as wait
 use Rattle.output.specs.Output.{Output}
 use Rattle.spec_step.specs.Parts.{has_synced, record_done, record_shown, record_told, records_done, started, wait_ended}
-use Rattle.spec_step.specs.Shown.{GatewayAndOutput, Shown, scene}
+use Rattle.spec_step.specs.Shown.{GatewayAndOutput, Shown, is_running, scene}
 use Rattle.spec_step.proofs.Passing.{Going, Goes-on, IsSound, goes-then, going-unseen}
 use Rattle.spec_step.proofs.Packets.{Reads, here, released-goes}
 
@@ -110,7 +110,7 @@ module _ (l : Letter) (words : List ℕ) where
       let s2 = scene g2 told in
       let s3 = scene (record_shown g r) told in
       let first = row-takes s n r comes h stands is lone in
-      let second : Goes-on (l ∷ []) words s2 (suc n) s3 (suc n) first.passes.works.history = routed (l ∷ []) words g2.moment g2 told (has_synced g g2 && not g2.stopped) (suc n) first.passes.works.history first.passes.works.agrees first.passes.sound in
+      let second : Goes-on (l ∷ []) words s2 (suc n) s3 (suc n) first.passes.works.history = routed (l ∷ []) words g2.moment g2 told (has_synced g g2 && is_running g2) (suc n) first.passes.works.history first.passes.works.agrees first.passes.sound in
       let both = goes-then (l ∷ []) words s s2 s3 n (suc n) (suc n) h first second in
       let third = ended-goes (l ∷ []) words reads s3 (taken_ended b rests r) (suc n) both.passes.works.history both.passes.works.agrees both.passes.sound in
       goes-then (l ∷ []) words s s3 (record_done s r) n (suc n) (suc n) h both third

@@ -1,10 +1,11 @@
--- Between its steps a gateway's routers are idle where it isn't up, its link owes no datagram, and the packets that it keeps
--- have their places.
-use Rattle.std.proofs.Common.{◌≡◌, ◌⊎◌, ℕ, Bool, true, false, cond, not, ◌&&◌, ◌||◌, List, [], ◌∷◌, Option, Some, None, Result, Ok, Err, inl, inr, refl, sym, ap, subst, ◌∙◌, arith}
+-- Between its steps a gateway's routers have begun where it runs and are idle where it doesn't, its link owes no datagram, and
+-- the packets that it keeps have their places.
+use Rattle.std.proofs.Common.{◌≡◌, ℕ, Bool, true, false, cond, not, ◌&&◌, ◌||◌, List, [], ◌∷◌, Option, Some, None, Result, Ok, Err, refl, sym, ap, subst, ◌∙◌, arith}
 use Rattle.addresses.specs.declared.ethernet.Mac.{Mac}
 use Rattle.addresses.specs.declared.transport.TcpFlags.{TcpFlags}
 use Rattle.addresses.specs.declared.internet.Ip.{Ip}
 use Rattle.nat_types.specs.declared.gateways.GatewayId.{GatewayId}
+use Rattle.nat_types.specs.declared.gateways.GatewayId.TheVariants.{Zero}
 use Rattle.nat_types.specs.declared.gateways.Side.{Side}
 use Rattle.nat_types.specs.declared.gateways.Side.TheVariants.{Inside, Outside}
 use Rattle.nat_types.specs.declared.pairs.Endpoint.{Endpoint}
@@ -17,7 +18,7 @@ use Rattle.ipv4.specs.declared.flows.Flow.{Flow}
 use Rattle.bindings.specs.Lives.{idle_keys_in}
 use Rattle.link.specs.declared.datagrams.Datagram.{Datagram}
 use Rattle.link.specs.declared.faults.LinkFault.{LinkFault}
-use Rattle.link.specs.Link.{after_take, is_due_on_tick, is_restart, is_time, records_taken, refusal, sent_on_tick}
+use Rattle.link.specs.Link.{Link, after_take, is_due_on_tick, is_restart, is_time, records_taken, refusal, sent_on_tick}
 use Rattle.link.specs.Reading.{reading}
 use Rattle.spec_binding.specs.declared.changes.Transition.{Transition}
 use Rattle.spec_binding.specs.Books.{Book, empty_book, is_lone, is_synced}
@@ -34,35 +35,39 @@ use Rattle.waiting.proofs.Offered.{kept-asked, kept-filter, kept-push}
 use Rattle.packet_rules.specs.declared.readings.Reading.{Reading}
 use Rattle.packet_rules.specs.declared.readings.Reading.TheVariants.{Arp, Advert, Packet}
 use Rattle.packet_rules.specs.declared.reasons.Reason.{Reason}
+use Rattle.packet_rules.specs.declared.reasons.Reason.TheVariants.{NotUp, OldWord}
 use Rattle.packet_rules.specs.declared.translations.Translation.{Translation}
 use Rattle.packet_rules.specs.declared.translations.Translation.TheVariants.{Outward, Inward, Hairpin}
 use Rattle.packet_rules.specs.Arping.{answer_to, is_learnable}
 use Rattle.packet_rules.specs.Flows.{source_of}
 use Rattle.packet_rules.specs.Frames.{sent_frame}
 use Rattle.interfaces.specs.Stations as stations
-use Rattle.interfaces.specs.Stations.{Interface, after_arp, is_active, with_neighbour}
+use Rattle.interfaces.specs.Stations.{Interface, after_arp, is_active, with_neighbour, with_plug}
 use Rattle.output.specs.Output.{with_datagram}
-use Rattle.vrrp_states.specs.declared.Action.{Action}
-use Rattle.vrrp_states.specs.declared.State.TheVariants.{Initialize, Backup, Active}
+use Rattle.vrrp_states.specs.declared.State.TheVariants.{Initialize}
 use Rattle.vrrp_states.specs.Table as table
-use Rattle.vrrp_states.specs.Table.{Event as RouterEvent, IsDue, Line, Router, Says, timer_of}
+use Rattle.vrrp_states.specs.Table.{Event as RouterEvent, Router}
 use Rattle.spec_step.specs.declared.events.Event.{Event}
-use Rattle.spec_step.specs.declared.events.Event.TheVariants.{Frame, Datagram as Comes, Tick, Stop, PeerOff}
+use Rattle.spec_step.specs.declared.events.Event.TheVariants.{Frame, Datagram as Comes, Tick, Stop, PeerOff, Side as SideIs}
 use Rattle.spec_step.specs.declared.plans.Plan.{Plan}
 use Rattle.spec_step.specs.declared.plans.Plan.TheVariants.{Send, Ask, AskAgain, Wait as WaitFor}
 use Rattle.spec_step.specs.Founding.{begun, founded}
-use Rattle.spec_step.specs.Parts.{all_idle_done, all_taken, answered_by, arp_taken, asked_again, by_plan, by_row, by_verdict, carried_all, datagram_in, datagram_read, flags_in, flow_taken, framed, frames_of, handed_in, has_synced, heard_by, heard_unless, idle_done, idle_taken, keeping, link_answered, link_ticked, neighbour_asked, old_dropped, record_done, record_shown, record_told, records_done, released, renewed_behind, request_by, reset, retaken_by, started, taken_again, wait_ended, waiting, wanted_by, wanted_for, with_link, with_routers}
-use Rattle.spec_step.specs.Settled.{HasIdleRouters, IsSettled}
-use Rattle.spec_step.specs.Shown.{GatewayAndOutput, Shown, is_up, scene, station_on, with_station}
-use Rattle.spec_step.specs.Steps.{BothAct, Does, FrameDoes, IsStepOn, RouterActs, ended_on, stopped, ticked, word_by, word_refusal}
+use Rattle.spec_step.specs.GivingWay.{GivingWay, left, turn_of}
+use Rattle.spec_step.specs.Parts.{all_idle_done, all_taken, answered_by, arp_taken, asked_again, by_plan, by_row, by_verdict, carried_all, datagram_in, datagram_read, flags_in, flow_taken, framed, handed_in, has_synced, heard_by, heard_unless, idle_done, idle_taken, keeping, link_answered, link_ticked, neighbour_asked, old_dropped, record_done, record_shown, record_told, records_done, released, renewed_behind, request_by, reset, retaken_by, routers_started, side_plugged, taken_again, wait_ended, waiting, wanted_by, wanted_for, with_link, with_routers}
+use Rattle.spec_step.specs.Settled.{AreIdle, HaveBegun, IsSettled}
+use Rattle.spec_step.specs.Shown.{GatewayAndOutput, Shown, is_running, is_up, scene, station_on, with_station}
+use Rattle.spec_step.specs.Routers.{BothAct, RouterActs}
+use Rattle.spec_step.specs.Steps.{Does, FrameDoes, IsStepOn, ended_on, stopped, ticked, word_by, word_refusal}
 use Rattle.spec_step.specs.Verdict.{exit_by, hop_by, plan_of, reading_on}
-use Rattle.spec_step.proofs.Others.{all-framed-shown}
+use Rattle.spec_step.proofs.Lines.{acts-shown, both-shown, both-stopped, line-idles, line-stays, started-begun}
 use Rattle.spec_step.proofs.Packets.{refusal-leaves}
 use Rattle.spec_step.proofs.Asked.{PlanSays, plan-says}
+use Rattle.spec_step.proofs.Turning.{back_as, turn-by}
 
 -- what the parts of a step keep
 pub record IsCalm (g : Shown) : Type 0 where
-  pub routers : HasIdleRouters g
+  pub running : is_running g ≡ true → HaveBegun g
+  pub idle : is_running g ≡ false → AreIdle g
   pub places : IsKept g.kept
 
 abbrev pub Calming : GatewayAndOutput → GatewayAndOutput → Type 0
@@ -71,10 +76,11 @@ Calming s s2 = IsCalm s.shown → IsCalm s2.shown
 calming-then : (a b c : GatewayAndOutput) → Calming a b → Calming b c → Calming a c
 calming-then a b c x y = λ is. y (x is)
 
--- a part that leaves the routers, and takes nobody's being up
-calm-by : (g g2 : Shown) → (is_up g2 ≡ false → is_up g ≡ false) → g2.inside.router.state ≡ g.inside.router.state → g2.outside.router.state ≡ g.outside.router.state → (IsKept g.kept → IsKept g2.kept) → IsCalm g → IsCalm g2
-calm-by g g2 down inside outside kept is = record {
-  routers = λ d. let r = is.routers (down d) in (inside ∙ r.0, outside ∙ r.1);
+-- a part that leaves the routers, and whether they run
+calm-by : (g g2 : Shown) → is_running g2 ≡ is_running g → g2.inside.router.state ≡ g.inside.router.state → g2.outside.router.state ≡ g.outside.router.state → (IsKept g.kept → IsKept g2.kept) → IsCalm g → IsCalm g2
+calm-by g g2 runs inside outside kept is = record {
+  running = λ r. let b = is.running (sym runs ∙ r) in (λ i. b.0 (sym inside ∙ i), λ o. b.1 (sym outside ∙ o));
+  idle = λ d. let r = is.idle (sym runs ∙ d) in (inside ∙ r.0, outside ∙ r.1);
   places = kept is.places;
 }
 
@@ -87,7 +93,7 @@ row-calms : (s : GatewayAndOutput) (row : Transition) → Calming s (by_row s ro
 row-calms s row =
     let g = s.shown in
     let stage = (change-leaves g.ledger.book row.change).stage in
-    calm-by g (by_row s row).shown (λ d. sym (ap (λ x. is_synced x && not g.stopped) stage) ∙ d) refl refl (λ k. k)
+    calm-by g (by_row s row).shown (ap (λ x. (is_synced x && not g.stopped) && not g.away) stage) refl refl (λ k. k)
 
 wanted-calms : (s : GatewayAndOutput) (e : Endpoint) → Calming s (wanted_by s e)
 wanted-calms s e = row-calms s (wish_of s.shown.ledger.book (is_full s.shown.link) e).row
@@ -103,14 +109,14 @@ wanted-for-kept s flow (Inward p) = refl
 wanted-for-kept s flow (Hairpin own other) = refl
 
 carried-all-calms : (s : GatewayAndOutput) (flow : Flow) (flags : TcpFlags) (by : Translation) → Calming s (carried_all s flow flags by)
-carried-all-calms s flow flags (Outward p) = calm-by s.shown (carried_all s flow flags (Outward p)).shown (λ d. d) refl refl (λ k. k)
-carried-all-calms s flow flags (Inward p) = calm-by s.shown (carried_all s flow flags (Inward p)).shown (λ d. d) refl refl (λ k. k)
-carried-all-calms s flow flags (Hairpin own other) = calm-by s.shown (carried_all s flow flags (Hairpin own other)).shown (λ d. d) refl refl (λ k. k)
+carried-all-calms s flow flags (Outward p) = calm-by s.shown (carried_all s flow flags (Outward p)).shown refl refl refl (λ k. k)
+carried-all-calms s flow flags (Inward p) = calm-by s.shown (carried_all s flow flags (Inward p)).shown refl refl refl (λ k. k)
+carried-all-calms s flow flags (Hairpin own other) = calm-by s.shown (carried_all s flow flags (Hairpin own other)).shown refl refl refl (λ k. k)
 
 -- a packet is kept where it has a place
 keeping-calms : (s : GatewayAndOutput) (side : Side) (bytes : List ℕ) (w : WaitsFor) → has_place s.shown.kept w ≡ true → Calming s (keeping s side bytes w)
 keeping-calms s side bytes w place =
-    calm-by s.shown (keeping s side bytes w).shown (λ d. d) refl refl
+    calm-by s.shown (keeping s side bytes w).shown refl refl refl
     (λ k. kept-push s.shown.kept (waiting side bytes s.shown.moment w) k place)
 
 -- a neighbour is asked for, or a next hop again
@@ -118,15 +124,15 @@ renewed-calms : (s : GatewayAndOutput) (exit : Side) (hop : Ip) → Calming s (r
 renewed-calms s exit hop = at exit (asks_at hop.0 s.shown.moment (station_on s.shown exit).neighbours)
   where
     at : (side : Side) (b : Bool) → Calming s (let x : GatewayAndOutput = cond b (framed (scene (neighbour_asked s.shown side hop) s.told) side (request_by s.shown side hop)) s in x)
-    at Inside true = calm-by s.shown (neighbour_asked s.shown Inside hop) (λ d. d) refl refl (λ k. k)
-    at Outside true = calm-by s.shown (neighbour_asked s.shown Outside hop) (λ d. d) refl refl (λ k. k)
+    at Inside true = calm-by s.shown (neighbour_asked s.shown Inside hop) refl refl refl (λ k. k)
+    at Outside true = calm-by s.shown (neighbour_asked s.shown Outside hop) refl refl refl (λ k. k)
     at side false = nothing-calms s
 
 again-calms : (s : GatewayAndOutput) (exit : Side) (hop : Ip) → Calming s (asked_again s exit hop)
 again-calms s exit hop = at (asks_again s.shown.moment (wait.Hop exit hop) s.shown.kept)
   where
     at : (b : Bool) → Calming s (let x : GatewayAndOutput = cond b (framed (scene (record s.shown { kept = with_asked s.shown.moment (wait.Hop exit hop) s.shown.kept }) s.told) exit (request_by s.shown exit hop)) s in x)
-    at true = calm-by s.shown (record s.shown { kept = with_asked s.shown.moment (wait.Hop exit hop) s.shown.kept }) (λ d. d) refl refl (kept-asked s.shown.moment (wait.Hop exit hop) s.shown.kept)
+    at true = calm-by s.shown (record s.shown { kept = with_asked s.shown.moment (wait.Hop exit hop) s.shown.kept }) refl refl refl (kept-asked s.shown.moment (wait.Hop exit hop) s.shown.kept)
     at false = nothing-calms s
 
 plan-calms : (s : GatewayAndOutput) (side : Side) (bytes : List ℕ) (flow : Flow) (plan : Plan) → PlanSays s.shown side flow (Ok plan) → Calming s (by_plan s side bytes flow plan)
@@ -135,7 +141,7 @@ plan-calms s side bytes flow (Send by next) says =
     let two = framed one (exit_by by) (sent_frame s.shown.networks by next bytes) in
     let three = carried_all two flow (flags_in bytes) by in
     calming-then s three (by_plan s side bytes flow (Send by next))
-    (calming-then s one three (wanted-for-calms s flow by) (λ is. carried-all-calms two flow (flags_in bytes) by (record { routers = is.routers; places = is.places })))
+    (calming-then s one three (wanted-for-calms s flow by) (λ is. carried-all-calms two flow (flags_in bytes) by (record { running = is.running; idle = is.idle; places = is.places })))
     (renewed-calms three (exit_by by) (hop_by s.shown by flow))
 plan-calms s side bytes flow (Ask by hop) says =
     let one = wanted_for s flow by in
@@ -168,15 +174,24 @@ all-calm s (w ∷ ws) = calming-then s (taken_again s w) (all_taken s (w ∷ ws)
 released-calms : (s : GatewayAndOutput) (ended : Ended) → Calming s (released s ended)
 released-calms s ended =
     let start = scene (record s.shown { kept = left_by ended s.shown.kept }) s.told in
-    calming-then s start (released s ended) (calm-by s.shown start.shown (λ d. d) refl refl (λ k. kept-filter _ s.shown.kept k))
+    calming-then s start (released s ended) (calm-by s.shown start.shown refl refl refl (λ k. kept-filter _ s.shown.kept k))
     (all-calm start (ended_by ended s.shown.kept))
 
 -- ---- interfaces
 
--- another interface, whose router is idle where it was
-station-calms : (g : Shown) (side : Side) (station : Interface) → ((station_on g side).router.state ≡ Initialize → station.router.state ≡ Initialize) → IsCalm g → IsCalm (with_station g side station)
-station-calms g Inside station idle is = record { routers = λ d. let r = is.routers d in (idle r.0, r.1); places = is.places }
-station-calms g Outside station idle is = record { routers = λ d. let r = is.routers d in (r.0, idle r.1); places = is.places }
+-- another interface, whose router is in Initialize just where it was
+station-calms : (g : Shown) (side : Side) (station : Interface) → ((station_on g side).router.state ≡ Initialize → station.router.state ≡ Initialize) → (station.router.state ≡ Initialize → (station_on g side).router.state ≡ Initialize)
+    → IsCalm g → IsCalm (with_station g side station)
+station-calms g Inside station idle was is = record {
+  running = λ r. let b = is.running r in (λ i. b.0 (was i), b.1);
+  idle = λ d. let r = is.idle d in (idle r.0, r.1);
+  places = is.places;
+}
+station-calms g Outside station idle was is = record {
+  running = λ r. let b = is.running r in (b.0, λ o. b.1 (was o));
+  idle = λ d. let r = is.idle d in (r.0, idle r.1);
+  places = is.places;
+}
 
 after-router : (station : Interface) (p : ArpPacket) (now : ℕ) → (after_arp station p now).router ≡ station.router
 unfolding after_arp
@@ -187,7 +202,7 @@ after-router station p now = at (is_learnable station.network p)
     at false = refl
 
 answered-calms : (s : GatewayAndOutput) (side : Side) (p : ArpPacket) (o : Option Mac) → Calming s (answered_by s side p o)
-answered-calms s side p (Some mac) = λ is. record { routers = is.routers; places = is.places }
+answered-calms s side p (Some mac) = λ is. record { running = is.running; idle = is.idle; places = is.places }
 answered-calms s side p None = nothing-calms s
 
 arp-calms : (s : GatewayAndOutput) (side : Side) (p : ArpPacket) → Calming s (arp_taken s side p)
@@ -198,7 +213,11 @@ arp-calms s side p =
     let o = answer_to station.network (is_active station) p in
     let told = answered_by heard side p o in
     calming-then s told (arp_taken s side p)
-    (calming-then s heard told (station-calms s.shown side after (λ idle. ap (λ (r : Router). r.state) (after-router station p s.shown.moment) ∙ idle)) (answered-calms heard side p o))
+    (calming-then s heard told
+    (station-calms s.shown side after
+    (λ idle. ap (λ (r : Router). r.state) (after-router station p s.shown.moment) ∙ idle)
+    (λ idle. sym (ap (λ (r : Router). r.state) (after-router station p s.shown.moment)) ∙ idle))
+    (answered-calms heard side p o))
     (at (is_learnable station.network p) told)
   where
     at : (b : Bool) (told : GatewayAndOutput) → Calming told (let x : GatewayAndOutput = cond b (released told (One (wait.Hop side p.sender_ip))) told in x)
@@ -207,95 +226,106 @@ arp-calms s side p =
 
 -- ---- routers
 
--- from Initialize only a start leads away
-line-idles : (line : Line) (r : Router) (event : RouterEvent) (now : ℕ) (action : Action) (r2 : Router) → Says line r event now action r2 → (event ≡ table.Start → ⊥) → r.state ≡ Initialize → r2.state ≡ Initialize
-line-idles table.InitializeStart r event now action r2 says other idle = absurd (other says.1)
-line-idles table.InitializeOther r event now action r2 says other idle = ap (λ (x : Router). x.state) says.3 ∙ idle
-line-idles table.BackupStop r event now action r2 says other idle = let no : Backup ≡ Initialize = sym says.0 ∙ idle in absurd (cc)
-line-idles table.BackupTimer r event now action r2 says other idle = let no : Backup ≡ Initialize = sym says.0 ∙ idle in absurd (cc)
-line-idles table.BackupPriorityZero r event now action r2 says other idle = let no : Backup ≡ Initialize = sym says.2 ∙ idle in absurd (cc)
-line-idles table.BackupFollows r event now action r2 says other idle = let no : Backup ≡ Initialize = sym says.3 ∙ idle in absurd (cc)
-line-idles table.BackupOther r event now action r2 says other idle = let no : Backup ≡ Initialize = sym says.3 ∙ idle in absurd (cc)
-line-idles table.ActiveStop r event now action r2 says other idle = let no : Active ≡ Initialize = sym says.0 ∙ idle in absurd (cc)
-line-idles table.ActiveTimer r event now action r2 says other idle = let no : Active ≡ Initialize = sym says.0 ∙ idle in absurd (cc)
-line-idles table.ActivePriorityZero r event now action r2 says other idle = let no : Active ≡ Initialize = sym says.2 ∙ idle in absurd (cc)
-line-idles table.ActiveYields r event now action r2 says other idle = let no : Active ≡ Initialize = sym says.3 ∙ idle in absurd (cc)
-line-idles table.ActiveOther r event now action r2 says other idle = let no : Active ≡ Initialize = sym says.3 ∙ idle in absurd (cc)
-line-idles table.NothingDue r event now action r2 says other idle = absurd (says.0 idle)
-
--- a stop leads there from everywhere
-line-stops : (line : Line) (r : Router) (now : ℕ) (action : Action) (r2 : Router) → Says line r table.Stop now action r2 → r2.state ≡ Initialize
-line-stops table.InitializeStart r now action r2 says = let no = says.1 in absurd (cc)
-line-stops table.InitializeOther r now action r2 says = ap (λ (x : Router). x.state) says.3 ∙ says.0
-line-stops table.BackupStop r now action r2 says = ap (λ (x : Router). x.state) says.3
-line-stops table.BackupTimer r now action r2 says = let no = says.1 in absurd (cc)
-line-stops table.BackupPriorityZero r now action r2 says = let no = says.3 in absurd (cc)
-line-stops table.BackupFollows r now action r2 says = let no = says.4 in absurd (cc)
-line-stops table.BackupOther r now action r2 says = let no = says.4 in absurd (cc)
-line-stops table.ActiveStop r now action r2 says = ap (λ (x : Router). x.state) says.3
-line-stops table.ActiveTimer r now action r2 says = let no = says.1 in absurd (cc)
-line-stops table.ActivePriorityZero r now action r2 says = let no = says.3 in absurd (cc)
-line-stops table.ActiveYields r now action r2 says = let no = says.4 in absurd (cc)
-line-stops table.ActiveOther r now action r2 says = let no = says.4 in absurd (cc)
-line-stops table.NothingDue r now action r2 says = at says.1
-  where
-    at : (table.Stop ≡ table.Start) ⊎ ((table.Stop ≡ table.Tick) × (IsDue (timer_of r.state r) now → ⊥)) → r2.state ≡ Initialize
-    at (inl never) = absurd (cc)
-    at (inr never) = let clash = never.0 in absurd (cc)
-
-acts-shown : (s : GatewayAndOutput) (side : Side) (event : RouterEvent) (s2 : GatewayAndOutput) → (a : RouterActs s side event s2) → s2.shown ≡ with_station s.shown side a.station
-acts-shown s side event s2 a =
-    ap (λ (x : GatewayAndOutput). x.shown) a.is ∙ all-framed-shown (scene (with_station s.shown side a.station) s.told) side (frames_of a.station a.action)
-
-router-calms : (s : GatewayAndOutput) (side : Side) (event : RouterEvent) (s2 : GatewayAndOutput) → (event ≡ table.Start → ⊥) → RouterActs s side event s2 → Calming s s2
-router-calms s side event s2 other a = λ is.
+router-calms : (s : GatewayAndOutput) (side : Side) (event : RouterEvent) (s2 : GatewayAndOutput) → (event ≡ table.Start → ⊥) → (event ≡ table.Stop → ⊥) → RouterActs s side event s2 → Calming s s2
+router-calms s side event s2 starts stops a = λ is.
     let line = a.step.line in
     subst IsCalm (sym (acts-shown s side event s2 a))
-    (station-calms s.shown side a.station (λ idle. line-idles line.0 (station_on s.shown side).router event s.shown.moment a.action a.station.router line.1 other idle) is)
+    (station-calms s.shown side a.station
+    (λ idle. line-idles line.0 (station_on s.shown side).router event s.shown.moment a.action a.station.router line.1 starts idle)
+    (λ idle. line-stays line.0 (station_on s.shown side).router event s.shown.moment a.action a.station.router line.1 stops idle)
+    is)
 
-both-calm : (s : GatewayAndOutput) (event : RouterEvent) (s2 : GatewayAndOutput) → (event ≡ table.Start → ⊥) → BothAct s event s2 → Calming s s2
-both-calm s event s2 other both = calming-then s both.between s2 (router-calms s Inside event both.between other both.inside) (router-calms both.between Outside event s2 other both.outside)
+both-calm : (s s2 : GatewayAndOutput) → BothAct s table.Tick s2 → Calming s s2
+both-calm s s2 both =
+    calming-then s both.between s2
+    (router-calms s Inside table.Tick both.between (λ no. absurd (cc)) (λ no. absurd (cc)) both.inside)
+    (router-calms both.between Outside table.Tick s2 (λ no. absurd (cc)) (λ no. absurd (cc)) both.outside)
+
+both-kept : (s : GatewayAndOutput) (event : RouterEvent) (s2 : GatewayAndOutput) → BothAct s event s2 → IsKept s.shown.kept → IsKept s2.shown.kept
+both-kept s event s2 both places = subst IsKept (sym (ap (λ (g : Shown). g.kept) (both-shown s event s2 both))) places
+
+-- a stopped gateway doesn't run, nor one that is away
+not-stopped : (synced there : Bool) → ((synced && false) && there) ≡ true → ⊥
+not-stopped true there is = absurd (cc)
+not-stopped false there is = absurd (cc)
+
+not-away : (up : Bool) → (up && false) ≡ true → ⊥
+not-away true is = absurd (cc)
+not-away false is = absurd (cc)
 
 -- both routers are stopped
 stopped-calms : (s middle : GatewayAndOutput) → BothAct s table.Stop middle → Calming s (stopped middle)
-stopped-calms s middle both = λ is.
-    let one = both.inside in
-    let two = both.outside in
-    let first = one.step.line in
-    let second = two.step.line in
-    let shown : middle.shown ≡ with_station (with_station s.shown Inside one.station) Outside two.station =
-    acts-shown both.between Outside table.Stop middle two ∙ ap (λ (g : Shown). with_station g Outside two.station) (acts-shown s Inside table.Stop both.between one) in
-    let idle_one = line-stops first.0 s.shown.inside.router s.shown.moment one.action one.station.router first.1 in
-    let idle_two = line-stops second.0 both.between.shown.outside.router both.between.shown.moment two.action two.station.router second.1 in
-    let calm = both-calm s table.Stop middle (λ no. absurd (cc)) both is in
-    record {
-      routers = λ d. (
-        ap (λ (g : Shown). g.inside.router.state) shown ∙ idle_one,
-        ap (λ (g : Shown). g.outside.router.state) shown ∙ idle_two,
-      );
-      places = calm.places;
-    }
+stopped-calms s middle both = λ is. record {
+  running = λ r. absurd (not-stopped (is_synced middle.shown.ledger.book.stage) (not middle.shown.away) r);
+  idle = λ d. both-stopped s middle both;
+  places = both-kept s table.Stop middle both is.places;
+}
+
+-- ---- turns
+
+left-calms : (s middle : GatewayAndOutput) → BothAct s table.Stop middle → Calming s (left middle)
+left-calms s middle both = λ is. record {
+  running = λ r. absurd (not-away (is_up middle.shown) r);
+  idle = λ d. both-stopped s middle both;
+  places = both-kept s table.Stop middle both is.places;
+}
+
+and-true : (a : Bool) → a ≡ true → (a && true) ≡ false → ⊥
+and-true a up down = let no : true ≡ false = sym (ap (λ (b : Bool). b && true) up) ∙ down in absurd (cc)
+
+and-false : (a : Bool) → a ≡ false → (a && true) ≡ true → ⊥
+and-false a down up = let no : false ≡ true = sym (ap (λ (b : Bool). b && true) down) ∙ up in absurd (cc)
+
+back-calms : (g : Shown) (starts : Bool) → is_up g ≡ starts → IsCalm g → IsCalm (back_as starts g)
+back-calms g true up is = record {
+  running = λ r. (started-begun g.inside.router.state g.inside.router g.moment refl, started-begun g.outside.router.state g.outside.router g.moment refl);
+  idle = λ d. absurd (and-true (is_up g) up d);
+  places = is.places;
+}
+back-calms g false up is = record {
+  running = λ r. absurd (and-false (is_up g) up r);
+  idle = λ d. is.idle (ap (λ (b : Bool). b && not g.away) up);
+  places = is.places;
+}
+
+turn-calms : (s turned : GatewayAndOutput) → GivingWay s turned → Calming s turned
+turn-calms s turned gives = λ is.
+    turn-by (λ (x : GatewayAndOutput). IsCalm x.shown) s turned
+    (λ middle both. left-calms s middle both is) (λ starts up. back-calms s.shown starts up is) is
+    (turn_of s.shown) gives
+
+-- a side's cable is another
+plug-calms : (s : GatewayAndOutput) (side : Side) (up : Bool) → Calming s (side_plugged s side up)
+plug-calms s side up = station-calms s.shown side (with_plug (station_on s.shown side) up s.shown.moment) (λ idle. idle) (λ idle. idle)
 
 -- ---- records
 
-up-back : (a b c : Bool) → (a ≡ true → b ≡ true) → (b && c) ≡ false → (a && c) ≡ false
-up-back true b c f is = subst (λ x. (x && c) ≡ false) (f refl) is
-up-back false b c f is = refl
+-- whether it runs stays, where it was synced before or doesn't run afterwards
+runs-on : (a b c d : Bool) → (a ≡ true → b ≡ true) → ((not a && b) && ((b && c) && d)) ≡ false → ((b && c) && d) ≡ ((a && c) && d)
+runs-on true b c d keeps is = ap (λ (x : Bool). (x && c) && d) (keeps refl)
+runs-on false true c d keeps is = is
+runs-on false false c d keeps is = refl
 
-up-then : (a b c : Bool) → ((not a && b) && c) ≡ true → (b && c) ≡ true
-up-then true b c is = absurd (cc)
-up-then false b c is = is
+and-second : (a b : Bool) → (a && b) ≡ true → b ≡ true
+and-second true b is = is
+and-second false b is = absurd (cc)
 
--- a gateway that has become synced is up with its routers started, where it wasn't stopped
-routed-calms : (g g2 : Shown) → IsCalm g2 → IsCalm (with_routers g g2)
-routed-calms g g2 is = at (has_synced g g2 && not g2.stopped) refl
+-- its routers begin where it runs and has just become synced
+routed-calms : (g g2 : Shown) → (is_synced g.ledger.book.stage ≡ true → is_synced g2.ledger.book.stage ≡ true) → g2.stopped ≡ g.stopped → g2.away ≡ g.away → g2.inside ≡ g.inside → g2.outside ≡ g.outside → g2.kept ≡ g.kept
+    → IsCalm g → IsCalm (with_routers g g2)
+routed-calms g g2 keeps stopped away inside outside kept is = at (has_synced g g2 && is_running g2) refl
   where
-    at : (b : Bool) → (has_synced g g2 && not g2.stopped) ≡ b → IsCalm (let x : Shown = cond b (record g2 { inside = started g2.inside g2.moment; outside = started g2.outside g2.moment }) g2 in x)
-    at true synced = record {
-      routers = λ d. let up : true ≡ false = sym (up-then (is_synced g.ledger.book.stage) (is_synced g2.ledger.book.stage) (not g2.stopped) synced) ∙ d in absurd (cc);
-      places = is.places;
+    at : (b : Bool) → (has_synced g g2 && is_running g2) ≡ b → IsCalm (let x : Shown = cond b (routers_started g2) g2 in x)
+    at true starts = record {
+      running = λ r. (started-begun g2.inside.router.state g2.inside.router g2.moment refl, started-begun g2.outside.router.state g2.outside.router g2.moment refl);
+      idle = λ d. let no : true ≡ false = sym (and-second (has_synced g g2) (is_running g2) starts) ∙ d in absurd (cc);
+      places = subst IsKept (sym kept) is.places;
     }
-    at false synced = is
+    at false starts =
+        let same : ((is_synced g.ledger.book.stage && not g2.stopped) && not g2.away) ≡ is_running g =
+        ap (λ (x : Bool). (is_synced g.ledger.book.stage && not x) && not g2.away) stopped ∙ ap (λ (x : Bool). (is_synced g.ledger.book.stage && not g.stopped) && not x) away in
+        calm-by g g2 (runs-on (is_synced g.ledger.book.stage) (is_synced g2.ledger.book.stage) (not g2.stopped) (not g2.away) keeps starts ∙ same)
+        (ap (λ (x : Interface). x.router.state) inside) (ap (λ (x : Interface). x.router.state) outside) (λ k. subst IsKept (sym kept) k) is
 
 taken-synced : (b : Book) (rests : Bool) (r : Record) → is_synced b.stage ≡ true → is_synced (taken_book b rests r).stage ≡ true
 taken-synced b rests r synced = at (is_synced b.stage) synced
@@ -313,8 +343,8 @@ record-calms s r = λ is.
     let g = s.shown in let b = g.ledger.book in
     let rests = rests_for g.moment g.ledger r in
     let g2 : Shown = record g { ledger = taken_ledger g.moment g.ledger r; link = answered g.link (taken_answer b rests r) } in
-    let calm = calm-by g g2 (λ d. up-back (is_synced b.stage) (is_synced (taken_book b rests r).stage) (not g.stopped) (taken-synced b rests r) d) refl refl (λ k. k) is in
-    ended-calms (scene (record_shown g r) (record_told g r s.told)) (taken_ended b rests r) (routed-calms g g2 calm)
+    ended-calms (scene (record_shown g r) (record_told g r s.told)) (taken_ended b rests r)
+    (routed-calms g g2 (taken-synced b rests r) refl refl refl refl refl is)
 
 records-calm : (s : GatewayAndOutput) (rs : List Record) → Calming s (records_done s rs)
 records-calm s [] = nothing-calms s
@@ -334,7 +364,7 @@ reset-calms s = λ is.
     let g = s.shown in
     let mid : Shown = record g { ledger = restarted_ledger g.ledger; link = _ } in
     released-calms (scene mid _) AllPairs
-    (calm-by g mid (λ d. ap (λ x. x && not g.stopped) (restart-synced g.ledger.book) ∙ d) refl refl (λ k. k) is)
+    (calm-by g mid (ap (λ (x : Bool). (x && not g.stopped) && not g.away) (sym (restart-synced g.ledger.book))) refl refl (λ k. k) is)
 
 heard-calms : (s : GatewayAndOutput) (d : Datagram) → Calming s (heard_by s d)
 heard-calms s d = at (is_restart s.shown.link d)
@@ -342,10 +372,10 @@ heard-calms s d = at (is_restart s.shown.link d)
     at : (b : Bool) → Calming s (let e = s.shown.link in let x = with_link s (after_take e d s.shown.moment) in records_done (let y : GatewayAndOutput = cond b (reset x) x in y) (records_taken e d))
     at true = λ is.
         let x = with_link s (after_take s.shown.link d s.shown.moment) in
-        records-calm (reset x) (records_taken s.shown.link d) (reset-calms x (record { routers = is.routers; places = is.places }))
+        records-calm (reset x) (records_taken s.shown.link d) (reset-calms x (record { running = is.running; idle = is.idle; places = is.places }))
     at false = λ is.
         let x = with_link s (after_take s.shown.link d s.shown.moment) in
-        records-calm x (records_taken s.shown.link d) (record { routers = is.routers; places = is.places })
+        records-calm x (records_taken s.shown.link d) (record { running = is.running; idle = is.idle; places = is.places })
 
 datagram-calms : (s : GatewayAndOutput) (r : Result Datagram LinkFault) → Calming s (datagram_read s r)
 datagram-calms s (Ok d) = at (refusal s.shown.link d)
@@ -355,13 +385,18 @@ datagram-calms s (Ok d) = at (refusal s.shown.link d)
     at (Some fault) = nothing-calms s
 datagram-calms s (Err fault) = nothing-calms s
 
-word-calms : (s : GatewayAndOutput) (n : ℕ) (o : Option Reason) → Calming s (word_by s n o)
-word-calms s n None = λ is.
+word-calms : (s : GatewayAndOutput) (n : ℕ) (o : Option Reason) → word_refusal s.shown n ≡ o → Calming s (word_by s n o)
+word-calms s n None taken = λ is.
     let g = s.shown in
     let mid : Shown = record g { ledger = alone_ledger g.moment g.ledger; link = _ } in
+    let synced : is_synced g.ledger.book.stage ≡ true = at (is_synced g.ledger.book.stage) _ taken in
     released-calms (scene mid _) AllPairs
-    (calm-by g mid (λ d. up-back (is_synced g.ledger.book.stage) true (not g.stopped) (λ t. refl) d) refl refl (λ k. k) is)
-word-calms s n (Some reason) = nothing-calms s
+    (calm-by g mid (ap (λ (x : Bool). (x && not g.stopped) && not g.away) (sym synced)) refl refl (λ k. k) is)
+  where
+    at : (b c : Bool) → (let o : Option Reason = cond (not b) (Some NotUp) (cond c (Some OldWord) None) in o) ≡ None → b ≡ true
+    at true c is = refl
+    at false c is = absurd (cc)
+word-calms s n (Some reason) taken = nothing-calms s
 
 -- ---- ticks
 
@@ -371,34 +406,35 @@ all-idle-calm s (k ∷ ks) =
     calming-then s (idle_done s k) (all_idle_done s (k ∷ ks)) (row-calms s (idle_row s.shown.ledger.book (may_ask s.shown.moment s.shown.link) k)) (all-idle-calm (idle_done s k) ks)
 
 old-calms : (s : GatewayAndOutput) → Calming s (old_dropped s)
-old-calms s = calm-by s.shown (old_dropped s).shown (λ d. d) refl refl (λ k. kept-filter _ s.shown.kept k)
+old-calms s = calm-by s.shown (old_dropped s).shown refl refl refl (λ k. kept-filter _ s.shown.kept k)
 
-tick-calms : (s : GatewayAndOutput) (now : ℕ) (middle : GatewayAndOutput) → BothAct (ticked s now) table.Tick middle → Calming s (idle_taken (old_dropped middle))
-tick-calms s now middle both = λ is.
+tick-calms : (s : GatewayAndOutput) (now : ℕ) (turned middle : GatewayAndOutput) → GivingWay (ticked s now) turned → BothAct turned table.Tick middle → Calming s (idle_taken (old_dropped middle))
+tick-calms s now turned middle gives both = λ is.
     let young = old_dropped middle in
     let l = young.shown.ledger in
-    let first = both-calm (ticked s now) table.Tick middle (λ no. absurd (cc)) both (record { routers = is.routers; places = is.places }) in
-    all-idle-calm young (idle_keys_in (is_lone l.book.stage) young.shown.moment l.book.entries l.lives) (old-calms middle first)
+    let first = turn-calms (ticked s now) turned gives (record { running = is.running; idle = is.idle; places = is.places }) in
+    all-idle-calm young (idle_keys_in (is_lone l.book.stage) young.shown.moment l.book.entries l.lives) (old-calms middle (both-calm turned middle both first))
 
 -- ---- an event's own parts
 
 frame-calms : (s : GatewayAndOutput) (side : Side) (bytes : List ℕ) (r : Result Reading Reason) (s2 : GatewayAndOutput) → FrameDoes s side bytes r s2 → Calming s s2
 frame-calms s side bytes (Ok (Arp p)) s2 does = subst (λ (x : GatewayAndOutput). Calming s x) (sym does) (arp-calms s side p)
-frame-calms s side bytes (Ok (Advert a from)) s2 does = router-calms s side (table.Heard a.priority a.interval from.0) s2 (λ no. absurd (cc)) does
+frame-calms s side bytes (Ok (Advert a from)) s2 does = router-calms s side (table.Heard a.priority a.interval from.0) s2 (λ no. absurd (cc)) (λ no. absurd (cc)) does
 frame-calms s side bytes (Ok (Packet packet)) s2 does = subst (λ (x : GatewayAndOutput). Calming s x) (sym does) (flow-calms s side bytes packet.flow)
 frame-calms s side bytes (Err reason) s2 does = subst (λ (x : GatewayAndOutput). Calming s x) (sym does) (nothing-calms s)
 
 does-calms : (s : GatewayAndOutput) (event : Event) (done : GatewayAndOutput) → Does s event done → Calming s done
 does-calms s (Frame side bytes) done does = frame-calms s side bytes.now (reading_on s.shown side bytes.now) done does
 does-calms s (Comes bytes) done does = subst (λ (x : GatewayAndOutput). Calming s x) (sym does) (datagram-calms s (reading bytes.now))
-does-calms s (Tick now) done does = subst (λ (x : GatewayAndOutput). Calming s x) (sym does.2) (tick-calms s now does.0 does.1)
+does-calms s (Tick now) done does = subst (λ (x : GatewayAndOutput). Calming s x) (sym does.4) (tick-calms s now does.0 does.1 does.2 does.3)
 does-calms s Stop done does = subst (λ (x : GatewayAndOutput). Calming s x) (sym does.2) (stopped-calms s does.0 does.1)
-does-calms s (PeerOff n) done does = subst (λ (x : GatewayAndOutput). Calming s x) (sym does) (word-calms s n (word_refusal s.shown n))
+does-calms s (PeerOff n) done does = subst (λ (x : GatewayAndOutput). Calming s x) (sym does) (word-calms s n (word_refusal s.shown n) refl)
+does-calms s (SideIs side up) done does = subst (λ (x : GatewayAndOutput). Calming s x) (sym does) (plug-calms s side up)
 
 -- ---- the datagram at the end
 
 answered-settles : (s : GatewayAndOutput) → IsCalm s.shown → IsSettled (link_answered s).shown
-answered-settles s is = record { idle_routers = is.routers; answered = refl; places = is.places }
+answered-settles s is = record { running = is.running; idle = is.idle; answered = refl; places = is.places }
 
 or-none : (a b : Bool) → (a || b) ≡ false → a ≡ false
 or-none true b is = is
@@ -409,21 +445,29 @@ ticked-settles s is = at (is_due_on_tick (handed_in s.shown).link s.shown.moment
   where
     at : (b : Bool) → is_due_on_tick (handed_in s.shown).link s.shown.moment ≡ b
         → IsSettled (let x : GatewayAndOutput = (let g = handed_in s.shown in cond b (scene (record g { link = sent_on_tick g.link g.moment }) (with_datagram s.told (datagram_in g))) (scene g s.told)) in x.shown)
-    at true due = record { idle_routers = is.routers; answered = refl; places = is.places }
-    at false due = record { idle_routers = is.routers; answered = or-none s.shown.link.due (is_time s.shown.link.ticked s.shown.moment) due; places = is.places }
+    at true due = record { running = is.running; idle = is.idle; answered = refl; places = is.places }
+    at false due = record { running = is.running; idle = is.idle; answered = or-none s.shown.link.due (is_time s.shown.link.ticked s.shown.moment) due; places = is.places }
 
-ended-settles : (event : Event) (done : GatewayAndOutput) → IsCalm done.shown → IsSettled (ended_on event done).shown
-ended-settles (Frame side bytes) done is = answered-settles done is
-ended-settles (Comes bytes) done is = answered-settles done is
-ended-settles (Tick now) done is = ticked-settles done is
-ended-settles Stop done is = answered-settles done is
-ended-settles (PeerOff n) done is = answered-settles done is
+-- the word of a side leaves the link
+plug-owes : (s : GatewayAndOutput) (side : Side) (up : Bool) → (side_plugged s side up).shown.link ≡ s.shown.link
+plug-owes s Inside up = refl
+plug-owes s Outside up = refl
+
+ended-settles : (s : GatewayAndOutput) (event : Event) (done : GatewayAndOutput) → Does s event done → IsSettled s.shown → IsCalm done.shown → IsSettled (ended_on event done).shown
+ended-settles s (Frame side bytes) done does was is = answered-settles done is
+ended-settles s (Comes bytes) done does was is = answered-settles done is
+ended-settles s (Tick now) done does was is = ticked-settles done is
+ended-settles s Stop done does was is = answered-settles done is
+ended-settles s (PeerOff n) done does was is = answered-settles done is
+ended-settles s (SideIs side up) done does was is =
+    let same : done.shown.link ≡ s.shown.link = ap (λ (x : GatewayAndOutput). x.shown.link) does ∙ plug-owes s side up in
+    record { running = is.running; idle = is.idle; answered = ap (λ (e : Link). e.due) same ∙ was.answered; places = is.places }
 
 -- a whole step
 pub step-settles : (s : GatewayAndOutput) (event : Event) (s2 : GatewayAndOutput) → IsStepOn s event s2 → IsSettled s.shown → IsSettled s2.shown
 step-settles s event s2 step is =
     subst (λ (x : GatewayAndOutput). IsSettled x.shown) (sym step.sends)
-    (ended-settles event step.done (does-calms s event step.done step.does (record { routers = is.idle_routers; places = is.places })))
+    (ended-settles s event step.done step.does is (does-calms s event step.done step.does (record { running = is.running; idle = is.idle; places = is.places })))
 
 -- ---- a gateway as it begins
 
@@ -432,8 +476,16 @@ none-kept = record { pairs = omega arith; hops = omega arith; once = λ i j d or
 
 pub begun-settles : (settings : Settings) (id : GatewayId) (boot : ℕ) → IsSettled (begun settings id boot)
 unfolding begun stations.new_station
-begun-settles settings id boot = record { idle_routers = λ d. (refl, refl); answered = refl; places = none-kept }
+begun-settles settings id boot = record { running = λ r. absurd (cc); idle = λ d. (refl, refl); answered = refl; places = none-kept }
 
 pub founded-settles : (settings : Settings) (boot : ℕ) → IsSettled (founded settings boot)
 unfolding founded begun
-founded-settles settings boot = record { idle_routers = λ d. absurd (cc); answered = refl; places = none-kept }
+founded-settles settings boot =
+    let inside = (stations.new_station settings Zero Inside).router in
+    let outside = (stations.new_station settings Zero Outside).router in
+    record {
+      running = λ r. (started-begun inside.state inside 0 refl, started-begun outside.state outside 0 refl);
+      idle = λ d. absurd (cc);
+      answered = refl;
+      places = none-kept;
+    }

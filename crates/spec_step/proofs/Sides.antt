@@ -9,13 +9,17 @@ use Rattle.waiting.specs.declared.waits.Ended.TheVariants.{One}
 use Rattle.waiting.specs.declared.waits.WaitsFor.TheVariants as wait
 use Rattle.spec_pair.specs.Box.{Letter}
 use Rattle.packet_rules.specs.Arping.{answer_to, is_learnable}
-use Rattle.interfaces.specs.Stations.{Interface, after_arp, is_active}
+use Rattle.interfaces.specs.Stations.{Interface, after_arp, is_active, with_plug}
 use Rattle.vrrp_states.specs.declared.Action.{Action}
+use Rattle.vrrp_states.specs.Table as table
 use Rattle.vrrp_states.specs.Table.{Event as RouterEvent}
-use Rattle.spec_step.specs.Parts.{acted, all_framed, answered_by, arp_taken, framed, frames_of, old_dropped, released}
+use Rattle.spec_step.specs.GivingWay.{GivingWay, left, turn_of}
+use Rattle.spec_step.specs.Parts.{acted, all_framed, answered_by, arp_taken, framed, frames_of, old_dropped, released, side_plugged}
 use Rattle.spec_step.specs.Shown.{GatewayAndOutput, scene, station_on, with_station}
-use Rattle.spec_step.specs.Steps.{BothAct, RouterActs, stopped}
+use Rattle.spec_step.specs.Routers.{BothAct, RouterActs}
+use Rattle.spec_step.specs.Steps.{stopped}
 use Rattle.spec_step.proofs.Passing.{Going, going-then, going-unseen}
+use Rattle.spec_step.proofs.Turning.{back_as, turn-by}
 use Rattle.spec_step.proofs.Packets.{Reads, framed-goes, here, kept-filter, released-goes}
 
 module _ (letters : List Letter) (words : List ℕ) where
@@ -58,6 +62,21 @@ module _ (letters : List Letter) (words : List ℕ) where
 
   pub old-goes : (s : GatewayAndOutput) → Going letters words s (old_dropped s)
   old-goes s = going-unseen letters words s (old_dropped s) refl refl refl refl refl (λ k. kept-filter _ s.shown.kept k)
+
+  -- the turn of a tick
+  pub turn-goes : (s s2 : GatewayAndOutput) → GivingWay s s2 → Going letters words s s2
+  turn-goes s s2 takes =
+      turn-by (λ x. Going letters words s x) s s2
+      (λ middle both. going-then letters words s middle (left middle) (both-go s table.Stop middle both) (going-unseen letters words middle (left middle) refl refl refl refl refl (λ k. k)))
+      (λ starts is. back starts) (here letters words s) (turn_of s.shown) takes
+    where
+      back : (starts : Bool) → Going letters words s (scene (back_as starts s.shown) s.told)
+      back true = going-unseen letters words s _ refl refl refl refl refl (λ k. k)
+      back false = going-unseen letters words s _ refl refl refl refl refl (λ k. k)
+
+  -- a cable
+  pub plugged-goes : (s : GatewayAndOutput) (side : Side) (up : Bool) → Going letters words s (side_plugged s side up)
+  plugged-goes s side up = station-goes s side (with_plug (station_on s.shown side) up s.shown.moment)
 
   pub stopped-goes : (s : GatewayAndOutput) → Going letters words s (stopped s)
   stopped-goes s = going-unseen letters words s (stopped s) refl refl refl refl refl (λ k. k)

@@ -10,17 +10,17 @@ use Rattle.packet_rules.specs.declared.readings.Reading.TheVariants.{Arp, Advert
 use Rattle.packet_rules.specs.declared.reasons.Reason.{Reason}
 use Rattle.vrrp_states.specs.Table as table
 use Rattle.spec_step.specs.declared.events.Event.{Event}
-use Rattle.spec_step.specs.declared.events.Event.TheVariants.{Frame, Datagram as Comes, Tick, Stop, PeerOff}
+use Rattle.spec_step.specs.declared.events.Event.TheVariants.{Frame, Datagram as Comes, Tick, Stop, PeerOff, Side as SideIs}
 use Rattle.spec_step.specs.Machine.{AreBytes, Goes, HasBytes, HasPushed, IsAlone, IsStanding, KeepsBytes, letter_in, letters_in, words_in}
 use Rattle.spec_step.specs.Parts.{idle_taken, old_dropped}
 use Rattle.spec_step.specs.Shown.{GatewayAndOutput}
 use Rattle.spec_step.specs.Steps.{Does, FrameDoes, IsStepOn, ended_on, stopped, ticked, word_refusal}
 use Rattle.spec_step.specs.Verdict.{reading_on}
-use Rattle.spec_step.proofs.Ending.{answered-goes, answered-keeps, ticked-goes, ticked-keeps}
+use Rattle.spec_step.proofs.Ending.{answered-goes, answered-keeps, ended-still, ticked-goes, ticked-keeps}
 use Rattle.spec_step.proofs.Hearing.{Arrives, all-idle-goes, arrives-by, datagram-arrives, word-arrives}
 use Rattle.spec_step.proofs.Packets.{Reads, flow-goes, here, read-formed}
 use Rattle.spec_step.proofs.Passing.{Going, IsSound, going-then}
-use Rattle.spec_step.proofs.Sides.{arp-goes, both-go, old-goes, router-goes, stopped-goes}
+use Rattle.spec_step.proofs.Sides.{arp-goes, both-go, old-goes, plugged-goes, router-goes, stopped-goes, turn-goes}
 
 frame-goes : Reads → (s : GatewayAndOutput) (side : Side) (bytes : List ℕ) (r : Result Reading Reason) (s2 : GatewayAndOutput) → reading_on s.shown side bytes ≡ r → AreBytes bytes → FrameDoes s side bytes r s2 → Going [] [] s s2
 frame-goes reads s side bytes (Ok (Arp p)) s2 read are does = subst (λ (x : GatewayAndOutput). Going [] [] s x) (sym does) (arp-goes [] [] reads s side p)
@@ -35,6 +35,7 @@ begun_on s (Comes bytes) = s
 begun_on s (Tick now) = ticked s now
 begun_on s Stop = s
 begun_on s (PeerOff n) = s
+begun_on s (SideIs side up) = s
 
 pub does-arrives : Reads → (s : GatewayAndOutput) (event : Event) (done : GatewayAndOutput) (h : List Record) → Does s event done → HasBytes event → HasPushed s.shown h → IsSound s.shown → IsAlone s.shown → Arrives (letters_in event) (words_in event) (begun_on s event) done h
 does-arrives reads s (Frame side bytes) done h does has stands is alone =
@@ -43,19 +44,23 @@ does-arrives reads s (Comes bytes) done h does has stands is alone =
     subst (λ (x : GatewayAndOutput). Arrives (letter_in (reading bytes.now)) [] s x h) (sym does) (datagram-arrives reads s h bytes.now (reading bytes.now) refl has stands is alone)
 does-arrives reads s (Tick now) done h does has stands is alone =
     let start = ticked s now in
-    let middle = does.0 in
+    let turned = does.0 in
+    let middle = does.1 in
     let young = old_dropped middle in
     let ledger = young.shown.ledger in
-    let going = going-then [] [] start middle (idle_taken young) (both-go [] [] start table.Tick middle does.1)
+    let going = going-then [] [] start turned (idle_taken young) (turn-goes [] [] start turned does.2)
+    (going-then [] [] turned middle (idle_taken young) (both-go [] [] turned table.Tick middle does.3)
     (going-then [] [] middle young (idle_taken young) (old-goes [] [] middle)
-    (all-idle-goes [] [] young (idle_keys_in (is_lone ledger.book.stage) young.shown.moment ledger.book.entries ledger.lives))) in
-    arrives-by [] [] start done h (subst (λ (x : GatewayAndOutput). Going [] [] start x) (sym does.2) going) stands (record { book = is.book; kept = is.kept }) alone
+    (all-idle-goes [] [] young (idle_keys_in (is_lone ledger.book.stage) young.shown.moment ledger.book.entries ledger.lives)))) in
+    arrives-by [] [] start done h (subst (λ (x : GatewayAndOutput). Going [] [] start x) (sym does.4) going) stands (record { book = is.book; kept = is.kept }) alone
 does-arrives reads s Stop done h does has stands is alone =
     let middle = does.0 in
     let going = going-then [] [] s middle (stopped middle) (both-go [] [] s table.Stop middle does.1) (stopped-goes [] [] middle) in
     arrives-by [] [] s done h (subst (λ (x : GatewayAndOutput). Going [] [] s x) (sym does.2) going) stands is alone
 does-arrives reads s (PeerOff n) done h does has stands is alone =
     subst (λ (x : GatewayAndOutput). Arrives [] (n ∷ []) s x h) (sym does) (word-arrives reads s n h (word_refusal s.shown n) refl stands is alone)
+does-arrives reads s (SideIs side up) done h does has stands is alone =
+    arrives-by [] [] s done h (subst (λ (x : GatewayAndOutput). Going [] [] s x) (sym does) (plugged-goes [] [] s side up)) stands is alone
 
 ended-goes : (s : GatewayAndOutput) (event : Event) (done : GatewayAndOutput) (h : List Record) → Arrives (letters_in event) (words_in event) (begun_on s event) done h → Goes (letters_in event) (words_in event) s (ended_on event done) h
 ended-goes s (Frame side bytes) done h a = answered-goes [] [] s h done a
@@ -76,6 +81,7 @@ ended-goes s (Tick now) done h a =
     }
 ended-goes s Stop done h a = answered-goes [] [] s h done a
 ended-goes s (PeerOff n) done h a = answered-goes [] (n ∷ []) s h done a
+ended-goes s (SideIs side up) done h a = ended-still [] [] s h done a
 
 ended-keeps : (s : GatewayAndOutput) (event : Event) (done : GatewayAndOutput) (h : List Record) → Arrives (letters_in event) (words_in event) (begun_on s event) done h → IsSound (ended_on event done).shown × IsAlone (ended_on event done).shown
 ended-keeps s (Frame side bytes) done h a = answered-keeps [] [] s h done a
@@ -83,6 +89,7 @@ ended-keeps s (Comes bytes) done h a = answered-keeps (letter_in (reading bytes.
 ended-keeps s (Tick now) done h a = ticked-keeps [] [] (ticked s now) h done a
 ended-keeps s Stop done h a = answered-keeps [] [] s h done a
 ended-keeps s (PeerOff n) done h a = answered-keeps [] (n ∷ []) s h done a
+ended-keeps s (SideIs side up) done h a = (a.passes.sound, a.alone)
 
 pub step-goes : Reads → (s : GatewayAndOutput) (event : Event) (s2 : GatewayAndOutput) (h : List Record) → IsStepOn s event s2 → HasBytes event → IsBook s.shown.ledger.book → IsAlone s.shown → KeepsBytes s.shown → HasPushed s.shown h → Goes (letters_in event) (words_in event) s s2 h
 step-goes reads s event s2 h step has book alone kept pushed =

@@ -38,13 +38,16 @@ use Rattle.vrrp_states.specs.declared.Action.TheVariants.{Nothing, Advertise, Ad
 use Rattle.vrrp_states.specs.Table as table
 use Rattle.vrrp_states.specs.Table.{Event as RouterEvent, Router}
 use Rattle.spec_step.specs.declared.events.Event.{Event}
-use Rattle.spec_step.specs.declared.events.Event.TheVariants.{Frame, Datagram as Comes, Tick, Stop, PeerOff}
+use Rattle.spec_step.specs.declared.events.Event.TheVariants.{Frame, Datagram as Comes, Tick, Stop, PeerOff, Side as SideIs}
 use Rattle.spec_step.specs.Machine.{AreBytes, HasBytes}
-use Rattle.spec_step.specs.Parts.{acted, all_framed, all_idle_done, answered_by, arp_taken, datagram_in, datagram_read, flow_taken, framed, frames_of, handed_in, has_synced, heard_by, heard_unless, idle_done, idle_taken, link_answered, link_ticked, old_dropped, record_done, record_shown, record_told, records_done, released, reset, started, wait_ended, with_link, word_taken}
-use Rattle.spec_step.specs.Shown.{GatewayAndOutput, Shown, id_of, scene, station_on, with_notes, with_station}
-use Rattle.spec_step.specs.Steps.{BothAct, Does, FrameDoes, IsStepOn, RouterActs, ended_on, stopped, ticked, word_by, word_refusal}
+use Rattle.spec_step.specs.Parts.{acted, all_framed, all_idle_done, answered_by, arp_taken, datagram_in, datagram_read, flow_taken, framed, frames_of, handed_in, has_synced, heard_by, heard_unless, idle_done, idle_taken, link_answered, link_ticked, old_dropped, record_done, record_shown, record_told, records_done, released, reset, started, wait_ended, with_link, word_taken, side_plugged}
+use Rattle.spec_step.specs.Shown.{GatewayAndOutput, Shown, id_of, is_running, scene, station_on, with_notes, with_station}
+use Rattle.spec_step.specs.Routers.{BothAct, RouterActs}
+use Rattle.spec_step.specs.GivingWay.{GivingWay, left, turn_of}
+use Rattle.spec_step.specs.Steps.{Does, FrameDoes, IsStepOn, ended_on, stopped, ticked, word_by, word_refusal}
 use Rattle.spec_step.specs.Truly.{AreWired, AtHand, Known, Tells, hand_of, known_of, unasked}
 use Rattle.spec_step.specs.Verdict.{reading_on}
+use Rattle.spec_step.proofs.Turning.{back_as, turn-by}
 use Rattle.spec_step.proofs.Packets.{kept-filter}
 use Rattle.spec_step.proofs.Passing.{IsSound}
 use Rattle.spec_step.proofs.Saying.{Saying, Speaks, framed-says, packet-says, released-says, row-says, saying-nothing, saying-then, speaks-then}
@@ -197,7 +200,7 @@ record-says frames s r formed =
       refl,
     ) in
     saying-then [] [] s s3 (record_done s r)
-    (saying-then [] [] s s2 s3 first (routed-says g2.moment g2 told (has_synced g g2 && not g2.stopped)))
+    (saying-then [] [] s s2 s3 first (routed-says g2.moment g2 told (has_synced g g2 && is_running g2)))
     (ended-says frames s3 (taken_ended b rests r))
 
 records-say : Frames → (s : GatewayAndOutput) (rs : List Record) → AllByRecursion IsWellFormedRecord rs → Saying [] s (records_done s rs)
@@ -303,6 +306,44 @@ ticked-speaks s now = λ is w. record {
   wired = w;
 }
 
+-- the turn of a tick
+turn-says : Frames → (s s2 : GatewayAndOutput) → GivingWay s s2 → Saying [] s s2
+turn-says frames s s2 takes =
+    turn-by (λ x. Saying [] s x) s s2
+    (λ middle both. saying-then [] [] s middle (left middle) (both-say frames s table.Stop middle both) (left-says middle))
+    (λ starts is. back starts) (saying-nothing s []) (turn_of s.shown) takes
+  where
+    left-says : (middle : GatewayAndOutput) → Saying [] middle (left middle)
+    left-says middle = λ is w. (
+      record { tells = tells-quietly middle (left middle) [] refl (same-notes middle.told) refl refl; sound = record { book = is.book; kept = is.kept }; wired = w },
+      refl,
+    )
+
+    back : (starts : Bool) → Saying [] s (scene (back_as starts s.shown) s.told)
+    back true = λ is w. (
+      record {
+        tells = tells-quietly s (scene (back_as true s.shown) s.told) [] refl (same-notes s.told) refl refl;
+        sound = record { book = is.book; kept = is.kept };
+        wired = (w.0, (record { own = w.1.0.own; known = w.1.0.known }, record { own = w.1.1.own; known = w.1.1.known }));
+      },
+      refl,
+    )
+    back false = λ is w. (
+      record { tells = tells-quietly s (scene (back_as false s.shown) s.told) [] refl (same-notes s.told) refl refl; sound = record { book = is.book; kept = is.kept }; wired = w },
+      refl,
+    )
+
+-- a side's cable
+plugged-says : (s : GatewayAndOutput) (side : Side) (up : Bool) → Saying [] s (side_plugged s side up)
+plugged-says s Inside up = λ is w. (
+  record { tells = tells-quietly s (side_plugged s Inside up) [] refl (same-notes s.told) refl refl; sound = record { book = is.book; kept = is.kept }; wired = (w.0, (record { own = w.1.0.own; known = w.1.0.known }, w.1.1)) },
+  refl,
+)
+plugged-says s Outside up = λ is w. (
+  record { tells = tells-quietly s (side_plugged s Outside up) [] refl (same-notes s.told) refl refl; sound = record { book = is.book; kept = is.kept }; wired = (w.0, (w.1.0, record { own = w.1.1.own; known = w.1.1.known })) },
+  refl,
+)
+
 -- ---- an event's own parts
 
 pub does-speak : Frames → (s : GatewayAndOutput) (event : Event) (done : GatewayAndOutput) → Does s event done → HasBytes event → Speaks (hand_of event) s done
@@ -311,18 +352,22 @@ does-speak frames s (Comes bytes) done does has =
     subst (λ (x : GatewayAndOutput). Speaks [] s x) (sym does) (speaks-of [] s _ (datagram-says frames s bytes.now (reading bytes.now) refl has))
 does-speak frames s (Tick now) done does has =
     let start = ticked s now in
-    let middle = does.0 in
+    let turned = does.0 in
+    let middle = does.1 in
     let young = old_dropped middle in
     let l = young.shown.ledger in
-    let parts = saying-then [] [] start middle (idle_taken young) (both-say frames start table.Tick middle does.1)
-    (saying-then [] [] middle young (idle_taken young) (old-says middle) (all-idle-say young (idle_keys_in (is_lone l.book.stage) young.shown.moment l.book.entries l.lives))) in
-    subst (λ (x : GatewayAndOutput). Speaks [] s x) (sym does.2) (speaks-then [] [] s start (idle_taken young) (ticked-speaks s now) parts)
+    let parts = saying-then [] [] start turned (idle_taken young) (turn-says frames start turned does.2)
+    (saying-then [] [] turned middle (idle_taken young) (both-say frames turned table.Tick middle does.3)
+    (saying-then [] [] middle young (idle_taken young) (old-says middle) (all-idle-say young (idle_keys_in (is_lone l.book.stage) young.shown.moment l.book.entries l.lives)))) in
+    subst (λ (x : GatewayAndOutput). Speaks [] s x) (sym does.4) (speaks-then [] [] s start (idle_taken young) (ticked-speaks s now) parts)
 does-speak frames s Stop done does has =
     let middle = does.0 in
     subst (λ (x : GatewayAndOutput). Speaks [] s x) (sym does.2)
     (speaks-of [] s (stopped middle) (saying-then [] [] s middle (stopped middle) (both-say frames s table.Stop middle does.1) (stopped-says middle)))
 does-speak frames s (PeerOff n) done does has =
     subst (λ (x : GatewayAndOutput). Speaks [] s x) (sym does) (speaks-of [] s _ (word-says frames s n (word_refusal s.shown n) refl))
+does-speak frames s (SideIs side up) done does has =
+    subst (λ (x : GatewayAndOutput). Speaks [] s x) (sym does) (speaks-of [] s _ (plugged-says s side up))
 
 -- ---- the datagram at the end
 
@@ -351,6 +396,7 @@ end-tells s (Tick now) done x w =
     (tells-then [] [] s done (link_ticked done) t.1.0 x t.0, t.1.1 w)
 end-tells s Stop done x w = answered-ends [] s done x w
 end-tells s (PeerOff n) done x w = answered-ends [] s done x w
+end-tells s (SideIs side up) done x w = (x, w)
 
 -- a whole step
 pub step-tells : Frames → (s : GatewayAndOutput) (event : Event) (s2 : GatewayAndOutput) → IsStepOn s event s2 → HasBytes event → IsSound s.shown → AreWired s.shown → Tells (hand_of event) s s2 × AreWired s2.shown
