@@ -74,8 +74,8 @@ impl Conduit for Channel {
 }
 
 /// What was received, where just nothing being there is no fault.
-fn settled(result: io::Result<Arrived>) -> Result<Option<Arrived>, WireFault> {
-    match result {
+fn settled(received: io::Result<Arrived>) -> Result<Option<Arrived>, WireFault> {
+    match received {
         Ok(arrived) => Ok(Some(arrived)),
         Err(error) if error.kind() == ErrorKind::WouldBlock => Ok(None),
         Err(_) => Err(WireFault),
