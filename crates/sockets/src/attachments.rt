@@ -178,9 +178,12 @@ impl<C: Conduit> Attachment<C> {
         ensures within { IsHeardWithin result }
         ensures told { brought result room.new
             ≡ all_heard self.old.far (arrival (take arrived.count room.old) arrived.sender ∷ []) }
-        ensures counted { self.new ≡ record self.old {
-            strangers = counted self.old.strangers (strangers_among self.old.far
-                (arrival (take arrived.count room.old) arrived.sender ∷ [])) } }
+        ensures counted { self.new.strangers ≡ counted self.old.strangers
+            (strangers_among self.old.far
+                (arrival (take arrived.count room.old) arrived.sender ∷ [])) }
+        ensures conduit { self.new.conduit ≡ self.old.conduit }
+        ensures far { self.new.far ≡ self.old.far }
+        ensures failing { self.new.failing ≡ self.old.failing }
     {
         match self.far.hears(arrived.sender, arrived.count, room) {
             Some(count) => Brought::Heard(count),
