@@ -33,8 +33,11 @@ digits_lack (x ∷ xs) digits = (no_comma x digits.0, digits_lack xs digits.1)
 decimal_lacks : (n : ℕ) → n < 256 → Lacks (decimal n)
 decimal_lacks n below = digits_lack (decimal n) (decimal_is_IsNumeral n (omega arith)).0.1
 
+no_digit : (x : ℕ) → 44 < x → x ≢ 44
+no_digit x above is = absurd (omega arith)
+
 dot_lacks : Lacks (codes ".")
-dot_lacks = ((λ is. absurd (omega arith)), tt)
+dot_lacks = (no_digit 46 (omega arith), tt)
 
 pub socket_lacks : (text : List ℕ) (a : SocketAddrV4) → IsSocketV4Text text a → Lacks text
 socket_lacks text a (ip, port, whole, d, (digits, colon, number, below)) =
@@ -42,7 +45,7 @@ socket_lacks text a (ip, port, whole, d, (digits, colon, number, below)) =
     let two = lacks_joined _ _ (lacks_joined _ _ one (decimal_lacks d.b d.fit.1)) dot_lacks in
     let three = lacks_joined _ _ (lacks_joined _ _ two (decimal_lacks d.c d.fit.2)) dot_lacks in
     let ip_lacks = lacks_joined _ _ three (decimal_lacks d.d d.fit.3) in
-    let port_lacks : Lacks (codes ":" ++ digits) = ((λ is. absurd (omega arith)), digits_lack digits number.0.1) in
+    let port_lacks : Lacks (codes ":" ++ digits) = (no_digit 58 (omega arith), digits_lack digits number.0.1) in
     subst Lacks (sym whole) (lacks_joined ip port (subst Lacks (sym d.spelled) ip_lacks) (subst Lacks (sym colon) port_lacks))
 
 -- ---- the first comma

@@ -122,16 +122,18 @@ behind word text (Some y) x (n, found, cut, long) is =
     let same : y ≡ x = cc in subst (λ (z : Bor (List ℕ)). text ≡ word ++ z.now) same (found.1 ∙ ap (λ (l : List ℕ). word ++ l) (sym cut))
 behind word text None x stripped is = absurd (cc)
 
-head_of : List ℕ → ℕ
+abbrev head_of : List ℕ → ℕ
 head_of l = get_or l 0 0
 
 heads : (text xs ys : List ℕ) → text ≡ xs → text ≡ ys → head_of xs ≡ head_of ys
 heads text xs ys one two = ap head_of (sym one ∙ two)
 
+differ : (m n : ℕ) → m ≡ n → ¬ (m < n)
+differ m n is below = absurd (omega arith)
+
 -- `udp:`, behind which no two ends are written
 pub no_udp : (text rest : List ℕ) → text ≡ codes "udp:" ++ rest → IsNoEndsText rest → IsNoWayText text
-no_udp text rest is none Loopback w =
-    let clash : 117 ≡ 108 = heads text (codes "udp:" ++ rest) (codes "loopback") is w in absurd (omega arith)
+no_udp text rest is none Loopback w = differ 108 117 (heads text (codes "loopback") (codes "udp:" ++ rest) w is) (omega arith)
 no_udp text rest is none (Udp ends) (other, whole, written) =
     let same : rest ≡ other = ap (drop 4) (sym is ∙ whole) in
     none ends (subst (λ (x : List ℕ). IsEndsText x ends) (sym same) written)
@@ -140,8 +142,7 @@ no_udp text rest is none (Descriptor number) (other, whole, written) = absurd (o
 
 -- `vxlan:`, and what is read behind it
 no_vxlan : (text rest : List ℕ) → text ≡ codes "vxlan:" ++ rest → IsNoVxlanText rest → IsNoWayText text
-no_vxlan text rest is none Loopback w =
-    let clash : 118 ≡ 108 = heads text (codes "vxlan:" ++ rest) (codes "loopback") is w in absurd (omega arith)
+no_vxlan text rest is none Loopback w = differ 108 118 (heads text (codes "loopback") (codes "vxlan:" ++ rest) w is) (omega arith)
 no_vxlan text rest is none (Udp ends) (other, whole, written) = absurd (omega (arith, heads text _ _ is whole))
 no_vxlan text rest is none (Vxlan ends network) (other, whole, written) =
     let same : rest ≡ other = ap (drop 6) (sym is ∙ whole) in
@@ -161,8 +162,7 @@ vxlan_read text rest None is read = no_vxlan text rest is read
 
 -- `descriptor:`, and what is read behind it
 no_descriptor : (text rest : List ℕ) → text ≡ codes "descriptor:" ++ rest → IsNoDescriptorText rest → IsNoWayText text
-no_descriptor text rest is none Loopback w =
-    let clash : 100 ≡ 108 = heads text (codes "descriptor:" ++ rest) (codes "loopback") is w in absurd (omega arith)
+no_descriptor text rest is none Loopback w = differ 100 108 (heads text (codes "descriptor:" ++ rest) (codes "loopback") is w) (omega arith)
 no_descriptor text rest is none (Udp ends) (other, whole, written) = absurd (omega (arith, heads text _ _ is whole))
 no_descriptor text rest is none (Vxlan ends network) (other, whole, written) = absurd (omega (arith, heads text _ _ is whole))
 no_descriptor text rest is none (Descriptor number) (other, whole, written) =

@@ -31,7 +31,11 @@ impl<C> Model for Attachment<C> {
     ghost Value = { Attached C };
 
     ghost view = { λ a. record {
-        conduit = a.conduit; far = a.far; strangers = a.strangers; failing = a.failing } };
+      conduit = a.conduit;
+      far = a.far;
+      strangers = a.strangers;
+      failing = a.failing;
+    } };
 }
 
 /// What one call to a conduit brought.
@@ -49,7 +53,11 @@ impl<C: Conduit> Attachment<C> {
     /// Nothing is known to have failed, and no stranger has sent anything.
     pub fn new(conduit: C, far: FarEnd) -> Attachment<C>
         ensures { result ≡ record {
-            conduit = conduit; far = far; strangers = 0; failing = false } }
+          conduit = conduit;
+          far = far;
+          strangers = 0;
+          failing = false;
+        } }
     {
         Attachment {
             conduit,
@@ -180,7 +188,7 @@ impl<C: Conduit> Attachment<C> {
             ≡ all_heard self.old.far (arrival (take arrived.count room.old) arrived.sender ∷ []) }
         ensures counted { self.new.strangers ≡ counted self.old.strangers
             (strangers_among self.old.far
-                (arrival (take arrived.count room.old) arrived.sender ∷ [])) }
+            (arrival (take arrived.count room.old) arrived.sender ∷ [])) }
         ensures conduit { self.new.conduit ≡ self.old.conduit }
         ensures far { self.new.far ≡ self.old.far }
         ensures failing { self.new.failing ≡ self.old.failing }
