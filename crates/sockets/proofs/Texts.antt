@@ -1,12 +1,11 @@
 -- The texts of ends, and what is none.
-use Rattle.std.proofs.Common.{arith, ◌≡◌, ◌∙◌, ◌<◌, ◌≤◌, ◌++◌, ℕ, List, Option, Some, None, Result, Ok, Err, MatchOption, codes, refl, sym, ap, subst}
+use Rattle.std.proofs.Common.{arith, ◌≡◌, ◌∙◌, ℕ, List, Option, Some, None, Result, Ok, Err, MatchOption, sym, ap, subst}
 use Rattle.std.specs.Result.{result_ok}
 use Rattle.std.specs.Net.Grammar.{IsSocketV4Text, Parses}
 use Rattle.std.specs.Net.Socket.{v4_port}
 use Rattle.std.specs.declared.net.socket_addr.SocketAddrV4.{SocketAddrV4}
 use Rattle.std.proofs.NetLemmas.Theorems.{IsSocketV4Text_unique}
 use Rattle.sockets.specs.declared.ends.End.{End}
-use Rattle.sockets.specs.declared.ends.Ends.{Ends}
 use Rattle.sockets.specs.Ends.{IsEndText, IsEndsText, IsNoEndText, IsNoEndsText}
 use Rattle.sockets.proofs.Commas.{Cut, Lacks, Uncut, socket_lacks}
 

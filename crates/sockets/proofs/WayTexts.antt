@@ -1,5 +1,5 @@
 -- The texts of ways, and what is none.
-use Rattle.std.proofs.Common.{arith, ◌≡◌, ◌≢◌, ◌∙◌, ◌+◌, ◌^◌, ◌<◌, ◌≤◌, ◌++◌, ◌∷◌, ℕ, List, length, drop, get_or, Option, Some, None, Result, Ok, Err, Bor, MatchOption, codes, refl, sym, ap, subst}
+use Rattle.std.proofs.Common.{arith, ◌≡◌, ◌∙◌, ◌+◌, ◌^◌, ◌<◌, ◌≤◌, ◌++◌, ℕ, List, length, drop, get_or, Option, Some, None, Result, Ok, Err, Bor, MatchOption, codes, sym, ap, subst}
 use Rattle.std.proofs.lemmas.List.{append_assoc}
 use Rattle.std.specs.Result.{OkIff, result_ok}
 use Rattle.std.specs.Str.Parse.{IsNumeral, digits_value, without_leading_plus}
@@ -11,7 +11,7 @@ use Rattle.sockets.specs.declared.ways.Way.{Way}
 use Rattle.sockets.specs.declared.ways.Way.TheVariants.{Loopback, Udp, Vxlan, Descriptor}
 use Rattle.sockets.specs.Ends.{IsEndText, IsEndsText, IsNoEndText, IsNoEndsText}
 use Rattle.sockets.specs.Ways.{HasNetwork, IsDescriptorText, IsNoDescriptorText, IsNoVxlanText, IsNoWayText, IsNumberText, IsVxlanText, IsWayText}
-use Rattle.sockets.proofs.Commas.{Cut, Lacks, Uncut}
+use Rattle.sockets.proofs.Commas.{Cut, Uncut}
 use Rattle.sockets.proofs.Texts.{end_lacks}
 
 -- ---- two ends and a network

@@ -1,8 +1,7 @@
 -- Whom a place speaks with, and what it hears.
-use Rattle.std.specs.Prelude.{ℕ, Bool, true, false, ◌==◌, ◌&&◌, ◌+◌, List, [], ◌∷◌, ◌++◌, Option, Some, None, if◌then◌else◌}
+use Rattle.std.specs.Prelude.{ℕ, Bool, true, false, ◌==◌, ◌&&◌, ◌+◌, List, [], ◌∷◌, Option, Some, None, if◌then◌else◌}
 use Rattle.addresses.specs.declared.internet.Ip.{Ip}
 use Rattle.sockets.specs.declared.ends.End.{End}
-use Rattle.sockets.specs.declared.ends.Ends.{Ends}
 use Rattle.sockets.specs.declared.far_ends.FarEnd.{FarEnd}
 use Rattle.sockets.specs.declared.far_ends.FarEnd.TheVariants as far
 use Rattle.sockets.specs.declared.far_ends.Sender.{Sender}

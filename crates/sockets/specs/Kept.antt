@@ -1,5 +1,5 @@
 -- What a record of traffic keeps.
-use Rattle.std.specs.Prelude.{ℕ, List, [], ◌∷◌, ◌++◌, take, Option, Some, None}
+use Rattle.std.specs.Prelude.{[], ◌∷◌, ◌++◌, take, Option, Some, None}
 use Rattle.std.specs.declared.snapshot.Snapshot.{Snapshot}
 use Rattle.sockets.specs.Traffic.{Carried}
 use Rattle.sockets.specs.declared.traffic.Passed.{Passed}

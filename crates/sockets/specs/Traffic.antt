@@ -1,5 +1,5 @@
 -- What came by a conduit and what was sent by it.
-use Rattle.std.specs.Prelude.{ℕ, List, [], ◌∷◌, ◌++◌, take, Option, Some, None, Result, Ok, Err}
+use Rattle.std.specs.Prelude.{ℕ, List, [], ◌∷◌, take, Option, Some, None, Result, Ok, Err}
 use Rattle.sockets.specs.FarEnds.{Arrival}
 use Rattle.sockets.specs.declared.conduits.Arrived.{Arrived}
 

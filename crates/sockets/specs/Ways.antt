@@ -2,7 +2,6 @@
 use Rattle.std.specs.Prelude.{ℕ, ◌≡◌, ◌<◌, ◌≤◌, ◌^◌, ◌⊎◌, List, ◌++◌, codes}
 use Rattle.std.specs.Str.Parse.{IsNumeral, digits_value, without_leading_plus}
 use Rattle.sockets.specs.Ends.{IsEndText, IsEndsText}
-use Rattle.sockets.specs.declared.ends.End.{End}
 use Rattle.sockets.specs.declared.ends.Ends.{Ends}
 use Rattle.sockets.specs.declared.vxlan.Network.{Network}
 use Rattle.sockets.specs.declared.ways.Way.{Way}

@@ -69,6 +69,13 @@ impl<C: Conduit> Attachment<C> {
         }
     }
 
+    /// What carries its bytes.
+    pub fn conduit(&self) -> &C
+        ensures { result.now ≡ self.now.conduit }
+    {
+        &self.conduit
+    }
+
     /// A wait has reported the conduit.
     pub fn wake(&mut self)
         ensures { self.new ≡ self.old }
