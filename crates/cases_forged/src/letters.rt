@@ -23,7 +23,7 @@ pub(crate) fn spelled(alloc: Global, sender: GatewayId, text: &str) -> Result<Ve
         sender,
         boot: number(boot)?,
         receiver_boot: number(to)?,
-        synced: true,
+        serves: true,
         delivered: number(took)?,
         first: number(first)?,
         records: records(alloc, list)?,

@@ -47,7 +47,7 @@ fn empty_datagram(sender: GatewayId, boot: u64) -> Datagram {
         sender,
         boot,
         receiver_boot: 1,
-        synced: true,
+        serves: true,
         delivered: 0,
         first: 1,
         records: ArrayVec::new(),
@@ -169,8 +169,8 @@ impl Side {
     /// Prints the records that were pushed since the last line, and the notes.
     fn tell(&mut self, notes: &Vec<Note>, out: &mut String) -> Result<()> {
         if self.link.wanted() == 0 {
-            let synced = self.core.is_synced();
-            if let Some(datagram) = self.link.answer(synced) {
+            let serves = self.core.is_synced();
+            if let Some(datagram) = self.link.answer(serves) {
                 for item in datagram.records.iter().skip(self.printed) {
                     say_pushed(out, item)?;
                 }

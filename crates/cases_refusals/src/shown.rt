@@ -15,6 +15,7 @@ const ROOM: usize = 4096;
 struct Standing {
     moment: u64,
     synced: bool,
+    away: bool,
     inside_active: bool,
     outside_active: bool,
     known_peer: u64,
@@ -67,6 +68,7 @@ fn standing_of(gateway: &Gateway) -> Standing {
     Standing {
         moment: gateway.moment(),
         synced: gateway.synced(),
+        away: gateway.is_away(),
         inside_active: gateway.is_active(Side::Inside),
         outside_active: gateway.is_active(Side::Outside),
         known_peer: gateway.known_peer(),

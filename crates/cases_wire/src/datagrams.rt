@@ -14,7 +14,7 @@ pub fn parsed(given: &mut Given) -> Result<String> {
         sender,
         boot,
         receiver_boot,
-        synced,
+        serves,
         delivered,
         first,
         records,
@@ -22,7 +22,7 @@ pub fn parsed(given: &mut Given) -> Result<String> {
     let count = records.len();
     let same = again.as_slice() == bytes.as_slice();
     Ok(format!(in alloc;
-        "from {sender} boot {boot} to {receiver_boot}, synced {synced}, delivered {delivered}, first {first}, records {count}, the same {same}"
+        "from {sender} boot {boot} to {receiver_boot}, serves {serves}, delivered {delivered}, first {first}, records {count}, the same {same}"
     )?)
 }
 

@@ -20,6 +20,7 @@ shown_of f = record {
   networks = f.networks;
   moment = f.moment;
   stopped = f.stopped;
+  away = f.away;
   ledger = ledger_of f.core;
   link = f.link;
   inside = f.inside;

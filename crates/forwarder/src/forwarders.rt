@@ -1,7 +1,7 @@
 //! A gateway as far as packets need it.
 ghost use Rattle.std.specs.Prelude.{◌≡◌, IfOk};
 ghost use Rattle.packet_rules.specs.Steps.{Carries};
-ghost use Rattle.spec_step.specs.Shown.{is_up, station_on};
+ghost use Rattle.spec_step.specs.Shown.{is_running, is_up, station_on};
 ghost use Rattle.spec_step.specs.Verdict.{reading_on};
 ghost use Rattle.forwarder.specs.Forwarder.{shown_of};
 
@@ -21,6 +21,8 @@ pub struct Forwarder {
     pub moment: u64,
     /// Whether both routers were stopped for good.
     pub stopped: bool,
+    /// Whether it gave way to the other gateway: then both routers stand in Initialize.
+    pub away: bool,
     pub core: Core,
     pub link: Link,
     pub inside: Interface,
@@ -40,10 +42,17 @@ impl Forwarder {
     }
 
     /// Whether it takes frames: it is synced, and wasn't stopped.
-    fn is_up(&self) -> bool
+    pub fn is_up(&self) -> bool
         ensures { result ≡ is_up (shown_of self.now) }
     {
         self.core.is_synced() && !self.stopped
+    }
+
+    /// Whether its routers run: it is up, and not away.
+    pub fn is_running(&self) -> bool
+        ensures { result ≡ is_running (shown_of self.now) }
+    {
+        self.is_up() && !self.away
     }
 
     /// Reads a frame that came in on a side; or gives the reason of the first step that refuses it.

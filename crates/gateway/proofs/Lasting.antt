@@ -1,5 +1,5 @@
 -- What no step changes: the ranges of ports, and for how much the link has room. And the clock goes on within its bounds.
-use Rattle.std.proofs.Common.{◌≡◌, ℕ, Bool, true, false, List, [], ◌∷◌, Option, Some, None, Result, Ok, Err, refl, sym, subst, ◌∙◌, arith, cond, not, ◌&&◌}
+use Rattle.std.proofs.Common.{◌≡◌, ℕ, Bool, true, false, List, [], ◌∷◌, Option, Some, None, Result, Ok, Err, refl, sym, subst, ◌∙◌, arith, cond, ◌&&◌}
 use Rattle.nat_types.specs.declared.gateways.Side.{Side}
 use Rattle.nat_types.specs.declared.gateways.Side.TheVariants.{Inside, Outside}
 use Rattle.nat_types.specs.declared.pairs.Endpoint.{Endpoint}
@@ -24,15 +24,19 @@ use Rattle.packet_rules.specs.declared.readings.Reading.{Reading}
 use Rattle.packet_rules.specs.declared.readings.Reading.TheVariants.{Arp, Advert, Packet}
 use Rattle.packet_rules.specs.declared.reasons.Reason.{Reason}
 use Rattle.packet_rules.specs.Arping.{answer_to, is_learnable}
-use Rattle.interfaces.specs.Stations.{Interface, after_arp, is_active}
+use Rattle.interfaces.specs.Stations.{Interface, after_arp, is_active, with_plug}
 use Rattle.vrrp_states.specs.Table as table
 use Rattle.vrrp_states.specs.Table.{Event as RouterEvent, IsMoment}
 use Rattle.vrrp_states.specs.declared.Action.{Action}
 use Rattle.spec_step.specs.declared.events.Event.{Event}
-use Rattle.spec_step.specs.declared.events.Event.TheVariants.{Frame, Datagram as Comes, Tick, Stop, PeerOff}
-use Rattle.spec_step.specs.Parts.{acted, all_framed, all_idle_done, answered_by, arp_taken, datagram_read, datagram_taken, framed, frames_of, handed_in, has_synced, heard_by, heard_unless, idle_done, idle_taken, link_answered, link_ticked, old_dropped, record_done, record_shown, records_done, released, reset, wait_ended, with_link, with_routers}
-use Rattle.spec_step.specs.Shown.{GatewayAndOutput, Shown, id_of, scene, station_on, with_notes, with_station}
-use Rattle.spec_step.specs.Steps.{BothAct, Does, FrameDoes, RouterActs, ended_on, stopped, ticked, word_by, word_refusal}
+use Rattle.spec_step.specs.declared.events.Event.TheVariants.{Frame, Datagram as Comes, Tick, Stop, PeerOff, Side as SideIs}
+use Rattle.spec_step.specs.Parts.{acted, all_framed, all_idle_done, answered_by, arp_taken, datagram_read, datagram_taken, framed, frames_of, handed_in, has_synced, heard_by, heard_unless, idle_done, idle_taken, link_answered, link_ticked, old_dropped, record_done, record_shown, records_done, released, reset, side_plugged, wait_ended, with_link, with_routers}
+use Rattle.spec_step.specs.declared.turns.Turn.{Turn}
+use Rattle.spec_step.specs.declared.turns.Turn.TheVariants.{Leaves, Returns, Stays as Remains}
+use Rattle.spec_step.specs.GivingWay.{TakesTurn, left, returned, turn_of}
+use Rattle.spec_step.specs.Routers.{BothAct, RouterActs}
+use Rattle.spec_step.specs.Shown.{GatewayAndOutput, Shown, id_of, is_running, is_up, scene, station_on, with_notes, with_station}
+use Rattle.spec_step.specs.Steps.{Does, FrameDoes, ended_on, stopped, ticked, word_by, word_refusal}
 use Rattle.spec_step.specs.Verdict.{reading_on}
 use Rattle.gateway.proofs.Staying.{Stays, answered-capacity, flow-stays, released-stays, row-stays, stays-here, stays-then}
 
@@ -120,7 +124,7 @@ reset-stays s =
     let x = released-stays begun AllPairs in
     record { moment = x.moment; capacity = x.capacity ∙ capacity; zero = x.zero ∙ ranges.zero; one = x.one ∙ ranges.one }
 
-with-routers-stays : (g g2 : Shown) (starts : Bool) → (has_synced g g2 && not g2.stopped) ≡ starts → Stays g2 (with_routers g g2)
+with-routers-stays : (g g2 : Shown) (starts : Bool) → (has_synced g g2 && is_running g2) ≡ starts → Stays g2 (with_routers g g2)
 with-routers-stays g g2 true is = rw is (record { moment = refl; capacity = refl; zero = refl; one = refl })
 with-routers-stays g g2 false is = rw is (stays-here g2)
 
@@ -132,7 +136,7 @@ shown-stays g r =
     let ranges = taken-by b rests r (is_synced b.stage) refl in
     stays-then g g2 (record_shown g r)
     (record { moment = refl; capacity = answered-capacity g.link (taken_answer b rests r); zero = ranges.zero; one = ranges.one })
-    (with-routers-stays g g2 (has_synced g g2 && not g2.stopped) refl)
+    (with-routers-stays g g2 (has_synced g g2 && is_running g2) refl)
 
 ended-stays : (s : GatewayAndOutput) (o : Option Endpoint) → Stays s.shown (wait_ended o s).shown
 ended-stays s None = stays-here s.shown
@@ -201,17 +205,32 @@ begun_by s (Comes bytes) = s
 begun_by s (Tick now) = ticked s now
 begun_by s Stop = s
 begun_by s (PeerOff n) = s
+begun_by s (SideIs side up) = s
+
+-- the turn with which a tick begins
+returned-stays : (g : Shown) (up : Bool) → is_up g ≡ up → Stays g (returned g)
+returned-stays g true is = rw is (record { moment = refl; capacity = refl; zero = refl; one = refl })
+returned-stays g false is = rw is (record { moment = refl; capacity = refl; zero = refl; one = refl })
+
+turn-stays : (s : GatewayAndOutput) (turn : Turn) (s2 : GatewayAndOutput) → TakesTurn s turn s2 → Stays s.shown s2.shown
+turn-stays s Leaves s2 takes =
+    let x = both-stay s table.Stop takes.0 takes.1 in
+    stays-as s.shown (left takes.0) s2 takes.2 (record { moment = x.moment; capacity = x.capacity; zero = x.zero; one = x.one })
+turn-stays s Returns s2 takes = stays-as s.shown (scene (returned s.shown) s.told) s2 takes (returned-stays s.shown (is_up s.shown) refl)
+turn-stays s Remains s2 takes = stays-as s.shown s s2 takes (stays-here s.shown)
 
 does-stays : (s : GatewayAndOutput) (event : Event) (done : GatewayAndOutput) → Does s event done → Stays (begun_by s event).shown done.shown
 does-stays s (Frame side bytes) done does = frame-stays s side bytes.now (reading_on s.shown side bytes.now) done does
 does-stays s (Comes bytes) done does = stays-as s.shown (datagram_taken s bytes.now) done does (read-stays s (reading bytes.now))
 does-stays s (Tick now) done does =
-    let middle = does.0 in
+    let turned = does.0 in
+    let middle = does.1.0 in
     let young = old_dropped middle in
     let keys = idle_keys_in (is_lone young.shown.ledger.book.stage) young.shown.moment young.shown.ledger.book.entries young.shown.ledger.lives in
-    let x = both-stay (ticked s now) table.Tick middle does.1 in
+    let turn = turn-stays (ticked s now) (turn_of (ticked s now).shown) turned does.1.1.0 in
+    let x = stays-then (ticked s now).shown turned.shown middle.shown turn (both-stay turned table.Tick middle does.1.1.1.0) in
     let y = idle-stays young keys in
-    stays-as (ticked s now).shown (idle_taken young) done does.2
+    stays-as (ticked s now).shown (idle_taken young) done does.1.1.1.1
     (stays-then (ticked s now).shown middle.shown (idle_taken young).shown x
     (record { moment = y.moment; capacity = y.capacity; zero = y.zero; one = y.one }))
 does-stays s Stop done does =
@@ -219,6 +238,7 @@ does-stays s Stop done does =
     let x = both-stay s table.Stop middle does.1 in
     stays-as s.shown (stopped middle) done does.2 (record { moment = x.moment; capacity = x.capacity; zero = x.zero; one = x.one })
 does-stays s (PeerOff n) done does = stays-as s.shown (word_by s n (word_refusal s.shown n)) done does (word-stays s n (word_refusal s.shown n))
+does-stays s (SideIs side up) done does = stays-as s.shown (side_plugged s side up) done does (station-stays s.shown side (with_plug (station_on s.shown side) up s.shown.moment))
 
 ticked-by : (s : GatewayAndOutput) (due : Bool) → is_due_on_tick (handed_in s.shown).link s.shown.moment ≡ due → Stays s.shown (link_ticked s).shown
 ticked-by s true is = rw is (record { moment = refl; capacity = refl; zero = refl; one = refl })
@@ -233,6 +253,7 @@ ended-event (Comes bytes) done = answer-stays done
 ended-event (Tick now) done = ticked-by done (is_due_on_tick (handed_in done.shown).link done.shown.moment) refl
 ended-event Stop done = answer-stays done
 ended-event (PeerOff n) done = answer-stays done
+ended-event (SideIs side up) done = stays-here done.shown
 
 -- a step's clock, and what it leaves
 pub record Lasts (g g2 : Shown) : Type 0 where
@@ -247,6 +268,7 @@ begun-lasts s (Comes bytes) is = record { moment = is; capacity = refl; zero = r
 begun-lasts s (Tick now) is = record { moment = omega (arith, is); capacity = refl; zero = refl; one = refl }
 begun-lasts s Stop is = record { moment = is; capacity = refl; zero = refl; one = refl }
 begun-lasts s (PeerOff n) is = record { moment = is; capacity = refl; zero = refl; one = refl }
+begun-lasts s (SideIs side up) is = record { moment = is; capacity = refl; zero = refl; one = refl }
 
 pub step-lasts : (s : GatewayAndOutput) (event : Event) (done s2 : GatewayAndOutput) → IsMoment s.shown.moment → Does s event done → s2 ≡ ended_on event done → Lasts s.shown s2.shown
 step-lasts s event done s2 is does sends =

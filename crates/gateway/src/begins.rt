@@ -129,6 +129,7 @@ fn joined(settings: &Settings, id: GatewayId, parts: Parts, core: Core) -> Forwa
     ensures networks { (shown_of result).networks ≡ networks_of settings.now id }
     ensures moment { (shown_of result).moment ≡ 0 }
     ensures stopped { (shown_of result).stopped ≡ false }
+    ensures away { (shown_of result).away ≡ false }
     ensures ledger { (shown_of result).ledger ≡ ledger_of core }
     ensures link { (shown_of result).link ≡ parts.link }
     ensures inside { (shown_of result).inside ≡ parts.inside }
@@ -139,6 +140,7 @@ fn joined(settings: &Settings, id: GatewayId, parts: Parts, core: Core) -> Forwa
         networks: Networks::of_gateway(settings, id),
         moment: 0,
         stopped: false,
+        away: false,
         core,
         link: parts.link,
         inside: parts.inside,

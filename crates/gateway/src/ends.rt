@@ -6,6 +6,7 @@ ghost use Rattle.spec_step.specs.Parts.{answer_sent, link_answered, link_ticked}
 ghost use Rattle.forwarder.specs.Forwarder.{scene_on, shown_of};
 ghost use Rattle.gateway.specs.Ends.{with_letter};
 
+use crate::turns::serves;
 use forwarder::Forwarder;
 use link::Datagram;
 use output::{OutputBuffer, WriteBytes};
@@ -45,9 +46,9 @@ pub(crate) fn end_tick(forwarder: &mut Forwarder, page: &mut OutputBuffer)
     requires datagrams { 1 ≤ page.old.room.datagrams }
     ensures { scene_on forwarder.new page.new ≡ link_ticked (scene_on forwarder.old page.old) }
 {
-    let synced = forwarder.core.is_synced();
+    let serves = serves(forwarder);
     forwarder.core.hand_in(&mut forwarder.link);
-    let datagram = forwarder.link.tick(forwarder.moment, synced);
+    let datagram = forwarder.link.tick(forwarder.moment, serves);
     send(page, datagram);
 }
 
@@ -60,8 +61,8 @@ fn answer(forwarder: &mut Forwarder, page: &mut OutputBuffer)
     ensures { scene_on forwarder.new page.new
         ≡ answer_sent (shown_of forwarder.old) page.old.told }
 {
-    let synced = forwarder.core.is_synced();
-    send(page, forwarder.link.answer(synced));
+    let serves = serves(forwarder);
+    send(page, forwarder.link.answer(serves));
 }
 
 /// Sends the datagram that is due at the end of any other step.

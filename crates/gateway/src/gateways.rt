@@ -107,6 +107,13 @@ impl Gateway {
         self.forwarder.core.is_synced()
     }
 
+    /// Whether it gave way to the other gateway: then no router of it is Active.
+    pub fn is_away(&self) -> bool
+        ensures { result ≡ self.now.away }
+    {
+        self.forwarder.away
+    }
+
     /// Whether the virtual router on a side is Active.
     pub fn is_active(&self, side: Side) -> bool
         ensures { result ≡ is_active (station_on self.now side) }

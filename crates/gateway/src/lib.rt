@@ -12,6 +12,7 @@ mod rooms;
 mod routers;
 mod steps;
 mod ticks;
+mod turns;
 mod words;
 
 pub use bindings::Hashers;

@@ -48,7 +48,8 @@ fn take_alone(forwarder: &mut Forwarder, page: &mut OutputBuffer, entry: Record)
     ended
 }
 
-/// Takes a record, and starts the routers of a gateway that became synced by it.
+/// Takes a record, and starts the routers of a gateway that became synced by it, where it is neither
+/// stopped nor away.
 fn take_and_start(
     forwarder: &mut Forwarder,
     page: &mut OutputBuffer,
@@ -74,7 +75,7 @@ fn take_and_start(
     let was_synced = forwarder.core.is_synced();
     let ended = take_alone(forwarder, page, entry);
     let has_synced = !was_synced && forwarder.core.is_synced();
-    if has_synced && !forwarder.stopped {
+    if has_synced && forwarder.is_running() {
         start_routers(forwarder);
     }
     ended

@@ -6,7 +6,7 @@ ghost use Rattle.packet_rules.specs.Arping.{gratuitous_frame};
 ghost use Rattle.interfaces.specs.Stations.{IsRouterStep};
 ghost use Rattle.spec_step.specs.Parts.{all_framed, frames_of, started};
 ghost use Rattle.spec_step.specs.Shown.{Shown, scene, with_station};
-ghost use Rattle.spec_step.specs.Steps.{BothAct, RouterActs};
+ghost use Rattle.spec_step.specs.Routers.{BothAct, RouterActs};
 ghost use Rattle.forwarder.specs.Forwarder.{scene_on, shown_of};
 ghost use Rattle.gateway.specs.Cues.{event_of};
 
@@ -132,6 +132,7 @@ pub(crate) fn cue_both(forwarder: &mut Forwarder, page: &mut OutputBuffer, cue: 
       inside = forwarder.new.inside;
       outside = forwarder.new.outside;
     } }
+    ensures frames { page.old.room.frames ≤ page.new.room.frames + 4 }
     ensures datagrams { page.new.room.datagrams ≡ page.old.room.datagrams }
     ensures notes { page.new.room.notes ≡ page.old.room.notes }
 {
@@ -146,7 +147,7 @@ fn start_station(station: &mut Interface, now: u64)
     station.start(now);
 }
 
-/// Starts both routers, of a gateway that was founded or loaded.
+/// Starts both routers, of a gateway that was founded or loaded, or came back.
 pub(crate) fn start_routers(forwarder: &mut Forwarder)
     requires { IsMoment forwarder.old.moment }
     ensures { forwarder.new ≡ record forwarder.old {

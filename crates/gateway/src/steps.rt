@@ -14,6 +14,7 @@ ghost use Rattle.spec_step.specs.Steps.{outcome_on, outcome_word, word_by, word_
 ghost use Rattle.spec_step.specs.Verdict.{reading_on, verdict};
 ghost use Rattle.forwarder.specs.Forwarder.{scene_on, shown_of};
 ghost use Rattle.gateway.specs.Gateway.{IsGateway};
+ghost use Rattle.gateway.specs.Rooms.{most_datagrams};
 
 use crate::NoMemory;
 use crate::arrivals::take_reading;
@@ -21,6 +22,7 @@ use crate::datagrams::take_datagram;
 use crate::ends::{end_other, end_tick};
 use crate::rooms::{entry_count, list_for, make_ready};
 use crate::ticks::{take_stop, take_tick};
+use crate::turns::plug;
 use crate::words::take_word;
 use forwarder::Forwarder;
 use nat_types::Side;
@@ -115,7 +117,7 @@ fn clock_ticked(
         ≡ scene_on forwarder.old page.old) }
 {
     let room = Room {
-        frames: 4,
+        frames: 8,
         datagrams: 1,
         notes: entry_count(forwarder) + 1,
     };
@@ -183,7 +185,7 @@ fn take_event(
     ensures outcome { IfOk result (λ o. o ≡ outcome_on (shown_of forwarder.old) event.entry) }
     ensures does { OnOk result (Does (scene_on forwarder.old page.old) event.entry
         (scene_on forwarder.new page.new)) }
-    ensures datagrams { OnOk result (1 ≤ page.new.room.datagrams) }
+    ensures datagrams { OnOk result (most_datagrams event.entry ≤ page.new.room.datagrams) }
     ensures err { OnErr result (scene_on forwarder.new page.new
         ≡ scene_on forwarder.old page.old) }
 {
@@ -193,13 +195,17 @@ fn take_event(
         Event::Tick(now) => clock_ticked(forwarder, page, now),
         Event::Stop => stop_came(forwarder, page),
         Event::PeerOff(boot) => word_came(alloc, forwarder, page, boot),
+        Event::Side(side, up) => {
+            plug(forwarder, side, up);
+            Ok(Outcome::Done)
+        }
     }
 }
 
 /// Sends the datagram that is due at an event's end.
 fn end_event(forwarder: &mut Forwarder, page: &mut OutputBuffer, event: Event<'_>)
     requires promised { length forwarder.old.core.coming ≡ forwarder.old.link.promised }
-    requires datagrams { 1 ≤ page.old.room.datagrams }
+    requires datagrams { most_datagrams event.entry ≤ page.old.room.datagrams }
     ensures { scene_on forwarder.new page.new
         ≡ ended_on event.entry (scene_on forwarder.old page.old) }
 {
@@ -208,6 +214,7 @@ fn end_event(forwarder: &mut Forwarder, page: &mut OutputBuffer, event: Event<'_
         Event::Frame(..) | Event::Datagram(_) | Event::Stop | Event::PeerOff(_) => {
             end_other(forwarder, page);
         }
+        Event::Side(..) => {}
     }
 }
 
@@ -222,7 +229,7 @@ fn recall_event(event: Event<'_>)
 {
     match event {
         Event::Frame(_, bytes) | Event::Datagram(bytes) => recall_bytes(bytes),
-        Event::Tick(_) | Event::Stop | Event::PeerOff(_) => {}
+        Event::Tick(_) | Event::Stop | Event::PeerOff(_) | Event::Side(..) => {}
     }
 }
 

@@ -8,6 +8,7 @@ ghost use Rattle.spec_step.specs.Steps.{Does, clock_after};
 ghost use Rattle.forwarder.specs.Forwarder.{scene_on};
 
 use crate::routers::{Cue, cue_both};
+use crate::turns::take_turn;
 use forwarder::Forwarder;
 use output::OutputBuffer;
 use spec_step::idle_at_once;
@@ -36,16 +37,18 @@ fn release_idle(forwarder: &mut Forwarder, page: &mut OutputBuffer)
     page.put_notes(notes);
 }
 
-/// Moves the clock, and does what is due then, but for the datagram at the end.
+/// Moves the clock, and does what is due then, but for the datagram at the end. It begins with a turn,
+/// where the gateway is to give way or to come back.
 pub(crate) fn take_tick(forwarder: &mut Forwarder, page: &mut OutputBuffer, now: u64)
     requires moment { IsMoment forwarder.old.moment }
-    requires frames { 4 ≤ page.old.room.frames }
+    requires frames { 8 ≤ page.old.room.frames }
     requires notes { length forwarder.old.core.table.entries + 1 ≤ page.old.room.notes }
     ensures does { Does (scene_on forwarder.old page.old) (TickEvent now)
         (scene_on forwarder.new page.new) }
     ensures datagrams { page.new.room.datagrams ≡ page.old.room.datagrams }
 {
     forwarder.moment = clock_after(forwarder.moment, now);
+    take_turn(forwarder, page);
     cue_both(forwarder, page, Cue::Tick);
     forwarder.kept.drop_old(forwarder.moment);
     release_idle(forwarder, page);

@@ -1,1 +1,2 @@
+pub mod Cables
 pub mod Stations

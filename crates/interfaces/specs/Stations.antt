@@ -1,5 +1,5 @@
 -- What an interface of a gateway shows, and what becomes of it.
-use Rattle.std.specs.Prelude.{◌≡◌, ℕ, Bool, true, false, List, [], ◌∷◌, ◌++◌, map, length, if◌then◌else◌}
+use Rattle.std.specs.Prelude.{◌≡◌, ℕ, Bool, true, false, List, [], ◌∷◌, ◌++◌, map, length, None, if◌then◌else◌}
 use Rattle.std.specs.List.{filter}
 use Rattle.nat_types.specs.declared.gateways.GatewayId.{GatewayId}
 use Rattle.nat_types.specs.declared.gateways.Side.{Side}
@@ -18,11 +18,15 @@ use Rattle.vrrp_states.specs.Table.{Router, Event, IsStep, new_router}
 use Rattle.packet_rules.specs.declared.networks.Network.{Network}
 use Rattle.packet_rules.specs.Arping.{is_learnable}
 use Rattle.packet_rules.specs.Networks.{network_of, networks_of}
+use Rattle.interfaces.specs.declared.cables.Cable.{Cable}
+use Rattle.interfaces.specs.declared.cables.Cable.TheVariants.{In}
+use Rattle.interfaces.specs.Cables.{plugged}
 
--- an interface: its network, the interval (cs) at which it advertises, its virtual router, and the
--- neighbours that it knows
+-- an interface: its network, its cable, the interval (cs) at which it advertises, its virtual router, and
+-- the neighbours that it knows
 pub record Interface : Type 0 where
   pub network : Network
+  pub cable : Cable
   pub interval : ℕ
   pub router : Router
   pub neighbours : Neighbours
@@ -62,6 +66,7 @@ new_station settings id side =
     let network = network_of (networks_of settings id) side in
     record {
       network = network;
+      cable = In None;
       interval = own.interval;
       router = new_router own.priority own.interval own.preempt network.own_ip.0;
       neighbours = record { fixed = fixed_on side settings.neighbours.items; learnt = [] };
@@ -72,6 +77,10 @@ pub record IsRouterStep (old : Interface) (event : Event) (now : ℕ) (action : 
     : Type 0 where
   pub line : IsStep old.router event now action new.router
   pub rest : new ≡ record old { router = new.router }
+
+-- its cable is said to be in (true) or out, at a moment
+abbrev pub with_plug : Interface → Bool → ℕ → Interface
+with_plug station up now = record station { cable = plugged station.cable up now }
 
 -- a neighbour is learnt or renewed
 abbrev pub with_neighbour : Interface → ArpPacket → ℕ → Interface

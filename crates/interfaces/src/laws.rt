@@ -1,14 +1,21 @@
-//! How long the frames of a virtual router are.
+//! How long the frames of a virtual router are, and when a side is whole.
 ghost use Rattle.std.specs.Prelude.{◌≡◌, ℕ, length};
 ghost use Rattle.arp.specs.declared.packets.TheConstants.{ARP_FRAME};
 ghost use Rattle.vrrp_packet.specs.declared.TheConstants.{ADVERT_FRAME};
 ghost use Rattle.packet_rules.specs.declared.networks.Network.{Network};
 ghost use Rattle.packet_rules.specs.Adverts.{advert_frame};
 ghost use Rattle.packet_rules.specs.Arping.{gratuitous_frame};
+ghost use Rattle.interfaces.specs.declared.cables.TheConstants.{WHOLE_AFTER};
 
 /// An advertisement's frame has as many bytes as the constant says, and so has a gratuitous ARP's.
 pub fn sizes_law()
     ensures advert { (network : Network) (priority interval : ℕ)
         → length (advert_frame network priority interval) ≡ ADVERT_FRAME }
     ensures gratuitous { (network : Network) → length (gratuitous_frame network) ≡ ARP_FRAME }
+{}
+
+/// The number that the definitions take from the code: how many centiseconds after its cable came in a
+/// side is whole.
+pub fn limits_law()
+    ensures { WHOLE_AFTER ≡ 300 }
 {}

@@ -9,8 +9,10 @@ ghost use Rattle.packet_rules.specs.Arping.{is_learnable, answer_to};
 ghost use Rattle.packet_rules.specs.Adverts.{advert_frame};
 ghost use Rattle.packet_rules.specs.Arping.{gratuitous_frame};
 ghost use Rattle.packet_rules.specs.Steps.{reading_of, Carries};
-ghost use Rattle.interfaces.specs.Stations.{is_active, is_active_in, is_on, fixed_of, fixed_on, new_station, IsRouterStep, after_arp, IsWired};
+ghost use Rattle.interfaces.specs.Cables.{is_in, is_whole, plugged};
+ghost use Rattle.interfaces.specs.Stations.{is_active, is_active_in, is_on, fixed_of, fixed_on, new_station, IsRouterStep, after_arp, with_plug, IsWired};
 
+use crate::Cable;
 use addresses::{Ip, Mac};
 use arp::{ArpPacket, Cache, Neighbour};
 use nat_types::{GatewayId, Side};
@@ -22,11 +24,13 @@ use vrrp_packet::Advert;
 use vrrp_states::laws::exactly_one_line;
 use vrrp_states::{Action, Router, State};
 
-/// One interface of a gateway: its network, its virtual router, and the neighbours that it knows.
+/// One interface of a gateway: its network, its cable, its virtual router, and the neighbours that it
+/// knows.
 /// Each moment is of one clock, in centiseconds.
 #[derive(Drop)]
 pub struct Interface {
     network: Network,
+    cable: Cable,
     /// Centiseconds from one advertisement to the next.
     interval: u16,
     router: Router,
@@ -41,6 +45,7 @@ impl Model for Interface {
 
     ghost view = { λ s. record {
       network = s.network;
+      cable = s.cable;
       interval = s.interval;
       router = s.router;
       neighbours = s.cache;
@@ -96,6 +101,7 @@ impl Interface {
         let cache = Cache::new(alloc, &fixed)?;
         Ok(Interface {
             network,
+            cable: Cable::In(None),
             interval: own.interval,
             router: Router::new(own.priority, own.interval, own.preempt, network.own_ip),
             cache,
@@ -114,6 +120,27 @@ impl Interface {
         ensures { result ≡ self.now.network }
     {
         self.network
+    }
+
+    /// Is told that its cable is in (`up`) or out. Where it is so already, nothing changes.
+    pub fn plug(&mut self, up: bool, now: u64)
+        ensures { self.new ≡ with_plug self.old up now }
+    {
+        self.cable = self.cable.plugged(up, now);
+    }
+
+    /// Whether its cable is in.
+    pub fn is_in(&self) -> bool
+        ensures { result ≡ is_in self.now.cable }
+    {
+        self.cable.is_in()
+    }
+
+    /// Whether its cable is in, and didn't come in less than `WHOLE_AFTER` centiseconds ago.
+    pub fn is_whole(&self, now: u64) -> bool
+        ensures { result ≡ is_whole self.now.cable now }
+    {
+        self.cable.is_whole(now)
     }
 
     /// Whether its router is Active: then it answers for the virtual address, and takes the frames

@@ -1,8 +1,13 @@
--- Whether the peer was heard lately.
-use Rattle.std.specs.Prelude.{ℕ, ◌-◌, Bool, false, nat_le, Option, Some, None}
+-- Whether the peer was heard lately, and whether it serves.
+use Rattle.std.specs.Prelude.{ℕ, ◌-◌, Bool, false, ◌&&◌, nat_le, Option, Some, None}
+use Rattle.link.specs.Link.{Link}
 use Rattle.link.specs.declared.session.TheConstants.{HEARD_FOR}
 
 -- it was heard at that moment, at most 300 cs (HEARD_FOR) ago
 abbrev pub is_heard : Option ℕ → ℕ → Bool
 is_heard None now = false
 is_heard (Some last) now = nat_le (now - last) HEARD_FOR
+
+-- it was heard lately, and the last datagram by which it counted as heard says that it serves
+abbrev pub peer_serves : Link → ℕ → Bool
+peer_serves e now = is_heard e.heard now && e.status

@@ -12,7 +12,7 @@
 //! |             the receiver's boot as it is known, or 0          |  12
 //! |                           (8 bytes)                           |
 //! +---------------+-----------------------------------------------+
-//! | synced, 0 / 1 |                                               |  20
+//! | status, 0 / 1 |                                               |  20
 //! +---------------+                                               |
 //! |   how many of the receiver's records were taken (8 bytes)     |  21
 //! |               +-----------------------------------------------+
@@ -30,7 +30,7 @@
 //! 4e50 02 00         a datagram of version 2, by gateway 0
 //! 0000000000000001   which is in its boot 1,
 //! 0000000000000001   and knows the receiver's boot 1;
-//! 01                 its table is synced,
+//! 01                 it serves,
 //! 0000000000000000   it took no record of the receiver,
 //! 0000000000000004   and its own records from number 4 on are not yet known to be taken:
 //! 01                 one,
@@ -63,7 +63,7 @@ mod field {
 
     pub const RECEIVER_BOOT: Range<usize> = 12..20;
 
-    pub const SYNCED: usize = 20;
+    pub const STATUS: usize = 20;
 
     pub const DELIVERED: Range<usize> = 21..29;
 
@@ -86,7 +86,7 @@ pub(crate) struct Header {
     pub sender: GatewayId,
     pub boot: u64,
     pub receiver_boot: u64,
-    pub synced: bool,
+    pub serves: bool,
     pub delivered: u64,
     pub first: u64,
     pub count: u8,
@@ -143,7 +143,7 @@ fn fields_of(bytes: &[u8]) -> Header
         sender: gateway_numbered(bytes[field::SENDER]),
         boot: number_in(bytes, field::BOOT),
         receiver_boot: number_in(bytes, field::RECEIVER_BOOT),
-        synced: bytes[field::SYNCED] == 1,
+        serves: bytes[field::STATUS] == 1,
         delivered: number_in(bytes, field::DELIVERED),
         first: number_in(bytes, field::FIRST),
         count: bytes[field::COUNT],
@@ -170,7 +170,7 @@ pub(crate) fn header_of(bytes: &[u8]) -> Result<Header, LinkFault>
     if !is_sender(bytes[field::SENDER], header.boot) {
         return Err(LinkFault::NotOurs);
     }
-    if !is_in_range(bytes[field::SYNCED], header.count, header.first) {
+    if !is_in_range(bytes[field::STATUS], header.count, header.first) {
         return Err(LinkFault::BadRecord);
     }
     Ok(header)
@@ -193,23 +193,23 @@ fn number_of(sender: GatewayId) -> u8
     }
 }
 
-fn status_of(synced: bool) -> u8
-    ensures { result ≡ status_number synced }
+fn status_of(serves: bool) -> u8
+    ensures { result ≡ status_number serves }
 {
-    if synced { 1 } else { 0 }
+    if serves { 1 } else { 0 }
 }
 
 /// Writes the header.
 pub(crate) fn put_header(out: &mut Bytes, d: &Datagram)
     requires { length out.old.items ≡ 0 }
     ensures { out.new.items
-        ≡ header_bytes d.now.sender d.now.boot d.now.receiver_boot d.now.synced
+        ≡ header_bytes d.now.sender d.now.boot d.now.receiver_boot d.now.serves
         d.now.delivered d.now.first (length d.now.records.items) }
 {
     put(out, &[b'N', b'P', VERSION, number_of(d.sender)]);
     put(out, &d.boot.to_be_bytes());
     put(out, &d.receiver_boot.to_be_bytes());
-    put(out, &[status_of(d.synced)]);
+    put(out, &[status_of(d.serves)]);
     put(out, &d.delivered.to_be_bytes());
     put(out, &d.first.to_be_bytes());
     put(out, &[d.records.len() as u8]);

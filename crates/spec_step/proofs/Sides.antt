@@ -14,7 +14,8 @@ use Rattle.vrrp_states.specs.declared.Action.{Action}
 use Rattle.vrrp_states.specs.Table.{Event as RouterEvent}
 use Rattle.spec_step.specs.Parts.{acted, all_framed, answered_by, arp_taken, framed, frames_of, old_dropped, released}
 use Rattle.spec_step.specs.Shown.{GatewayAndOutput, scene, station_on, with_station}
-use Rattle.spec_step.specs.Steps.{BothAct, RouterActs, stopped}
+use Rattle.spec_step.specs.Routers.{BothAct, RouterActs}
+use Rattle.spec_step.specs.Steps.{stopped}
 use Rattle.spec_step.proofs.Passing.{Going, going-then, going-unseen}
 use Rattle.spec_step.proofs.Packets.{Reads, framed-goes, here, kept-filter, released-goes}
 

@@ -32,6 +32,7 @@ begun settings id boot =
       networks = networks_of settings id;
       moment = 0;
       stopped = false;
+      away = false;
       ledger = record { book = empty_book id zero one settings.ports.host_limit; lives = [] };
       link = fresh id boot (link_places zero one);
       inside = new_station settings id Inside;

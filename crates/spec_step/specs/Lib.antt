@@ -1,6 +1,8 @@
 pub mod Shown
 pub mod Verdict
 pub mod Parts
+pub mod Routers
+pub mod GivingWay
 pub mod Steps
 pub mod Truly
 pub mod Others

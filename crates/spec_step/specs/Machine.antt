@@ -10,11 +10,11 @@ use Rattle.link.specs.Link.{datagram_of}
 use Rattle.link.specs.Reading.{reading}
 use Rattle.spec_pair.specs.Box.{Box, Letter}
 use Rattle.spec_pair.specs.Step.{IsStep}
-use Rattle.spec_binding.specs.Books.{IsBook, is_lone, is_synced}
+use Rattle.spec_binding.specs.Books.{IsBook, is_lone}
 use Rattle.spec_binding.specs.Machine.{IsSameHouse, Stands, box_at, letter_of, ranges_of}
 use Rattle.spec_step.specs.declared.events.Event.{Event}
-use Rattle.spec_step.specs.declared.events.Event.TheVariants.{Frame, Datagram, Tick, Stop, PeerOff}
-use Rattle.spec_step.specs.Shown.{GatewayAndOutput, Shown, id_of}
+use Rattle.spec_step.specs.declared.events.Event.TheVariants.{Frame, Datagram, Tick, Stop, PeerOff, Side as SideIs}
+use Rattle.spec_step.specs.Shown.{GatewayAndOutput, Shown, id_of, serves}
 
 -- the box of a gateway, where h is what was pushed or promised in the session
 abbrev pub box_of : Shown → List Record → Box
@@ -51,6 +51,7 @@ HasBytes (Datagram bytes) = AreBytes bytes.now
 HasBytes (Tick now) = Unit {0}
 HasBytes Stop = Unit {0}
 HasBytes (PeerOff n) = Unit {0}
+HasBytes (SideIs side up) = Unit {0}
 
 -- the letters that an event hands in: the datagram's, where the bytes are one
 abbrev pub letter_in : Result Letters LinkFault → List Letter
@@ -63,6 +64,7 @@ letters_in (Datagram bytes) = letter_in (reading bytes.now)
 letters_in (Tick now) = []
 letters_in Stop = []
 letters_in (PeerOff n) = []
+letters_in (SideIs side up) = []
 
 -- the operator's word
 abbrev pub words_in : Event → List ℕ
@@ -71,6 +73,7 @@ words_in (Datagram bytes) = []
 words_in (Tick now) = []
 words_in Stop = []
 words_in (PeerOff n) = n ∷ []
+words_in (SideIs side up) = []
 
 -- From a scene to a later one, of a gateway that had pushed h: there is a list that it has pushed then, and acts of the
 -- machine with just the notes and the letters that were told more.
@@ -83,7 +86,7 @@ pub record Goes (letters : List Letter) (words : List ℕ) (old new : GatewayAnd
   pub datagrams_are : new.told.datagrams ≡ old.told.datagrams ++ map spelling sent
   -- at most one, which is that of its link as it stands then
   pub few : length sent ≤ 1
-  pub own : AllByRecursion (λ d. d ≡ datagram_of (is_synced new.shown.ledger.book.stage) new.shown.link) sent
+  pub own : AllByRecursion (λ d. d ≡ datagram_of (serves new.shown) new.shown.link) sent
   -- and it is still who it was
   pub house : IsSameHouse old.shown.ledger.book new.shown.ledger.book
   pub step : let g = old.shown in

@@ -43,7 +43,10 @@ use Rattle.vrrp_states.specs.declared.Action.{Action}
 use Rattle.vrrp_states.specs.Table as table
 use Rattle.vrrp_states.specs.Table.{Event as RouterEvent}
 use Rattle.spec_step.specs.declared.events.Event.{Event}
-use Rattle.spec_step.specs.declared.events.Event.TheVariants.{Frame, Datagram, Tick, Stop, PeerOff}
+use Rattle.spec_step.specs.declared.events.Event.TheVariants.{Frame, Datagram, Tick, Stop, PeerOff, Side as SideIs}
+use Rattle.spec_step.specs.declared.turns.Turn.{Turn}
+use Rattle.spec_step.specs.declared.turns.Turn.TheVariants.{Leaves, Returns, Stays}
+use Rattle.spec_step.specs.GivingWay.{returned, turn_of}
 use Rattle.spec_step.specs.Parts.{frames_of, record_done, request_by, reset, waiting, with_link}
 use Rattle.spec_step.specs.Shown.{GatewayAndOutput, Shown, station_on}
 use Rattle.spec_step.specs.Steps.{clock_after, word_refusal}
@@ -79,6 +82,16 @@ pub record AreOfBoth (g : Shown) (event : RouterEvent) (moment : ℕ) (frames : 
   pub outside : AreOfAction g Outside event moment two
   pub are : frames ≡ one ++ two
 
+-- those of a tick that begins with this turn: of the stop, else of the tick's own lines
+abbrev pub TurnOwes : Turn → Shown → List Sent → Type 0
+TurnOwes Leaves g own = AreOfBoth g table.Stop g.moment own
+TurnOwes Returns g own = AreOfBoth (returned g) table.Tick g.moment own
+TurnOwes Stays g own = AreOfBoth g table.Tick g.moment own
+
+-- at the tick's moment
+abbrev pub TickOwes : Shown → List Sent → Type 0
+TickOwes g own = TurnOwes (turn_of g) g own
+
 -- what an event has the gateway send by itself
 abbrev pub FrameOwes : Shown → Side → Result Reading Reason → List Sent → Type 0
 FrameOwes g side (Ok (Arp p)) own = own ≡ sent_on side (answers (station_on g side) p)
@@ -89,9 +102,10 @@ FrameOwes g side (Err reason) own = own ≡ []
 abbrev pub Owes : Shown → Event → List Sent → Type 0
 Owes g (Frame side bytes) own = FrameOwes g side (reading_on g side bytes.now) own
 Owes g (Datagram bytes) own = own ≡ []
-Owes g (Tick now) own = AreOfBoth g table.Tick (clock_after g.moment now) own
+Owes g (Tick now) own = TickOwes (record g { moment = clock_after g.moment now }) own
 Owes g Stop own = AreOfBoth g table.Stop g.moment own
 Owes g (PeerOff n) own = own ≡ []
+Owes g (SideIs side up) own = own ≡ []
 
 -- ---- the packets whose wait an event ends
 
@@ -136,6 +150,7 @@ is_freed s (Datagram bytes) w = frees_read s (reading bytes.now) w
 is_freed s (Tick now) w = false
 is_freed s Stop w = false
 is_freed s (PeerOff n) w = frees_unless (word_refusal s.shown n) w
+is_freed s (SideIs side up) w = false
 
 -- one that a tick finds too old
 abbrev pub is_old : Shown → Event → HeldPacket → Bool
@@ -144,6 +159,7 @@ is_old g (Datagram bytes) w = false
 is_old g (Tick now) w = not (is_young (clock_after g.moment now) w)
 is_old g Stop w = false
 is_old g (PeerOff n) w = false
+is_old g (SideIs side up) w = false
 
 -- ---- the packets that come to wait
 
@@ -160,6 +176,7 @@ packet_in g (Datagram bytes) = []
 packet_in g (Tick now) = []
 packet_in g Stop = []
 packet_in g (PeerOff n) = []
+packet_in g (SideIs side up) = []
 
 -- the pair that was taken up, if the note says so
 abbrev pub retaken_in : NoteKind → List Pair

@@ -46,7 +46,7 @@ use Rattle.packet_rules.specs.Adverts.{advert_frame}
 use Rattle.packet_rules.specs.Arping.{answer_frame, answer_to, gratuitous_frame, is_learnable, request_frame}
 use Rattle.packet_rules.specs.Flows.{source_of}
 use Rattle.packet_rules.specs.Frames.{sent_frame}
-use Rattle.interfaces.specs.Stations.{Interface, after_arp, is_active}
+use Rattle.interfaces.specs.Stations.{Interface, after_arp, is_active, with_plug}
 use Rattle.vrrp_states.specs.declared.Action.{Action}
 use Rattle.vrrp_states.specs.declared.Action.TheVariants.{Nothing, Advertise, AdvertiseAndArp}
 use Rattle.vrrp_states.specs.declared.State.{State}
@@ -55,7 +55,7 @@ use Rattle.vrrp_states.specs.Table.{Router, active_down_interval}
 use Rattle.output.specs.Output.{Output, with_datagram, with_frame}
 use Rattle.spec_step.specs.declared.plans.Plan.{Plan}
 use Rattle.spec_step.specs.declared.plans.Plan.TheVariants.{Send, Ask, AskAgain, Wait as WaitFor}
-use Rattle.spec_step.specs.Shown.{GatewayAndOutput, Shown, id_of, scene, station_on, with_notes, with_station}
+use Rattle.spec_step.specs.Shown.{GatewayAndOutput, Shown, id_of, is_running, scene, serves, station_on, with_notes, with_station}
 use Rattle.spec_step.specs.Verdict.{exit_by, hop_by, plan_of, reading_on}
 
 -- ---- rows of the binding protocol
@@ -255,6 +255,17 @@ started_in Active r now = r
 abbrev pub started : Interface → ℕ → Interface
 started s now = record s { router = started_in s.router.state s.router now }
 
+-- both routers begin
+abbrev pub routers_started : Shown → Shown
+routers_started g = record g { inside = started g.inside g.moment; outside = started g.outside g.moment }
+
+-- ---- cables
+
+-- a side's cable is said to be in (true) or out
+abbrev pub side_plugged : GatewayAndOutput → Side → Bool → GatewayAndOutput
+side_plugged s side up = let g = s.shown in
+    scene (with_station g side (with_plug (station_on g side) up g.moment)) s.told
+
 -- ---- the link
 
 -- a greater boot of the peer was heard: the reset, its batch, and the packets that waited for pairs
@@ -269,12 +280,9 @@ reset s = let g = s.shown in let book = g.ledger.book in
 abbrev pub has_synced : Shown → Shown → Bool
 has_synced g g2 = not (is_synced g.ledger.book.stage) && is_synced g2.ledger.book.stage
 
--- a gateway that has become synced starts its routers, where it wasn't stopped
+-- a gateway that has become synced starts its routers, where it wasn't stopped and isn't away
 abbrev pub with_routers : Shown → Shown → Shown
-with_routers g g2 =
-    if has_synced g g2 && not g2.stopped
-    then record g2 { inside = started g2.inside g2.moment; outside = started g2.outside g2.moment }
-    else g2
+with_routers g g2 = if has_synced g g2 && is_running g2 then routers_started g2 else g2
 
 -- a record is taken
 abbrev pub record_shown : Shown → Record → Shown
@@ -359,7 +367,7 @@ handed_in g = let book = g.ledger.book in let n = wanted g.link in
     }
 
 abbrev pub datagram_in : Shown → List ℕ
-datagram_in g = spelling (datagram_of (is_synced g.ledger.book.stage) g.link)
+datagram_in g = spelling (datagram_of (serves g) g.link)
 
 -- the datagram that is due at the end of a step
 abbrev pub answer_sent : Shown → Output → GatewayAndOutput

@@ -1,16 +1,22 @@
 -- What holds of a gateway between its steps.
-use Rattle.std.specs.Prelude.{◌≡◌, false}
+use Rattle.std.specs.Prelude.{◌≡◌, true, false}
 use Rattle.waiting.specs.Packets.{IsKept}
+use Rattle.vrrp_states.specs.declared.State.{State}
 use Rattle.vrrp_states.specs.declared.State.TheVariants.{Initialize}
-use Rattle.spec_step.specs.Shown.{Shown, is_up}
+use Rattle.spec_step.specs.Shown.{Shown, is_running}
 
--- where it isn't up, both routers are in Initialize (RFC 9568, section 6.4.1)
-abbrev pub HasIdleRouters : Shown → Type 0
-HasIdleRouters g = is_up g ≡ false → (g.inside.router.state ≡ Initialize) × (g.outside.router.state ≡ Initialize)
+-- both routers are in Initialize (RFC 9568, section 6.4.1)
+abbrev pub AreIdle : Shown → Type 0
+AreIdle g = (g.inside.router.state ≡ Initialize) × (g.outside.router.state ≡ Initialize)
 
--- Its routers are idle where it isn't up, its link owes no datagram, and of the packets that it keeps at most 64 wait for
--- pairs and 64 for next hops, no two for the same.
+-- neither router is
+abbrev pub HaveBegun : Shown → Type 0
+HaveBegun g = (g.inside.router.state ≡ Initialize → ⊥) × (g.outside.router.state ≡ Initialize → ⊥)
+
+-- Its routers have begun where it runs and are idle where it doesn't, its link owes no datagram, and of the packets that it
+-- keeps at most 64 wait for pairs and 64 for next hops, no two for the same.
 pub record IsSettled (g : Shown) : Type 0 where
-  pub idle_routers : HasIdleRouters g
+  pub running : is_running g ≡ true → HaveBegun g
+  pub idle : is_running g ≡ false → AreIdle g
   pub answered : g.link.due ≡ false
   pub places : IsKept g.kept

@@ -8,16 +8,18 @@ use Rattle.link.specs.Link.{Link}
 use Rattle.spec_binding.specs.Books.{is_synced}
 use Rattle.spec_binding.specs.Ledgers.{Ledger}
 use Rattle.packet_rules.specs.declared.networks.Networks.{Networks}
+use Rattle.interfaces.specs.Cables.{is_in, is_whole as is_whole_at}
 use Rattle.interfaces.specs.Stations.{Interface}
 use Rattle.waiting.specs.Packets.{HeldPacket}
 use Rattle.output.specs.Output.{Output}
 
--- Its networks, its clock's moment, whether it was stopped, its book with what the pairs carried, its end of the link,
--- its two interfaces, and the packets that wait.
+-- Its networks, its clock's moment, whether it was stopped, whether it is away (it gave way to the other gateway), its book
+-- with what the pairs carried, its end of the link, its two interfaces, and the packets that wait.
 pub record Shown : Type 0 where
   pub networks : Networks
   pub moment : ℕ
   pub stopped : Bool
+  pub away : Bool
   pub ledger : Ledger
   pub link : Link
   pub inside : Interface
@@ -30,6 +32,22 @@ id_of g = g.ledger.book.id
 -- frames are taken by a gateway that is synced and wasn't stopped
 abbrev pub is_up : Shown → Bool
 is_up g = is_synced g.ledger.book.stage && not g.stopped
+
+-- its routers run where it is up and isn't away
+abbrev pub is_running : Shown → Bool
+is_running g = is_up g && not g.away
+
+-- the cable of one side or of both is out
+abbrev pub has_side_out : Shown → Bool
+has_side_out g = not (is_in g.inside.cable && is_in g.outside.cable)
+
+-- both sides are whole
+abbrev pub is_whole : Shown → Bool
+is_whole g = is_whole_at g.inside.cable g.moment && is_whole_at g.outside.cable g.moment
+
+-- what its datagrams say of it: it could serve on both sides
+abbrev pub serves : Shown → Bool
+serves g = is_synced g.ledger.book.stage && is_whole g
 
 -- the interface on a side
 abbrev pub station_on : Shown → Side → Interface

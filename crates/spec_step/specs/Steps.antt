@@ -1,7 +1,6 @@
 -- A whole step: its parts in their order.
 use Rattle.std.specs.Prelude.{◌≡◌, ℕ, true, not, ◌||◌, ◌==◌, nat_lt, min, max, Option, Some, None, Result, Ok, Err, List, if◌then◌else◌}
 use Rattle.nat_types.specs.declared.gateways.Side.{Side}
-use Rattle.nat_types.specs.declared.gateways.Side.TheVariants.{Inside, Outside}
 use Rattle.link.specs.declared.datagrams.Taken.{Taken}
 use Rattle.link.specs.declared.faults.LinkFault.{LinkFault}
 use Rattle.link.specs.Link.{taking}
@@ -11,16 +10,15 @@ use Rattle.packet_rules.specs.declared.readings.Reading.{Reading}
 use Rattle.packet_rules.specs.declared.readings.Reading.TheVariants.{Arp, Advert, Packet}
 use Rattle.packet_rules.specs.declared.reasons.Reason.{Reason}
 use Rattle.packet_rules.specs.declared.reasons.Reason.TheVariants.{NotUp, BadDatagram, OldWord}
-use Rattle.interfaces.specs.Stations.{Interface, IsRouterStep}
-use Rattle.vrrp_states.specs.declared.Action.{Action}
 use Rattle.vrrp_states.specs.Table as table
-use Rattle.vrrp_states.specs.Table.{Event as RouterEvent}
 use Rattle.spec_step.specs.declared.events.Event.{Event}
-use Rattle.spec_step.specs.declared.events.Event.TheVariants.{Frame, Datagram as Comes, Tick, Stop, PeerOff}
+use Rattle.spec_step.specs.declared.events.Event.TheVariants.{Frame, Datagram as Comes, Tick, Stop, PeerOff, Side as SideIs}
 use Rattle.spec_step.specs.declared.events.Outcome.{Outcome}
 use Rattle.spec_step.specs.declared.events.Outcome.TheVariants.{Done, Dropped}
-use Rattle.spec_step.specs.Parts.{acted, arp_taken, datagram_taken, flow_taken, idle_taken, link_answered, link_ticked, old_dropped, word_taken}
-use Rattle.spec_step.specs.Shown.{GatewayAndOutput, Shown, scene, station_on}
+use Rattle.spec_step.specs.GivingWay.{GivingWay}
+use Rattle.spec_step.specs.Parts.{arp_taken, datagram_taken, flow_taken, idle_taken, link_answered, link_ticked, old_dropped, side_plugged, word_taken}
+use Rattle.spec_step.specs.Routers.{BothAct, RouterActs}
+use Rattle.spec_step.specs.Shown.{GatewayAndOutput, Shown, scene}
 use Rattle.spec_step.specs.Verdict.{reading_on, verdict}
 
 -- the greatest moment of a clock, in centiseconds
@@ -30,19 +28,6 @@ last_moment = 4000000000000
 -- the clock after a tick: it never runs back
 abbrev pub clock_after : ℕ → ℕ → ℕ
 clock_after moment now = max moment (min now last_moment)
-
--- the router on a side takes a step of the state table (RFC 9568, section 6.4), and its action's frames are sent
-pub record RouterActs (s : GatewayAndOutput) (side : Side) (event : RouterEvent) (s2 : GatewayAndOutput) : Type 0 where
-  pub station : Interface
-  pub action : Action
-  pub step : IsRouterStep (station_on s.shown side) event s.shown.moment action station
-  pub is : s2 ≡ acted s side station action
-
--- both routers, that of the inside first
-pub record BothAct (s : GatewayAndOutput) (event : RouterEvent) (s2 : GatewayAndOutput) : Type 0 where
-  pub between : GatewayAndOutput
-  pub inside : RouterActs s Inside event between
-  pub outside : RouterActs between Outside event s2
 
 -- what a frame does, as it is read
 abbrev pub FrameDoes : GatewayAndOutput → Side → List ℕ → Result Reading Reason → GatewayAndOutput → Type 0
@@ -67,21 +52,23 @@ abbrev pub word_by : GatewayAndOutput → ℕ → Option Reason → GatewayAndOu
 word_by s n None = word_taken s n
 word_by s n (Some reason) = s
 
--- an event's own parts, before the datagram at the end
+-- An event's own parts, before the datagram at the end. A tick begins with its turn, at its moment.
 abbrev pub Does : GatewayAndOutput → Event → GatewayAndOutput → Type 0
 Does s (Frame side bytes) s2 = FrameDoes s side bytes.now (reading_on s.shown side bytes.now) s2
 Does s (Comes bytes) s2 = s2 ≡ datagram_taken s bytes.now
-Does s (Tick now) s2 = (middle : GatewayAndOutput) × BothAct (ticked s now) table.Tick middle × (s2 ≡ idle_taken (old_dropped middle))
+Does s (Tick now) s2 = (turned middle : GatewayAndOutput) × GivingWay (ticked s now) turned × BothAct turned table.Tick middle × (s2 ≡ idle_taken (old_dropped middle))
 Does s Stop s2 = (middle : GatewayAndOutput) × BothAct s table.Stop middle × (s2 ≡ stopped middle)
 Does s (PeerOff n) s2 = s2 ≡ word_by s n (word_refusal s.shown n)
+Does s (SideIs side up) s2 = s2 ≡ side_plugged s side up
 
--- the datagram that is due at a step's end
+-- the datagram that is due at a step's end; the word of a side tells nothing
 abbrev pub ended_on : Event → GatewayAndOutput → GatewayAndOutput
 ended_on (Frame side bytes) s = link_answered s
 ended_on (Comes bytes) s = link_answered s
 ended_on (Tick now) s = link_ticked s
 ended_on Stop s = link_answered s
 ended_on (PeerOff n) s = link_answered s
+ended_on (SideIs side up) s = s
 
 -- a whole step
 pub record IsStepOn (s : GatewayAndOutput) (event : Event) (s2 : GatewayAndOutput) : Type 0 where
@@ -105,3 +92,4 @@ outcome_on g (Comes bytes) = outcome_heard (taking g.link (reading bytes.now))
 outcome_on g (Tick now) = Done
 outcome_on g Stop = Done
 outcome_on g (PeerOff n) = outcome_word (word_refusal g n)
+outcome_on g (SideIs side up) = Done

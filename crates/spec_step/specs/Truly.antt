@@ -23,7 +23,7 @@ use Rattle.packet_rules.specs.Networks.{IsWired, direction_of}
 use Rattle.interfaces.specs.Stations.{IsWired as IsWiredStation}
 use Rattle.output.specs.Output.{Sent}
 use Rattle.spec_step.specs.declared.events.Event.{Event}
-use Rattle.spec_step.specs.declared.events.Event.TheVariants.{Frame, Datagram, Tick, Stop, PeerOff}
+use Rattle.spec_step.specs.declared.events.Event.TheVariants.{Frame, Datagram, Tick, Stop, PeerOff, Side as SideIs}
 use Rattle.spec_step.specs.Shown.{GatewayAndOutput, Shown}
 use Rattle.spec_step.specs.Verdict.{exit_by}
 
@@ -52,6 +52,7 @@ hand_of (Datagram bytes) = []
 hand_of (Tick now) = []
 hand_of Stop = []
 hand_of (PeerOff n) = []
+hand_of (SideIs side up) = []
 
 -- kept packets, as they came
 abbrev pub packets_of : List HeldPacket → List AtHand

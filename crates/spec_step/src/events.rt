@@ -16,6 +16,8 @@ pub enum Event<'a> {
     Stop,
     /// The operator's word that this boot of the other gateway is off.
     PeerOff(u64),
+    /// A side's cable is in (`true`) or out.
+    Side(Side, bool),
 }
 
 /// What came of it.
@@ -25,7 +27,8 @@ pub enum Outcome {
     Sent,
     /// A packet waits.
     Waiting,
-    /// A tick, a stop, a datagram, an ARP packet, an advertisement or the operator's word was taken.
+    /// A tick, a stop, a datagram, an ARP packet, an advertisement, the operator's word or the word of
+    /// a side was taken.
     Done,
     /// Nothing came of it.
     Dropped(Reason),

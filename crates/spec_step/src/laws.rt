@@ -1,6 +1,6 @@
 //! What holds of a step of a gateway. Each law is the contract of a function that does nothing.
 
-ghost use Rattle.std.specs.Prelude.{◌≡◌, ◌≤◌, ◌+◌, ◌∷◌, ◌++◌, ℕ, false, [], List, length, reverse};
+ghost use Rattle.std.specs.Prelude.{◌≡◌, ◌≤◌, ◌+◌, ◌∷◌, ◌++◌, ℕ, true, false, [], List, length, reverse};
 ghost use Rattle.nat_types.specs.declared.gateways.GatewayId.{GatewayId};
 ghost use Rattle.nat_types.specs.declared.notes.NoteKind.TheVariants.{Booted, Crashed};
 ghost use Rattle.nat_types.specs.declared.notes.Note.{Note};
@@ -8,20 +8,23 @@ ghost use Rattle.nat_types.specs.declared.pairs.Key.{Key};
 ghost use Rattle.nat_types.specs.declared.records.Record.{Record};
 ghost use Rattle.nat_types.specs.Same.{same};
 ghost use Rattle.settings.specs.declared.whole.Settings.{Settings};
+ghost use Rattle.link.specs.Hearing.{peer_serves};
 ghost use Rattle.spec_trace.specs.Past.{Idle};
 ghost use Rattle.spec_pair.specs.Talk.{note};
 ghost use Rattle.waiting.specs.Packets.{hop_count};
 ghost use Rattle.spec_binding.specs.Books.{IsBook};
 ghost use Rattle.spec_binding.specs.Ledgers.{let_go};
 ghost use Rattle.spec_step.specs.declared.events.Event.{Event};
+ghost use Rattle.spec_step.specs.declared.events.Event.TheVariants.{Tick};
 ghost use Rattle.spec_step.specs.Founding.{HasRanges, begun, bounds_of, founded, link_places};
 ghost use Rattle.spec_step.specs.Machine.{Goes, HasBytes, HasPushed, IsAlone, IsStanding, KeepsBytes};
 ghost use Rattle.spec_step.specs.Machine.{letters_in, words_in};
 ghost use Rattle.spec_step.specs.Others.{AreOthers};
 ghost use Rattle.spec_step.specs.Parts.{all_idle_done};
 ghost use Rattle.spec_step.specs.Rests.{AccountsOn, Rests, most_notes};
-ghost use Rattle.spec_step.specs.Settled.{IsSettled};
-ghost use Rattle.spec_step.specs.Shown.{GatewayAndOutput, Shown, id_of, scene, with_notes};
+ghost use Rattle.spec_step.specs.Settled.{AreIdle, HaveBegun, IsSettled};
+ghost use Rattle.spec_step.specs.Shown.{GatewayAndOutput, Shown, has_side_out, id_of, is_up, scene};
+ghost use Rattle.spec_step.specs.Shown.{with_notes};
 ghost use Rattle.spec_step.specs.Steps.{Does, IsStepOn};
 ghost use Rattle.spec_step.specs.Truly.{AreWired, Tells, hand_of};
 
@@ -140,8 +143,9 @@ pub fn beginnings()
         ≡ link_places (bounds_of settings.ports.zero) (bounds_of settings.ports.one) }
 {}
 
-/// What holds of a gateway between steps holds after each step again: its routers are in Initialize
-/// where it isn't up, its link owes no datagram, and the packets that it keeps have their places.
+/// What holds of a gateway between steps holds after each step again: its routers have begun where it
+/// runs and are in Initialize where it doesn't, its link owes no datagram, and the packets that it
+/// keeps have their places.
 pub fn steps_settle()
     ensures { (s : GatewayAndOutput) (event : Event) (s2 : GatewayAndOutput) → IsStepOn s event s2
         → IsSettled s.shown → IsSettled s2.shown }
@@ -168,4 +172,21 @@ pub fn steps_note()
     ensures { (s : GatewayAndOutput) (event : Event) (s2 : GatewayAndOutput)
         → IsStepOn s event s2 → HasBytes event
         → length s2.told.notes ≤ length s.told.notes + most_notes s.shown }
+{}
+
+/// A gateway with a side out gives way: after a tick at which the peer serves, both of its routers are
+/// in Initialize.
+pub fn gives_way()
+    ensures { (s : GatewayAndOutput) (now : ℕ) (s2 : GatewayAndOutput)
+        → IsStepOn s (Tick now) s2 → IsSettled s.shown → has_side_out s.shown ≡ true
+        → peer_serves s.shown.link s2.shown.moment ≡ true → AreIdle s2.shown }
+{}
+
+/// It gives way to nobody but a peer that serves: after a tick at which the peer doesn't, no router of
+/// a gateway that is up is in Initialize.
+pub fn never_alone()
+    ensures { (s : GatewayAndOutput) (now : ℕ) (s2 : GatewayAndOutput)
+        → IsStepOn s (Tick now) s2 → IsSettled s.shown
+        → peer_serves s.shown.link s2.shown.moment ≡ false → is_up s2.shown ≡ true
+        → HaveBegun s2.shown }
 {}
