@@ -5,7 +5,8 @@ use Rattle.clap.specs.declared.error.Error.{Error}
 use Rattle.clap.specs.declared.error.kind.ErrorKind.TheVariants as kind
 use Rattle.clap.specs.Words.{App, Row, Text, fault_of, is_simple, is_simple_and_free, subcommand_of, subcommand_rows_of}
 use Rattle.command_line.specs.Line.{Takes, entered_by, line_app}
-use Rattle.command_line.specs.Tasks.{Numbered}
+use Rattle.command_line.specs.Tasks.{Enters, Numbered}
+use Rattle.command_line.proofs.Entering.{enters}
 use Rattle.command_line.proofs.Numbers.{numbered}
 use Rattle.command_line.proofs.tasks.parse.Goals as goal
 
@@ -33,6 +34,15 @@ returns-in-Ok-clause-numbers c =
     let values : subcommand_rows_of c.in-Ok.matches ≡ entered_by words =
     (c.in-Ok.ensures.matches (ap is_simple line ∙ is_plain)).1 ∙ ap (λ (a : App). subcommand_of a words) line in
     subst (λ (o : Option (Text × List Row)). Numbered o) (sym values) (numbered words taken)
+
+pub returns-in-Ok-clause-one : goal.returns-in-Ok-clause-one
+returns-in-Ok-clause-one c =
+    let line = c.in_ok-line.ensures in
+    let words = map string_bytes c.args.words.now in
+    let taken : Takes words = ap (λ (a : App). fault_of a words) (sym line) ∙ c.in-Ok.ensures.kinds (ap is_simple_and_free line ∙ is_free) in
+    let values : subcommand_rows_of c.in-Ok.matches ≡ entered_by words =
+    (c.in-Ok.ensures.matches (ap is_simple line ∙ is_plain)).1 ∙ ap (λ (a : App). subcommand_of a words) line in
+    subst (λ (o : Option (Text × List Row)). Enters o) (sym values) (enters words taken)
 
 pub returns-in-Ok-clause-values : goal.returns-in-Ok-clause-values
 returns-in-Ok-clause-values c =
