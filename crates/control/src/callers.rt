@@ -46,7 +46,10 @@ impl Control {
     /// # Errors
     ///
     /// `NoSocket` where one of these can't be had.
-    pub fn open<R: Files + Net + AllocGlobal>(rt: &R, path: &ControlPath) -> Result<Control, NoSocket> {
+    pub fn open<R: Files + Net + AllocGlobal>(
+        rt: &R,
+        path: &ControlPath,
+    ) -> Result<Control, NoSocket> {
         let _is_there = rt.create_dir_with_mode(path.folder(), 0o700);
         check(os::chmod(path.folder().as_bytes(), 0o700))?;
         let _missing = rt.remove_file(path.socket());

@@ -43,5 +43,9 @@ pub fn say<R: Net>(rt: &R, path: &ControlPath, word: &[u8]) -> Result<(), NoSock
     stream.write_all(word)?;
     let mut heard = [0; HEARD.len()];
     stream.read_exact(&mut heard)?;
-    if heard == *HEARD { Ok(()) } else { Err(NoSocket) }
+    if heard == *HEARD {
+        Ok(())
+    } else {
+        Err(NoSocket)
+    }
 }

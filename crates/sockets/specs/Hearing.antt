@@ -1,5 +1,5 @@
 -- What a place hears.
-use Rattle.std.specs.Prelude.{ℕ, Bool, true, false, ◌≡◌, ◌+◌, ◌-◌, ◌^◌, min, List, [], ◌∷◌, ◌++◌, take, Option, Some, None, Result, Ok, Err}
+use Rattle.std.specs.Prelude.{ℕ, zero, suc, Bool, true, false, ◌≡◌, ◌+◌, ◌-◌, ◌^◌, min, List, [], ◌∷◌, ◌++◌, take, Option, Some, None, Result, Ok, Err}
 use Rattle.sockets.specs.declared.far_ends.FarEnd.{FarEnd}
 use Rattle.sockets.specs.FarEnds.{Arrival, all_heard, strangers_among}
 
@@ -16,9 +16,10 @@ told (Ok (Some count)) room = take count room ∷ []
 told (Ok None) room = []
 told (Err fault) room = []
 
--- so many more; a count stays at its greatest number
+-- so many more, one after the other; a count stays at its greatest number
 abbrev pub counted : ℕ → ℕ → ℕ
-counted before more = min (2 ^ 64 - 1) (before + more)
+counted before zero = before
+counted before (suc more) = counted (min (before + 1) (2 ^ 64 - 1)) more
 
 -- some more came; what was told is just what of it is the far end's, in order, and what is not was counted
 pub record Hears {C : Type 0} (came : C → List Arrival) (a a2 : Attached C) (told : List (List ℕ)) : Type 0 where

@@ -10,3 +10,4 @@ pub mod Rooms
 pub mod Traffic
 pub mod Kept
 pub mod Hearing
+pub mod Bringing

@@ -1,7 +1,9 @@
 //! A place of a box, attached to what carries its bytes.
-ghost use Rattle.std.specs.Prelude.{◌≡◌, ◌≤◌, ◌++◌, false, is_err, IfOk, IfSome};
-ghost use Rattle.sockets.specs.Hearing.{Hears, failing_after, told};
-ghost use Rattle.sockets.specs.FarEnds.{head_of};
+ghost use Rattle.std.specs.Prelude.{◌≡◌, ◌≤◌, ◌++◌, ◌∷◌, [], false, take, is_err, IfOk, IfSome};
+ghost use Rattle.sockets.specs.Bringing.{IsHeardWithin, brought};
+ghost use Rattle.sockets.specs.Hearing.{Hears, counted, failing_after, told};
+ghost use Rattle.sockets.specs.FarEnds.{all_heard, head_of, strangers_among};
+ghost use Rattle.sockets.specs.Rooms.{arrival};
 ghost use Rattle.sockets.specs.Traffic.{handed_on};
 
 use crate::{Arrived, Conduit, FarEnd, LONGEST, WireFault};
@@ -29,7 +31,11 @@ impl<C> Model for Attachment<C> {
     ghost Value = { Attached C };
 
     ghost view = { λ a. record {
-        conduit = a.conduit; far = a.far; strangers = a.strangers; failing = a.failing } };
+      conduit = a.conduit;
+      far = a.far;
+      strangers = a.strangers;
+      failing = a.failing;
+    } };
 }
 
 /// What one call to a conduit brought.
@@ -47,7 +53,11 @@ impl<C: Conduit> Attachment<C> {
     /// Nothing is known to have failed, and no stranger has sent anything.
     pub fn new(conduit: C, far: FarEnd) -> Attachment<C>
         ensures { result ≡ record {
-            conduit = conduit; far = far; strangers = 0; failing = false } }
+          conduit = conduit;
+          far = far;
+          strangers = 0;
+          failing = false;
+        } }
     {
         Attachment {
             conduit,
@@ -149,7 +159,7 @@ impl<C: Conduit> Attachment<C> {
     /// The next that came. A conduit that had nothing isn't asked again before a wait reports it; nor is one that
     /// failed twice, so that what always fails doesn't keep the box busy.
     fn next(&mut self, room: &mut [u8; LONGEST]) -> Brought
-        ensures within { IfOk result (λ found. IfSome found (λ count. count ≤ 4096)) }
+        ensures within { IsHeardWithin result }
         ensures hears { Hears C.came self.old self.new (brought result room.new) }
         ensures sent { C.sent self.new.conduit ≡ C.sent self.old.conduit }
         ensures failing { self.new.failing ≡ self.old.failing }
@@ -171,7 +181,18 @@ impl<C: Conduit> Attachment<C> {
     }
 
     /// Whether what came is the far end's.
-    fn judge(&mut self, arrived: Arrived, room: &mut [u8; LONGEST]) -> Brought {
+    fn judge(&mut self, arrived: Arrived, room: &mut [u8; LONGEST]) -> Brought
+        requires { arrived.count ≤ 4096 }
+        ensures within { IsHeardWithin result }
+        ensures told { brought result room.new
+            ≡ all_heard self.old.far (arrival (take arrived.count room.old) arrived.sender ∷ []) }
+        ensures counted { self.new.strangers ≡ counted self.old.strangers
+            (strangers_among self.old.far
+            (arrival (take arrived.count room.old) arrived.sender ∷ [])) }
+        ensures conduit { self.new.conduit ≡ self.old.conduit }
+        ensures far { self.new.far ≡ self.old.far }
+        ensures failing { self.new.failing ≡ self.old.failing }
+    {
         match self.far.hears(arrived.sender, arrived.count, room) {
             Some(count) => Brought::Heard(count),
             None => {

@@ -74,8 +74,11 @@ impl Conduit for Channel {
 }
 
 /// What was received, where just nothing being there is no fault.
-fn settled(result: io::Result<Arrived>) -> Result<Option<Arrived>, WireFault> {
-    match result {
+fn settled(received: io::Result<Arrived>) -> Result<Option<Arrived>, WireFault>
+    requires { IfOk received (λ arrived. arrived.count ≤ 4096) }
+    ensures { IfOk result (λ found. IfSome found (λ arrived. arrived.count ≤ 4096)) }
+{
+    match received {
         Ok(arrived) => Ok(Some(arrived)),
         Err(error) if error.kind() == ErrorKind::WouldBlock => Ok(None),
         Err(_) => Err(WireFault),
@@ -105,7 +108,7 @@ impl Socket {
         let count = match self {
             Socket::Connected(socket) => send_connected(socket, bytes)?,
             Socket::Open(socket, other) => socket.send_to(bytes, *other)?,
-            Socket::Descriptor(descriptor) => moved(libc::write(*descriptor, bytes))?,
+            Socket::Descriptor(descriptor) => write(*descriptor, bytes)?,
         };
         if count == bytes.len() {
             Ok(())
@@ -160,16 +163,28 @@ fn receive_from(socket: &UdpSocket, room: &mut [u8; LONGEST]) -> io::Result<Arri
 fn read(descriptor: RawFd, room: &mut [u8; LONGEST]) -> io::Result<Arrived>
     ensures { IfOk result (λ arrived. arrived.count ≤ 4096) }
 {
-    match moved(libc::read(descriptor, room))? {
-        0 => Err(io::Error::from(ErrorKind::UnexpectedEof)),
-        count => Ok(Arrived {
-            count,
-            sender: Sender::Interface,
-        }),
+    let count = libc::read(descriptor, room);
+    if count < 0 {
+        return Err(last_error());
     }
+    if count == 0 {
+        return Err(io::Error::from(ErrorKind::UnexpectedEof));
+    }
+    Ok(Arrived {
+        count: count as usize,
+        sender: Sender::Interface,
+    })
 }
 
-/// How many bytes a call has moved, or its error.
-fn moved(count: isize) -> io::Result<usize> {
-    usize::try_from(count).map_err(|_| io::Error::from_raw_os_error(os::errno()))
+/// Writes a frame, and says how many of its bytes were taken.
+fn write(descriptor: RawFd, bytes: &[u8]) -> io::Result<usize> {
+    let count = libc::write(descriptor, bytes);
+    if count < 0 {
+        return Err(last_error());
+    }
+    Ok(count as usize)
+}
+
+fn last_error() -> io::Error {
+    io::Error::from_raw_os_error(os::errno())
 }

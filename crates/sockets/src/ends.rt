@@ -1,5 +1,7 @@
 //! The two ends of a way over UDP.
 ghost use Rattle.std.specs.Prelude.{◌≡◌, MatchOption};
+ghost use Rattle.std.specs.Net.Addr.{ipv4_bits};
+ghost use Rattle.std.specs.Net.Socket.{v4_ip, v4_port};
 ghost use Rattle.sockets.specs.Ends.{IsEndText, IsEndsText, IsNoEndText, IsNoEndsText, are_on_loopback};
 
 use addresses::Ip;
@@ -25,6 +27,8 @@ impl End {
     }
 
     pub(crate) fn of(found: SocketAddrV4) -> End
+        ensures address { result.address.0 ≡ ipv4_bits (v4_ip found) }
+        ensures port { result.port ≡ v4_port found }
     {
         End {
             address: Ip(found.ip().to_bits()),

@@ -1,5 +1,5 @@
 //! Whom a place speaks with.
-ghost use Rattle.std.specs.Prelude.{◌≡◌, ◌≤◌, take, length};
+ghost use Rattle.std.specs.Prelude.{◌≡◌, ◌≤◌, ◌++◌, take, IfSome};
 ghost use Rattle.sockets.specs.FarEnds.{is_end, has_address, is_interface, head_of};
 ghost use Rattle.sockets.specs.Rooms.{Leaves};
 
@@ -82,6 +82,7 @@ impl FarEnd {
 
     /// What a datagram to it is: the bytes, for VXLAN behind a header. None where there is no room.
     pub(crate) fn lay(self, bytes: &[u8], room: &mut [u8; LONGEST]) -> Option<usize>
+        ensures { IfSome result (λ count. (count ≤ 4096) × (take count room.new ≡ head_of self ++ bytes.now)) }
     {
         let start = match self {
             FarEnd::Vxlan(_, network) => {

@@ -108,11 +108,7 @@ impl Board {
     }
 
     /// The next of a place.
-    fn take(
-        &mut self,
-        place: Place,
-        room: &mut [u8; LONGEST],
-    ) -> Result<Option<usize>, WireFault>
+    fn take(&mut self, place: Place, room: &mut [u8; LONGEST]) -> Result<Option<usize>, WireFault>
         ensures { IfOk result (λ found. IfSome found (λ count. count ≤ 4096)) }
     {
         match place {

@@ -1,5 +1,5 @@
 //! VXLAN's header (RFC 7348): eight bytes before a frame, with the number of the network it is of.
-ghost use Rattle.std.specs.Prelude.{◌≡◌};
+ghost use Rattle.std.specs.Prelude.{◌≡◌, ◌<◌};
 ghost use Rattle.sockets.specs.Vxlan.{vxlan_header, is_of};
 
 use byteorder::{BigEndian, ByteOrder};
