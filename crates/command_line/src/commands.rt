@@ -9,14 +9,13 @@ use clap::Command;
 use std::alloc::{AllocError, Global};
 
 /// What stands below the options of `gate`.
-const GATE_HELP: &str = "A WAY is one of
-  loopback                            the ports of the settings, on this machine's loopback address
-  descriptor:N                        the open descriptor N, 3 or above: a packet socket of the launcher
-  vxlan:OWN:PORT,OTHER:PORT,NUMBER    VXLAN between two ends, NUMBER the network's
-  udp:OWN:PORT,OTHER:PORT             UDP between two ends
+const GATE_HELP: &str = "A way is one of
+  loopback                          the ports of the settings, on this machine
+  descriptor:N                      an open descriptor, 3 or above, of a packet socket
+  vxlan:OWN:PORT,OTHER:PORT,NUMBER  VXLAN between two ends, NUMBER the network's
+  udp:OWN:PORT,OTHER:PORT           UDP between two ends
 
-Examples: natpair gate S.toml --id 0 --rounds 1000 --found
-          natpair gate S.toml --id 1 --rounds 4294967295 --inside descriptor:3 --outside descriptor:4 --link udp:10.1.0.2:7000,10.1.0.1:7000";
+Example: natpair gate S.toml --id 0 --rounds 1000 --found";
 
 fn init<'a>(alloc: Global) -> Result<Command<'a>, AllocError>
     ensures app { IfOk result (λ c. app_of c ≡ init_app) }
@@ -91,10 +90,9 @@ fn with_ways<'a>(alloc: Global, command: Command<'a>) -> Result<Command<'a>, All
     ensures app { IfOk result (λ c. app_of c ≡ with_ways (app_of command.entry)) }
     ensures local { IfOk result (λ c. (fields_of c).has_globals ≡ false) }
 {
-    let inside = "The way of the inside's frames, as in --inside descriptor:3";
-    let outside =
-        "The way of the outside's frames, as in --outside vxlan:10.0.0.1:4789,10.0.0.9:4789,12";
-    let link = "The way of the link, as in --link udp:10.1.0.1:7000,10.1.0.2:7000";
+    let inside = "The inside's way, as in --inside descriptor:3";
+    let outside = "The outside's way, as in --outside descriptor:4";
+    let link = "The link's way, as in --link udp:10.1.0.1:7000,10.1.0.2:7000";
     command
         .arg(options::way(alloc, "inside", inside))?
         .arg(options::way(alloc, "outside", outside))?

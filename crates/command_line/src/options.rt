@@ -75,7 +75,7 @@ pub(crate) fn no_track<'a>(alloc: Global) -> Arg<'a>
     Arg::new(alloc, "no-track")
         .long("no-track")
         .action(ArgAction::SetTrue)
-        .help("Leaves the carrier of the interfaces out; what `natpair side` tells still counts")
+        .help("Doesn't give way where an interface says that it has no carrier")
 }
 
 /// `--boot`, from 0 to 18446744073709551615.
