@@ -1,5 +1,5 @@
 -- What a gateway is handed in a world.
-use Rattle.std.proofs.Common.{◌≡◌, ℕ, ◌==◌, nat_lt, true, false, not, ◌&&◌, inl, inr, List, Option, Some, None, refl, sym, ◌∙◌, eqb-true}
+use Rattle.std.proofs.Common.{◌≡◌, ℕ, ◌==◌, nat_lt, true, false, not, ◌&&◌, inl, inr, Bool, List, Option, Some, None, refl, sym, ◌∙◌, eqb-true}
 use Rattle.std.specs.Borrow.{Bor}
 use Rattle.std.proofs.lemmas.Bool.{and_parts, not-true}
 use Rattle.nat_types.specs.Same.{other}
@@ -18,6 +18,9 @@ hands-frame w i side bytes = record { letters = λ l h. absurd h; words = λ h n
 
 pub hands-tick : (w : World) (i : GatewayId) (moment : ℕ) → IsHanded w i (given.Tick moment)
 hands-tick w i moment = record { letters = λ l h. absurd h; words = λ h n m. absurd m }
+
+pub hands-side : (w : World) (i : GatewayId) (side : Side) (up : Bool) → IsHanded w i (given.Side side up)
+hands-side w i side up = record { letters = λ l h. absurd h; words = λ h n m. absurd m }
 
 pub hands-stop : (w : World) (i : GatewayId) → IsHanded w i given.Stop
 hands-stop w i = record { letters = λ l h. absurd h; words = λ h n m. absurd m }

@@ -16,7 +16,7 @@ use Rattle.spec_step.specs.Shown.{Shown, scene}
 use Rattle.spec_step.specs.Steps.{IsStepOn, outcome_on}
 use Rattle.spec_step.specs.Truly.{Tells, hand_of}
 use Rattle.nat_types.specs.declared.events.WorldEvent.{WorldEvent}
-use Rattle.nat_types.specs.declared.events.WorldEvent.TheVariants.{Frame, Tick, Stop, Deliver, Crash, Boot, PeerOff}
+use Rattle.nat_types.specs.declared.events.WorldEvent.TheVariants.{Frame, Tick, Stop, Deliver, Crash, Boot, PeerOff, Side as Cable}
 use Rattle.frame_sim.specs.declared.events.WorldFault.{WorldFault}
 use Rattle.frame_sim.specs.declared.events.WorldFault.TheVariants.{PremiseBroken, NoSuchDatagram}
 use Rattle.frame_sim.specs.World.{Half, World, gateway_at, half, is_up, moment_of, synced_at, with_half}
@@ -59,6 +59,7 @@ refusal w (Deliver i k) = unless (is_some (datagram_for w i k)) NoSuchDatagram
 refusal w (Crash i) = unless (may_crash w i) PremiseBroken
 refusal w (Boot i n) = unless (may_boot w i n) PremiseBroken
 refusal w (PeerOff i n) = unless (may_be_told w i n) PremiseBroken
+refusal w (Cable i side up) = None
 
 -- ---- what an event does
 
@@ -117,3 +118,4 @@ Does w (Crash i) = let h = half w i in
 Does w (Boot i n) = let h = half w i in
     Turns w i (record h { gateway = Some (begun w.settings i n); boot = n }) (noting i 0 (Booted n))
 Does w (PeerOff i n) = TakesAt w i (gateway_at w i) (given.PeerOff n)
+Does w (Cable i side up) = TakesAt w i (gateway_at w i) (given.Side side up)

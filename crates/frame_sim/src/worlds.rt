@@ -223,6 +223,7 @@ impl<'a> World<'a> {
             WorldEvent::Crash(id) => self.crash(*id, out),
             WorldEvent::Boot(id, number) => self.boot(*id, *number, out),
             WorldEvent::PeerOff(id, number) => self.pass_word(*id, *number, out),
+            WorldEvent::Side(id, side, up) => Ok(self.hand(*id, Event::Side(*side, *up), out)?),
         }
     }
 

@@ -246,7 +246,8 @@ fn sent<P: Channel>(world: &World<'_>, event: &WorldEvent, passage: &mut P) -> O
         | WorldEvent::Stop(_)
         | WorldEvent::Crash(_)
         | WorldEvent::Boot(_, _)
-        | WorldEvent::PeerOff(_, _) => None,
+        | WorldEvent::PeerOff(_, _)
+        | WorldEvent::Side(_, _, _) => None,
     }
 }
 

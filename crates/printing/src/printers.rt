@@ -85,7 +85,8 @@ fn gateway_of(event: &WorldEvent) -> GatewayId {
         | WorldEvent::Deliver(id, _)
         | WorldEvent::Crash(id)
         | WorldEvent::Boot(id, _)
-        | WorldEvent::PeerOff(id, _) => *id,
+        | WorldEvent::PeerOff(id, _)
+        | WorldEvent::Side(id, _, _) => *id,
     }
 }
 

@@ -1,8 +1,8 @@
 -- Worked lines and scripts, as the grammar reads them.
-use Rattle.std.proofs.Common.{◌≡◌, [], ◌∷◌, ◌++◌, Some, None, codes, true, refl}
+use Rattle.std.proofs.Common.{◌≡◌, [], ◌∷◌, ◌++◌, Some, None, codes, true, false, refl}
 use Rattle.nat_types.specs.declared.gateways.GatewayId.TheVariants.{Zero, One}
-use Rattle.nat_types.specs.declared.gateways.Side.TheVariants.{Outside}
-use Rattle.scripts.specs.Script.{frame, tick, deliver, boot, peer_off, stop, crash, is_silent, line_event, first_bad_line}
+use Rattle.nat_types.specs.declared.gateways.Side.TheVariants.{Inside, Outside}
+use Rattle.scripts.specs.Script.{frame, tick, deliver, boot, peer_off, stop, crash, cable, is_silent, line_event, sided_named, first_bad_line}
 
 a_tick : line_event (codes "tick 0 0360") ≡ Some (tick Zero 360)
 a_tick = refl
@@ -40,6 +40,30 @@ a_crash = refl
 a_stop : line_event (codes "stop 0") ≡ Some (stop Zero)
 a_stop = refl
 
+a_cable_out : line_event (codes "side 0 inside down") ≡ Some (cable Zero Inside false)
+unfolding sided_named
+a_cable_out = refl
+
+a_cable_in : line_event (codes "side 1 outside up") ≡ Some (cable One Outside true)
+unfolding sided_named
+a_cable_in = refl
+
+no_side : line_event (codes "side 0 left down") ≡ None
+no_side = refl
+
+no_such_word : line_event (codes "side 0 inside out") ≡ None
+unfolding sided_named
+no_such_word = refl
+
+no_word : line_event (codes "side 0 inside") ≡ None
+no_word = refl
+
+no_gateway : line_event (codes "side inside down") ≡ None
+no_gateway = refl
+
+no_third_cable : line_event (codes "side 2 inside down") ≡ None
+no_third_cable = refl
+
 no_number : line_event (codes "boot 1") ≡ None
 no_number = refl
 
@@ -47,9 +71,11 @@ a_number_too_many : line_event (codes "crash 1 2") ≡ None
 a_number_too_many = refl
 
 no_bytes : line_event (codes "frame 0 outside -") ≡ Some (frame Zero Outside [])
+unfolding sided_named
 no_bytes = refl
 
 no_text : line_event (codes "frame 0 inside ") ≡ None
+unfolding sided_named
 no_text = refl
 
 a_comment : is_silent (codes "# two") ≡ true

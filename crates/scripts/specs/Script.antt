@@ -1,5 +1,5 @@
 -- The grammar of a script, on its bytes.
-use Rattle.std.specs.Prelude.{ℕ, ◌+◌, ◌-◌, ◌*◌, ◌^◌, ◌==◌, ◌&&◌, ◌||◌, nat_le, nat_lt, nat_eq, Bool, if◌then◌else◌, List, [], ◌∷◌, length, codes, Option, Some, None, is_none}
+use Rattle.std.specs.Prelude.{ℕ, ◌+◌, ◌-◌, ◌*◌, ◌^◌, ◌==◌, ◌&&◌, ◌||◌, nat_le, nat_lt, nat_eq, Bool, if◌then◌else◌, List, [], ◌∷◌, length, codes, Option, Some, None, is_none, true, false}
 use Rattle.std.specs.List.{slice_split, starts_with, list_all, filter_map}
 use Rattle.std.specs.Result.{result_ok}
 use Rattle.std.specs.Char.{is_ascii_digit}
@@ -13,7 +13,7 @@ use Rattle.nat_types.specs.declared.gateways.Side.{Side}
 use Rattle.nat_types.specs.declared.gateways.Side.TheVariants.{Inside, Outside}
 use Rattle.scripts.specs.declared.reading.TheConstants.{EVENTS, FRAME}
 use Rattle.nat_types.specs.declared.events.WorldEvent.{WorldEvent}
-use Rattle.nat_types.specs.declared.events.WorldEvent.TheVariants.{Frame, Tick, Deliver, Boot, PeerOff, Stop, Crash}
+use Rattle.nat_types.specs.declared.events.WorldEvent.TheVariants.{Frame, Tick, Deliver, Boot, PeerOff, Stop, Crash, Side as Cable}
 
 -- an event in a script's words: each happens to a gateway
 pub data Said : Type 0 where
@@ -24,6 +24,7 @@ pub data Said : Type 0 where
   peer_off : GatewayId → ℕ → Said
   stop : GatewayId → Said
   crash : GatewayId → Said
+  cable : GatewayId → Side → Bool → Said
 
 -- what a script says for an event
 abbrev pub said : WorldEvent → Said
@@ -34,6 +35,7 @@ said (Boot id number) = boot id number
 said (PeerOff id number) = peer_off id number
 said (Stop id) = stop id
 said (Crash id) = crash id
+said (Cable id side up) = cable id side up
 
 -- the words of a line stand apart by single spaces
 abbrev pub words : List ℕ → List (List ℕ)
@@ -110,10 +112,23 @@ abbrev pub frame_named : List ℕ → GatewayId → Side → List ℕ → Option
 frame_named verb id side bytes =
     if bytes_eq verb (codes "frame") then Some (frame id side bytes) else None
 
+-- whether a word says that a cable is in
+abbrev pub up_named : List ℕ → Option Bool
+up_named word =
+    if bytes_eq word (codes "up") then Some true
+    else if bytes_eq word (codes "down") then Some false
+    else None
+
 -- what is said by a word that may be none
 abbrev pub by_word : {A B : Type 0} → Option A → (A → Option B) → Option B
 by_word None said_by = None
 by_word (Some value) said_by = said_by value
+
+-- `side I inside up`, `side I outside down`; or a frame
+unfoldable pub sided_named : List ℕ → GatewayId → Side → List ℕ → Option Said
+sided_named verb id at text =
+    if bytes_eq verb (codes "side") then by_word (up_named text) (λ up. Some (cable id at up))
+    else by_word (bytes_named text) (λ bytes. frame_named verb id at bytes)
 
 -- the event that these words name, if they name one
 abbrev pub words_event : List (List ℕ) → Option Said
@@ -122,8 +137,7 @@ words_event (verb ∷ gateway ∷ []) =
 words_event (verb ∷ gateway ∷ number ∷ []) =
     by_word (gateway_named gateway) (λ id. by_word (number_named number) (λ n. counted_named verb id n))
 words_event (verb ∷ gateway ∷ side ∷ text ∷ []) =
-    by_word (gateway_named gateway) (λ id. by_word (side_named side)
-    (λ at. by_word (bytes_named text) (λ bytes. frame_named verb id at bytes)))
+    by_word (gateway_named gateway) (λ id. by_word (side_named side) (λ at. sided_named verb id at text))
 words_event others = None
 
 -- the event that a line names, if it isn't silent and names one

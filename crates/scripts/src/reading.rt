@@ -1,10 +1,11 @@
 //! Reads a script: a list of world events, a line each.
 
-ghost use Rattle.std.specs.Prelude.{◌≡◌, map, option_map, IfOk, IfErr, OnOk};
+ghost use Rattle.std.specs.Prelude.{◌≡◌, map, option_map, Some, IfOk, IfErr, OnOk};
 ghost use Rattle.std.specs.Str.Lines.{lines};
 ghost use Rattle.scripts.specs.Script.{said, words, is_comment, is_blank, is_silent, is_decimal};
 ghost use Rattle.scripts.specs.Script.{number_named, side_named, bytes_named, gateway_named};
 ghost use Rattle.scripts.specs.Script.{bare_named, counted_named, frame_named, by_word};
+ghost use Rattle.scripts.specs.Script.{up_named, sided_named, cable};
 ghost use Rattle.scripts.specs.Script.{words_event, events_of, first_bad_from, first_bad_line};
 ghost use Rattle.scripts.specs.Faults.{IsTold};
 ghost use Rattle.scripts.specs.declared.reading.TheConstants.{EVENTS};
@@ -98,7 +99,7 @@ fn event_named(alloc: Global, words: &[&str]) -> Result<Option<WorldEvent>, Allo
     match words {
         [verb, gateway] => Ok(bare(verb, gateway)),
         [verb, gateway, number] => Ok(counted(verb, gateway, number)),
-        [verb, gateway, side, text] => frame(alloc, verb, gateway, side, text),
+        [verb, gateway, side, text] => sided(alloc, verb, gateway, side, text),
         _ => Ok(None),
     }
 }
@@ -159,7 +160,8 @@ fn counted_at(verb: &str, id: GatewayId, number: u64) -> Option<WorldEvent>
     }
 }
 
-fn frame(
+/// An event at a side.
+fn sided(
     alloc: Global,
     verb: &str,
     gateway: &str,
@@ -168,28 +170,64 @@ fn frame(
 ) -> Result<Option<WorldEvent>, AllocError>
     ensures { IfOk result (λ event. option_map said event
         ≡ by_word (gateway_named gateway.now) (λ id. by_word (side_named side.now)
-        (λ at. by_word (bytes_named text.now) (λ bytes. frame_named verb.now id at bytes)))) }
+        (λ at. sided_named verb.now id at text.now))) }
 {
     let Some(id) = gateway_of(gateway) else {
         return Ok(None);
     };
-    frame_by(alloc, verb, id, side, text)
+    sided_by(alloc, verb, id, side, text)
 }
 
-fn frame_by(
+fn sided_by(
     alloc: Global,
     verb: &str,
     id: GatewayId,
     side: &str,
     text: &str,
 ) -> Result<Option<WorldEvent>, AllocError>
-    ensures { IfOk result (λ event. option_map said event ≡ by_word (side_named side.now)
-        (λ at. by_word (bytes_named text.now) (λ bytes. frame_named verb.now id at bytes))) }
+    ensures { IfOk result (λ event. option_map said event
+        ≡ by_word (side_named side.now) (λ at. sided_named verb.now id at text.now)) }
 {
     let Some(side) = side_of(side) else {
         return Ok(None);
     };
-    frame_at(alloc, verb, id, side, text)
+    sided_at(alloc, verb, id, side, text)
+}
+
+#[tactic(auto, unfolding(crate::specs::Script::sided_named))]
+fn sided_at(
+    alloc: Global,
+    verb: &str,
+    id: GatewayId,
+    side: Side,
+    text: &str,
+) -> Result<Option<WorldEvent>, AllocError>
+    ensures { IfOk result (λ event. option_map said event ≡ sided_named verb.now id side text.now) }
+{
+    if verb == "side" {
+        Ok(cable(id, side, text))
+    } else {
+        frame_at(alloc, verb, id, side, text)
+    }
+}
+
+/// A cable that is in or out.
+fn cable(id: GatewayId, side: Side, text: &str) -> Option<WorldEvent>
+    ensures { option_map said result ≡ by_word (up_named text.now) (λ up. Some (cable id side up)) }
+{
+    let up = up_of(text)?;
+    Some(WorldEvent::Side(id, side, up))
+}
+
+/// Whether a word says that a cable is in.
+fn up_of(word: &str) -> Option<bool>
+    ensures { result ≡ up_named word.now }
+{
+    match word {
+        "up" => Some(true),
+        "down" => Some(false),
+        _ => None,
+    }
 }
 
 fn frame_at(
