@@ -155,44 +155,23 @@ class Switch:
         self.space.ip("link", "set", "dev", port, "master", "bridge", "arp", "off")
 
 
-class Networks:
-    """Everything that is built: switches, hosts, router, server, boxes."""
+class Surroundings:
+    """What lies around the boxes: a switch for each side, hosts, a router and a server beyond it."""
 
-    def __init__(self, options, stack):
-        with undisturbed():
-            folder = pathlib.Path(tempfile.mkdtemp(prefix="natpair-demo-"))
-            stack.callback(shutil.rmtree, folder, ignore_errors=True)
-        self.folder = folder
-        # The user of the boxes needn't be able to read the clone.
-        folder.chmod(0o711)
-        shutil.copy(options.program, folder / "natpair")
-        shutil.copy(options.launcher, folder / "natpair-launch")
-        shutil.copy(SETTINGS, folder)
-        with open(SETTINGS, "rb") as file:
-            self.settings = tomllib.load(file)
+    def __init__(self, settings):
+        self.settings = settings
         self.host = Namespace("host")
         self.router = Namespace("router")
         self.server = Namespace("server")
         self.switches = {side: Switch(side) for side in SIDES}
-        self.boxes = (Box(0, options, folder), Box(1, options, folder))
-        for space in self.spaces():
-            stack.callback(space.close)
-        self.plug()
-        self.address()
 
     def spaces(self):
-        ends = [self.host, self.router, self.server]
-        ends += [switch.space for switch in self.switches.values()]
-        return ends + [box.space for box in self.boxes]
+        return [self.host, self.router, self.server] + [each.space for each in self.switches.values()]
 
     def plug(self):
         self.switches["inside"].plug("host", self.host, "eth0")
         self.switches["outside"].plug("router", self.router, "eth0")
         self.router.cable("eth1", self.server, "eth0")
-        for box in self.boxes:
-            for side, switch in self.switches.items():
-                switch.plug(f"box{box.number}", box.space, side)
-        self.boxes[0].space.cable("link", self.boxes[1].space, "link")
 
     def address(self):
         """The hosts' addresses and routes. They know the virtual addresses alone."""
@@ -205,6 +184,35 @@ class Networks:
         self.router.sysctl("ipv4/ip_forward", 1)
         self.server.ip("addr", "add", f"{SERVER}/24", "dev", "eth0")
         self.server.ip("route", "add", "default", "via", BEYOND)
+
+
+class Networks(Surroundings):
+    """Everything that is built: the surroundings and both boxes."""
+
+    def __init__(self, options, stack):
+        with undisturbed():
+            folder = pathlib.Path(tempfile.mkdtemp(prefix="natpair-demo-"))
+            stack.callback(shutil.rmtree, folder, ignore_errors=True)
+        self.folder = folder
+        # The user of the boxes needn't be able to read the clone.
+        folder.chmod(0o711)
+        shutil.copy(options.program, folder / "natpair")
+        shutil.copy(options.launcher, folder / "natpair-launch")
+        shutil.copy(SETTINGS, folder)
+        with open(SETTINGS, "rb") as file:
+            super().__init__(tomllib.load(file))
+        self.boxes = (Box(0, options, folder), Box(1, options, folder))
+        for space in self.spaces() + [box.space for box in self.boxes]:
+            stack.callback(space.close)
+        self.plug()
+        self.join()
+        self.address()
+
+    def join(self):
+        for box in self.boxes:
+            for side, switch in self.switches.items():
+                switch.plug(f"box{box.number}", box.space, side)
+        self.boxes[0].space.cable("link", self.boxes[1].space, "link")
         for box in self.boxes:
             box.join()
 

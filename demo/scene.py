@@ -11,7 +11,8 @@ from pair import FOLDER, PYTHON, SERVER, Networks
 
 # So many of what was seen wrong are told one by one.
 TOLD = 10
-# The probe asks again after so many seconds.
+# The number of the probe's flow, and after how many seconds it asks again.
+PROBE = 1_000_000
 AGAIN = 0.02
 
 
@@ -83,7 +84,7 @@ class Probe:
     """One UDP flow that asks each 20 ms, and the longest time without an answer."""
 
     def __init__(self, current):
-        self.flow = Flow(current.loop, 0, "udp", self.note)
+        self.flow = Flow(current.loop, PROBE, "udp", self.note)
         self.flow.open(current.networks.host)
         current.stack.callback(self.flow.close)
         self.last = time.monotonic()
