@@ -46,7 +46,7 @@ TUNNEL = "What the link trusts"
 FLOWS = 20
 # What the page says of a journal, by the section in which it says so: the machine, its unit, and lines that are there.
 SAID = {
-    "6. Founding": [("box 0", "natpair-found", ["boot 1", "synced", "inside Active", "outside Active"])],
+    "6. Founding": [("box 0", "natpair-found", ["boot 1", "inside Active", "outside Active"])],
     "7. The second box": [("box 1", "natpair", ["boot 1", "synced"])],
     "8. Box 0 under its own unit": [("box 0", "natpair", ["boot 2", "synced", "inside Active", "outside Active"])],
     "10. Watching a fail-over": [
@@ -248,7 +248,8 @@ class Site:
                     raise SystemExit(f"joining: {section}: {name} doesn't say {line!r}:\n{journal}")
 
     def follow(self, page):
-        """Runs the page. After each part of a section that does something to the boxes, the flows ask."""
+        """Runs the page. After each part of a section that does something to the boxes, the flows ask. At the end fresh
+        flows are opened: the boxes have to agree on them by the link."""
         for number, block in enumerate(page):
             if block.section == TUNNEL and not self.options.wireguard:
                 continue
@@ -265,6 +266,7 @@ class Site:
                 self.expect_said(block.section)
                 if block.section.startswith("8."):
                     self.open_flows()
+        self.open_flows()
 
 
 def options_of(words):
