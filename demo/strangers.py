@@ -5,6 +5,7 @@ import os
 import pwd
 import random
 import socket
+import subprocess
 import time
 
 from flows import PATIENCE, Flows, verdict
@@ -20,6 +21,9 @@ STRANGE_ADDRESS = "10.0.0.9"
 STRANGE_PORT = 7999
 STRANGE_USER = "daemon"
 LONGEST = 1400
+# Frames of the networks come at this rate: a box has to read each, and drop it. What the link's and the control socket's
+# strangers send the kernel drops, so that comes as fast as it can.
+FRAMES_A_SECOND = 5000
 
 
 def random_bytes(chance):
@@ -106,16 +110,21 @@ def checksum(data):
     return (total ^ 0xFFFF).to_bytes(2, "big")
 
 
-def send_frames(space, name, frames, count):
-    with space.entered(), socket.socket(socket.AF_PACKET, socket.SOCK_RAW, 0) as sock:
+def send_frames(space, name, frames, count, turn):
+    """Sends so many frames at the rate above, and lets the flows be meanwhile."""
+    with space.entered():
+        sock = socket.socket(socket.AF_PACKET, socket.SOCK_RAW, 0)
         sock.bind((name, 0))
-        taken = 0
-        for frame in itertools.islice(frames, count):
-            try:
-                sock.send(frame)
-                taken += 1
-            except OSError:
-                pass
+    begun, taken = time.monotonic(), 0
+    for number, frame in enumerate(itertools.islice(frames, count)):
+        while number > (time.monotonic() - begun) * FRAMES_A_SECOND:
+            turn(0.005)
+        try:
+            sock.send(frame)
+            taken += 1
+        except OSError:
+            pass
+    sock.close()
     return taken
 
 
@@ -215,7 +224,7 @@ def at_sides(current, watch, chance, count):
     places = {"inside": (current.networks.host, "eth0"), "outside": (current.networks.router, "eth0")}
     for side in SIDES:
         space, name = places[side]
-        taken = send_frames(space, name, frames_of(current, side, chance), count)
+        taken = send_frames(space, name, frames_of(current, side, chance), count, watch.flows.turn)
         watch.after(f"the {side} network", count, taken)
 
 
@@ -232,6 +241,29 @@ def at_controls(current, watch, chance, count):
         watch.after(f"control of box {box.number}, no words", count // 10, had)
 
 
+def start_again(current, box, words, user, wanted):
+    parent = os.getpid()
+    done = subprocess.run(words, cwd=box.folder, capture_output=True, text=True, timeout=10,
+                          preexec_fn=lambda: box.space.begin(parent, user))
+    said = done.stderr.strip().splitlines()[-1:]
+    current.say(f"a second start of box {box.number} ends with {done.returncode}: {' '.join(said)}")
+    if done.returncode != 1 or wanted not in done.stderr:
+        raise SystemExit(f"demo: a second start isn't refused as it should be: {done.stderr}")
+
+
+def at_starts(current, watch):
+    """A second start of each box while it runs, by the launcher and by the gate alone: each is refused."""
+    for box in current.boxes:
+        alone = box.words[box.words.index("--") + 1 :]
+        if "--link" in alone:
+            alone = alone[: alone.index("--link")]
+        # Where the launcher opens the link's socket, that is in use; else the gate finds the boot file in use.
+        both = "in use" if current.options.link == "descriptor" else "boot 5 InUse"
+        start_again(current, box, box.words, None, both)
+        start_again(current, box, alone, box.user, "boot 5 InUse")
+        watch.after(f"second starts of box {box.number}", 2, 2)
+
+
 def strangers(options):
     chance = random.Random(36)
     with scene(options, options.capture) as current:
@@ -242,6 +274,7 @@ def strangers(options):
         at_links(current, watch, chance, options.count)
         at_sides(current, watch, chance, options.count)
         at_controls(current, watch, chance, options.count)
+        at_starts(current, watch)
         current.tell_drops()
         _, twice, shared = audit(current.observer)
     heads = ["sent at", "tried", "sent", "changes", f"held of {FLOWS}", "lost"]
