@@ -9,7 +9,7 @@ can, in frames of 64 bytes (46 of them a packet, 14 the Ethernet header, 4 the c
 in packets of 1,500; then one connection of iperf3; then questions and answers, one at a time. Printed are medians.
 
 Where a tool is missing it says which, and installs it by apt-get where it can. Each of the sender, the box and the
-receiver has a processor of its own where there are enough. It needs root.
+receiver has a processor of its own where there are enough, and goes before other work. It needs root.
 """
 
 import sys
@@ -41,7 +41,7 @@ VIRTUAL = {"inside": "00:00:5e:00:01:0b", "outside": "00:00:5e:00:01:0a"}
 PORT = 7700
 # The bytes of a datagram in a frame of 64 bytes, and in a packet of 1,500.
 SIZES = {"64": 18, "1500": 1472}
-QUESTIONS = 5000
+QUESTIONS = 1000
 # The processors of the sender, the box and the receiver.
 SENDER, BOX, RECEIVER = {0}, {1}, {2}
 TOOLS = {"cc": ("gcc", "libc6-dev"), "iperf3": ("iperf3",), "nft": ("nftables",), "ip": ("iproute2",)}
@@ -70,10 +70,9 @@ def fetch_tools():
 
 
 def on(processors, words):
-    """The words that run a program on these processors, where the machine has enough of them."""
-    if os.cpu_count() < 4:
-        return words
-    return ("taskset", "-c", ",".join(map(str, sorted(processors))), *words)
+    """The words that run a program before other work, and on these processors where the machine has enough of them."""
+    pinned = ("taskset", "-c", ",".join(map(str, sorted(processors)))) if os.cpu_count() >= 4 else ()
+    return ("nice", "-n", "-15", *pinned, *words)
 
 
 def busy():
