@@ -1,8 +1,7 @@
 //! What a packet does that has to wait, or is dropped.
-ghost use Rattle.std.specs.Prelude.{◌≡◌, ◌≤◌, ◌+◌, true, min};
+ghost use Rattle.std.specs.Prelude.{◌≡◌, ◌≤◌, ◌+◌, true};
 ghost use Rattle.waiting.specs.declared.waits.WaitsFor.TheVariants.{Hop, Pair};
 ghost use Rattle.waiting.specs.Packets.{has_place};
-ghost use Rattle.link.specs.Link.{free_places};
 ghost use Rattle.spec_binding.specs.WellFormed.{IsWellFormedEndpoint};
 ghost use Rattle.packet_rules.specs.Arping.{request_frame};
 ghost use Rattle.packet_rules.specs.Flows.{source_of};
@@ -11,6 +10,8 @@ ghost use Rattle.spec_step.specs.Parts.{asked_again, by_plan, by_refusal, framed
 ghost use Rattle.spec_step.specs.Shown.{station_on};
 ghost use Rattle.spec_step.specs.Verdict.{exit_by};
 ghost use Rattle.forwarder.specs.Forwarder.{scene_on, shown_of};
+ghost use Rattle.forwarder.specs.Plans.{IsPlanned};
+ghost use Rattle.forwarder.specs.Room.{HasRoom, LeavesPlaces, Spends, a_wish, an_ask};
 
 use crate::Forwarder;
 use crate::outgoing::Request;
@@ -48,22 +49,17 @@ impl Forwarder {
         copy: HeldPacket,
     )
         requires formed { IsWellFormedEndpoint (source_of flow) }
-        requires place { has_place self.old.kept copy.wait ≡ true }
+        requires planned { IsPlanned (shown_of self.old) flow (Ask by hop) }
         requires since { copy.since ≡ self.old.moment }
         requires asked { copy.asked ≡ self.old.moment }
         requires wait { copy.wait ≡ Hop (exit_by by) hop }
-        requires frames { 1 ≤ page.old.room.frames }
-        requires notes { 1 ≤ page.old.room.notes }
-        requires ready { 1 ≤ self.old.core.table.ready }
+        requires room { HasRoom an_ask self.old page.old }
         ensures scene { scene_on self.new page.new
             ≡ by_plan (scene_on self.old page.old) copy.side copy.bytes flow (Ask by hop) }
-        ensures frames { page.old.room.frames ≤ page.new.room.frames + 1 }
-        ensures datagrams { page.new.room.datagrams ≡ page.old.room.datagrams }
-        ensures notes { page.old.room.notes ≤ page.new.room.notes + 1 }
-        ensures ready { self.old.core.table.ready ≤ self.new.core.table.ready + 1 }
-        ensures places { min 64 (free_places self.old.link) ≤ free_places self.new.link }
+        ensures spends { Spends an_ask self.old page.old self.new page.new }
+        ensures places { LeavesPlaces self.old self.new }
     {
-        self.wish_for(page, flow, &by);
+        self.wish_by(page, flow, &by);
         self.kept.keep(copy);
         self.send_request(page, by.direction().exit(), hop);
     }
@@ -92,16 +88,12 @@ impl Forwarder {
         requires since { copy.since ≡ self.old.moment }
         requires asked { copy.asked ≡ self.old.moment }
         requires wait { copy.wait ≡ Pair (source_of flow) }
-        requires notes { 1 ≤ page.old.room.notes }
-        requires ready { 1 ≤ self.old.core.table.ready }
+        requires room { HasRoom a_wish self.old page.old }
         ensures scene { scene_on self.new page.new
             ≡ by_plan (scene_on self.old page.old) copy.side copy.bytes flow
             (WaitFor (source_of flow)) }
-        ensures frames { page.new.room.frames ≡ page.old.room.frames }
-        ensures datagrams { page.new.room.datagrams ≡ page.old.room.datagrams }
-        ensures notes { page.old.room.notes ≤ page.new.room.notes + 1 }
-        ensures ready { self.old.core.table.ready ≤ self.new.core.table.ready + 1 }
-        ensures places { min 64 (free_places self.old.link) ≤ free_places self.new.link }
+        ensures spends { Spends a_wish self.old page.old self.new page.new }
+        ensures places { LeavesPlaces self.old self.new }
     {
         self.wish(page, source_endpoint(flow));
         self.kept.keep(copy);
@@ -110,15 +102,11 @@ impl Forwarder {
     /// A packet is dropped; where no port was free, ports may be asked for.
     pub(crate) fn refuse(&mut self, page: &mut OutputBuffer, flow: Flow, reason: Reason)
         requires formed { IsWellFormedEndpoint (source_of flow) }
-        requires notes { 1 ≤ page.old.room.notes }
-        requires ready { 1 ≤ self.old.core.table.ready }
+        requires room { HasRoom a_wish self.old page.old }
         ensures scene { scene_on self.new page.new
             ≡ by_refusal (scene_on self.old page.old) flow reason }
-        ensures frames { page.new.room.frames ≡ page.old.room.frames }
-        ensures datagrams { page.new.room.datagrams ≡ page.old.room.datagrams }
-        ensures notes { page.old.room.notes ≤ page.new.room.notes + 1 }
-        ensures ready { self.old.core.table.ready ≤ self.new.core.table.ready + 1 }
-        ensures places { min 64 (free_places self.old.link) ≤ free_places self.new.link }
+        ensures spends { Spends a_wish self.old page.old self.new page.new }
+        ensures places { LeavesPlaces self.old self.new }
     {
         match reason {
             Reason::NoPort => self.wish(page, source_endpoint(flow)),

@@ -1,11 +1,11 @@
 //! What a packet is to do, before anything changes.
-ghost use Rattle.std.specs.Prelude.{◌≡◌};
+ghost use Rattle.std.specs.Prelude.{◌≡◌, IfOk};
 ghost use Rattle.spec_binding.specs.Rows.{new_pair};
 ghost use Rattle.packet_rules.specs.Flows.{source_of};
 ghost use Rattle.spec_step.specs.Verdict.{look_for, plan_by, plan_from, plan_of};
 ghost use Rattle.spec_step.specs.Verdict.{plan_on, target_pair};
 ghost use Rattle.forwarder.specs.Forwarder.{shown_of};
-ghost use Rattle.forwarder.specs.Plans.{leaving_by};
+ghost use Rattle.forwarder.specs.Plans.{IsPlanned, leaving_by};
 
 use crate::Forwarder;
 use addresses::Port;
@@ -40,7 +40,8 @@ fn leaving(own: Pair, other: Option<Pair>) -> Translation
 impl Forwarder {
     /// What a packet is to do, or why it is dropped; nothing changes.
     pub fn plan(&self, side: Side, flow: Flow) -> Result<Plan, Reason>
-        ensures { result ≡ plan_of (shown_of self.now) side flow }
+        ensures exact { result ≡ plan_of (shown_of self.now) side flow }
+        ensures planned { IfOk result (IsPlanned (shown_of self.now) flow) }
     {
         match direction_taken(&self.networks, side, flow.source, flow.destination) {
             Ok(way) => self.plan_on(flow, way),
