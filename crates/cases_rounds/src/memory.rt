@@ -25,6 +25,8 @@ pub(crate) struct Memory {
     /// How many of them have come.
     pub(crate) come: usize,
     answers: Answers,
+    /// The places that fail.
+    pub(crate) failing: Vec<Place>,
     pub(crate) sent: Vec<Letter>,
 }
 
@@ -35,6 +37,7 @@ impl Memory {
             coming: Vec::new(alloc),
             come: 0,
             answers: Answers::none(),
+            failing: Vec::new(alloc),
             sent: Vec::new(alloc),
         }
     }
@@ -99,6 +102,7 @@ fn name_of(place: Place) -> &'static str {
         Place::Link => "link",
         Place::Side(Side::Inside) => "inside",
         Place::Side(Side::Outside) => "outside",
+        Place::Operator => "operator",
     }
 }
 
@@ -128,6 +132,10 @@ impl Wire for Memory {
         let found = Ok(self.next(room));
         self.answers.keep(found, room);
         found
+    }
+
+    fn is_failing(&self, place: Place) -> bool {
+        self.failing.contains(&place)
     }
 }
 

@@ -1,2 +1,3 @@
 pub mod Boots
 pub mod Served
+pub mod Starts

@@ -1,0 +1,4 @@
+mod Hearing
+mod Commas
+mod Texts
+mod WayTexts
