@@ -153,6 +153,10 @@ class Box:
         words = ("--id", str(self.number), "--boot", str(boot))
         self.natpair("peer-off", str(self.top / SETTINGS.name), *words)
 
+    def side(self, side, word):
+        """Says to this box that a side of it is up, or down."""
+        self.natpair("side", str(self.top / SETTINGS.name), "--id", str(self.number), side, word)
+
     def dropped(self):
         """How often the box dropped something since its last start, by where and why."""
         counts = {}
