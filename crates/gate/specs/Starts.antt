@@ -1,7 +1,7 @@
 -- Why a start is refused, by the texts of its ways.
-use Rattle.std.specs.Prelude.{◌≡◌, Unit, ⊥}
 use Rattle.nat_types.specs.declared.gateways.Side.TheVariants.{Inside, Outside}
 use Rattle.sockets.specs.Ways.{IsWayText, IsNoWayText, Names}
+use Rattle.sockets.specs.declared.ways.Way.{Way}
 use Rattle.sockets.specs.declared.ways.Ways.{Ways}
 use Rattle.gate.specs.declared.ways.WayTexts.{WayTexts}
 use Rattle.gate.specs.declared.refusals.BoxFault.{BoxFault}
@@ -21,9 +21,9 @@ pub record HaveWays (texts : WayTexts) : Type 0 where
 -- a text is the first of them that writes none
 abbrev pub LackWay : WayTexts → BoxFault → Type 0
 LackWay texts (fault.NoWay Inside) = IsNoWayText texts.inside.now
-LackWay texts (fault.NoWay Outside) = ((way : _) × IsWayText texts.inside.now way) × IsNoWayText texts.outside.now
+LackWay texts (fault.NoWay Outside) = ((way : Way) × IsWayText texts.inside.now way) × IsNoWayText texts.outside.now
 LackWay texts fault.NoWayOfLink =
-    ((way : _) × IsWayText texts.inside.now way) × ((way : _) × IsWayText texts.outside.now way) × IsNoWayText texts.link.now
+    ((way : Way) × IsWayText texts.inside.now way) × ((way : Way) × IsWayText texts.outside.now way) × IsNoWayText texts.link.now
 LackWay texts other = ⊥
 
 -- A start is refused for a way only by the first text that writes none. Each fault behind that one in the order, so that

@@ -61,30 +61,56 @@ impl BoxFault {
 }
 
 impl From<Fault> for BoxFault {
+    ghost use Rattle.std.specs.Prelude.{◌≡◌};
+    ghost use Rattle.gate.specs.declared.refusals.BoxFault.TheVariants as faults;
+
+    ghost from_gives = { λ fault gives. gives ≡ faults.Run fault };
+
     fn from(fault: Fault) -> BoxFault {
         BoxFault::Run(fault)
     }
 }
 
 impl From<SettingFault> for BoxFault {
+    ghost use Rattle.std.specs.Prelude.{◌≡◌};
+    ghost use Rattle.faults.specs.Faults.{of_setting};
+    ghost use Rattle.gate.specs.declared.refusals.BoxFault.TheVariants as faults;
+
+    ghost from_gives = { λ fault gives. gives ≡ faults.Run (of_setting fault) };
+
     fn from(fault: SettingFault) -> BoxFault {
         BoxFault::Run(Fault::from(fault))
     }
 }
 
 impl From<SocketFault> for BoxFault {
+    ghost use Rattle.std.specs.Prelude.{◌≡◌};
+    ghost use Rattle.gate.specs.declared.refusals.BoxFault.TheVariants as faults;
+
+    ghost from_gives = { λ fault gives. gives ≡ faults.Socket fault };
+
     fn from(fault: SocketFault) -> BoxFault {
         BoxFault::Socket(fault)
     }
 }
 
 impl From<NoDescriptor> for BoxFault {
+    ghost use Rattle.std.specs.Prelude.{◌≡◌};
+    ghost use Rattle.gate.specs.declared.refusals.BoxFault.TheVariants as faults;
+
+    ghost from_gives = { λ fault gives. gives ≡ faults.NoDescriptor fault };
+
     fn from(fault: NoDescriptor) -> BoxFault {
         BoxFault::NoDescriptor(fault)
     }
 }
 
 impl From<PathFault> for BoxFault {
+    ghost use Rattle.std.specs.Prelude.{◌≡◌};
+    ghost use Rattle.gate.specs.Faults.{of_path};
+
+    ghost from_gives = { λ fault gives. gives ≡ of_path fault };
+
     fn from(fault: PathFault) -> BoxFault {
         match fault {
             PathFault::LongPath => BoxFault::LongPath,
@@ -94,12 +120,23 @@ impl From<PathFault> for BoxFault {
 }
 
 impl From<NoSocket> for BoxFault {
+    ghost use Rattle.std.specs.Prelude.{◌≡◌};
+    ghost use Rattle.sockets.specs.declared.sockets.SocketFault.TheVariants as socket;
+    ghost use Rattle.gate.specs.declared.refusals.BoxFault.TheVariants as faults;
+
+    ghost from_gives = { λ _ gives. gives ≡ faults.Socket socket.NoSocket };
+
     fn from(_: NoSocket) -> BoxFault {
         BoxFault::Socket(SocketFault::NoSocket)
     }
 }
 
 impl From<FileFault> for BoxFault {
+    ghost use Rattle.std.specs.Prelude.{◌≡◌};
+    ghost use Rattle.gate.specs.Faults.{of_file};
+
+    ghost from_gives = { λ fault gives. gives ≡ of_file fault };
+
     fn from(fault: FileFault) -> BoxFault {
         match fault {
             FileFault::NoFile => BoxFault::Run(Fault::NoFile),
@@ -112,6 +149,11 @@ impl From<FileFault> for BoxFault {
 }
 
 impl From<BootFault> for BoxFault {
+    ghost use Rattle.std.specs.Prelude.{◌≡◌};
+    ghost use Rattle.gate.specs.Faults.{of_boot};
+
+    ghost from_gives = { λ fault gives. gives ≡ of_boot fault };
+
     fn from(fault: BootFault) -> BoxFault {
         match fault {
             BootFault::Device => BoxFault::Device,
@@ -123,12 +165,24 @@ impl From<BootFault> for BoxFault {
 }
 
 impl From<NoMemory> for BoxFault {
+    ghost use Rattle.std.specs.Prelude.{◌≡◌};
+    ghost use Rattle.faults.specs.declared.faults.Fault.TheVariants as reasons;
+    ghost use Rattle.gate.specs.declared.refusals.BoxFault.TheVariants as faults;
+
+    ghost from_gives = { λ _ gives. gives ≡ faults.Run reasons.NoMemory };
+
     fn from(_: NoMemory) -> BoxFault {
         BoxFault::Run(Fault::NoMemory)
     }
 }
 
 impl From<io::Error> for BoxFault {
+    ghost use Rattle.std.specs.Prelude.{◌≡◌};
+    ghost use Rattle.faults.specs.declared.faults.Fault.TheVariants as reasons;
+    ghost use Rattle.gate.specs.declared.refusals.BoxFault.TheVariants as faults;
+
+    ghost from_gives = { λ _ gives. gives ≡ faults.Run reasons.NotWritten };
+
     fn from(_: io::Error) -> BoxFault {
         BoxFault::Run(Fault::NotWritten)
     }

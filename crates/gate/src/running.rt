@@ -4,6 +4,7 @@ ghost use Rattle.std.specs.Io.KnownBytes.{Appends};
 ghost use Rattle.nat_types.specs.declared.gateways.GatewayId.TheVariants.{Zero};
 ghost use Rattle.boot_store.specs.Crash.{Decides, Keeps, Rises, Since};
 ghost use Rattle.gate.specs.Boots.{HasBoot, HasStarted, IsStart, boot_line};
+ghost use Rattle.gate.specs.Faults.{IsOfNoWay, IsOfRun};
 ghost use Rattle.gate.specs.Served.{AreHeld, HasRounds, HasServed};
 ghost use Rattle.gate.specs.Starts.{Refuses};
 
@@ -121,6 +122,7 @@ fn rounds_of<R: Clock + AllocGlobal, W: Wire, O: Write, E: Write>(
         gateway.new (W.answers wire.new) }
     ensures ended { OnOk result
         (Appends (O.contents output.old) (O.contents output.new) (codes "end\n")) }
+    ensures err { IfErr result IsOfRun }
 {
     let mut clock = Stopwatch::start(rt);
     serve(
@@ -138,7 +140,9 @@ fn rounds_of<R: Clock + AllocGlobal, W: Wire, O: Write, E: Write>(
 
 /// The hashers of a seed that is drawn now. Where the system refuses a seed, that is told as memory
 /// that it refuses.
-fn drawn<R: RandomSource>(rt: &R) -> Result<Hashers, BoxFault> {
+fn drawn<R: RandomSource>(rt: &R) -> Result<Hashers, BoxFault>
+    ensures err { IfErr result IsOfRun }
+{
     match Hashers::drawn(rt) {
         Ok(hashers) => Ok(hashers),
         Err(_refused) => Err(BoxFault::from(NoMemory)),
@@ -156,8 +160,9 @@ fn started<R: RandomSource + AllocGlobal, D: Disk, O: Write>(
     output: &mut O,
 ) -> Result<Gateway, BoxFault>
     requires found { IsTrue found → id ≡ Zero }
-    ensures { IfOk result (HasStarted settings.now id found
+    ensures start { IfOk result (HasStarted settings.now id found
         (O.contents output.old) (O.contents output.new)) }
+    ensures err { IfErr result IsOfNoWay }
 {
     let hashers = drawn(rt)?;
     let (boot, gateway) = booted(rt.alloc(), disk, settings, id, found, hashers)?;
@@ -172,8 +177,9 @@ fn started<R: RandomSource + AllocGlobal, D: Disk, O: Write>(
 
 /// Prints the number of a boot.
 fn announced<O: Write>(output: &mut O, boot: u64) -> Result<(), BoxFault>
-    ensures { OnOk result
+    ensures printed { OnOk result
         (Appends (O.contents output.old) (O.contents output.new) (boot_line boot)) }
+    ensures err { IfErr result IsOfRun }
 {
     writeln!(output, "boot {boot}")?;
     output.flush()?;
@@ -194,6 +200,7 @@ fn booted<D: Disk>(
     ensures begins { IfOk result (λ start. IsStart settings.now id found start.0 start.1) }
     ensures own { IfOk result (λ start. HasBoot start.0 start.1) }
     ensures above_zero { IfOk result (λ start. 0 < start.0) }
+    ensures err { IfErr result IsOfNoWay }
     ensures rises { D.honest disk.old
         → IfOk result (λ start. Rises (D.now disk.old) (D.now disk.new) (Ok start.0)) }
     ensures decided { D.honest disk.old
@@ -225,7 +232,8 @@ fn begun(
 
 /// The settings in the file at a path.
 pub(crate) fn settings_at<R: Files + AllocGlobal>(rt: &R, path: &str) -> Result<Settings, BoxFault>
-    ensures { IfOk result AreHeld }
+    ensures held { IfOk result AreHeld }
+    ensures err { IfErr result IsOfRun }
 {
     let text = text_of(rt, path)?;
     let settings = settings_file::read(rt.alloc(), text.as_str())?;

@@ -17,8 +17,8 @@ pub struct WayTexts<'a> {
 
 /// The ways that texts write. The first of them that writes none is told of: the inside's, the outside's, the link's.
 pub(crate) fn ways_of(texts: WayTexts<'_>) -> Result<Ways, BoxFault>
-    ensures ok { IfOk result (AreWays texts) }
-    ensures err { IfErr result (LackWay texts) }
+    ensures ok { IfOk result (AreWays texts.entry) }
+    ensures err { IfErr result (LackWay texts.entry) }
 {
     let Some(inside) = Way::read(texts.inside) else {
         return Err(BoxFault::NoWay(Side::Inside));

@@ -1,5 +1,5 @@
 -- When an operator is told that a place fails, or works again.
-use Rattle.std.specs.Prelude.{ℕ, Bool, true, false, ◌&&◌, ◌-◌, nat_le, not, Option, Some, None, unwrap_or, if◌then◌else◌}
+use Rattle.std.specs.Prelude.{ℕ, Bool, true, false, ◌&&◌, ◌-◌, nat_le, not, Some, None, unwrap_or, if◌then◌else◌}
 use Rattle.rounds.specs.declared.outages.Mark.{Mark}
 use Rattle.rounds.specs.declared.outages.TheConstants.{PATIENCE}
 

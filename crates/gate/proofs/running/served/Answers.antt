@@ -3,5 +3,5 @@ use Rattle.gate.proofs.running.served.Goals as goal
 
 pub returns-clause-ok : goal.returns-clause-ok
 returns-clause-ok g c =
-    all_served _ _ _ _ _ _ _ _ _ _ _ _ _ c.in_ok-settings.ensures c.in_ok-gateway.ensures c.in_ok-wire.ensures
+    all_served _ _ _ _ _ _ _ _ _ _ _ _ _ c.in_ok-settings.ensures.held c.in_ok-gateway.ensures.start c.in_ok-wire.ensures
     c.rounds_of-ended.ensures.rounds c.rounds_of-ended.ensures.ended
