@@ -36,6 +36,10 @@ class Cable:
         self.switch.plug(self.port(), self.box.space, self.side)
         self.box.leave_to_natpair(self.side)
 
+    def tell(self, word):
+        """Tells the box what a check of its own would have found."""
+        self.box.side(self.side, word)
+
     def port(self):
         return f"box{self.box.number}"
 
@@ -58,9 +62,12 @@ def who_is_active(current):
 
 def try_cable(current, cable, probe, flows, delete):
     """Pulls a cable, and plugs it in again. All flows ask while it is out, and once it is in."""
+    options = current.options
     out, back = (cable.delete, cable.make_again) if delete else (cable.pull, cable.plug)
     out()
     current.say(f"{cable.name}: {'interface deleted' if delete else 'cable pulled'}")
+    if options.tell:
+        cable.tell("down")
     quiet = silence(current, probe, flows, OUT)
     flows.ask(flows.flows, PATIENCE / 3)
     held, moved, silent = verdict(flows.flows)
@@ -68,12 +75,15 @@ def try_cable(current, cable, probe, flows, delete):
     current.say(f"{held} of {len(flows.flows)} flows are answered, without an answer {quiet:.2f} s; Active: {now}")
     back()
     current.say(f"{cable.name}: {'interface made again' if delete else 'cable plugged in'}")
+    if options.tell:
+        cable.tell("up")
     again = silence(current, probe, flows, SETTLED)
     flows.ask(flows.flows, PATIENCE)
     later = verdict(flows.flows)
     current.say(f"{later[0]} of {len(flows.flows)} flows are answered, without an answer {again:.2f} s;"
                 f" Active: {who_is_active(current)}")
-    lost = moved + later[1] + later[2] + (0 if current.options.no_track else silent)
+    untold = (options.no_track or options.sides == "vxlan") and not options.tell
+    lost = moved + later[1] + later[2] + (0 if untold else silent)
     return (cable.name, f"{quiet:.2f} s", now, held, f"{again:.2f} s", later[0], moved + later[1]), lost
 
 

@@ -81,11 +81,11 @@ class Namespace:
         if os.getppid() != parent:
             os._exit(1)
 
-    def start(self, *words, **options):
+    def start(self, *words, user=None, **options):
         """A program that runs in the namespace until it ends or `close` ends it."""
         parent = os.getpid()
         with undisturbed():
-            child = subprocess.Popen(words, preexec_fn=lambda: self.begin(parent), **options)
+            child = subprocess.Popen(words, preexec_fn=lambda: self.begin(parent, user), **options)
             self.children.append(child)
         return child
 

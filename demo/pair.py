@@ -24,6 +24,11 @@ SERVER = "198.51.100.7"
 LINK_ADDRESSES = ("10.0.0.1", "10.0.0.2")
 LINK_PORT = 7000
 LINK_MTU = 4096
+# With --sides vxlan: the port, the number of box 0's tunnel of each side (10 more at box 1), and an MTU that leaves room
+# for a whole frame within.
+TUNNEL_PORT = 4789
+TUNNELS = {"inside": 11, "outside": 12}
+TUNNEL_MTU = 1600
 # The user that the boxes run as.
 USER = "nobody"
 # The rounds of a box that isn't to end by itself.
@@ -63,8 +68,9 @@ class Box:
 
     def join(self):
         """Sets its interfaces up."""
-        for name in SIDES:
-            self.leave_to_natpair(name)
+        if self.options.sides == "descriptor":
+            for name in SIDES:
+                self.leave_to_natpair(name)
         self.space.ip("link", "set", "dev", "link", "mtu", str(LINK_MTU))
         address = f"{LINK_ADDRESSES[self.number]}/24"
         self.space.ip("addr", "add", address, "dev", "link")
@@ -78,9 +84,18 @@ class Box:
         """The two ends of the link, this box's first."""
         return ",".join(f"{LINK_ADDRESSES[n]}:{LINK_PORT}" for n in (self.number, 1 - self.number))
 
+    def tunnel(self, side):
+        """A side's tunnel: this box's address, the switch's, and the number."""
+        number = TUNNELS[side] + 10 * self.number
+        return f"10.9.{number}.1", f"10.9.{number}.9", number
+
+    def way(self, side):
+        own, other, number = self.tunnel(side)
+        return f"vxlan:{own}:{TUNNEL_PORT},{other}:{TUNNEL_PORT},{number}"
+
     @property
     def words(self):
-        """The words that start the box: the launcher's, and the gate's."""
+        """The words that start the box: the launcher's, and the gate's. By VXLAN no launcher is needed."""
         number = str(self.number)
         program, settings = str(self.top / "natpair"), str(self.top / SETTINGS.name)
         launcher = [str(self.top / "natpair-launch"), "--inside", "inside", "--outside", "outside",
@@ -88,11 +103,19 @@ class Box:
         gate = [program, "gate", settings, "--id", number, "--rounds", ROUNDS]
         if self.options.no_track:
             gate.append("--no-track")
+        if self.options.sides == "vxlan":
+            ways = [word for side in SIDES for word in (f"--{side}", self.way(side))]
+            return (*gate, *ways, "--link", f"udp:{self.ends}")
         if self.options.link == "udp":
             gate += ["--link", f"udp:{self.ends}"]
         else:
             launcher += ["--link-udp", self.ends]
         return (*launcher, "--", *gate)
+
+    @property
+    def starter(self):
+        """The user that starts the box: root where the launcher opens its interfaces, else its own."""
+        return self.user if self.options.sides == "vxlan" else None
 
     @property
     def log(self):
@@ -104,7 +127,7 @@ class Box:
         self.starts += 1
         line = (*self.words, *words)
         with open(self.output, "wb") as output, open(self.log, "wb") as log:
-            self.gate = self.space.start(*line, cwd=self.folder, stdout=output, stderr=log)
+            self.gate = self.space.start(*line, user=self.starter, cwd=self.folder, stdout=output, stderr=log)
         wait_until(lambda: self.output.read_text().endswith("\n"), 10,
                    f"box {self.number} prints its boot: {self.log.read_text()}")
         self.boot = int(self.output.read_text().split()[1])
@@ -130,6 +153,10 @@ class Box:
         words = ("--id", str(self.number), "--boot", str(boot))
         self.natpair("peer-off", str(self.top / SETTINGS.name), *words)
 
+    def side(self, side, word):
+        """Says to this box that a side of it is up, or down."""
+        self.natpair("side", str(self.top / SETTINGS.name), "--id", str(self.number), side, word)
+
     def dropped(self):
         """How often the box dropped something since its last start, by where and why."""
         counts = {}
@@ -153,6 +180,20 @@ class Switch:
     def plug(self, port, other, other_name):
         self.space.cable(port, other, other_name)
         self.space.ip("link", "set", "dev", port, "master", "bridge", "arp", "off")
+
+
+    def tunnel(self, port, box, side):
+        """A tunnel to a box, over a cable of its own; its far end is a port of the switch."""
+        own, other, number = box.tunnel(side)
+        self.space.cable(port, box.space, side)
+        for space, name, address in ((self.space, port, other), (box.space, side, own)):
+            space.ip("addr", "add", f"{address}/24", "dev", name)
+            space.ip("link", "set", "dev", name, "mtu", str(TUNNEL_MTU))
+        name = f"vx{number}"
+        self.space.ip("link", "add", "name", name, "type", "vxlan", "id", str(number), "local", other, "remote", own,
+                      "dstport", str(TUNNEL_PORT), "nolearning", "dev", port)
+        self.space.ip("link", "set", "dev", name, "mtu", "1500", "arp", "off", "up")
+        self.space.ip("link", "set", "dev", name, "master", "bridge")
 
 
 class Surroundings:
@@ -194,6 +235,7 @@ class Networks(Surroundings):
             folder = pathlib.Path(tempfile.mkdtemp(prefix="natpair-demo-"))
             stack.callback(shutil.rmtree, folder, ignore_errors=True)
         self.folder = folder
+        self.options = options
         # The user of the boxes needn't be able to read the clone.
         folder.chmod(0o711)
         shutil.copy(options.program, folder / "natpair")
@@ -211,7 +253,10 @@ class Networks(Surroundings):
     def join(self):
         for box in self.boxes:
             for side, switch in self.switches.items():
-                switch.plug(f"box{box.number}", box.space, side)
+                if self.options.sides == "vxlan":
+                    switch.tunnel(f"box{box.number}", box, side)
+                else:
+                    switch.plug(f"box{box.number}", box.space, side)
         self.boxes[0].space.cable("link", self.boxes[1].space, "link")
         for box in self.boxes:
             box.join()

@@ -9,7 +9,7 @@ import subprocess
 import time
 
 from flows import PATIENCE, Flows, verdict
-from pair import LINK_ADDRESSES, LINK_PORT, SERVER, SIDES
+from pair import LINK_ADDRESSES, LINK_PORT, SIDES, TUNNEL_PORT
 from scene import audit, scene, show
 
 FLOWS = 100
@@ -24,6 +24,8 @@ LONGEST = 1400
 # Frames of the networks come at this rate: a box has to read each, and drop it. What the link's and the control socket's
 # strangers send the kernel drops, so that comes as fast as it can.
 FRAMES_A_SECOND = 5000
+# At a tunnel the box refuses strangers itself, before it looks at what they sent.
+TUNNELLED_A_SECOND = 20_000
 
 
 def random_bytes(chance):
@@ -110,15 +112,41 @@ def checksum(data):
     return (total ^ 0xFFFF).to_bytes(2, "big")
 
 
-def send_frames(space, name, frames, count, turn):
-    """Sends so many frames at the rate above, and lets the flows be meanwhile."""
+def advertisement(settings, side):
+    """A frame that says that another router of the highest priority has the virtual address: a box that hears it is
+    Backup from then on."""
+    virtual = socket.inet_aton(settings[side]["virtual"])
+    source = virtual[:3] + b"\xfa"
+    said = b"\x31" + bytes((settings[side]["vrid"], 255, 1)) + (100).to_bytes(2, "big")
+    said += checksum(said + virtual) + virtual
+    group = socket.inet_aton("224.0.0.18")
+    head = b"\x45\0" + (20 + len(said)).to_bytes(2, "big") + b"\0\0\0\0\xff\x70"
+    head += checksum(head + source + group) + source + group
+    return b"\x01\0\x5e\0\0\x12" + b"\0\0\x5e\0\x01" + said[1:2] + b"\x08\0" + head + said
+
+
+def tunnelled(frames, number, flags=8):
+    """Frames as VXLAN carries them in the network of a number."""
+    head = bytes((flags, 0, 0, 0)) + number.to_bytes(3, "big") + b"\0"
+    return (head + frame for frame in frames)
+
+
+def paced(items, count, rate, turn):
+    """So many of them, at so many a second, and lets the flows be meanwhile."""
+    begun = time.monotonic()
+    for number, item in enumerate(itertools.islice(items, count)):
+        while number > (time.monotonic() - begun) * rate:
+            turn(0.005)
+        yield item
+
+
+def send_frames(space, name, frames):
+    """Sends frames; how many the system took."""
+    taken = 0
     with space.entered():
         sock = socket.socket(socket.AF_PACKET, socket.SOCK_RAW, 0)
         sock.bind((name, 0))
-    begun, taken = time.monotonic(), 0
-    for number, frame in enumerate(itertools.islice(frames, count)):
-        while number > (time.monotonic() - begun) * FRAMES_A_SECOND:
-            turn(0.005)
+    for frame in frames:
         try:
             sock.send(frame)
             taken += 1
@@ -224,8 +252,30 @@ def at_sides(current, watch, chance, count):
     places = {"inside": (current.networks.host, "eth0"), "outside": (current.networks.router, "eth0")}
     for side in SIDES:
         space, name = places[side]
-        taken = send_frames(space, name, frames_of(current, side, chance), count, watch.flows.turn)
+        frames = paced(frames_of(current, side, chance), count, FRAMES_A_SECOND, watch.flows.turn)
+        taken = send_frames(space, name, frames)
         watch.after(f"the {side} network", count, taken)
+
+
+def at_tunnels(current, watch, chance, count):
+    """Each box's end of a tunnel: from an address that is nobody's, from users of the box itself, and from the far end
+    with another network's number or without the flag."""
+    for box, side in itertools.product(current.boxes, SIDES):
+        own, other, number = box.tunnel(side)
+        switch = current.networks.switches[side].space
+        nobody = other.rsplit(".", 1)[0] + ".8"
+        switch.ip("addr", "add", f"{nobody}/24", "dev", f"box{box.number}")
+        whole = itertools.islice(frames_of(current, side, chance), 20)
+        heard = itertools.cycle((advertisement(current.networks.settings, side), *whole))
+        known = tunnelled(heard, number)
+        sources = [(switch, nobody, known), (box.space, own, known), (box.space, "127.0.0.1", known),
+                   (switch, other, tunnelled(heard, number + 1)), (switch, other, tunnelled(heard, number, flags=0))]
+        share = count // len(sources)
+        taken = 0
+        for space, address, frames in sources:
+            sent = paced(both(chance, frames), share, TUNNELLED_A_SECOND, watch.flows.turn)
+            taken += send_datagrams(space, (address, STRANGE_PORT), (own, TUNNEL_PORT), sent, share)
+        watch.after(f"the {side} tunnel of box {box.number}", share * len(sources), taken)
 
 
 def at_controls(current, watch, chance, count):
@@ -253,13 +303,14 @@ def start_again(current, box, words, user, wanted):
 
 def at_starts(current, watch):
     """A second start of each box while it runs, by the launcher and by the gate alone: each is refused."""
+    options = current.options
     for box in current.boxes:
-        alone = box.words[box.words.index("--") + 1 :]
+        alone = box.words[box.words.index("--") + 1 :] if "--" in box.words else box.words
         if "--link" in alone:
             alone = alone[: alone.index("--link")]
         # Where the launcher opens the link's socket, that is in use; else the gate finds the boot file in use.
-        both = "in use" if current.options.link == "descriptor" else "boot 5 InUse"
-        start_again(current, box, box.words, None, both)
+        first = "in use" if (options.sides, options.link) == ("descriptor", "descriptor") else "boot 5 InUse"
+        start_again(current, box, box.words, box.starter, first)
         start_again(current, box, alone, box.user, "boot 5 InUse")
         watch.after(f"second starts of box {box.number}", 2, 2)
 
@@ -273,6 +324,8 @@ def strangers(options):
         watch = Watch(current, flows)
         at_links(current, watch, chance, options.count)
         at_sides(current, watch, chance, options.count)
+        if options.sides == "vxlan":
+            at_tunnels(current, watch, chance, options.count)
         at_controls(current, watch, chance, options.count)
         at_starts(current, watch)
         current.tell_drops()

@@ -1,6 +1,6 @@
 //! The two boxes, whose links lead to each other.
 
-use crate::memory::Letter;
+use crate::memory::{Letter, Outage};
 use crate::stations::Station;
 use anyhow::{Context, Result, bail};
 use nat_types::{GatewayId, Side};
@@ -91,17 +91,12 @@ impl Boxes {
         }
     }
 
-    /// A place of a box fails from now on.
-    pub(crate) fn fail(&mut self, id: &str, place: &str) -> Result<()> {
+    /// A place of a box fails in the next rounds from one to another.
+    pub(crate) fn fail(&mut self, id: &str, place: &str, first: u32, last: u32) -> Result<()> {
         let place = place_named(place)?;
         let station = self.station(id)?;
-        station.wire.failing.push(place)?;
-        Ok(())
-    }
-
-    /// All places of a box work again.
-    pub(crate) fn mend(&mut self, id: &str) -> Result<()> {
-        self.station(id)?.wire.failing.clear();
+        let outage = Outage { place, first, last };
+        station.wire.outages.push(outage)?;
         Ok(())
     }
 

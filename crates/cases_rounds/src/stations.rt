@@ -76,8 +76,8 @@ impl Station {
         errors: &mut E,
     ) -> io::Result<()> {
         self.clock.pace = pace;
-        self.wire.sent.clear();
-        served(
+        self.wire.begin();
+        let ended = served(
             self.wire.alloc,
             &mut self.gateway,
             &mut self.wire,
@@ -86,7 +86,9 @@ impl Station {
             track,
             output,
             errors,
-        )
+        );
+        self.wire.outages.clear();
+        ended
     }
 
     /// Runs rounds over a wire whose call with that number fails; writes as `run` does.
@@ -95,7 +97,7 @@ impl Station {
         let mut written = Vec::new(alloc);
         let mut output = Vec::new(alloc);
         self.clock.pace = pace;
-        self.wire.sent.clear();
+        self.wire.begin();
         let mut wire = Failing::new(&mut self.wire, number);
         served(
             alloc,

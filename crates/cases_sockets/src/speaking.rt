@@ -72,7 +72,10 @@ fn speak<O: Write>(
     match words {
         ["send", place, count, byte] => {
             let bytes = vec![in rt.alloc(); byte.parse::<u8>()?; count.parse::<usize>()?]?;
-            match boxes.named(name)?.send(place_named(place)?, bytes.as_slice()) {
+            match boxes
+                .named(name)?
+                .send(place_named(place)?, bytes.as_slice())
+            {
                 Ok(()) => writeln!(output, "  sent")?,
                 Err(WireFault) => writeln!(output, "  failed")?,
             }
@@ -128,11 +131,15 @@ fn call<O: Write>(
     match words {
         ["call", name, count] => {
             let path = socket_of(rt, name)?;
-            boxes.callers.call(rt, path.as_str(), count.parse::<usize>()?)
+            boxes
+                .callers
+                .call(rt, path.as_str(), count.parse::<usize>()?)
         }
         ["caller", number, "says", text] => {
             let bytes = bytes_of(rt.alloc(), text)?;
-            boxes.callers.say(number.parse::<usize>()?, bytes.as_slice())
+            boxes
+                .callers
+                .say(number.parse::<usize>()?, bytes.as_slice())
         }
         ["caller", number, "hears"] => boxes.callers.hear(number.parse::<usize>()?, output),
         ["callers", "go"] => {

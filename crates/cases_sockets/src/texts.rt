@@ -18,7 +18,7 @@ pub(crate) fn act<O: Write>(alloc: Global, line: &str, output: &mut O) -> Result
     let words = line.split(' ').collect::<Vec<&str>>(alloc)?;
     match words.as_slice() {
         ["way", text] => way(text, output),
-        ["inherit", inside, outside, link] => inherit([inside, outside, link], output),
+        ["inherit", inside, outside, link] => inherit(inside, outside, link, output),
         ["path", text] => path(alloc, text, output),
         ["word", text] => word(alloc, text, output),
         ["off", boot] => {
@@ -63,14 +63,21 @@ fn way<O: Write>(text: &str, output: &mut O) -> Result<()> {
     Ok(())
 }
 
-fn inherit<O: Write>(texts: [&&str; 3], output: &mut O) -> Result<()> {
-    let [inside, outside, link] = texts;
-    let (Some(inside), Some(outside), Some(link)) =
-        (Way::read(inside), Way::read(outside), Way::read(link))
-    else {
+fn inherit<O: Write>(inside: &str, outside: &str, link: &str, output: &mut O) -> Result<()> {
+    let (Some(inside), Some(outside), Some(link)) = (
+        Way::read(inside),
+        Way::read(outside),
+        Way::read(link),
+    ) else {
         bail!("no way");
     };
-    match (Ways { inside, outside, link }).inherit() {
+    match (Ways {
+        inside,
+        outside,
+        link,
+    })
+    .inherit()
+    {
         Ok(()) => writeln!(output, "  inherited")?,
         Err(fault) => writeln!(output, "  {fault}")?,
     }
