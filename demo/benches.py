@@ -1,0 +1,188 @@
+"""Where a probe is made: the running pair, at the two switches, or `natpair sim`, whose clock can stand at any moment.
+
+Both take frames of stations that are nobody else's, and show what comes out. A probe doesn't know which of them it is at.
+"""
+
+import os
+import subprocess
+import tomllib
+from typing import NamedTuple
+
+from cards import card
+from packets import (ACK, ICMP, IPV4, PLAIN, TCP, UDP, Packet, Station, arp_request, ethernet, icmp, ipv4,
+                     is_ipv4, tcp, udp, virtual_mac)
+
+PACKET_OUTGOING = 4
+# What comes out of the running pair comes within so many seconds; where nothing should come, so long is waited for it.
+PATIENCE = 1.5
+SILENCE = 0.4
+# The moment, in hundredths of a second, at which box 0 of `sim` is Active.
+ACTIVE = 360
+
+HOSTS = tuple(Station("inside", f"192.168.1.{51 + n}", bytes((2, 0, 0, 0, 0xA, n))) for n in range(4))
+REMOTES = tuple(Station("outside", f"192.0.2.{51 + n}", bytes((2, 0, 0, 0, 0xB, n))) for n in range(3))
+
+
+class End(NamedTuple):
+    """A port of a station."""
+
+    station: Station
+    port: int
+
+    @property
+    def place(self):
+        return self.station.address, self.port
+
+
+class Bench:
+    """What both kinds have: stations, and packets between their ends."""
+
+    def __init__(self, name, settings):
+        self.name = name
+        self.settings = settings
+        self.virtual = settings["outside"]["virtual"]
+
+    def announce(self):
+        """Each station tells everybody where it is."""
+        for station in (*HOSTS, *REMOTES):
+            self.put(station.side, arp_request(station, station.address))
+
+    def own_mac(self, side):
+        return virtual_mac(self.settings[side]["vrid"])
+
+    def ask(self, station, packet, mark, patient=True):
+        """A station hands a packet to the virtual address of its network; what came out with this mark in it, if anything."""
+        self.put(station.side, ethernet(self.own_mac(station.side), station.mac, IPV4, packet))
+        found = self.heard(lambda frame: is_ipv4(frame) and mark in frame, PATIENCE if patient else SILENCE)
+        return found and Packet(found)
+
+    def udp(self, end, place, header=PLAIN, text=b"", patient=True):
+        """A datagram with a mark, and this text behind it."""
+        mark = os.urandom(6)
+        return self.ask(end.station, ipv4(end.station.address, place[0], UDP, udp(end.place, place, mark + text), header),
+                        mark, patient)
+
+    def tcp(self, end, place, flags, text=b"", patient=True):
+        """A segment, whose mark is its number."""
+        mark = os.urandom(4)
+        segment = tcp(end.place, place, flags, text, int.from_bytes(mark, "big"))
+        return self.ask(end.station, ipv4(end.station.address, place[0], TCP, segment), mark, patient)
+
+    def send(self, protocol, end, place, patient=True):
+        """A packet that may begin a flow."""
+        if protocol == UDP:
+            return self.udp(end, place, patient=patient)
+        return self.tcp(end, place, ACK, patient=patient)
+
+    def icmp(self, station, target, kind, code, rest, inner=b"", ttl=64):
+        """A message of ICMP with a mark at its end."""
+        mark = os.urandom(6)
+        message = icmp(kind, code, rest, inner + mark)
+        header = PLAIN._replace(ttl=ttl)
+        return self.ask(station, ipv4(station.address, target, ICMP, message, header), mark, patient=False)
+
+    def outside(self, port):
+        return self.virtual, port
+
+
+class Scripted(Bench):
+    """`natpair sim`: box 0 alone, founded, Active at both sides. Each frame is an event of a script, run from its beginning."""
+
+    def __init__(self, program, settings_file, lines=()):
+        with open(settings_file, "rb") as file:
+            super().__init__("sim", tomllib.load(file))
+        self.words = (str(program), "sim", str(settings_file), "/dev/stdin")
+        self.moment = ACTIVE
+        self.lines = list(lines) or [f"tick 0 {ACTIVE}"]
+        self.frames = []
+        if not lines:
+            self.announce()
+
+    def run(self):
+        """What the last event of the script made."""
+        script = "".join(line + "\n" for line in self.lines)
+        done = subprocess.run(self.words, input=script, capture_output=True, text=True, check=False)
+        if done.returncode != 0:
+            raise SystemExit(f"demo: sim ends with {done.returncode}: {done.stderr.strip()}")
+        out = done.stdout.splitlines()
+        ends = [n for n, line in enumerate(out) if line.startswith("event ")]
+        return out[ends[-2] + 1 if len(ends) > 1 else 0 : ends[-1] + 1]
+
+    def do(self, line):
+        """One more event: the frames that it sent, each with its side."""
+        self.lines.append(line)
+        words = [each.split() for each in self.run()]
+        self.frames = [(each[2], bytes.fromhex(each[3])) for each in words if each[0] == "frame"]
+        return self.frames
+
+    def put(self, side, frame):
+        self.lines.append(f"frame 0 {side} {frame.hex()}")
+        self.frames = None
+
+    def heard(self, test, _):
+        if self.frames is None:
+            self.do(self.lines.pop())
+        return next((frame for _, frame in self.frames if test(frame)), None)
+
+    def frame(self, side, frame):
+        """What a frame makes it send, with sides."""
+        return self.do(f"frame 0 {side} {frame.hex()}")
+
+    def rest(self, centiseconds):
+        """So much time goes by. The boxes know neighbours for 20 minutes, so all tell again where they are."""
+        self.moment += centiseconds
+        self.lines.append(f"tick 0 {self.moment}")
+        self.announce()
+
+
+class Wired(Bench):
+    """The running pair, by two cards at its switches: the demo's host's, and its router's."""
+
+    def __init__(self, name, current):
+        super().__init__(name, current.networks.settings)
+        self.current = current
+        self.cards = {}
+        places = {"inside": current.networks.host, "outside": current.networks.router}
+        for side, space in places.items():
+            with space.entered():
+                self.cards[side] = card("eth0")
+            current.stack.callback(self.cards[side].close)
+        self.announce()
+
+    def put(self, side, frame):
+        for sock in self.cards.values():
+            self.take(sock)
+        self.cards[side].send(frame)
+
+    def take(self, sock):
+        """The frames that a card has heard and not sent."""
+        found = []
+        while True:
+            try:
+                frame, place = sock.recvfrom(65535)
+            except BlockingIOError:
+                return found
+            if place[2] != PACKET_OUTGOING:
+                found.append(frame)
+
+    def heard(self, test, seconds):
+        found = []
+
+        def is_there():
+            for sock in self.cards.values():
+                found.extend(frame for frame in self.take(sock) if test(frame))
+            return bool(found)
+
+        self.current.loop.until(is_there, seconds)
+        return found[0] if found else None
+
+    def listen(self, side, seconds):
+        """All that a card has heard by now, and hears within so many seconds."""
+        found = []
+        self.current.loop.until(lambda: found.extend(self.take(self.cards[side])), seconds)
+        return found
+
+
+def is_error(frame, inner):
+    """Whether a frame is an ICMP error about a packet with these bytes in it."""
+    return is_ipv4(frame) and frame[23] == ICMP and Packet(frame).payload[0] in (3, 11, 12) and inner in frame
