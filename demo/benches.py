@@ -1,6 +1,6 @@
 """Where a probe is made: the running pair, at the two switches, or `natpair sim`, whose clock can stand at any moment.
 
-Both take frames of stations that are nobody else's, and show what comes out. A probe doesn't know which of them it is at.
+Both take frames of stations that are nobody else's, and show what comes out.
 """
 
 import os
@@ -18,6 +18,8 @@ PATIENCE = 1.5
 SILENCE = 0.4
 # The moment, in hundredths of a second, at which box 0 of `sim` is Active.
 ACTIVE = 360
+# Two ticks that lie so far apart make a box say something to the other at each.
+HELLO = 20
 
 HOSTS = tuple(Station("inside", f"192.168.1.{51 + n}", bytes((2, 0, 0, 0, 0xA, n))) for n in range(4))
 REMOTES = tuple(Station("outside", f"192.0.2.{51 + n}", bytes((2, 0, 0, 0, 0xB, n))) for n in range(3))
@@ -51,7 +53,7 @@ class Bench:
         return virtual_mac(self.settings[side]["vrid"])
 
     def ask(self, station, packet, mark, patient=True):
-        """A station hands a packet to the virtual address of its network; what came out with this mark in it, if anything."""
+        """A station hands a packet to the virtual MAC of its network; what came out with this mark in it, if anything."""
         self.put(station.side, ethernet(self.own_mac(station.side), station.mac, IPV4, packet))
         found = self.heard(lambda frame: is_ipv4(frame) and mark in frame, PATIENCE if patient else SILENCE)
         return found and Packet(found)
@@ -59,8 +61,8 @@ class Bench:
     def udp(self, end, place, header=PLAIN, text=b"", patient=True):
         """A datagram with a mark, and this text behind it."""
         mark = os.urandom(6)
-        return self.ask(end.station, ipv4(end.station.address, place[0], UDP, udp(end.place, place, mark + text), header),
-                        mark, patient)
+        datagram = udp(end.place, place, mark + text)
+        return self.ask(end.station, ipv4(end.station.address, place[0], UDP, datagram, header), mark, patient)
 
     def tcp(self, end, place, flags, text=b"", patient=True):
         """A segment, whose mark is its number."""
@@ -82,41 +84,50 @@ class Bench:
         return self.ask(station, ipv4(station.address, target, ICMP, message, header), mark, patient=False)
 
     def outside(self, port):
-        return self.virtual, port
+        """The outside end of a port; where a pair's isn't known, nobody's."""
+        return self.virtual, port or 1
 
 
 class Scripted(Bench):
-    """`natpair sim`: box 0 alone, founded, Active at both sides. Each frame is an event of a script, run from its beginning."""
+    """`natpair sim`: box 0 alone, founded, Active at both sides. Each frame is an event of a script, which is run from its
+    beginning."""
 
     def __init__(self, program, settings_file, lines=()):
         with open(settings_file, "rb") as file:
             super().__init__("sim", tomllib.load(file))
         self.words = (str(program), "sim", str(settings_file), "/dev/stdin")
+        self.box = 0
         self.moment = ACTIVE
-        self.lines = list(lines) or [f"tick 0 {ACTIVE}"]
+        self.lines = list(lines)
         self.frames = []
         if not lines:
-            self.announce()
+            self.begin()
+
+    def begin(self):
+        self.lines.append(f"tick 0 {ACTIVE}")
+        self.announce()
 
     def run(self):
-        """What the last event of the script made."""
+        """What each event of the script makes: the words of its lines."""
         script = "".join(line + "\n" for line in self.lines)
         done = subprocess.run(self.words, input=script, capture_output=True, text=True, check=False)
         if done.returncode != 0:
             raise SystemExit(f"demo: sim ends with {done.returncode}: {done.stderr.strip()}")
-        out = done.stdout.splitlines()
-        ends = [n for n, line in enumerate(out) if line.startswith("event ")]
-        return out[ends[-2] + 1 if len(ends) > 1 else 0 : ends[-1] + 1]
+        events = [[]]
+        for line in done.stdout.splitlines():
+            events[-1].append(line.split())
+            if line.startswith("event "):
+                events.append([])
+        return events[:-1]
 
     def do(self, line):
         """One more event: the frames that it sent, each with its side."""
         self.lines.append(line)
-        words = [each.split() for each in self.run()]
-        self.frames = [(each[2], bytes.fromhex(each[3])) for each in words if each[0] == "frame"]
+        self.frames = frames_of(self.run()[-1:])
         return self.frames
 
     def put(self, side, frame):
-        self.lines.append(f"frame 0 {side} {frame.hex()}")
+        self.lines.append(f"frame {self.box} {side} {frame.hex()}")
         self.frames = None
 
     def heard(self, test, _):
@@ -126,7 +137,7 @@ class Scripted(Bench):
 
     def frame(self, side, frame):
         """What a frame makes it send, with sides."""
-        return self.do(f"frame 0 {side} {frame.hex()}")
+        return self.do(f"frame {self.box} {side} {frame.hex()}")
 
     def rest(self, centiseconds):
         """So much time goes by. The boxes know neighbours for 20 minutes, so all tell again where they are."""
@@ -135,11 +146,55 @@ class Scripted(Bench):
         self.announce()
 
 
-class Wired(Bench):
-    """The running pair, by two cards at its switches: the demo's host's, and its router's."""
+def frames_of(events):
+    """The frames that some events made, each with its side."""
+    return [(words[2], bytes.fromhex(words[3])) for event in events for words in event if words[0] == "frame"]
 
-    def __init__(self, name, current):
-        super().__init__(name, current.networks.settings)
+
+class Couple(Scripted):
+    """Both boxes of `natpair sim`, each of them Active; what one tells the other comes at once."""
+
+    def __init__(self, program, settings_file):
+        self.delivered = [0, 0]
+        super().__init__(program, settings_file)
+
+    def begin(self):
+        for line in (f"tick 0 {self.moment}", "boot 1 1"):
+            self.do(line)
+        for _ in range(2):
+            self.rest(ACTIVE + 40)
+
+    def do(self, line):
+        before = len(self.lines)
+        self.lines.append(line)
+        while True:
+            events = self.run()
+            sent = [words for event in events for words in event if words[0] == "link"]
+            fresh = [(int(box), int(number)) for _, box, number, _ in sent if int(number) > self.delivered[int(box)]]
+            if not fresh:
+                self.frames = frames_of(events[before:])
+                return self.frames
+            for box, number in fresh:
+                self.delivered[box] = number
+                self.lines.append(f"deliver {1 - box} {number}")
+
+    def rest(self, centiseconds):
+        """The boxes' clocks go on alike; each hears the other before the time is over, and then."""
+        for moment in (self.moment + centiseconds - HELLO, self.moment + centiseconds):
+            for box in (1, 0):
+                self.do(f"tick {box} {moment}")
+        self.moment += centiseconds
+        for self.box in (1, 0):
+            self.announce()
+
+
+class Wired(Bench):
+    """The running pair, by two cards at its switches: the demo's host's, and its router's. Each has ports of its own from
+    `first` on, for pairs that have to be new."""
+
+    def __init__(self, number, current):
+        super().__init__(f"box {number}", current.networks.settings)
+        self.first = number * 1000
         self.current = current
         self.cards = {}
         places = {"inside": current.networks.host, "outside": current.networks.router}

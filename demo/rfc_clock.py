@@ -8,7 +8,7 @@ import os
 
 from benches import HOSTS, REMOTES, End, is_error
 from packets import ACK, DONT_FRAGMENT, FIN, IPV4, PLAIN, PSH, RST, SYN, TCP, UDP, ethernet, ipv4, udp
-from rfc_packets import LONGEST, PLACES, packet_bytes, port_of, yes
+from rfc_packets import LONGEST, PLACES, packet_bytes, port_of, told, yes
 
 HOST, REMOTE, STRANGER = End(HOSTS[0], 5000), End(REMOTES[0], 53), End(REMOTES[1], 9)
 TICK = 1
@@ -53,7 +53,7 @@ def limit(report, fresh, requirement, what, rest, protocol, course=(), before=()
     """A pair is there a hundredth of a second before its rest is over."""
     short = there_after(fresh, protocol, course, (*before, rest - TICK))
     whole = there_after(fresh, protocol, course, (*before, rest))
-    seen = f"{'there' if short else 'gone'} at {seconds(rest - TICK)}, {'there' if whole else 'gone'} at {seconds(rest)}"
+    seen = f"{yes_there(short)} at {seconds(rest - TICK)}, {yes_there(whole)} at {seconds(rest)}"
     report.note(fresh, requirement, f"{what}: there until {seconds(rest)}", seen, short)
 
 
@@ -68,12 +68,11 @@ def udp_timers(fresh, report):
 def tcp_timers(fresh, report):
     name = "5382 REQ-5"
     limit(report, fresh, name, "a SYN alone", SHORT, TCP, OPENED[:1])
+    limit(report, fresh, name, "a SYN and its answer", SHORT, TCP, OPENED[:2])
     limit(report, fresh, name, "a handshake, then silence", LONG, TCP, OPENED)
     limit(report, fresh, name, "a connection in use", LONG, TCP, USED)
     limit(report, fresh, name, "closed by one end", LONG, TCP, (*USED, (0, FIN | ACK)))
     limit(report, fresh, name, "closed by both ends", SHORT, TCP, (*USED, (0, FIN | ACK), (1, FIN | ACK)))
-    limit(report, fresh, "7857 2.1", "half open", SHORT, TCP, OPENED[:2])
-    limit(report, fresh, "7857 2.1", "closed by both ends", SHORT, TCP, (*USED, (0, FIN | ACK), (1, FIN | ACK)))
 
 
 def resets(fresh, report):
@@ -129,7 +128,8 @@ NO_USES = (
     ("5508 REQ-6", "an error of a remote station doesn't refresh", UDP, (), (UDP_REST - TICK, told_in, TICK)),
     # A stranger's SYN is a use of its own, so each is set against the moment at which that one's rest is over.
     ("7857 6.1", "a host's error to a stranger doesn't refresh", TCP, OPENED[:1], (1000, told_out, SHORT)),
-    ("7857 6.1", "a host's RST to a stranger doesn't refresh", TCP, OPENED[:1], (1000, knocked, 1000, answered, SHORT - 1000)),
+    ("7857 6.1", "a host's RST to a stranger doesn't refresh", TCP, OPENED[:1],
+     (1000, knocked, 1000, answered, SHORT - 1000)),
     ("own 1", f"a stranger's ACK keeps a half-open pair for {seconds(SHORT)} at most", TCP, OPENED[:1],
      (1000, acknowledged, SHORT)),
     ("own 2", f"five strangers' SYNs keep a half-open pair for {seconds(SHORT)} at most", TCP, OPENED[:1],
@@ -140,7 +140,7 @@ NO_USES = (
 def no_uses(fresh, report):
     for requirement, what, protocol, course, steps in NO_USES:
         there = there_after(fresh, protocol, course, steps)
-        report.note(fresh, requirement, what, "still there" if there else "gone", not there)
+        report.note(fresh, requirement, what, yes_there(there), not there)
 
 
 def too_large(fresh, report):
@@ -150,7 +150,8 @@ def too_large(fresh, report):
                   PLAIN._replace(fragment=DONT_FRAGMENT))
     bench.put("inside", ethernet(bench.own_mac("inside"), HOSTS[0].mac, IPV4, packet))
     found = bench.heard(lambda frame: is_error(frame, packet[12:28]), 0)
-    report.note(bench, "4787 REQ-13", f"{LONGEST + 1} bytes, not to be cut, are answered by an error", yes(found), bool(found))
+    report.note(bench, "4787 REQ-13", f"{LONGEST + 1} bytes, not to be cut, are answered by an error", yes(found),
+                bool(found))
 
 
 def no_room(narrow, report):
@@ -161,7 +162,32 @@ def no_room(narrow, report):
     packet = ipv4(HOSTS[1].address, REMOTE.place[0], UDP, udp((HOSTS[1].address, 5002), REMOTE.place, b"no port"))
     bench.put("inside", ethernet(bench.own_mac("inside"), HOSTS[1].mac, IPV4, packet))
     found = bench.heard(lambda frame: is_error(frame, packet[12:28]), 0)
-    report.note(bench, "5508 REQ-8", "a new flow without a free port is answered by an error", yes(found), bool(found))
+    report.note(bench, "5508 REQ-8", "a new flow without a free port is answered by an error", yes(found),
+                bool(found))
+
+
+def both_boxes(couple, report):
+    """While both are Active, a host's packets may go by either, and one box doesn't see what the other carries."""
+    bench = couple()
+    ports = []
+    for bench.box in (0, 1, 0):
+        ports.append(port_of(bench.udp(HOST, REMOTE.place)))
+    report.note(bench, "4787 REQ-1", "one outside port by box 0, box 1, box 0", told(ports),
+                None not in ports and len(set(ports)) == 1)
+    bench.rest(UDP_REST - 50)
+    bench.box = 1
+    bench.udp(HOST, REMOTE.place)
+    bench.rest(100)
+    bench.box = 0
+    there = is_there(bench, UDP, ports[0])
+    report.note(bench, "4787 REQ-5", "UDP, carried by box 1 alone: there at box 0 after 300 s", yes_there(there), there)
+    bench.rest(UDP_REST + 100)
+    there = is_there(bench, UDP, ports[0])
+    report.note(bench, "4787 REQ-5", "without a packet at either box: let go by both", yes_there(there), not there)
+
+
+def yes_there(there):
+    return "there" if there else "gone"
 
 
 BY_THE_CLOCK = (udp_timers, tcp_timers, resets, no_uses, too_large)

@@ -4,7 +4,7 @@ import os
 
 from benches import HOSTS, REMOTES, SILENCE, End, is_error
 from packets import (ACK, DONT_FRAGMENT, FIN, ICMP, IPV4, MORE_FRAGMENTS, PLAIN, PSH, RST, SYN, TCP, UDP, Packet,
-                     ethernet, ipv4, is_ipv4, udp)
+                     ethernet, ipv4, is_ipv4, tcp, udp)
 
 # Both protocols, and the standard that speaks of each.
 KINDS = ((UDP, "4787"), (TCP, "5382"))
@@ -61,7 +61,7 @@ def apart(bench, report):
 
 
 def parity(bench, report):
-    numbers = (6000, 6001, 6003, 6002)
+    numbers = tuple(bench.first + number for number in (6000, 6001, 6003, 6002))
     seen = [port_of(bench.send(UDP, End(HOSTS[2], number), PLACES[0])) for number in numbers]
     even = [None not in seen and port % 2 == number % 2 for port, number in zip(seen, numbers)]
     report.note(bench, "4787 REQ-4", f"even or odd as {told(numbers)}", told(seen), all(even))
@@ -69,7 +69,8 @@ def parity(bench, report):
 
 def order(bench, report):
     """Whether a stranger who has a port can say which the next ones are."""
-    seen = [port_of(bench.send(UDP, End(HOSTS[3], number), PLACES[0])) for number in (6000, 6002, 6004, 6006)]
+    numbers = range(bench.first + 6010, bench.first + 6018, 2)
+    seen = [port_of(bench.send(UDP, End(HOSTS[3], number), PLACES[0])) for number in numbers]
     steps = {later - port for port, later in zip(seen, seen[1:])} if None not in seen else {0}
     report.note(bench, "7857 8", "four new pairs' ports in no plain order", told(seen), len(steps) > 1)
 
@@ -132,7 +133,7 @@ def steady(bench, report):
     """The same with many pairs more, and as it was at the other box."""
     before = report.kept.setdefault("behaviour", behaviour(bench))
     for number in range(LOAD):
-        bench.send(UDP, End(HOSTS[2], 10_000 + number), PLACES[0])
+        bench.send(UDP, End(HOSTS[2], 10_000 + bench.first + number), PLACES[0])
     seen = behaviour(bench)
     report.note(bench, "4787 REQ-11", f"with {LOAD} pairs more: {before}", seen, seen == before)
 
@@ -158,7 +159,7 @@ def segments(bench, end, remote, course):
 def connections(bench, report):
     for what, number, course in (("both ends open at once", 5400, SIMULTANEOUS),
                                  ("opened, used, closed, reset", 5402, ORDINARY)):
-        passed = segments(bench, End(HOSTS[2], number), End(REMOTES[1], 80), course)
+        passed = segments(bench, End(HOSTS[2], bench.first + number), End(REMOTES[1], 80), course)
         report.note(bench, "5382 REQ-2", f"each segment comes through: {what}", f"{passed} of {len(course)}",
                     passed == len(course))
 
@@ -180,7 +181,7 @@ def contents(bench, report):
 
 
 def packet_bytes(packet):
-    return packet.frame[14 : 14 + packet.length]
+    return packet.frame[14 : 14 + packet.length] if packet else b""
 
 
 def errors_in(bench, report):
@@ -200,7 +201,7 @@ def errors_in(bench, report):
                         bool(restored))
         again = bench.send(protocol, end, PLACES[0])
         report.note(bench, f"{standard} {last}", "the pair stays after all of them", told([port_of(again)]),
-                    port_of(again) == sent.source_port)
+                    bool(again) and port_of(again) == port_of(sent))
 
 
 def ipv4_ends(body):
@@ -225,6 +226,9 @@ def queries(bench, report):
     """Echo through the pair, and between two hosts by the outside address; what is neither query nor error."""
     found = bench.icmp(HOSTS[0], REMOTES[0].address, 8, 0, b"\0\7\0\1")
     report.note(bench, "5508 REQ-1", "an Echo goes out", yes(found), bool(found))
+    back = found and bench.icmp(REMOTES[0], bench.virtual, 0, 0, found.payload[4:8])
+    report.note(bench, "5508 REQ-1", "its Reply comes back to the host", yes(back),
+                bool(back) and back.target == HOSTS[0].address)
     found = bench.icmp(HOSTS[0], bench.virtual, 8, 0, b"\0\7\0\1")
     report.note(bench, "7857 11", "an Echo to the outside address reaches a host", yes(found), bool(found))
     found = bench.icmp(HOSTS[0], REMOTES[0].address, 9, 0, bytes(4))
@@ -245,13 +249,14 @@ def own_messages(bench, report):
 
 def unasked(bench, report):
     """A SYN that nobody asked for. What comes to its sender in six seconds, and then."""
-    stranger = End(REMOTES[2], 80)
-    bench.tcp(stranger, bench.outside(FREE), SYN, patient=False)
+    stranger, place = End(REMOTES[2], 80), bench.outside(FREE)
+    packet = ipv4(stranger.station.address, place[0], TCP, tcp(stranger.place, place, SYN, b""))
 
     def is_answer(frame):
         return is_ipv4(frame) and Packet(frame).target == stranger.station.address
 
-    soon = bench.heard(is_answer, QUIET - SILENCE)
+    bench.put("outside", ethernet(bench.own_mac("outside"), stranger.station.mac, IPV4, packet))
+    soon = bench.heard(is_answer, QUIET)
     report.note(bench, "5382 REQ-4", "no answer to an unasked SYN in 6 s", yes(soon), not soon)
     late = bench.heard(lambda frame: is_answer(frame) and frame[23] == ICMP, 1.0)
     report.note(bench, "5382 REQ-4", "an ICMP error after that", yes(late), bool(late))
@@ -280,9 +285,9 @@ def large(bench, report):
     """As much as a network of 1,500 bytes takes, not to be cut."""
     text = bytes(LONGEST - 28 - 6)
     found = bench.udp(End(HOSTS[0], 5000), PLACES[0], PLAIN._replace(fragment=DONT_FRAGMENT), text)
-    seen = f"{found.length} bytes, {'not to be cut' if found.fragment == DONT_FRAGMENT else 'may be cut'}" if found else "nothing"
-    report.note(bench, "4787 REQ-13", f"{LONGEST} bytes, not to be cut, go out so", seen,
-                bool(found) and found.length == LONGEST and found.fragment == DONT_FRAGMENT)
+    seen = (found.length, found.fragment == DONT_FRAGMENT) if found else (0, False)
+    report.note(bench, "4787 REQ-13", f"{LONGEST} bytes, not to be cut, go out so",
+                f"{seen[0]} bytes{', not to be cut' if seen[1] else ''}", seen == (LONGEST, True))
 
 
 def identification(bench, report):

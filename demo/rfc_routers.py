@@ -77,7 +77,7 @@ def in_active(fresh, report):
              ("priority 0 heard: advertises at once", advert(0), [100]),
              ("a higher priority heard: yields", advert(120), []),
              ("an equal priority from a greater address heard: yields", advert(100), []),
-             ("an equal priority from a lesser address heard: stays", advert(100, source="192.0.2.1"), [100]))
+             ("an equal priority from a lesser address heard: stays", advert(100, source="192.0.1.9"), [100]))
     for name, heard, wanted in cases:
         found = priorities(at(fresh, ACTIVE, heard)), priorities(at(fresh, ACTIVE, heard, ACTIVE + 100))
         report.note(fresh, "9568 6.4.3 b", name, f"{len(found[0])} at once, {len(found[1])} a second later",
@@ -92,14 +92,15 @@ def bad_ones(fresh, report):
     broken = advert(50)
     cases = {"TTL 254": advert(50, ttl=254), "version 2": advert(50, version=2), "another router": advert(50, router=9),
              "a wrong checksum": broken[:-1] + bytes([broken[-1] ^ 1]), "interval 0": advert(50, interval=0),
-             "cut": broken[:17] + bytes([broken[17]]) + broken[18:40]}
+             "cut": broken[:40]}
     taken = [name for name, frame in cases.items() if at(fresh, ACTIVE, frame)]
-    report.note(fresh, "9568 7.1 a", f"left out: {', '.join(cases)}", ", ".join(taken) + " taken" if taken else "all left out",
-                not taken)
+    report.note(fresh, "9568 7.1 a", f"left out: {', '.join(cases)}",
+                ", ".join(taken) + " taken" if taken else "all left out", not taken)
     found = len(at(fresh, ACTIVE, advert(50, address="192.0.2.99")))
     report.note(fresh, "9568 7.1 b", "left out: another virtual address", "taken" if found else "left out", not found)
-    forms = [len(at(fresh, ACTIVE, advert(50, pseudo=pseudo))) for pseudo in (False, True)]
-    report.note(fresh, "9568 5.2.8", "heard with the sum of the message alone", "taken" if forms[0] else "left out", bool(forms[0]))
+    alone = len(at(fresh, ACTIVE, advert(50)))
+    report.note(fresh, "9568 5.2.8", "heard with the sum of the message alone", "taken" if alone else "left out",
+                bool(alone))
 
 
 def stopping(fresh, report):
@@ -141,7 +142,8 @@ def asks(bench, report):
     """Whom an inside host finds at the virtual address: one answer, of the Active box alone."""
     host, virtual = HOSTS[0], bench.settings["inside"]["virtual"]
     bench.put("inside", arp_request(host, virtual))
-    answers = [frame for frame in bench.listen("inside", INTERVAL) if is_arp(frame, 2) and frame[28:32] == ip_bytes(virtual)]
+    heard = bench.listen("inside", INTERVAL)
+    answers = [frame for frame in heard if is_arp(frame, 2) and frame[28:32] == ip_bytes(virtual)]
     mac = virtual_mac(bench.settings["inside"]["vrid"])
     seen = f"{len(answers)}, of {', '.join(frame[22:28].hex('-') for frame in answers) or 'nobody'}"
     report.note(bench, "9568 6.4.3 a", "one answer to ARP, with the virtual MAC", seen,
