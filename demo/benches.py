@@ -9,8 +9,8 @@ import tomllib
 from typing import NamedTuple
 
 from cards import card
-from packets import (ACK, ICMP, IPV4, PLAIN, TCP, UDP, Packet, Station, arp_request, ethernet, icmp, ipv4,
-                     is_ipv4, tcp, udp, virtual_mac)
+from packets import (ICMP, IPV4, PLAIN, SYN, TCP, UDP, Packet, Station, arp_reply, arp_request, ethernet, icmp,
+                     ip_bytes, ipv4, is_arp, is_ipv4, marked, tcp, udp, virtual_mac)
 
 PACKET_OUTGOING = 4
 # What comes out of the running pair comes within so many seconds; where nothing should come, so long is waited for it.
@@ -23,6 +23,7 @@ HELLO = 20
 
 HOSTS = tuple(Station("inside", f"192.168.1.{51 + n}", bytes((2, 0, 0, 0, 0xA, n))) for n in range(4))
 REMOTES = tuple(Station("outside", f"192.0.2.{51 + n}", bytes((2, 0, 0, 0, 0xB, n))) for n in range(3))
+BY_ADDRESS = {ip_bytes(station.address): station for station in (*HOSTS, *REMOTES)}
 
 
 class End(NamedTuple):
@@ -53,9 +54,11 @@ class Bench:
         return virtual_mac(self.settings[side]["vrid"])
 
     def ask(self, station, packet, mark, patient=True):
-        """A station hands a packet to the virtual MAC of its network; what came out with this mark in it, if anything."""
+        """A station hands a packet to the virtual MAC of its network; what of its protocol came out with this mark in it."""
         self.put(station.side, ethernet(self.own_mac(station.side), station.mac, IPV4, packet))
-        found = self.heard(lambda frame: is_ipv4(frame) and mark in frame, PATIENCE if patient else SILENCE)
+        protocol = packet[9]
+        found = self.heard(lambda frame: is_ipv4(frame) and frame[23] == protocol and mark in frame,
+                           PATIENCE if patient else SILENCE)
         return found and Packet(found)
 
     def udp(self, end, place, header=PLAIN, text=b"", patient=True):
@@ -64,24 +67,23 @@ class Bench:
         datagram = udp(end.place, place, mark + text)
         return self.ask(end.station, ipv4(end.station.address, place[0], UDP, datagram, header), mark, patient)
 
-    def tcp(self, end, place, flags, text=b"", patient=True):
-        """A segment, whose mark is its number."""
+    def tcp(self, end, place, flags, text=b"", numbers=(1, 1), patient=True):
+        """A segment with a mark among its options."""
         mark = os.urandom(4)
-        segment = tcp(end.place, place, flags, text, int.from_bytes(mark, "big"))
+        segment = tcp(end.place, place, flags, text, numbers, marked(mark))
         return self.ask(end.station, ipv4(end.station.address, place[0], TCP, segment), mark, patient)
 
     def send(self, protocol, end, place, patient=True):
         """A packet that may begin a flow."""
         if protocol == UDP:
             return self.udp(end, place, patient=patient)
-        return self.tcp(end, place, ACK, patient=patient)
+        return self.tcp(end, place, SYN, patient=patient)
 
-    def icmp(self, station, target, kind, code, rest, inner=b"", ttl=64):
-        """A message of ICMP with a mark at its end."""
+    def icmp(self, station, target, kind, code, rest, inner=b""):
+        """A message of ICMP with a mark at its end; what came out of this type."""
         mark = os.urandom(6)
         message = icmp(kind, code, rest, inner + mark)
-        header = PLAIN._replace(ttl=ttl)
-        return self.ask(station, ipv4(station.address, target, ICMP, message, header), mark, patient=False)
+        return self.ask(station, ipv4(station.address, target, ICMP, message), mark, patient=False)
 
     def outside(self, port):
         """The outside end of a port; where a pair's isn't known, nobody's."""
@@ -127,6 +129,7 @@ class Scripted(Bench):
         return self.frames
 
     def put(self, side, frame):
+        """What it makes it send is looked at by `heard`."""
         self.lines.append(f"frame {self.box} {side} {frame.hex()}")
         self.frames = None
 
@@ -204,10 +207,12 @@ class Wired(Bench):
             current.stack.callback(self.cards[side].close)
         self.announce()
 
-    def put(self, side, frame):
+    def put(self, side, *frames):
+        """Sends frames one behind the other. What was heard before is forgotten."""
         for sock in self.cards.values():
             self.take(sock)
-        self.cards[side].send(frame)
+        for frame in frames:
+            self.cards[side].send(frame)
 
     def take(self, sock):
         """The frames that a card has heard and not sent."""
@@ -219,6 +224,13 @@ class Wired(Bench):
                 return found
             if place[2] != PACKET_OUTGOING:
                 found.append(frame)
+                self.answer(sock, frame)
+
+    def answer(self, sock, frame):
+        """A station that is asked for says where it is."""
+        station = BY_ADDRESS.get(frame[38:42]) if is_arp(frame, 1) else None
+        if station and frame[28:32] != ip_bytes(station.address):
+            sock.send(arp_reply(station, frame))
 
     def heard(self, test, seconds):
         found = []

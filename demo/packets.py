@@ -69,11 +69,18 @@ def udp(source, target, data):
     return head[:6] + found.to_bytes(2, "big") + data
 
 
-def tcp(source, target, flags, data, sequence=1):
-    head = struct.pack(">HHIIBBHHH", source[1], target[1], sequence, 1 if flags & ACK else 0,
-                       5 << 4, flags, 8192, 0, 0)
+def tcp(source, target, flags, data, numbers=(1, 1), options=b""):
+    """A segment between two ends; its numbers are that of its first byte, and that of the byte that it waits for."""
+    waits = numbers[1] if flags & ACK else 0
+    head = struct.pack(">HHIIBBHHH", source[1], target[1], numbers[0], waits, (20 + len(options)) // 4 << 4, flags,
+                       8192, 0, 0) + options
     found = transport_sum(source[0], target[0], TCP, head + data)
     return head[:16] + found.to_bytes(2, "big") + head[18:] + data
+
+
+def marked(mark):
+    """A mark of four bytes as an option of TCP, of the kind that is for tries (RFC 4727)."""
+    return b"\xfd\x06" + mark + b"\1\1"
 
 
 def icmp(kind, code, rest, data):
@@ -89,6 +96,13 @@ def arp_request(station, target):
     """A station asks everybody for an address; for its own it tells where it is."""
     body = bytes.fromhex("0001080006040001") + station.mac + ip_bytes(station.address)
     return ethernet(EVERYBODY, station.mac, ARP, body + bytes(6) + ip_bytes(target))
+
+
+def arp_reply(station, request):
+    """A station answers who asked for it."""
+    asker = request[22:32]
+    body = bytes.fromhex("0001080006040002") + station.mac + ip_bytes(station.address) + asker
+    return ethernet(asker[:6], station.mac, ARP, body)
 
 
 class Advert(NamedTuple):

@@ -10,6 +10,7 @@ import rfc_page
 from benches import Couple, Scripted, Wired
 from pair import SETTINGS
 from rfc_clock import BY_THE_CLOCK, both_boxes, no_room
+from rfc_hosts import by_hosts
 from rfc_packets import AT_A_BOX
 from rfc_routers import BY_THE_TABLE, ended, on_the_wire, taken_over
 from scene import scene, show
@@ -73,6 +74,7 @@ def at_box(current, number, report):
     for probe in AT_A_BOX:
         probe(bench, report)
     on_the_wire(bench, report)
+    by_hosts(current, bench, report)
     current.say(f"box {number}: {sum(line.bench == bench.name for line in report.lines)} lines")
     return bench
 

@@ -104,7 +104,7 @@ def filtering(bench, report):
 def across(bench, protocol):
     """Two inside ends speak by the outside address: what each sees of the other, and what it has to see."""
     ends = End(HOSTS[0], 5200), End(HOSTS[1], 5300)
-    own = [(bench.virtual, port_of(bench.send(protocol, end, PLACES[0]))) for end in ends]
+    own = [bench.outside(port_of(bench.send(protocol, end, PLACES[0]))) for end in ends]
     seen = []
     for end, other in ((0, 1), (1, 0)):
         found = bench.send(protocol, ends[end], own[other])
@@ -143,14 +143,31 @@ ORDINARY = ((0, SYN), (1, SYN | ACK), (0, ACK), (0, ACK | PSH), (1, ACK | PSH), 
             (0, FIN | ACK), (1, ACK), (0, RST))
 
 
+class Half:
+    """One end of a connection: the number of its first byte, how many it has sent, and whether it has begun and ended."""
+
+    def __init__(self, first):
+        self.first = first
+        self.next = first + 1
+
+    def numbers(self, flags, other):
+        """The numbers of its next segment, of one byte where it has data."""
+        own = self.first if flags & SYN else self.next
+        self.next += bool(flags & PSH) + bool(flags & FIN)
+        return own, other.next
+
+
 def segments(bench, end, remote, course):
     """How many segments of a course come through: of each, whether the remote end sends it, and its flags."""
     port, passed = None, 0
+    halves = Half(1000), Half(5000)
     for is_remote, flags in course:
+        numbers = halves[is_remote].numbers(flags, halves[1 - is_remote])
+        text = b"x" if flags & PSH else b""
         if is_remote:
-            found = bench.tcp(remote, bench.outside(port), flags)
+            found = bench.tcp(remote, bench.outside(port), flags, text, numbers)
         else:
-            found = bench.tcp(end, remote.place, flags)
+            found = bench.tcp(end, remote.place, flags, text, numbers)
             port = port_of(found) or port
         passed += bool(found)
     return passed
@@ -180,6 +197,11 @@ def contents(bench, report):
                     f"{whole} of {len(numbers)}", whole == len(numbers))
 
 
+def arrived(found, kind, station):
+    """Whether a message of this type came to a station."""
+    return bool(found) and found.payload[0] == kind and found.target == station.address
+
+
 def packet_bytes(packet):
     return packet.frame[14 : 14 + packet.length] if packet else b""
 
@@ -193,18 +215,19 @@ def errors_in(bench, report):
         told_by = ((REMOTES[0], 3, 3, bytes(4)), (REMOTES[1], 3, 4, b"\0\0\5\0"), (REMOTES[1], 11, 0, bytes(4)))
         found = [bench.icmp(who, bench.virtual, kind, code, rest, about) for who, kind, code, rest in told_by]
         names = ("port unreachable from the remote station", "fragmentation needed from a router", "TTL over from a router")
-        for name, each in zip(names, found):
-            report.note(bench, f"{standard} {number}", f"{name} comes in", yes(each), bool(each))
+        for name, each, (_, kind, _, _) in zip(names, found, told_by):
+            came = arrived(each, kind, HOSTS[0])
+            report.note(bench, f"{standard} {number}", f"{name} comes in", yes(came), came)
         if protocol == UDP:
-            restored = found[0] and ipv4_ends(found[0].payload[8:]) == end.place
-            report.note(bench, "5508 REQ-4", "an error about a pair comes in, with the inside end in it", yes(found[0]),
-                        bool(restored))
+            restored = arrived(found[0], 3, HOSTS[0]) and source_of(found[0].payload[8:]) == end.place
+            report.note(bench, "5508 REQ-4", "an error about a pair comes in, with the inside end in it", yes(restored),
+                        restored)
         again = bench.send(protocol, end, PLACES[0])
         report.note(bench, f"{standard} {last}", "the pair stays after all of them", told([port_of(again)]),
                     bool(again) and port_of(again) == port_of(sent))
 
 
-def ipv4_ends(body):
+def source_of(body):
     """From which end the packet in these bytes came."""
     packet = Packet(bytes(14) + body)
     return packet.source, packet.source_port
@@ -216,21 +239,25 @@ def errors_out(bench, report):
     ports = [port_of(bench.send(UDP, end, PLACES[0])) for end in ends]
     heard = bench.udp(End(REMOTES[0], 53), bench.outside(ports[0]))
     found = bench.icmp(HOSTS[0], REMOTES[0].address, 3, 3, bytes(4), packet_bytes(heard))
-    report.note(bench, "5508 REQ-5", "a host's error about a pair goes out", yes(found), bool(found))
+    came = arrived(found, 3, REMOTES[0]) and found.source == bench.virtual
+    report.note(bench, "5508 REQ-5", "a host's error about a pair goes out", yes(came), came)
     heard = bench.udp(ends[0], bench.outside(ports[1]))
     found = bench.icmp(HOSTS[1], bench.virtual, 3, 3, bytes(4), packet_bytes(heard))
-    report.note(bench, "5508 REQ-7", "a host's error about another's hairpin reaches it", yes(found), bool(found))
+    came = arrived(found, 3, HOSTS[0]) and source_of(found.payload[8:]) == ends[0].place
+    report.note(bench, "5508 REQ-7", "a host's error about another's hairpin reaches it", yes(came), came)
 
 
 def queries(bench, report):
     """Echo through the pair, and between two hosts by the outside address; what is neither query nor error."""
-    found = bench.icmp(HOSTS[0], REMOTES[0].address, 8, 0, b"\0\7\0\1")
-    report.note(bench, "5508 REQ-1", "an Echo goes out", yes(found), bool(found))
-    back = found and bench.icmp(REMOTES[0], bench.virtual, 0, 0, found.payload[4:8])
-    report.note(bench, "5508 REQ-1", "its Reply comes back to the host", yes(back),
-                bool(back) and back.target == HOSTS[0].address)
-    found = bench.icmp(HOSTS[0], bench.virtual, 8, 0, b"\0\7\0\1")
-    report.note(bench, "7857 11", "an Echo to the outside address reaches a host", yes(found), bool(found))
+    asked = b"\0\7\0\1"
+    found = bench.icmp(HOSTS[0], REMOTES[0].address, 8, 0, asked)
+    went = arrived(found, 8, REMOTES[0]) and found.source == bench.virtual
+    report.note(bench, "5508 REQ-1", "an Echo goes out", yes(went), went)
+    back = bench.icmp(REMOTES[0], bench.virtual, 0, 0, found.payload[4:8]) if went else None
+    report.note(bench, "5508 REQ-1", "its Reply comes back to the host", yes(back), arrived(back, 0, HOSTS[0]))
+    found = bench.icmp(HOSTS[0], bench.virtual, 8, 0, asked)
+    reached = any(arrived(found, 8, host) for host in HOSTS)
+    report.note(bench, "7857 11", "an Echo to the outside address reaches a host", yes(reached), reached)
     found = bench.icmp(HOSTS[0], REMOTES[0].address, 9, 0, bytes(4))
     report.note(bench, "5508 REQ-11", "what is neither query nor error doesn't go out", yes(found), not found)
 
@@ -239,7 +266,8 @@ def own_messages(bench, report):
     """What the box says itself: to an Echo at its addresses, and of a packet whose TTL is over."""
     for station, address in ((HOSTS[0], bench.settings["inside"]["virtual"]), (REMOTES[0], bench.virtual)):
         found = bench.icmp(station, address, 8, 0, b"\0\7\0\1")
-        report.note(bench, "5508 REQ-10", f"{address} answers an Echo", yes(found), bool(found))
+        answered = arrived(found, 0, station) and found.source == address
+        report.note(bench, "5508 REQ-10", f"{address} answers an Echo", yes(answered), answered)
     packet = ipv4(HOSTS[0].address, REMOTES[0].address, UDP, udp((HOSTS[0].address, 5000), PLACES[0], b""),
                   PLAIN._replace(ttl=1))
     bench.put("inside", ethernet(bench.own_mac("inside"), HOSTS[0].mac, IPV4, packet))
@@ -262,7 +290,7 @@ def unasked(bench, report):
     report.note(bench, "5382 REQ-4", "an ICMP error after that", yes(late), bool(late))
 
 
-def pieces(end, place, header):
+def pieces(end, place, header=PLAIN._replace(identification=77)):
     """A datagram cut in two, each with a mark of its own."""
     marks = os.urandom(16), os.urandom(16)
     whole = udp(end.place, place, marks[0] + marks[1])
@@ -271,13 +299,25 @@ def pieces(end, place, header):
             for (part, fragment), mark in zip(cut, marks)]
 
 
+def both_come(bench, station, parts):
+    """How many of some packets come out, in the packets that they were or in one."""
+    mac, seen = bench.own_mac(station.side), set()
+
+    def are_there(frame):
+        seen.update(mark for _, mark in parts if is_ipv4(frame) and mark in frame)
+        return len(seen) == len(parts)
+
+    bench.put(station.side, *(ethernet(mac, station.mac, IPV4, packet) for packet, _ in parts))
+    bench.heard(are_there, SILENCE)
+    return len(seen)
+
+
 def fragments(bench, report):
     end, remote = End(HOSTS[0], 5000), End(REMOTES[0], 53)
     port = port_of(bench.send(UDP, end, remote.place))
     for name, sender, place in (("out", end, remote.place), ("in", remote, bench.outside(port))):
         for way, step in (("in order", 1), ("the later one first", -1)):
-            parts = pieces(sender, place, PLAIN._replace(identification=77))[::step]
-            count = sum(bool(bench.ask(sender.station, part, mark, patient=False)) for part, mark in parts)
+            count = both_come(bench, sender.station, pieces(sender, place)[::step])
             report.note(bench, "4787 REQ-14", f"two fragments go {name}, {way}", f"{count} of 2", count == 2)
 
 

@@ -2,9 +2,9 @@
 
 import signal
 
-from benches import ACTIVE, HOSTS, REMOTES, End
+from benches import ACTIVE, HOSTS, REMOTES, SILENCE, End
 from packets import (EVERYBODY, IPV4, PLAIN, UDP, VRRP_GROUP, VRRP_MAC, Advert, Packet, arp_request, ethernet, ip_bytes,
-                     ipv4, is_advert, is_arp, udp, virtual_mac)
+                     ipv4, is_advert, is_arp, is_ipv4, udp, virtual_mac)
 from rfc_packets import yes
 
 # The other box of `sim`, which says what the probe wants; it has the greater address.
@@ -158,7 +158,7 @@ def through(bench, report):
     packet = ipv4(HOSTS[0].address, bench.settings["inside"]["virtual"], UDP,
                   udp((HOSTS[0].address, 5000), ("192.168.1.1", 53), b"to the router"), PLAIN)
     bench.put("inside", ethernet(bench.own_mac("inside"), HOSTS[0].mac, IPV4, packet))
-    found = bench.heard(lambda frame: b"to the router" in frame, 0.4)
+    found = bench.heard(lambda frame: is_ipv4(frame) and frame[23] == UDP and b"to the router" in frame, SILENCE)
     report.note(bench, "9568 8.3.1", "a packet to the virtual address isn't sent on", yes(found), not found)
 
 
