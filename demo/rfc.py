@@ -11,6 +11,7 @@ from benches import Couple, Scripted, Wired
 from pair import SETTINGS
 from rfc_clock import BY_THE_CLOCK, both_boxes, no_room
 from rfc_hosts import by_hosts
+from rfc_linux import at_linux
 from rfc_packets import AT_A_BOX
 from rfc_routers import BY_THE_TABLE, ended, on_the_wire, taken_over
 from scene import scene, show
@@ -127,6 +128,8 @@ def tell(report, page, whole):
 
 def rfc(options):
     page, report = rfc_page.read(), Report()
+    if options.linux:
+        return at_linux(report)
     if not options.sim:
         on_the_pair(options, report)
     by_sim(options, report)
