@@ -100,28 +100,37 @@ def order_of(page, name):
     return list(page).index(name) if name in page else len(page)
 
 
+def uneven(lines):
+    """The requirements of which a line holds at one box and not at another."""
+    found = {}
+    for line in lines:
+        found.setdefault((line.requirement, line.expected), set()).add(line.holds)
+    return {name for (name, _), holds in found.items() if len(holds) > 1}
+
+
+def fault(name, page, found, differ, whole):
+    """What is wrong with a requirement's verdict, if anything. A part of the probes sees a part of a requirement."""
+    says, is_measured = page.get(name, ("nothing", False))
+    if name not in found:
+        return "NOT MEASURED" if is_measured and whole else ""
+    if not is_measured or found[name] != says and (whole or says != "in part"):
+        return "NOT WHAT THE PAGE SAYS"
+    return "THE BOXES DIFFER" if name in differ else ""
+
+
 def tell(report, page, whole):
     """Prints both tables; whether the page says what was seen, and says of each requirement whether it is seen (by all of
     the probes, or by a part of them)."""
     lines = sorted(report.lines, key=lambda line: order_of(page, line.requirement))
     heads = ["requirement", "at", "expected", "seen", "verdict"]
-    rows = [(*line[:4], "met" if line.holds else "not met") for line in lines]
-    show("what was seen", heads, rows, left=True)
-    found = report.verdicts()
-    rows, wrong = [], 0
-    for name in dict.fromkeys([*page, *found]):
-        says, is_measured = page.get(name, ("nothing", False))
-        seen = found.get(name, "not measured")
-        if name in found:
-            # A part of the probes sees a part of a requirement.
-            agrees = is_measured and (seen == says or not whole and says == "in part")
-        else:
-            agrees = not (is_measured and whole)
-        wrong += not agrees
-        if name in found or not agrees:
-            rows.append((name, seen, says, "" if agrees else "NOT WHAT THE PAGE SAYS"))
+    show("what was seen", heads, [(*line[:4], "met" if line.holds else "not met") for line in lines], left=True)
+    found, differ = report.verdicts(), uneven(report.lines)
+    faults = {name: fault(name, page, found, differ, whole) for name in dict.fromkeys([*page, *found])}
+    rows = [(name, found.get(name, ""), page.get(name, ("nothing",))[0], text) for name, text in faults.items()
+            if text or name in found]
     show("verdicts", ["requirement", "seen", "docs/RFC.md", ""], rows, left=True)
-    print(f"{len(found)} requirements measured by {len(report.lines)} lines, {len(page) - len(found)} by docs/RFC.md alone;"
+    wrong = sum(bool(text) for text in faults.values())
+    print(f"{len(found)} requirements measured by {len(report.lines)} lines, {len(faults) - len(found)} by docs/RFC.md alone;"
           f" {wrong} not as the page says", flush=True)
     return wrong == 0
 
