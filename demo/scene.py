@@ -106,14 +106,15 @@ def scene(options, capture=None, all_frames=True):
         yield Scene(options, stack, capture, all_frames)
 
 
-def show(title, heads, rows):
-    """Prints a table."""
+def show(title, heads, rows, left=False):
+    """Prints a table: its first column to the left, and all where it is one of words."""
     rows = [[str(cell) for cell in row] for row in rows]
     widths = [max(len(row[i]) for row in [heads, *rows]) for i in range(len(heads))]
     print(f"\n{title}")
     for row in [heads, ["-" * width for width in widths], *rows]:
         first = row[0].ljust(widths[0])
-        print("  ".join([first, *(c.rjust(w) for c, w in zip(row[1:], widths[1:]))]).rstrip())
+        rest = (c.ljust(w) if left else c.rjust(w) for c, w in zip(row[1:], widths[1:]))
+        print("  ".join([first, *rest]).rstrip())
     print(flush=True)
 
 
