@@ -20,7 +20,7 @@ ask-requires-clause-place c =
     let made : c.plan.result ≡ Ok (Ask c.in-Ok-Ask.by c.in-Ok-Ask.hop) = c.in-Ok-Ask.is ∙ ap (λ (p : Plan). let r : Result Plan Reason = Ok p in r) c.in-Ok-Ask.field-0-is in
     let holds = plan-holds (shown_of c.args.self.now) c.args.side c.args.packet.flow (Ok (Ask c.in-Ok-Ask.by c.in-Ok-Ask.hop)) (sym made ∙ c.plan.ensures) in
     let exit : c.exit.result ≡ exit_by c.in-Ok-Ask.by = c.exit.ensures ∙ ap exit_of c.direction.ensures in
-    ap (λ (w : HeldPacket). has_place c.args.self.now.kept w.wait) c.in_ok-copy.ensures
+    ap (λ (w : HeldPacket). has_place c.args.self.now.kept w.wait) c.in_ok-copy-in-Ok-Ask.ensures
     ∙ ap (λ (s : Side). has_place c.args.self.now.kept (Hop s c.in-Ok-Ask.hop)) exit
     ∙ holds
 
@@ -35,8 +35,8 @@ returns-in-Ok-Send-clause-scene c =
     let made : c.plan.result ≡ Ok (Send c.in-Ok-Send.by c.in-Ok-Send.next) = c.in-Ok-Send.is ∙ ap (λ (p : Plan). let r : Result Plan Reason = Ok p in r) c.in-Ok-Send.field-0-is in
     c.send.ensures.scene c.args.side ∙ taken-as (scene_on c.args.self.now c.args.page.now) c.args.side c.args.bytes.now c.args.packet.flow (Ok (Send c.in-Ok-Send.by c.in-Ok-Send.next)) (sym made ∙ c.plan.ensures)
 
-pub returns-in-Ok-Wait-clause-scene : goal.returns-in-Ok-Wait-clause-scene
-returns-in-Ok-Wait-clause-scene c =
+pub returns-in_ok-copy-in-Ok-Wait-clause-scene : goal.returns-in_ok-copy-in-Ok-Wait-clause-scene
+returns-in_ok-copy-in-Ok-Wait-clause-scene c =
     let s = scene_on c.args.self.now c.args.page.now in
     let e = c.in-Ok-Wait.endpoint in
     let made : c.plan.result ≡ Ok (WaitFor e) = c.in-Ok-Wait.is ∙ ap (λ (p : Plan). let r : Result Plan Reason = Ok p in r) c.in-Ok-Wait.field-0-is in
