@@ -1,5 +1,5 @@
 -- Words that are refused ask for no task.
-use Rattle.std.proofs.Common.{◌≡◌, ◌∙◌, ◌⊎◌, inl, inr, ℕ, List, Option, Some, None, Bool, true, false, codes, ap, refl, sym}
+use Rattle.std.proofs.Common.{◌≡◌, ◌∙◌, inl, inr, ℕ, List, Option, Some, None, Bool, true, false, codes, ap, refl, sym}
 use Rattle.std.specs.Str.{bytes_eq}
 use Rattle.clap.specs.Words.{Row, Text, one_of}
 use Rattle.nat_types.specs.declared.gateways.GatewayId.{GatewayId}
