@@ -39,12 +39,16 @@ class Report:
     def note(self, bench, requirement, expected, seen, holds):
         self.lines.append(Line(requirement, bench.name, expected, seen, bool(holds)))
 
-    def verdicts(self):
-        """Of each requirement: met where all its lines hold, not met where none of them does."""
+    def verdicts(self, page):
+        """Of each requirement: met where all its lines, or all lines of its parts, hold, not met where none of them does."""
         found = {}
         for line in self.lines:
             found.setdefault(line.requirement, []).append(line.holds)
-        return {name: "met" if all(holds) else "in part" if any(holds) else "not met" for name, holds in found.items()}
+        for name in [name for name, row in page.items() if row.has_parts]:
+            parts = [holds for part, holds in found.items() if part.startswith(f"{name} ")]
+            found[name] = [each for holds in parts for each in holds]
+        return {name: "met" if all(holds) else "in part" if any(holds) else "not met" for name, holds in found.items()
+                if holds}
 
 
 class Fresh:
@@ -108,12 +112,14 @@ def uneven(lines):
     return {name for (name, _), holds in found.items() if len(holds) > 1}
 
 
-def fault(name, page, found, differ, whole):
-    """What is wrong with a requirement's verdict, if anything. A part of the probes sees a part of a requirement."""
-    says, is_measured = page.get(name, ("nothing", False))
-    if name not in found:
-        return "NOT MEASURED" if is_measured and whole else ""
-    if not is_measured or found[name] != says and (whole or says != "in part"):
+def fault(name, row, seen, differ, whole):
+    """What is wrong with a requirement's verdict, if anything. A part of the probes sees some of the parts alone."""
+    if row is None:
+        return "NOT ON THE PAGE"
+    if seen is None:
+        return "NOT MEASURED" if whole and (row.is_measured or row.has_parts) else ""
+    is_seen_whole = row.is_measured or row.has_parts and whole
+    if seen != row.verdict and is_seen_whole or not (row.is_measured or row.has_parts):
         return "NOT WHAT THE PAGE SAYS"
     return "THE BOXES DIFFER" if name in differ else ""
 
@@ -124,9 +130,9 @@ def tell(report, page, whole):
     lines = sorted(report.lines, key=lambda line: order_of(page, line.requirement))
     heads = ["requirement", "at", "expected", "seen", "verdict"]
     show("what was seen", heads, [(*line[:4], "met" if line.holds else "not met") for line in lines], left=True)
-    found, differ = report.verdicts(), uneven(report.lines)
-    faults = {name: fault(name, page, found, differ, whole) for name in dict.fromkeys([*page, *found])}
-    rows = [(name, found.get(name, ""), page.get(name, ("nothing",))[0], text) for name, text in faults.items()
+    found, differ = report.verdicts(page), uneven(report.lines)
+    faults = {name: fault(name, page.get(name), found.get(name), differ, whole) for name in dict.fromkeys([*page, *found])}
+    rows = [(name, found.get(name, ""), page[name].verdict if name in page else "", text) for name, text in faults.items()
             if text or name in found]
     show("verdicts", ["requirement", "seen", "docs/RFC.md", ""], rows, left=True)
     wrong = sum(bool(text) for text in faults.values())
@@ -138,7 +144,7 @@ def tell(report, page, whole):
 def rfc(options):
     page, report = rfc_page.read(), Report()
     if options.linux:
-        return at_linux(report)
+        return at_linux(report, page)
     if not options.sim:
         on_the_pair(options, report)
     by_sim(options, report)

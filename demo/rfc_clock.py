@@ -77,9 +77,9 @@ def tcp_timers(fresh, report):
 
 def resets(fresh, report):
     """A RST comes in, and nothing more; or the connection goes on, so that it wasn't the end's."""
-    limit(report, fresh, "7857 2.2", "after a RST, without a packet", SHORT, TCP, (*USED, (1, RST)))
+    limit(report, fresh, "7857 2.2 a", "after a RST, without a packet", SHORT, TCP, (*USED, (1, RST)))
     there = there_after(fresh, TCP, (*USED, (1, RST), (0, ACK | PSH), (1, ACK)), (LONG - TICK,))
-    report.note(fresh, "7857 2.2", f"segments both ways after a RST: there until {seconds(LONG)}",
+    report.note(fresh, "7857 2.2 b", f"segments both ways after a RST: there until {seconds(LONG)}",
                 "there" if there else "gone before", there)
 
 
@@ -127,8 +127,8 @@ NO_USES = (
      (UDP_REST - TICK, forged, TICK)),
     ("5508 REQ-6", "an error of a remote station doesn't refresh", UDP, (), (UDP_REST - TICK, told_in, TICK)),
     # A stranger's SYN is a use of its own, so each is set against the moment at which that one's rest is over.
-    ("7857 6.1", "a host's error to a stranger doesn't refresh", TCP, OPENED[:1], (1000, told_out, SHORT)),
-    ("7857 6.1", "a host's RST to a stranger doesn't refresh", TCP, OPENED[:1],
+    ("7857 6.1 a", "a host's error to a stranger doesn't refresh", TCP, OPENED[:1], (1000, told_out, SHORT)),
+    ("7857 6.1 b", "a host's RST to a stranger doesn't refresh", TCP, OPENED[:1],
      (1000, knocked, 1000, answered, SHORT - 1000)),
     ("own 1", f"a stranger's ACK keeps a half-open pair for {seconds(SHORT)} at most", TCP, OPENED[:1],
      (1000, acknowledged, SHORT)),
@@ -150,7 +150,7 @@ def too_large(fresh, report):
                   PLAIN._replace(fragment=DONT_FRAGMENT))
     bench.put("inside", ethernet(bench.own_mac("inside"), HOSTS[0].mac, IPV4, packet))
     found = bench.heard(lambda frame: is_error(frame, packet[12:28]), 0)
-    report.note(bench, "4787 REQ-13", f"{LONGEST + 1} bytes, not to be cut, are answered by an error", yes(found),
+    report.note(bench, "4787 REQ-13 b", f"{LONGEST + 1} bytes, not to be cut, are answered by an error", yes(found),
                 bool(found))
 
 

@@ -125,7 +125,7 @@ def by_hosts(current, bench, report):
         come = hosts.upload()
         report.note(bench, "5382 REQ-2", f"a host's upload of {SIZE:,} bytes", f"{come:,} bytes", come == SIZE)
         told = hosts.told(CLOSED, 1)
-        report.note(bench, "4787 REQ-12", "a host is told of a closed UDP port", told, told == "Connection refused")
+        report.note(bench, "4787 REQ-12 b", "a host is told of a closed UDP port", told, told == "Connection refused")
         found = hosts.datagram(3000)
         report.note(bench, "4787 REQ-14", "a host's datagram of 3,000 bytes comes", yes(found), found)
         found = hosts.ping()
@@ -135,5 +135,5 @@ def by_hosts(current, bench, report):
         come = hosts.upload()
         report.note(bench, "5382 REQ-9", f"the upload, where the path takes {NARROW:,} bytes", f"{come:,} bytes", come == SIZE)
         told = hosts.told(UDP_PLACE, 1400)
-        report.note(bench, "4787 REQ-12", "a host is told that 1,400 bytes are too long there", told,
+        report.note(bench, "4787 REQ-12 b", "a host is told that 1,400 bytes are too long there", told,
                     told == "Message too long")

@@ -15,8 +15,8 @@ from scene import show
 RULES = ("add table ip nat; add chain ip nat out { type nat hook postrouting priority 100; };"
          "add rule ip nat out oifname outside masquerade")
 # What this NAT meets and the pair doesn't (but for 5382 REQ-2), and what it doesn't and the pair does.
-MEETS = ("4787 REQ-12", "4787 REQ-14", "5382 REQ-2", "5382 REQ-9", "5508 REQ-1", "5508 REQ-4", "5508 REQ-5", "5508 REQ-10")
-DOES_NOT = ("4787 REQ-8", "4787 REQ-9", "5382 REQ-3", "5382 REQ-4", "5382 REQ-8")
+MEETS = ("4787 REQ-12 b", "4787 REQ-14", "5382 REQ-2", "5382 REQ-9", "5508 REQ-1", "5508 REQ-4", "5508 REQ-5", "5508 REQ-10")
+DOES_NOT = ("4787 REQ-8", "4787 REQ-9", "5382 REQ-3", "5382 REQ-4 a", "5382 REQ-8")
 
 
 class Kernel:
@@ -48,7 +48,7 @@ class Kernel:
         self.space.ip("addr", "add", f"{settings['virtual']}/{settings['prefix']}", "dev", side)
 
 
-def at_linux(report):
+def at_linux(report, page):
     """Whether each probe sees of the kernel's NAT what is known of it."""
     with contextlib.ExitStack() as stack:
         current = Kernel(stack)
@@ -60,7 +60,7 @@ def at_linux(report):
     heads = ["requirement", "at", "expected", "seen", "verdict"]
     lines = sorted(report.lines)
     show("what was seen", heads, [(*line[:4], "met" if line.holds else "not met") for line in lines], left=True)
-    found = report.verdicts()
+    found = report.verdicts(page)
     wrong = [name for name in MEETS if found[name] != "met"] + [name for name in DOES_NOT if found[name] == "met"]
     print(f"{len(MEETS)} requirements that it meets, {len(DOES_NOT)} that it doesn't: "
           + (f"seen otherwise: {', '.join(wrong)}" if wrong else "seen so"), flush=True)

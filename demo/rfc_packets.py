@@ -50,14 +50,14 @@ def mapping(bench, report):
 def apart(bench, report):
     """Five ends of three hosts, one of them at a port below 1024."""
     ends = [End(HOSTS[0], 5000), End(HOSTS[0], 5001), End(HOSTS[1], 5000), End(HOSTS[2], 5000), End(HOSTS[1], 700)]
-    for protocol, requirement in ((UDP, "4787 REQ-3"), (TCP, "5382 REQ-7")):
+    for protocol, requirement in ((UDP, "4787 REQ-3 a"), (TCP, "5382 REQ-7")):
         seen = [port_of(bench.send(protocol, end, PLACES[0])) for end in ends]
         report.note(bench, requirement, "five inside ends, five outside ports", told(seen),
                     None not in seen and len(set(seen)) == 5)
         if protocol == UDP:
-            report.note(bench, requirement, "ports from 1024 on stay there", told(seen[:4]),
+            report.note(bench, "4787 REQ-3 b", "ports from 1024 on stay there", told(seen[:4]),
                         None not in seen[:4] and min(seen[:4]) >= 1024)
-            report.note(bench, requirement, "port 700 stays below 1024", told(seen[4:]), (seen[4] or 1024) < 1024)
+            report.note(bench, "4787 REQ-3 c", "port 700 stays below 1024", told(seen[4:]), (seen[4] or 1024) < 1024)
 
 
 def parity(bench, report):
@@ -208,7 +208,7 @@ def packet_bytes(packet):
 
 def errors_in(bench, report):
     """A remote station and a router on the way tell of a packet; then the pair is used again."""
-    for protocol, standard, number, last in ((UDP, "4787", "REQ-12", "REQ-12"), (TCP, "5382", "REQ-9", "REQ-10")):
+    for protocol, standard, number, last in ((UDP, "4787", "REQ-12 b", "REQ-12 a"), (TCP, "5382", "REQ-9", "REQ-10")):
         end = End(HOSTS[0], 5500)
         sent = bench.send(protocol, end, PLACES[0])
         about = packet_bytes(sent)
@@ -285,9 +285,9 @@ def unasked(bench, report):
 
     bench.put("outside", ethernet(bench.own_mac("outside"), stranger.station.mac, IPV4, packet))
     soon = bench.heard(is_answer, QUIET)
-    report.note(bench, "5382 REQ-4", "no answer to an unasked SYN in 6 s", yes(soon), not soon)
+    report.note(bench, "5382 REQ-4 a", "no answer to an unasked SYN in 6 s", yes(soon), not soon)
     late = bench.heard(lambda frame: is_answer(frame) and frame[23] == ICMP, 1.0)
-    report.note(bench, "5382 REQ-4", "an ICMP error after that", yes(late), bool(late))
+    report.note(bench, "5382 REQ-4 b", "an ICMP error after that", yes(late), bool(late))
 
 
 def pieces(end, place, header=PLAIN._replace(identification=77)):
@@ -326,7 +326,7 @@ def large(bench, report):
     text = bytes(LONGEST - 28 - 6)
     found = bench.udp(End(HOSTS[0], 5000), PLACES[0], PLAIN._replace(fragment=DONT_FRAGMENT), text)
     seen = (found.length, found.fragment == DONT_FRAGMENT) if found else (0, False)
-    report.note(bench, "4787 REQ-13", f"{LONGEST} bytes, not to be cut, go out so",
+    report.note(bench, "4787 REQ-13 a", f"{LONGEST} bytes, not to be cut, go out so",
                 f"{seen[0]} bytes{', not to be cut' if seen[1] else ''}", seen == (LONGEST, True))
 
 

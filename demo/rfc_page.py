@@ -1,13 +1,22 @@
 """docs/RFC.md as a table: what it says of each requirement. The page is what the probes are held against."""
 
 import re
+from typing import NamedTuple
 
 from pair import FOLDER
 
 PAGE = FOLDER.parent / "docs" / "RFC.md"
 VERDICTS = ("met", "in part", "not met", "n/a")
-# A requirement of which this word stands in the column "Shown by" is measured.
-MEASURED = "probe"
+# What stands in the column "Shown by" of a requirement that is measured, and of one whose rows with letters are.
+PROBE, PARTS = re.compile(r"\bprobe\b"), "its parts"
+
+
+class Row(NamedTuple):
+    """What the page says of a requirement: its verdict, and whether it, or each of its parts, is measured."""
+
+    verdict: str
+    is_measured: bool
+    has_parts: bool
 
 
 def cells_of(line):
@@ -15,7 +24,7 @@ def cells_of(line):
 
 
 def read():
-    """By each requirement its verdict, and whether the page says that it is measured."""
+    """The rows by their requirements."""
     found, standard = {}, None
     for line in PAGE.read_text(encoding="utf-8").splitlines():
         if line.startswith("## "):
@@ -25,5 +34,5 @@ def read():
             name, *_, shown, verdict = cells_of(line)
             if verdict not in VERDICTS:
                 raise SystemExit(f"demo: {PAGE.name}: {standard} {name}: {verdict!r} is no verdict")
-            found[f"{standard} {name}"] = (verdict, bool(re.search(rf"\b{MEASURED}\b", shown)))
+            found[f"{standard} {name}"] = Row(verdict, bool(PROBE.search(shown)), shown == PARTS)
     return found

@@ -106,7 +106,7 @@ def bad_ones(fresh, report):
 def stopping(fresh, report):
     bench = fresh()
     found = priorities(bench.do("stop 0"))
-    report.note(bench, "9568 6.4 stop", "a stop advertises priority 0", f"priorities {found}", found == [0])
+    report.note(bench, "9568 6.4 stop a", "a stop advertises priority 0", f"priorities {found}", found == [0])
 
 
 BY_THE_TABLE = (starting, in_backup, in_active, bad_ones, stopping)
@@ -175,4 +175,4 @@ def ended(bench, report, box):
     bench.take(bench.cards["outside"])
     box.gate.send_signal(signal.SIGTERM)
     found = [frame[36] for frame in bench.listen("outside", INTERVAL) if is_advert(frame)]
-    report.note(bench, "9568 6.4 stop", "a gate that is ended advertises priority 0", f"priorities {found}", 0 in found)
+    report.note(bench, "9568 6.4 stop b", "a gate that is ended advertises priority 0", f"priorities {found}", 0 in found)
