@@ -30,14 +30,20 @@ pub(crate) const PACKET_NOTES: usize = 3;
 /// frame that tells an address.
 const ROUTER_FRAMES: usize = 4;
 
-/// So many packets may wait for pairs; taken again, they ask room for so much.
+/// So many packets may wait for pairs.
 pub(crate) const WAITING: usize = 64;
+
+/// The frames that they send at most when they are taken again.
 const WAITING_FRAMES: usize = PACKET_FRAMES * WAITING;
+
+/// The notes that they make at most then.
 const WAITING_NOTES: usize = PACKET_NOTES * WAITING;
 
-/// The records of a datagram ask room for so much: each for a note, a pair, and the packet whose wait
-/// it ends.
+/// The frames of a datagram's records at most: each may end the wait of a packet.
 const RECORD_FRAMES: usize = PACKET_FRAMES * RECORDS_IN_A_DATAGRAM;
+
+/// The notes of a datagram's records at most: each has one, beside those of the packet whose wait it
+/// ends.
 const RECORD_NOTES: usize = (1 + PACKET_NOTES) * RECORDS_IN_A_DATAGRAM;
 
 /// For so many new pairs a core is made ready, at most.

@@ -20,8 +20,10 @@ use crate::NoMemory;
 use crate::arrivals::take_reading;
 use crate::datagrams::take_datagram;
 use crate::ends::{end_other, end_tick};
-use crate::rooms::{END_ROOM, FRAME_ROOM, MOST_PAIRS, STOP_ROOM, WAITING};
-use crate::rooms::{datagram_room, list_for, make_ready, tick_room, word_room};
+use crate::rooms::{
+    END_ROOM, FRAME_ROOM, MOST_PAIRS, STOP_ROOM, WAITING, datagram_room, list_for, make_ready,
+    tick_room, word_room,
+};
 use crate::ticks::{take_stop, take_tick};
 use crate::turns::plug;
 use crate::words::take_word;
