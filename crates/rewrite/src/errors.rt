@@ -1,9 +1,8 @@
 //! ICMP errors about translated packets, outward, inward and back in (RFC 5508, section 4).
 ghost use Rattle.std.specs.Prelude.{◌≡◌, ◌≤◌, ◌-◌, ◌++◌, ◌↔◌, IsOk, OnOk, OnErr, length, take, drop};
 ghost use Rattle.ipv4.specs.Header.{header_of, payload_of, IsIpv4};
-ghost use Rattle.icmp.specs.Error.{IsError, inside_of};
+ghost use Rattle.icmp.specs.Error.{IsError};
 ghost use Rattle.icmp.specs.Packet.{IsErrorPacket, error_flow};
-ghost use Rattle.icmp.specs.Quoted.{IsQuoted};
 ghost use Rattle.rewrite.specs.PassedOn.{checksummed, inside_with, message_with, own_flow as flow_of_header, passed_on, error_from, error_to, error_outward_of, error_inward_of, error_hairpin_of};
 
 use crate::RewriteFault;
