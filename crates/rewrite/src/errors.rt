@@ -3,6 +3,7 @@ ghost use Rattle.std.specs.Prelude.{◌≡◌, ◌≤◌, ◌-◌, ◌++◌, ◌
 ghost use Rattle.ipv4.specs.Header.{header_of, payload_of, IsIpv4};
 ghost use Rattle.icmp.specs.Error.{IsError};
 ghost use Rattle.icmp.specs.Packet.{IsErrorPacket, error_flow};
+ghost use Rattle.rewrite.specs.Translated.{with_word};
 ghost use Rattle.rewrite.specs.PassedOn.{checksummed, inside_with, message_with, own_flow as flow_of_header, passed_on, error_from, error_to, error_outward_of, error_inward_of, error_hairpin_of};
 
 use crate::RewriteFault;
@@ -163,8 +164,16 @@ fn sum_message(message: &mut [u8])
     requires { 8 ≤ length message.old }
     ensures { message.new ≡ checksummed 2 message.old }
 {
+    write_checksum(message, 0);
+    let checksum = 65535 - sum(message);
+    write_checksum(message, checksum);
+}
+
+fn write_checksum(message: &mut [u8], checksum: u16)
+    requires { 8 ≤ length message.old }
+    ensures checksum { message.new ≡ with_word 2 checksum message.old }
+    ensures same_length { length message.new ≡ length message.old }
+{
     let mut view = ErrorViewMut::new(message);
-    view.set_checksum(0);
-    let checksum = 65535 - sum(view.bytes);
     view.set_checksum(checksum);
 }

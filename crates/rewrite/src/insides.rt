@@ -3,6 +3,7 @@
 ghost use Rattle.std.specs.Prelude.{◌≡◌, ◌≤◌, ◌+◌, length};
 ghost use Rattle.ipv4.specs.Header.{header_of};
 ghost use Rattle.icmp.specs.Quoted.{IsQuoted};
+ghost use Rattle.rewrite.specs.Translated.{with_word};
 ghost use Rattle.rewrite.specs.PassedOn.{with_long, checksummed, inside_header, ports_inside, moved_field, udp_inside, tcp_inside, behind_with, inside_with};
 
 use crate::flows::update_flow;
@@ -60,9 +61,17 @@ fn sum_header(header: &mut [u8])
     requires { 20 ≤ length header.old }
     ensures { header.new ≡ checksummed 10 header.old }
 {
+    write_header_checksum(header, 0);
+    let checksum = 65535 - sum(header);
+    write_header_checksum(header, checksum);
+}
+
+fn write_header_checksum(header: &mut [u8], checksum: u16)
+    requires { 20 ≤ length header.old }
+    ensures checksum { header.new ≡ with_word 10 checksum header.old }
+    ensures same_length { length header.new ≡ length header.old }
+{
     let mut view = Ipv4ViewMut::new(header);
-    view.set_checksum(0);
-    let checksum = 65535 - sum(view.bytes);
     view.set_checksum(checksum);
 }
 
