@@ -1,14 +1,13 @@
 -- Where no test fails, bytes are in the grammar, and the other way round.
-use Rattle.std.proofs.Common.{◌≡◌, ◌≤◌, ◌<◌, ℕ, ◌-◌, ◌%◌, Bool, true, false, not, ◌||◌, ◌==◌, nat_lt, List, length, take, drop, arith, ap, ◌∙◌, sym, subst, Option, Some, None, if◌then◌else◌, refl}
+use Rattle.std.proofs.Common.{◌≡◌, ◌≤◌, ◌<◌, ℕ, ◌-◌, ◌%◌, Bool, true, false, not, ◌||◌, ◌==◌, nat_lt, List, length, take, drop, arith, ap, ◌∙◌, sym, Some, None, if◌then◌else◌, refl}
 use Rattle.std.proofs.lemmas.Bool.Decides.{nat_tests}
 use Rattle.std.proofs.lemmas.List.{length-drop}
 use Rattle.std.proofs.Math.Seq.{take-length}
-use Rattle.sums.specs.Sum.{word_sum, IsRight}
+use Rattle.sums.specs.Sum.{word_sum}
 use Rattle.ipv4.specs.Header.{header_of, word_at, has_wrong_sum}
-use Rattle.icmp.specs.declared.faults.IcmpFault.{IcmpFault}
 use Rattle.icmp.specs.declared.faults.IcmpFault.TheVariants.{NotError, BadError}
 use Rattle.icmp.specs.Quoted.{IsQuoted, behind, has_no_packet}
-use Rattle.icmp.specs.Error.{IsError, message_of, inside_of, is_error, has_error_kind, has_no_error}
+use Rattle.icmp.specs.Error.{IsError, inside_of, has_error_kind, has_no_error}
 use Rattle.icmp.proofs.Grammar.{none-passes, passes-none}
 
 pub quoted-told : (packet : List ℕ) → has_no_packet packet ≡ false → IsQuoted packet

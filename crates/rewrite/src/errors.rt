@@ -97,11 +97,7 @@ fn sent_to(flow: ErrorFlow, to: Ip, port: Port) -> ErrorFlow
 
 /// Gives an error of the flow `old`, which its reader has found, the flow `new`. Bytes behind the
 /// message stay.
-pub fn rewrite_error(
-    packet: &mut [u8],
-    old: ErrorFlow,
-    new: ErrorFlow,
-) -> Result<(), RewriteFault>
+pub fn rewrite_error(packet: &mut [u8], old: ErrorFlow, new: ErrorFlow) -> Result<(), RewriteFault>
     requires ipv4 { IsIpv4 packet.old }
     requires error { IsErrorPacket packet.old }
     requires flow { old ≡ error_flow packet.old }

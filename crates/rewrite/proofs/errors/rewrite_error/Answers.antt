@@ -1,4 +1,4 @@
-use Rattle.std.proofs.Common.{◌-◌, List, ℕ, ap, ◌∙◌}
+use Rattle.std.proofs.Common.{◌-◌, ap, ◌∙◌}
 use Rattle.ipv4.specs.Header.{header_of}
 use Rattle.ipv4.specs.declared.flows.Flow.{Flow}
 use Rattle.icmp.specs.Packet.{error_flow}
