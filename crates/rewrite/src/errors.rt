@@ -44,8 +44,8 @@ pub fn error_inward(packet: &mut [u8], to: Ip, port: Port) -> Result<(), Rewrite
     rewrite_error(packet, old, sent_to(old, to, port))
 }
 
-/// Passes an error back in: to an address and port inside, about a packet that went from there to an
-/// address and port outside. Bytes behind the message stay.
+/// Passes an error back in: to an address and port inside, about a packet that went from there to
+/// an address and port outside. Bytes behind the message stay.
 pub fn error_hairpin(
     packet: &mut [u8],
     to: Ip,
