@@ -3,9 +3,12 @@ use Rattle.std.specs.Prelude.{ℕ, Bool, true, false, ◌≡◌, List, [], ◌�
 use Rattle.nat_types.specs.declared.gateways.Side.TheVariants.{Inside, Outside}
 use Rattle.sockets.specs.declared.places.Place.{Place}
 use Rattle.sockets.specs.declared.places.Place.TheVariants.{Link, Side, Operator}
+use Rattle.sockets.specs.declared.places.Ports.{Ports}
+use Rattle.sockets.specs.declared.ways.Way.{Way}
+use Rattle.sockets.specs.declared.ways.Ways.{Ways}
 use Rattle.sockets.specs.declared.channels.Channel.{Channel}
 use Rattle.sockets.specs.declared.sockets.Board.{Board}
-use Rattle.sockets.specs.FarEnds.{Arrival, head_of}
+use Rattle.sockets.specs.FarEnds.{Arrival, far_end_of, head_of}
 use Rattle.sockets.specs.Hearing.{Attached, Hears}
 use Rattle.sockets.specs.Traffic.{handed_on}
 
@@ -64,3 +67,15 @@ pub record SendsAt {T E : Type 0} (b b2 : Board) (place : Place) (result : Resul
   pub link : HandsOnWhere (is_link place) b.link b2.link result bytes
   pub inside : HandsOnWhere (is_inside place) b.inside b2.inside result bytes
   pub outside : HandsOnWhere (is_outside place) b.outside b2.outside result bytes
+
+-- just opened by its way: nothing has come
+pub record IsNew (way : Way) (ports : ℕ × ℕ) (a : Attached Channel) : Type 0 where
+  pub far : a.far ≡ far_end_of way ports
+  pub came : came a.conduit ≡ []
+  pub strangers : a.strangers ≡ 0
+
+-- each place has its own way, and its own ports where that is the loopback address
+pub record Opens (ways : Ways) (ports : Ports) (b : Board) : Type 0 where
+  pub link : IsNew ways.link ports.link b.link
+  pub inside : IsNew ways.inside ports.inside b.inside
+  pub outside : IsNew ways.outside ports.outside b.outside

@@ -1,6 +1,6 @@
 //! The sockets of a box, all waited for at once.
 ghost use Rattle.std.specs.Prelude.{◌≡◌, ◌≤◌, [], IfOk, IfSome};
-ghost use Rattle.sockets.specs.Boards.{HearsAt, IsAsBefore, SendsAt, Tells};
+ghost use Rattle.sockets.specs.Boards.{HearsAt, IsAsBefore, IsNew, Opens, SendsAt, Tells};
 ghost use Rattle.sockets.specs.Hearing.{told};
 
 use crate::channels::Channel;
@@ -70,7 +70,9 @@ impl Board {
         ways: &Ways,
         ports: Ports,
         mut control: Control,
-    ) -> Result<Board, SocketFault> {
+    ) -> Result<Board, SocketFault>
+        ensures { IfOk result (Opens ways.now ports) }
+    {
         let poll = Poll::new(net)?;
         control.register(poll.registry(), CONTROL)?;
         Ok(Board {
@@ -245,7 +247,9 @@ fn attached<R: Net>(
     number: usize,
     way: Way,
     ports: (u16, u16),
-) -> io::Result<Attachment<Channel>> {
+) -> io::Result<Attachment<Channel>>
+    ensures { IfOk result (IsNew way ports) }
+{
     let channel = Channel::open(net, poll.registry(), Token(number), way, ports)?;
     Ok(Attachment::new(channel, way.far_end(ports)))
 }
