@@ -23,7 +23,8 @@ pub struct FileDisk<F> {
 impl<F: Read + Write + Seek + OpenFile + Uncached + Drop> FileDisk<F> {
     /// The file, and the folder that has its name.
     pub fn new(file: F, folder: F) -> Self
-        ensures { result.failures ≡ 0 }
+        ensures file { result.file ≡ file }
+        ensures none_failed { result.failures ≡ 0 }
     {
         FileDisk {
             file,
@@ -40,6 +41,7 @@ impl<F: Read + Write + Seek + OpenFile + Uncached + Drop> FileDisk<F> {
     pub fn locked(file: F, folder: F) -> Result<Self, FileFault>
     where
         F: Lockable,
+        ensures locked { IfOk result (λ d. F.locked d.file) }
         ensures err { IfErr result IsLockFault }
         ensures none_failed { IfOk result (λ d. d.failures ≡ 0) }
     {

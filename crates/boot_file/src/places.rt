@@ -1,4 +1,7 @@
 // Where a boot file lies.
+ghost use Rattle.std.specs.Prelude.{IfErr, IfOk};
+ghost use Rattle.boot_file.specs.Locks.{IsOfOpening};
+
 use crate::{FileDisk, FileFault, Lockable, Uncached};
 use boot_store::init;
 use std::fs::{File, Files, OpenOptions};
@@ -43,6 +46,8 @@ where
 pub fn open<R: Files>(rt: &R, path: &str) -> Result<FileDisk<R::File>, FileFault>
 where
     R::File: Uncached + Lockable,
+    ensures locked { IfOk result (λ d. ⟦<R::File as Lockable>⟧.locked d.file) }
+    ensures err { IfErr result IsOfOpening }
 {
     let folder = File::open(rt, folder_of(path)).map_err(|_| FileFault::NoFile)?;
     let file = OpenOptions::new()

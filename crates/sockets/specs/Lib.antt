@@ -11,3 +11,4 @@ pub mod Traffic
 pub mod Kept
 pub mod Hearing
 pub mod Bringing
+pub mod Boards

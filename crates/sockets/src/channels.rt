@@ -1,5 +1,6 @@
 //! The system's sockets and inherited descriptors as conduits.
 ghost use Rattle.std.specs.Prelude.{◌≡◌, ◌≤◌, ◌++◌, IfOk, IfSome};
+ghost use Rattle.sockets.specs.Kept.{nothing_yet};
 
 use crate::traffic::Traffic;
 use crate::{Arrived, Conduit, End, Ends, LONGEST, Sender, Way, WireFault};
@@ -37,7 +38,9 @@ impl Channel {
         token: Token,
         way: Way,
         ports: (u16, u16),
-    ) -> io::Result<Channel> {
+    ) -> io::Result<Channel>
+        ensures { IfOk result (λ c. c.traffic ≡ nothing_yet) }
+    {
         let mut socket = match way {
             Way::Loopback => Socket::connected(net, Ends::on_loopback(ports))?,
             Way::Udp(ends) => Socket::connected(net, ends)?,

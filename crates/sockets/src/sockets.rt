@@ -1,5 +1,7 @@
 //! The sockets of a box, all waited for at once.
 ghost use Rattle.std.specs.Prelude.{◌≡◌, ◌≤◌, [], IfOk, IfSome};
+ghost use Rattle.sockets.specs.Boards.{HearsAt, IsAsBefore, IsNew, Opens, SendsAt, Tells};
+ghost use Rattle.sockets.specs.Hearing.{told};
 
 use crate::channels::Channel;
 use crate::wire::{LONGEST, Wire, WireFault};
@@ -68,7 +70,9 @@ impl Board {
         ways: &Ways,
         ports: Ports,
         mut control: Control,
-    ) -> Result<Board, SocketFault> {
+    ) -> Result<Board, SocketFault>
+        ensures { IfOk result (Opens ways.now ports) }
+    {
         let poll = Poll::new(net)?;
         control.register(poll.registry(), CONTROL)?;
         Ok(Board {
@@ -98,7 +102,9 @@ impl Board {
         }
     }
 
-    fn send(&mut self, to: Place, bytes: &[u8]) -> Result<(), WireFault> {
+    fn send(&mut self, to: Place, bytes: &[u8]) -> Result<(), WireFault>
+        ensures { SendsAt self.old self.new to result bytes.now }
+    {
         match to {
             Place::Link => self.link.send(bytes),
             Place::Side(Side::Inside) => self.inside.send(bytes),
@@ -109,7 +115,8 @@ impl Board {
 
     /// The next of a place.
     fn take(&mut self, place: Place, room: &mut [u8; LONGEST]) -> Result<Option<usize>, WireFault>
-        ensures { IfOk result (λ found. IfSome found (λ count. count ≤ 4096)) }
+        ensures hears { HearsAt self.old self.new place (told result room.new) }
+        ensures within { IfOk result (λ found. IfSome found (λ count. count ≤ 4096)) }
     {
         match place {
             Place::Link => self.link.take(room),
@@ -121,30 +128,58 @@ impl Board {
 
     /// The next that is there, of any place.
     fn next(&mut self, room: &mut [u8; LONGEST]) -> Result<Option<(Place, usize)>, WireFault>
-        ensures { IfOk result (λ found. IfSome found (λ datagram. datagram.1 ≤ 4096)) }
+        ensures hears { Tells self.old self.new result room.new }
+        ensures within { IfOk result (λ found. IfSome found (λ datagram. datagram.1 ≤ 4096)) }
     {
         for _ in 0..4 {
             let place = self.first;
             self.first = after(place);
-            if let Some(count) = self.take(place, room)? {
-                return Ok(Some((place, count)));
+            match self.take(place, room) {
+                Ok(Some(count)) => return Ok(Some((place, count))),
+                Ok(None) => {}
+                Err(fault) => return Err(fault),
             }
         }
         Ok(None)
     }
 
     /// Waits until a place has something, or `limit` has passed.
-    fn wait(&mut self, limit: Duration) -> io::Result<()> {
-        self.poll.poll(&mut self.events, Some(limit))?;
-        for event in &self.events {
-            match event.token() {
-                Token(0) => self.link.wake(),
-                Token(1) => self.inside.wake(),
-                Token(2) => self.outside.wake(),
-                _ => self.control.wake(),
-            }
+    fn wait(&mut self, limit: Duration) -> Result<(), WireFault>
+        ensures same { IsAsBefore self.old self.new }
+    {
+        if self.poll.poll(&mut self.events, Some(limit)).is_err() {
+            return Err(WireFault);
         }
+        wake(
+            &self.events,
+            &mut self.link,
+            &mut self.inside,
+            &mut self.outside,
+            &mut self.control,
+        );
         Ok(())
+    }
+
+    /// Hears the system, where there is time to wait and a place may have something already.
+    fn catch_up(&mut self, limit: Duration) -> Result<(), WireFault>
+        ensures same { IsAsBefore self.old self.new }
+    {
+        if limit > Duration::ZERO && self.is_any_ready() {
+            self.wait(Duration::ZERO)
+        } else {
+            Ok(())
+        }
+    }
+
+    /// Waits, but not where a place may still have something.
+    fn wait_for_any(&mut self, limit: Duration) -> Result<(), WireFault>
+        ensures same { IsAsBefore self.old self.new }
+    {
+        if self.is_any_ready() {
+            self.wait(Duration::ZERO)
+        } else {
+            self.wait(limit)
+        }
     }
 
     /// Whether a place may have something, as far as is known.
@@ -165,21 +200,43 @@ impl Board {
         limit: Duration,
         room: &mut [u8; LONGEST],
     ) -> Result<Option<(Place, usize)>, WireFault>
-        ensures { IfOk result (λ found. IfSome found (λ datagram. datagram.1 ≤ 4096)) }
+        ensures hears { Tells self.old self.new result room.new }
+        ensures within { IfOk result (λ found. IfSome found (λ datagram. datagram.1 ≤ 4096)) }
     {
-        if limit > Duration::ZERO && self.is_any_ready() {
-            self.wait(Duration::ZERO).map_err(|_| WireFault)?;
+        if self.catch_up(limit).is_err() {
+            return Err(WireFault);
         }
-        if let Some(found) = self.next(room)? {
-            return Ok(Some(found));
+        match self.next(room) {
+            Ok(Some(found)) => return Ok(Some(found)),
+            Ok(None) => {}
+            Err(fault) => return Err(fault),
         }
-        let limit = if self.is_any_ready() {
-            Duration::ZERO
-        } else {
-            limit
-        };
-        self.wait(limit).map_err(|_| WireFault)?;
+        if self.wait_for_any(limit).is_err() {
+            return Err(WireFault);
+        }
         self.next(room)
+    }
+}
+
+/// Tells the places that a wait has reported, by their tokens.
+fn wake(
+    events: &Events<Global>,
+    link: &mut Attachment<Channel>,
+    inside: &mut Attachment<Channel>,
+    outside: &mut Attachment<Channel>,
+    control: &mut Control,
+)
+    ensures link { link.new ≡ link.old }
+    ensures inside { inside.new ≡ inside.old }
+    ensures outside { outside.new ≡ outside.old }
+{
+    for event in events {
+        match event.token() {
+            Token(0) => link.wake(),
+            Token(1) => inside.wake(),
+            Token(2) => outside.wake(),
+            _ => control.wake(),
+        }
     }
 }
 
@@ -190,7 +247,9 @@ fn attached<R: Net>(
     number: usize,
     way: Way,
     ports: (u16, u16),
-) -> io::Result<Attachment<Channel>> {
+) -> io::Result<Attachment<Channel>>
+    ensures { IfOk result (IsNew way ports) }
+{
     let channel = Channel::open(net, poll.registry(), Token(number), way, ports)?;
     Ok(Attachment::new(channel, way.far_end(ports)))
 }
