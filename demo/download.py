@@ -6,34 +6,11 @@ import random
 import subprocess
 import time
 
-from flows import Flow
 from pair import FOLDER, PYTHON, SERVER
-from scene import scene, show
+from scene import Probe, scene, show
 
 MEGABYTE = 1 << 20
 HTTP_PORT = 80
-# The probe asks again after so many seconds.
-AGAIN = 0.02
-
-
-class Probe:
-    """One UDP flow that asks each 20 ms, and the longest time without an answer."""
-
-    def __init__(self, current):
-        self.flow = Flow(current.loop, 0, "udp", self.note)
-        self.flow.open(current.networks.host)
-        current.stack.callback(self.flow.close)
-        self.last = time.monotonic()
-        self.gap = 0.0
-
-    def note(self, _):
-        now = time.monotonic()
-        self.gap = max(self.gap, now - self.last)
-        self.last = now
-
-    def ask(self):
-        if time.monotonic() - self.flow.asked > AGAIN:
-            self.flow.ask()
 
 
 class Fetch:
@@ -86,7 +63,7 @@ def follow(current, probe, test, seconds):
 
 def download(options):
     size = options.megabytes * MEGABYTE
-    with scene(options.program, options.capture, bool(options.capture)) as current:
+    with scene(options, options.capture, bool(options.capture)) as current:
         checksum = publish(current, size)
         probe = Probe(current)
         follow(current, probe, lambda: probe.flow.answered > 0, 5)

@@ -68,24 +68,28 @@ class Namespace:
             check(LIBC.setns(home, CLONE_NEWNET))
             os.close(home)
 
-    def begin(self, parent):
-        """What a child does before its program begins."""
+    def begin(self, parent, user=None):
+        """What a child does before its program begins, as this user where one is named."""
         check(LIBC.setns(self.handle, CLONE_NEWNET))
         os.setpgrp()
+        if user:
+            os.setgroups([])
+            os.setresgid(user.pw_gid, user.pw_gid, user.pw_gid)
+            os.setresuid(user.pw_uid, user.pw_uid, user.pw_uid)
         signal.pthread_sigmask(signal.SIG_UNBLOCK, SIGNALS)
         LIBC.prctl(PR_SET_PDEATHSIG, signal.SIGKILL)
         if os.getppid() != parent:
             os._exit(1)
 
-    def start(self, *words, **options):
+    def start(self, *words, user=None, **options):
         """A program that runs in the namespace until it ends or `close` ends it."""
         parent = os.getpid()
         with undisturbed():
-            child = subprocess.Popen(words, preexec_fn=lambda: self.begin(parent), **options)
+            child = subprocess.Popen(words, preexec_fn=lambda: self.begin(parent, user), **options)
             self.children.append(child)
         return child
 
-    def run(self, *words, **options):
+    def run(self, *words, user=None, **options):
         """Runs a short program in the namespace to its end, which has to be a good one."""
         parent = os.getpid()
         line = " ".join(words)
@@ -93,7 +97,7 @@ class Namespace:
             with undisturbed():
                 done = subprocess.run(
                     words,
-                    preexec_fn=lambda: self.begin(parent),
+                    preexec_fn=lambda: self.begin(parent, user),
                     check=True,
                     capture_output=True,
                     text=True,

@@ -5,7 +5,7 @@ import socket
 import struct
 import time
 
-from joiner import card
+from cards import card
 from pair import SERVER, SIDES
 
 SO_ATTACH_FILTER = 26
@@ -102,6 +102,11 @@ class Observer:
 
         for sock in self.sockets.values():
             sock.setsockopt(socket.SOL_SOCKET, SO_TIMESTAMPNS, 1)
+
+    def link(self):
+        """A socket that sees the link, for the caller alone."""
+        with self.networks.boxes[0].space.entered():
+            return card("link")
 
     def join(self, loop):
         for side, sock in self.sockets.items():

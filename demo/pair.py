@@ -1,16 +1,16 @@
 """The two networks, and the two boxes between them."""
 
+import os
 import pathlib
+import pwd
 import shutil
 import signal
-import subprocess
 import sys
 import tempfile
 import time
 import tomllib
 
 from ending import undisturbed
-from joiner import LINK_ADDRESSES
 from namespaces import Namespace
 
 FOLDER = pathlib.Path(__file__).resolve().parent
@@ -21,7 +21,16 @@ HOSTS = ("192.168.1.10", "192.168.1.11", "192.168.1.12", "192.168.1.13")
 ROUTER = "192.0.2.254"
 BEYOND = "198.51.100.1"
 SERVER = "198.51.100.7"
+LINK_ADDRESSES = ("10.0.0.1", "10.0.0.2")
+LINK_PORT = 7000
 LINK_MTU = 4096
+# With --sides vxlan: the port, the number of box 0's tunnel of each side (10 more at box 1), and an MTU that leaves room
+# for a whole frame within.
+TUNNEL_PORT = 4789
+TUNNELS = {"inside": 11, "outside": 12}
+TUNNEL_MTU = 1600
+# The user that the boxes run as.
+USER = "nobody"
 # The rounds of a box that isn't to end by itself.
 ROUNDS = "4294967295"
 SIDES = ("inside", "outside")
@@ -37,34 +46,76 @@ def wait_until(test, seconds, what):
 
 
 class Box:
-    """One of the two boxes: a namespace with three interfaces, and `natpair gate`."""
+    """One of the two boxes: a namespace with three interfaces, and `natpair gate` on them."""
 
-    def __init__(self, number, program, folder):
+    def __init__(self, number, options, folder):
         self.number = number
-        self.program = str(program)
+        self.options = options
         self.space = Namespace(f"box {number}")
+        self.user = pwd.getpwnam(USER)
+        self.top = folder
         self.folder = folder / f"box{number}"
         self.folder.mkdir()
+        os.chown(self.folder, self.user.pw_uid, self.user.pw_gid)
         self.output = self.folder / "output"
         self.starts = 0
         self.boot = 0
         self.gate = None
-        self.joiner = None
 
     def natpair(self, *words):
-        return self.space.run(self.program, *words, cwd=self.folder)
+        program = str(self.top / "natpair")
+        return self.space.run(program, *words, cwd=self.folder, user=self.user)
 
     def join(self):
-        """Plugs the box in: its interfaces have no address and answer nothing by themselves."""
-        for name in SIDES:
-            self.space.ip("link", "set", "dev", name, "arp", "off")
+        """Sets its interfaces up."""
+        if self.options.sides == "descriptor":
+            for name in SIDES:
+                self.leave_to_natpair(name)
         self.space.ip("link", "set", "dev", "link", "mtu", str(LINK_MTU))
         address = f"{LINK_ADDRESSES[self.number]}/24"
         self.space.ip("addr", "add", address, "dev", "link")
-        words = (*PYTHON, str(FOLDER / "joiner.py"), str(SETTINGS), str(self.number))
-        self.joiner = self.space.start(*words, stdout=subprocess.PIPE)
-        if self.joiner.stdout.readline() != b"joined\n":
-            raise SystemExit(f"demo: the joiner of box {self.number} doesn't run")
+
+    def leave_to_natpair(self, name):
+        """The kernel has no address at an interface, and answers nothing there by itself."""
+        self.space.ip("link", "set", "dev", name, "arp", "off")
+
+    @property
+    def ends(self):
+        """The two ends of the link, this box's first."""
+        return ",".join(f"{LINK_ADDRESSES[n]}:{LINK_PORT}" for n in (self.number, 1 - self.number))
+
+    def tunnel(self, side):
+        """A side's tunnel: this box's address, the switch's, and the number."""
+        number = TUNNELS[side] + 10 * self.number
+        return f"10.9.{number}.1", f"10.9.{number}.9", number
+
+    def way(self, side):
+        own, other, number = self.tunnel(side)
+        return f"vxlan:{own}:{TUNNEL_PORT},{other}:{TUNNEL_PORT},{number}"
+
+    @property
+    def words(self):
+        """The words that start the box: the launcher's, and the gate's. By VXLAN no launcher is needed."""
+        number = str(self.number)
+        program, settings = str(self.top / "natpair"), str(self.top / SETTINGS.name)
+        launcher = [str(self.top / "natpair-launch"), "--inside", "inside", "--outside", "outside",
+                    "--boot-file", f"boot{number}", "--user", USER]
+        gate = [program, "gate", settings, "--id", number, "--rounds", ROUNDS]
+        if self.options.no_track:
+            gate.append("--no-track")
+        if self.options.sides == "vxlan":
+            ways = [word for side in SIDES for word in (f"--{side}", self.way(side))]
+            return (*gate, *ways, "--link", f"udp:{self.ends}")
+        if self.options.link == "udp":
+            gate += ["--link", f"udp:{self.ends}"]
+        else:
+            launcher += ["--link-udp", self.ends]
+        return (*launcher, "--", *gate)
+
+    @property
+    def starter(self):
+        """The user that starts the box: root where the launcher opens its interfaces, else its own."""
+        return self.user if self.options.sides == "vxlan" else None
 
     @property
     def log(self):
@@ -73,12 +124,12 @@ class Box:
 
     def start(self, *words):
         """Starts `natpair gate`, and waits until it has printed its boot number."""
-        number = str(self.number)
         self.starts += 1
-        line = (self.program, "gate", str(SETTINGS), "--id", number, "--rounds", ROUNDS, *words)
+        line = (*self.words, *words)
         with open(self.output, "wb") as output, open(self.log, "wb") as log:
-            self.gate = self.space.start(*line, cwd=self.folder, stdout=output, stderr=log)
-        wait_until(lambda: self.output.read_text().endswith("\n"), 10, f"{line} prints its boot")
+            self.gate = self.space.start(*line, user=self.starter, cwd=self.folder, stdout=output, stderr=log)
+        wait_until(lambda: self.output.read_text().endswith("\n"), 10,
+                   f"box {self.number} prints its boot: {self.log.read_text()}")
         self.boot = int(self.output.read_text().split()[1])
 
     def is_synced(self):
@@ -100,7 +151,11 @@ class Box:
     def peer_off(self, boot):
         """Says to this box that the other's boot of this number is off."""
         words = ("--id", str(self.number), "--boot", str(boot))
-        self.natpair("peer-off", str(SETTINGS), *words)
+        self.natpair("peer-off", str(self.top / SETTINGS.name), *words)
+
+    def side(self, side, word):
+        """Says to this box that a side of it is up, or down."""
+        self.natpair("side", str(self.top / SETTINGS.name), "--id", str(self.number), side, word)
 
     def dropped(self):
         """How often the box dropped something since its last start, by where and why."""
@@ -127,39 +182,37 @@ class Switch:
         self.space.ip("link", "set", "dev", port, "master", "bridge", "arp", "off")
 
 
-class Networks:
-    """Everything that is built: switches, hosts, router, server, boxes."""
+    def tunnel(self, port, box, side):
+        """A tunnel to a box, over a cable of its own; its far end is a port of the switch."""
+        own, other, number = box.tunnel(side)
+        self.space.cable(port, box.space, side)
+        for space, name, address in ((self.space, port, other), (box.space, side, own)):
+            space.ip("addr", "add", f"{address}/24", "dev", name)
+            space.ip("link", "set", "dev", name, "mtu", str(TUNNEL_MTU))
+        name = f"vx{number}"
+        self.space.ip("link", "add", "name", name, "type", "vxlan", "id", str(number), "local", other, "remote", own,
+                      "dstport", str(TUNNEL_PORT), "nolearning", "dev", port)
+        self.space.ip("link", "set", "dev", name, "mtu", "1500", "arp", "off", "up")
+        self.space.ip("link", "set", "dev", name, "master", "bridge")
 
-    def __init__(self, program, stack):
-        with undisturbed():
-            folder = pathlib.Path(tempfile.mkdtemp(prefix="natpair-demo-"))
-            stack.callback(shutil.rmtree, folder, ignore_errors=True)
-        self.folder = folder
-        with open(SETTINGS, "rb") as file:
-            self.settings = tomllib.load(file)
+
+class Surroundings:
+    """What lies around the boxes: a switch for each side, hosts, a router and a server beyond it."""
+
+    def __init__(self, settings):
+        self.settings = settings
         self.host = Namespace("host")
         self.router = Namespace("router")
         self.server = Namespace("server")
         self.switches = {side: Switch(side) for side in SIDES}
-        self.boxes = (Box(0, program, folder), Box(1, program, folder))
-        for space in self.spaces():
-            stack.callback(space.close)
-        self.plug()
-        self.address()
 
     def spaces(self):
-        ends = [self.host, self.router, self.server]
-        ends += [switch.space for switch in self.switches.values()]
-        return ends + [box.space for box in self.boxes]
+        return [self.host, self.router, self.server] + [each.space for each in self.switches.values()]
 
     def plug(self):
         self.switches["inside"].plug("host", self.host, "eth0")
         self.switches["outside"].plug("router", self.router, "eth0")
         self.router.cable("eth1", self.server, "eth0")
-        for box in self.boxes:
-            for side, switch in self.switches.items():
-                switch.plug(f"box{box.number}", box.space, side)
-        self.boxes[0].space.cable("link", self.boxes[1].space, "link")
 
     def address(self):
         """The hosts' addresses and routes. They know the virtual addresses alone."""
@@ -172,6 +225,39 @@ class Networks:
         self.router.sysctl("ipv4/ip_forward", 1)
         self.server.ip("addr", "add", f"{SERVER}/24", "dev", "eth0")
         self.server.ip("route", "add", "default", "via", BEYOND)
+
+
+class Networks(Surroundings):
+    """Everything that is built: the surroundings and both boxes."""
+
+    def __init__(self, options, stack):
+        with undisturbed():
+            folder = pathlib.Path(tempfile.mkdtemp(prefix="natpair-demo-"))
+            stack.callback(shutil.rmtree, folder, ignore_errors=True)
+        self.folder = folder
+        self.options = options
+        # The user of the boxes needn't be able to read the clone.
+        folder.chmod(0o711)
+        shutil.copy(options.program, folder / "natpair")
+        shutil.copy(options.launcher, folder / "natpair-launch")
+        shutil.copy(SETTINGS, folder)
+        with open(SETTINGS, "rb") as file:
+            super().__init__(tomllib.load(file))
+        self.boxes = (Box(0, options, folder), Box(1, options, folder))
+        for space in self.spaces() + [box.space for box in self.boxes]:
+            stack.callback(space.close)
+        self.plug()
+        self.join()
+        self.address()
+
+    def join(self):
+        for box in self.boxes:
+            for side, switch in self.switches.items():
+                if self.options.sides == "vxlan":
+                    switch.tunnel(f"box{box.number}", box, side)
+                else:
+                    switch.plug(f"box{box.number}", box.space, side)
+        self.boxes[0].space.cable("link", self.boxes[1].space, "link")
         for box in self.boxes:
             box.join()
 

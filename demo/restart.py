@@ -27,7 +27,7 @@ class Tally:
 
 
 def restart(options):
-    with scene(options.program, options.capture) as current:
+    with scene(options, options.capture) as current:
         flows = Flows(current.loop, current.networks.host, current.stack)
         tally = Tally(current, flows)
         flows.open(options.flows, WINDOW, 60)

@@ -5,21 +5,25 @@ import shutil
 import subprocess
 import time
 
-from flows import PORT, Loop
+from flows import PORT, Flow, Loop
 from observer import NAMES, Observer
 from pair import FOLDER, PYTHON, SERVER, Networks
 
 # So many of what was seen wrong are told one by one.
 TOLD = 10
+# The number of the probe's flow, and after how many seconds it asks again.
+PROBE = 1_000_000
+AGAIN = 0.02
 
 
 class Scene:
     """Both networks with the pair founded, box 1 synced, and box 0 Active on both sides."""
 
-    def __init__(self, program, stack, capture, all_frames):
+    def __init__(self, options, stack, capture, all_frames):
         self.stack = stack
+        self.options = options
         self.begun = time.monotonic()
-        self.networks = Networks(program, stack)
+        self.networks = Networks(options, stack)
         self.boxes = self.networks.boxes
         self.loop = Loop()
         if capture:
@@ -76,20 +80,41 @@ class Scene:
             self.say(f"box {box.number} since its last start: {counts or 'nothing dropped'}")
 
 
+class Probe:
+    """One UDP flow that asks each 20 ms, and the longest time without an answer."""
+
+    def __init__(self, current):
+        self.flow = Flow(current.loop, PROBE, "udp", self.note)
+        self.flow.open(current.networks.host)
+        current.stack.callback(self.flow.close)
+        self.last = time.monotonic()
+        self.gap = 0.0
+
+    def note(self, _):
+        now = time.monotonic()
+        self.gap = max(self.gap, now - self.last)
+        self.last = now
+
+    def ask(self):
+        if time.monotonic() - self.flow.asked > AGAIN:
+            self.flow.ask()
+
+
 @contextlib.contextmanager
-def scene(program, capture=None, all_frames=True):
+def scene(options, capture=None, all_frames=True):
     with contextlib.ExitStack() as stack:
-        yield Scene(program, stack, capture, all_frames)
+        yield Scene(options, stack, capture, all_frames)
 
 
-def show(title, heads, rows):
-    """Prints a table."""
+def show(title, heads, rows, left=False):
+    """Prints a table: its first column to the left, and all where it is one of words."""
     rows = [[str(cell) for cell in row] for row in rows]
     widths = [max(len(row[i]) for row in [heads, *rows]) for i in range(len(heads))]
     print(f"\n{title}")
     for row in [heads, ["-" * width for width in widths], *rows]:
         first = row[0].ljust(widths[0])
-        print("  ".join([first, *(c.rjust(w) for c, w in zip(row[1:], widths[1:]))]).rstrip())
+        rest = (c.ljust(w) if left else c.rjust(w) for c, w in zip(row[1:], widths[1:]))
+        print("  ".join([first, *rest]).rstrip())
     print(flush=True)
 
 

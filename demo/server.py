@@ -10,7 +10,7 @@ import selectors
 import socket
 import sys
 
-from joiner import ROOM, SO_RCVBUFFORCE
+from cards import ROOM, SO_RCVBUFFORCE
 from limits import many_files
 
 

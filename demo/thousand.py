@@ -61,7 +61,7 @@ def try_condition(options, name):
     condition = CONDITIONS[name]
     capture = options.capture and options.capture / name
     print(f"\n{condition.name}", flush=True)
-    with scene(options.program, capture) as current:
+    with scene(options, capture) as current:
         if condition.before:
             condition.before(current)
         flows = Flows(current.loop, current.networks.host, current.stack)

@@ -13,4 +13,10 @@ pub enum FileFault {
     /// It can't be written or synced. A part of it may be there.
     #[error("the file can't be written")]
     NotWritten,
+    /// Another process has it open.
+    #[error("the file is in use")]
+    InUse,
+    /// It can't be locked, so whether another process has it open isn't known.
+    #[error("the file can't be locked")]
+    NotLocked,
 }

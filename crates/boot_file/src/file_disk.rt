@@ -1,7 +1,9 @@
 // A boot file and its folder as the disk of boot_store.
-ghost use Rattle.std.specs.Prelude.{◌≡◌, ◌+◌, ◌≤◌, OnOk, OnErr, IfSome};
+ghost use Rattle.std.specs.Prelude.{◌≡◌, ◌+◌, ◌≤◌, OnOk, OnErr, IfErr, IfOk, IfSome};
+ghost use Rattle.boot_file.specs.Locks.{IsLockFault};
 
-use crate::Uncached;
+use crate::locks::not_locked;
+use crate::{FileFault, Lockable, Uncached};
 use boot_store::{DeviceFault, Disk, Failures};
 use std::fs::OpenFile;
 use std::io::{Read, Seek, SeekFrom, Write};
@@ -20,12 +22,31 @@ pub struct FileDisk<F> {
 
 impl<F: Read + Write + Seek + OpenFile + Uncached + Drop> FileDisk<F> {
     /// The file, and the folder that has its name.
-    pub fn new(file: F, folder: F) -> Self {
+    pub fn new(file: F, folder: F) -> Self
+        ensures file { result.file ≡ file }
+        ensures none_failed { result.failures ≡ 0 }
+    {
         FileDisk {
             file,
             folder,
             failures: Failures::none(),
         }
+    }
+
+    /// The same, of a file that is locked first.
+    ///
+    /// # Errors
+    /// InUse where another opening has it locked, NotLocked where the lock is refused. Nothing of it
+    /// has been read or written.
+    pub fn locked(file: F, folder: F) -> Result<Self, FileFault>
+    where
+        F: Lockable,
+        ensures locked { IfOk result (λ d. F.locked d.file) }
+        ensures err { IfErr result IsLockFault }
+        ensures none_failed { IfOk result (λ d. d.failures ≡ 0) }
+    {
+        file.try_lock().map_err(not_locked)?;
+        Ok(FileDisk::new(file, folder))
     }
 
     /// A call of the system failed.

@@ -1,13 +1,15 @@
-//! The boot file on a real disk: made new, written at an offset, read past the kernel's cache,
-//! synced with its folder.
+//! The boot file on a real disk: made new, locked for one process alone, written at an offset, read
+//! past the kernel's cache, synced with its folder.
 #![tactic(auto)]
 
 mod cache;
 mod faults;
 mod file_disk;
+mod locks;
 mod places;
 
 pub use cache::Uncached;
 pub use faults::FileFault;
 pub use file_disk::FileDisk;
+pub use locks::Lockable;
 pub use places::{create, open};

@@ -1,5 +1,8 @@
 // Where a boot file lies.
-use crate::{FileDisk, FileFault, Uncached};
+ghost use Rattle.std.specs.Prelude.{IfErr, IfOk};
+ghost use Rattle.boot_file.specs.Locks.{IsOfOpening};
+
+use crate::{FileDisk, FileFault, Lockable, Uncached};
 use boot_store::init;
 use std::fs::{File, Files, OpenOptions};
 use std::io::{self, ErrorKind};
@@ -34,10 +37,17 @@ where
     init(&mut FileDisk::new(file, folder)).map_err(|_| FileFault::NotWritten)
 }
 
-/// Opens a boot file.
+/// Opens a boot file, and locks it until what is answered is dropped. Nothing of it is read or
+/// written before it is locked.
+///
+/// # Errors
+/// InUse where another process, or another opening in this one, has it locked; NotLocked where the
+/// system refuses the lock. It is closed again then.
 pub fn open<R: Files>(rt: &R, path: &str) -> Result<FileDisk<R::File>, FileFault>
 where
-    R::File: Uncached,
+    R::File: Uncached + Lockable,
+    ensures locked { IfOk result (λ d. ⟦<R::File as Lockable>⟧.locked d.file) }
+    ensures err { IfErr result IsOfOpening }
 {
     let folder = File::open(rt, folder_of(path)).map_err(|_| FileFault::NoFile)?;
     let file = OpenOptions::new()
@@ -45,5 +55,5 @@ where
         .write(true)
         .open(rt, path)
         .map_err(|_| FileFault::NoFile)?;
-    Ok(FileDisk::new(file, folder))
+    FileDisk::locked(file, folder)
 }

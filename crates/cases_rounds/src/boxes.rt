@@ -1,6 +1,6 @@
 //! The two boxes, whose links lead to each other.
 
-use crate::memory::Letter;
+use crate::memory::{Letter, Outage};
 use crate::stations::Station;
 use anyhow::{Context, Result, bail};
 use nat_types::{GatewayId, Side};
@@ -29,6 +29,7 @@ fn place_named(name: &str) -> Result<Place> {
         "link" => Ok(Place::Link),
         "inside" => Ok(Place::Side(Side::Inside)),
         "outside" => Ok(Place::Side(Side::Outside)),
+        "operator" => Ok(Place::Operator),
         _ => bail!("no place of that name"),
     }
 }
@@ -90,21 +91,41 @@ impl Boxes {
         }
     }
 
-    /// A box runs so many rounds; what it sends on the link comes to the other, if that is there.
+    /// A place of a box fails in the next rounds from one to another.
+    pub(crate) fn fail(&mut self, id: &str, place: &str, first: u32, last: u32) -> Result<()> {
+        let place = place_named(place)?;
+        let station = self.station(id)?;
+        let outage = Outage { place, first, last };
+        station.wire.outages.push(outage)?;
+        Ok(())
+    }
+
+    /// A box that is there.
+    fn station(&mut self, id: &str) -> Result<&mut Station> {
+        let station = match id_named(id)? {
+            GatewayId::Zero => self.zero.as_mut(),
+            GatewayId::One => self.one.as_mut(),
+        };
+        station.context("the box isn't there")
+    }
+
+    /// A box runs so many rounds; what it sends on the link comes to the other, if that is there. What carriers tell of
+    /// sides counts where it tracks them.
     pub(crate) fn run<O: Write>(
         &mut self,
         id: &str,
         rounds: u32,
         pace: u64,
+        track: bool,
         output: &mut O,
     ) -> Result<()> {
         match id_named(id)? {
             GatewayId::Zero => {
-                let letters = run_on(&mut self.zero, rounds, pace, output)?;
+                let letters = run_on(&mut self.zero, rounds, pace, track, output)?;
                 pass_on(letters, &mut self.one)
             }
             GatewayId::One => {
-                let letters = run_on(&mut self.one, rounds, pace, output)?;
+                let letters = run_on(&mut self.one, rounds, pace, track, output)?;
                 pass_on(letters, &mut self.zero)
             }
         }
@@ -133,10 +154,11 @@ fn run_on<O: Write>(
     station: &mut Option<Station>,
     rounds: u32,
     pace: u64,
+    track: bool,
     output: &mut O,
 ) -> Result<Vec<Letter>> {
     let station = station.as_mut().context("the box isn't there")?;
-    let written = station.run(rounds, pace)?;
+    let written = station.run(rounds, pace, track)?;
     station.wire.show(output)?;
     output.write_all(written.as_slice())?;
     station.wire.sent_on_link()

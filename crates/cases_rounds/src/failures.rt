@@ -46,7 +46,7 @@ fn fail<O: Write>(station: &mut Station, what: &str, output: &mut O) -> Result<(
 
 /// A first round, after which both sides are Active. Then three frames come.
 fn make_ready(station: &mut Station) -> Result<()> {
-    station.run(1, 360)?;
+    station.run(1, 360, true)?;
     station.bring(Place::Side(Side::Inside), OUT)?;
     station.bring(Place::Side(Side::Outside), BACK)?;
     station.bring(Place::Side(Side::Inside), SHORT)
@@ -78,7 +78,7 @@ impl Write for Shut {
 /// The same rounds, where no line for the operator can be written. It is left out.
 fn run_untold<O: Write>(station: &mut Station, output: &mut O) -> Result<()> {
     let mut written = Vec::new(station.wire.alloc);
-    station.run_into(4, 360, &mut written, &mut Shut)?;
+    station.run_into(4, 360, true, &mut written, &mut Shut)?;
     station.wire.count(output)?;
     output.write_all(written.as_slice())?;
     Ok(())
@@ -87,7 +87,7 @@ fn run_untold<O: Write>(station: &mut Station, output: &mut O) -> Result<()> {
 /// The same rounds, where `end` can't be written. All else is done before.
 fn run_endless<O: Write>(station: &mut Station, output: &mut O) -> Result<()> {
     let mut errors = Vec::new(station.wire.alloc);
-    let ended = station.run_into(4, 360, &mut Shut, &mut errors);
+    let ended = station.run_into(4, 360, true, &mut Shut, &mut errors);
     station.wire.count(output)?;
     output.write_all(errors.as_slice())?;
     if ended.is_err() {

@@ -19,7 +19,9 @@ use std::io::{self, BufWriter, Write};
 /// - `I box N`, `I box N found`: box I starts in that boot, at moment 0
 /// - `I off`: box I isn't there any more
 /// - `I come PLACE HEX`, `I come PLACE HEX N`: a datagram comes to box I, or comes N times
-/// - `I rounds N M`: box I runs N rounds, at each of which M centiseconds more have passed
+/// - `I fails PLACE N M`: a place of box I fails in the rounds N to M of the next line of rounds
+/// - `I rounds N M`, `I rounds N M untracked`: box I runs N rounds, at each of which M centiseconds more have passed; it
+///   tracks the carriers of its interfaces, or doesn't
 /// - `fail N`: rounds of a box founded anew, the call N of whose wire fails
 /// - `fail errors`, `fail output`: the same rounds, where what they write there is refused
 fn act<O: Write>(
@@ -51,8 +53,18 @@ fn happen<O: Write>(
         ["off"] => boxes.switch_off(id),
         ["come", place, bytes] => boxes.bring(id, place, bytes, 1),
         ["come", place, bytes, count] => boxes.bring(id, place, bytes, count.parse::<u32>()?),
-        ["rounds", count, pace] => {
-            boxes.run(id, count.parse::<u32>()?, pace.parse::<u64>()?, output)
+        ["fails", place, first, last] => {
+            boxes.fail(id, place, first.parse::<u32>()?, last.parse::<u32>()?)
+        }
+        ["rounds", count, pace, tracking @ ..] => {
+            let track = tracking.is_empty();
+            boxes.run(
+                id,
+                count.parse::<u32>()?,
+                pace.parse::<u64>()?,
+                track,
+                output,
+            )
         }
         _ => bail!("no line of the cases"),
     }

@@ -17,6 +17,20 @@ pub(crate) struct Letter {
     pub(crate) bytes: Vec<u8>,
 }
 
+/// A place fails in some of the next rounds, of which the first has the number 1.
+#[derive(Clone, Copy, Debug, PartialEq, Eq)]
+pub(crate) struct Outage {
+    pub(crate) place: Place,
+    pub(crate) first: u32,
+    pub(crate) last: u32,
+}
+
+impl Outage {
+    fn is_of(&self, place: Place, round: u32) -> bool {
+        self.place == place && self.first <= round && round <= self.last
+    }
+}
+
 /// What is to come by a wire, and what was sent by it.
 #[derive(Drop)]
 pub(crate) struct Memory {
@@ -25,6 +39,10 @@ pub(crate) struct Memory {
     /// How many of them have come.
     pub(crate) come: usize,
     answers: Answers,
+    /// The places that fail in the next rounds.
+    pub(crate) outages: Vec<Outage>,
+    /// How often nothing more was there, which is once a round.
+    round: u32,
     pub(crate) sent: Vec<Letter>,
 }
 
@@ -35,8 +53,16 @@ impl Memory {
             coming: Vec::new(alloc),
             come: 0,
             answers: Answers::none(),
+            outages: Vec::new(alloc),
+            round: 0,
             sent: Vec::new(alloc),
         }
+    }
+
+    /// The next rounds begin: nothing was sent in them.
+    pub(crate) fn begin(&mut self) {
+        self.sent.clear();
+        self.round = 0;
     }
 
     /// Copies of what was sent on the link.
@@ -99,6 +125,7 @@ fn name_of(place: Place) -> &'static str {
         Place::Link => "link",
         Place::Side(Side::Inside) => "inside",
         Place::Side(Side::Outside) => "outside",
+        Place::Operator => "operator",
     }
 }
 
@@ -125,9 +152,22 @@ impl Wire for Memory {
         _limit: Duration,
         room: &mut [u8; LONGEST],
     ) -> Result<Option<(Place, usize)>, WireFault> {
-        let found = Ok(self.next(room));
+        let next = self.next(room);
+        if next.is_none() {
+            self.round = self.round.saturating_add(1);
+        }
+        let found = Ok(next);
         self.answers.keep(found, room);
         found
+    }
+
+    fn is_failing(&self, place: Place) -> bool {
+        for outage in &self.outages {
+            if outage.is_of(place, self.round) {
+                return true;
+            }
+        }
+        false
     }
 }
 

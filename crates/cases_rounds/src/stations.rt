@@ -50,6 +50,7 @@ impl Station {
 
     /// A datagram comes.
     pub(crate) fn bring(&mut self, place: Place, text: &str) -> Result<()> {
+        let text = if text == "-" { "" } else { text };
         let bytes = hex::decode(self.wire.alloc, text)?;
         self.wire.coming.push(Letter { place, bytes })?;
         Ok(())
@@ -57,10 +58,10 @@ impl Station {
 
     /// Runs so many rounds, at each of which so many centiseconds more have passed. What is written
     /// is the lines for the operator, and then the output.
-    pub(crate) fn run(&mut self, rounds: u32, pace: u64) -> Result<Vec<u8>> {
+    pub(crate) fn run(&mut self, rounds: u32, pace: u64, track: bool) -> Result<Vec<u8>> {
         let mut written = Vec::new(self.wire.alloc);
         let mut output = Vec::new(self.wire.alloc);
-        self.run_into(rounds, pace, &mut output, &mut written)?;
+        self.run_into(rounds, pace, track, &mut output, &mut written)?;
         written.write_all(output.as_slice())?;
         Ok(written)
     }
@@ -70,20 +71,24 @@ impl Station {
         &mut self,
         rounds: u32,
         pace: u64,
+        track: bool,
         output: &mut O,
         errors: &mut E,
     ) -> io::Result<()> {
         self.clock.pace = pace;
-        self.wire.sent.clear();
-        served(
+        self.wire.begin();
+        let ended = served(
             self.wire.alloc,
             &mut self.gateway,
             &mut self.wire,
             &mut self.clock,
             rounds,
+            track,
             output,
             errors,
-        )
+        );
+        self.wire.outages.clear();
+        ended
     }
 
     /// Runs rounds over a wire whose call with that number fails; writes as `run` does.
@@ -92,7 +97,7 @@ impl Station {
         let mut written = Vec::new(alloc);
         let mut output = Vec::new(alloc);
         self.clock.pace = pace;
-        self.wire.sent.clear();
+        self.wire.begin();
         let mut wire = Failing::new(&mut self.wire, number);
         served(
             alloc,
@@ -100,6 +105,7 @@ impl Station {
             &mut wire,
             &mut self.clock,
             rounds,
+            true,
             &mut output,
             &mut written,
         )?;
@@ -131,9 +137,10 @@ fn served<W: Wire, O: Write, E: Write>(
     wire: &mut W,
     clock: &mut Steps,
     rounds: u32,
+    track: bool,
     output: &mut O,
     errors: &mut E,
 ) -> io::Result<()> {
-    serve(alloc, gateway, wire, clock, rounds, output, errors)?;
+    serve(alloc, gateway, wire, clock, rounds, track, output, errors)?;
     Ok(())
 }

@@ -1,92 +1,71 @@
-//! Two boxes and a hub between their wires, on the loopback address: does what the lines of its cases say, and prints
-//! what comes of each.
+//! Ways and their texts, what a place hears over a conduit in memory, and boxes on loopback sockets: does what the
+//! lines of its cases say, and prints what comes of each.
 #![tactic(auto)]
 
 mod boxes;
+mod callers;
 mod failures;
+mod hearing;
+mod memory;
+mod speaking;
+mod texts;
 
-use anyhow::{Context, Result, bail};
+use anyhow::Result;
 use boxes::Boxes;
-use sockets::{LONGEST, Place, Sockets, Wire, WireFault};
+use hearing::Ear;
 use std::fs;
 use std::io::{self, BufWriter, Write};
-use std::time::Duration;
 
-/// How many seconds a datagram is waited for.
-const PATIENCE: u64 = 5;
+/// The lines of a file, and what each printed; a blank line and one that begins with `#` say nothing.
+fn lines_of(rt: &HostRuntime, name: &str) -> Result<String> {
+    Ok(fs::read_to_string(rt, name)?)
+}
 
-/// What a call to receive answers.
-fn receive<O: Write>(wire: &mut Sockets, limit: Duration, output: &mut O) -> Result<()> {
-    let mut room = [0; LONGEST];
-    match wire.receive(limit, &mut room) {
-        Ok(Some((place, count))) => {
-            let byte = room.first().context("no room")?;
-            writeln!(output, "  {place:?}: {count} bytes of {byte}")?;
+fn is_silent(line: &str) -> bool {
+    line.is_empty() || line.starts_with("#")
+}
+
+fn try_texts<O: Write>(rt: &HostRuntime, output: &mut O) -> Result<()> {
+    let cases = lines_of(rt, "texts.cases")?;
+    for case in cases.lines() {
+        if !is_silent(case) {
+            writeln!(output, "{case}")?;
+            texts::act(rt.alloc(), case, output)?;
         }
-        Ok(None) => writeln!(output, "  nothing")?,
-        Err(WireFault) => writeln!(output, "  failed")?,
     }
     Ok(())
 }
 
-/// Sends so many bytes.
-fn send<O: Write>(
-    rt: &HostRuntime,
-    wire: &mut Sockets,
-    words: &[&str],
-    output: &mut O,
-) -> Result<()> {
-    let [place, count, byte] = words else {
-        bail!("a datagram has a place, a length and a byte");
-    };
-    let bytes = vec![in rt.alloc(); byte.parse::<u8>()?; count.parse::<usize>()?]?;
-    match wire.send(boxes::place_named(place)?, bytes.as_slice()) {
-        Ok(()) => writeln!(output, "  sent")?,
-        Err(WireFault) => writeln!(output, "  failed")?,
+fn try_hearing<O: Write>(rt: &HostRuntime, output: &mut O) -> Result<()> {
+    let cases = lines_of(rt, "hearing.cases")?;
+    let mut ear = Ear::new(rt.alloc());
+    for case in cases.lines() {
+        if !is_silent(case) {
+            writeln!(output, "{case}")?;
+            ear.act(case, output)?;
+        }
     }
     Ok(())
 }
 
-/// Does what a line says.
-///
-/// - `NAME send PLACE COUNT BYTE`: the box sends so many of a byte
-/// - `NAME receive`, `NAME look`: the next datagram at the box, waited for or not
-/// - `NAME bind`: binds the box's ports once more
-/// - `fail N`: rounds of a wire whose call N fails
-fn act<O: Write>(
-    rt: &HostRuntime,
-    boxes: &mut Boxes,
-    words: &[&str],
-    output: &mut O,
-) -> Result<()> {
-    match words {
-        ["fail", number] => failures::rounds(boxes, number.parse::<u64>()?, output),
-        [name, "send", rest @ ..] => send(rt, boxes.named(name)?, rest, output),
-        [name, "receive"] => { receive(boxes.named(name)?, Duration::from_secs(PATIENCE), output) },
-        [name, "look"] => receive(boxes.named(name)?, Duration::ZERO, output),
-        [name, "bind"] => {
-            match Sockets::bind(rt, rt.alloc(), boxes::ports_named(name)?) {
-                Ok(_) => writeln!(output, "  bound")?,
-                Err(fault) => writeln!(output, "  {fault}")?,
-            }
-            Ok(())
+fn try_sockets<O: Write>(rt: &HostRuntime, output: &mut O) -> Result<()> {
+    let cases = lines_of(rt, "sockets.cases")?;
+    let mut boxes = Boxes::open(rt)?;
+    for case in cases.lines() {
+        if !is_silent(case) {
+            writeln!(output, "{case}")?;
+            let words = case.split(' ').collect::<Vec<&str>>(rt.alloc())?;
+            speaking::act(rt, &mut boxes, words.as_slice(), output)?;
         }
-        _ => bail!("no line of the cases"),
     }
+    Ok(())
 }
 
 fn main(rt: HostRuntime) -> Result<()> {
-    let cases = fs::read_to_string(&rt, "sockets.cases")?;
     let mut output = BufWriter::new(rt.alloc(), io::writer(&rt))?;
-    let mut boxes = Boxes::bind(&rt)?;
-    for case in cases.lines() {
-        if case.is_empty() || case.starts_with("#") {
-            continue;
-        }
-        writeln!(output, "{case}")?;
-        let words = case.split(' ').collect::<Vec<&str>>(rt.alloc())?;
-        act(&rt, &mut boxes, words.as_slice(), &mut output)?;
-    }
+    try_texts(&rt, &mut output)?;
+    try_hearing(&rt, &mut output)?;
+    try_sockets(&rt, &mut output)?;
     output.flush()?;
     Ok(())
 }

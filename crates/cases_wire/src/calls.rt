@@ -1,5 +1,5 @@
 //! Which call a case names.
-use crate::{datagrams, neighbours, packets};
+use crate::{datagrams, errors, neighbours, packets};
 use anyhow::{Result, bail};
 use cases_words::Given;
 
@@ -23,6 +23,11 @@ pub fn answer(given: &mut Given) -> Result<String> {
         "write-udp" => packets::write_udp(given),
         "write-tcp" => packets::write_tcp(given),
         call @ ("outward" | "inward" | "hairpin") => packets::rewritten(given, call),
+        "error" => errors::error(alloc, given.bytes()?.as_slice()),
+        "write-error" => errors::write_error(given),
+        call @ ("error-outward" | "error-inward" | "error-hairpin") => errors::passed_on(
+            given, call,
+        ),
         "arp" => neighbours::arp(alloc, given.bytes()?.as_slice()),
         call @ ("arp-request" | "arp-reply" | "gratuitous") => neighbours::arp_written(given, call),
         "is-learnable" => Ok(format!(in alloc; "{}", neighbours::is_learnt(given)?)?),

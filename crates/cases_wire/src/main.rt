@@ -5,6 +5,7 @@
 
 mod calls;
 mod datagrams;
+mod errors;
 mod neighbours;
 mod packets;
 

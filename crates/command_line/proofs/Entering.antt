@@ -69,8 +69,9 @@ required = refl
 all_named : AllNamed (built line_app).subs
 all_named =
     let gate : IsNamed (codes "gate") = inr (inr (inr (inl refl))) in
-    let peer_off : IsNamed (codes "peer-off") = inr (inr (inr (inr refl))) in
-    (inl refl, (inr (inl refl), (inr (inr (inl refl)), (gate, (peer_off, tt)))))
+    let peer_off : IsNamed (codes "peer-off") = inr (inr (inr (inr (inl refl)))) in
+    let side : IsNamed (codes "side") = inr (inr (inr (inr (inr refl)))) in
+    (inl refl, (inr (inl refl), (inr (inr (inl refl)), (gate, (peer_off, (side, tt))))))
 
 pub enters : (words : List Text) → Takes words → Enters (entered_by words)
 enters words taken = enters_of (built line_app) nothing_held (argument_words line_app words) required all_named taken

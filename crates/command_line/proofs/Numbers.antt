@@ -112,20 +112,35 @@ AllGive [] = Unit {0}
 AllGive (s ∷ rest) = Gives s × AllGive rest
 
 -- a command that wants no number
-gives_none : (s : Shape) → bytes_eq s.name (codes "gate") ≡ false → bytes_eq s.name (codes "peer-off") ≡ false → Gives s
-gives_none s gate peer_off words none = (λ is. apart s.name (codes "gate") gate refl is, λ is. apart s.name (codes "peer-off") peer_off refl is)
+gives_none : (s : Shape) → bytes_eq s.name (codes "gate") ≡ false → bytes_eq s.name (codes "peer-off") ≡ false → bytes_eq s.name (codes "side") ≡ false → Gives s
+gives_none s gate peer_off side words none =
+    (λ is. apart s.name (codes "gate") gate refl is, λ is. apart s.name (codes "peer-off") peer_off refl is, λ is. apart s.name (codes "side") side refl is)
 
 -- `gate` wants two
-gives_gate : (s : Shape) → bytes_eq s.name (codes "peer-off") ≡ false → AllFit (codes "id") (Signed (pos 0) (pos 1)) s.rules → Wants (codes "id") s.rules
+gives_gate : (s : Shape) → bytes_eq s.name (codes "peer-off") ≡ false → bytes_eq s.name (codes "side") ≡ false
+    → AllFit (codes "id") (Signed (pos 0) (pos 1)) s.rules → Wants (codes "id") s.rules
     → AllFit (codes "rounds") (Signed (pos 0) (pos 4294967295)) s.rules → Wants (codes "rounds") s.rules → Gives s
-gives_gate s other ids id rounds round words none =
-    (λ _. (id_there s words none ids id, rounds_there s words none rounds round), λ is. apart s.name (codes "peer-off") other refl is)
+gives_gate s peer_off side ids id rounds round words none = (
+  λ _. (id_there s words none ids id, rounds_there s words none rounds round),
+  λ is. apart s.name (codes "peer-off") peer_off refl is,
+  λ is. apart s.name (codes "side") side refl is,
+)
 
 -- `peer-off` too
-gives_peer_off : (s : Shape) → bytes_eq s.name (codes "gate") ≡ false → AllFit (codes "id") (Signed (pos 0) (pos 1)) s.rules → Wants (codes "id") s.rules
+gives_peer_off : (s : Shape) → bytes_eq s.name (codes "gate") ≡ false → bytes_eq s.name (codes "side") ≡ false
+    → AllFit (codes "id") (Signed (pos 0) (pos 1)) s.rules → Wants (codes "id") s.rules
     → AllFit (codes "boot") (Unsigned 0 18446744073709551615) s.rules → Wants (codes "boot") s.rules → Gives s
-gives_peer_off s other ids id boots boot words none =
-    (λ is. apart s.name (codes "gate") other refl is, λ _. (id_there s words none ids id, boot_there s words none boots boot))
+gives_peer_off s gate side ids id boots boot words none = (
+  λ is. apart s.name (codes "gate") gate refl is,
+  λ _. (id_there s words none ids id, boot_there s words none boots boot),
+  λ is. apart s.name (codes "side") side refl is,
+)
+
+-- `side` wants one
+gives_side : (s : Shape) → bytes_eq s.name (codes "gate") ≡ false → bytes_eq s.name (codes "peer-off") ≡ false
+    → AllFit (codes "id") (Signed (pos 0) (pos 1)) s.rules → Wants (codes "id") s.rules → Gives s
+gives_side s gate peer_off ids id words none =
+    (λ is. apart s.name (codes "gate") gate refl is, λ is. apart s.name (codes "peer-off") peer_off refl is, λ _. id_there s words none ids id)
 
 -- what two names that differ would give
 differs : {A : Type 0} → false ≡ true → A
@@ -133,17 +148,20 @@ differs e = cc
 
 all_give : AllGive (built line_app).subs
 all_give =
-    let gate = gives_gate _ refl
-    ((λ is. differs is), ((λ _. record { parser = refl; ignore_case = refl; action = refl; least = refl; defaults = refl }), ((λ is. differs is), ((λ is. differs is), ((λ is. differs is), tt)))))
+    let gate = gives_gate _ refl refl
+    ((λ is. differs is), ((λ _. record { parser = refl; ignore_case = refl; action = refl; least = refl; defaults = refl }), ((λ is. differs is), ((λ is. differs is), ((λ is. differs is), ((λ is. differs is), ((λ is. differs is), ((λ is. differs is), ((λ is. differs is), tt)))))))))
     (inr (inl (refl, refl)))
-    ((λ is. differs is), ((λ is. differs is), ((λ _. record { parser = refl; ignore_case = refl; action = refl; least = refl; defaults = refl }), ((λ is. differs is), ((λ is. differs is), tt)))))
+    ((λ is. differs is), ((λ is. differs is), ((λ _. record { parser = refl; ignore_case = refl; action = refl; least = refl; defaults = refl }), ((λ is. differs is), ((λ is. differs is), ((λ is. differs is), ((λ is. differs is), ((λ is. differs is), ((λ is. differs is), tt)))))))))
     (inr (inr (inl (refl, refl)))) in
-    let peer_off = gives_peer_off _ refl
+    let peer_off = gives_peer_off _ refl refl
     ((λ is. differs is), ((λ _. record { parser = refl; ignore_case = refl; action = refl; least = refl; defaults = refl }), ((λ is. differs is), ((λ is. differs is), tt))))
     (inr (inl (refl, refl)))
     ((λ is. differs is), ((λ is. differs is), ((λ _. record { parser = refl; ignore_case = refl; action = refl; least = refl; defaults = refl }), ((λ is. differs is), tt))))
     (inr (inr (inl (refl, refl)))) in
-    (gives_none _ refl refl, (gives_none _ refl refl, (gives_none _ refl refl, (gate, (peer_off, tt)))))
+    let side = gives_side _ refl refl
+    ((λ is. differs is), ((λ _. record { parser = refl; ignore_case = refl; action = refl; least = refl; defaults = refl }), ((λ is. differs is), ((λ is. differs is), ((λ is. differs is), tt)))))
+    (inr (inl (refl, refl))) in
+    (gives_none _ refl refl refl, (gives_none _ refl refl refl, (gives_none _ refl refl refl, (gate, (peer_off, (side, tt))))))
 
 found_gives : (p : Shape → Bool) (xs : List Shape) (s : Shape) → AllGive xs → find p xs ≡ Some s → Gives s
 found_gives p [] s all e = cc

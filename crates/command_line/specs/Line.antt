@@ -1,5 +1,5 @@
 -- The command line of natpair: what clap takes.
-use Rattle.std.specs.Prelude.{◌≡◌, ℕ, pos, true, List, [], codes, Option, Some}
+use Rattle.std.specs.Prelude.{◌≡◌, ℕ, pos, true, List, [], ◌∷◌, codes, Option, Some}
 use Rattle.clap.specs.Words.{App, Row, Rule, Text, fault_of, new_app, new_rule, subcommand_of, with_rule, with_subcommand}
 use Rattle.clap.specs.declared.builder.action.ArgAction.TheVariants.{Set, SetTrue}
 use Rattle.clap.specs.declared.builder.value_parser.ValueParser.TheVariants.{Signed, Unsigned}
@@ -30,6 +30,14 @@ rounds_rule = record (new_rule (codes "rounds")) {
 abbrev pub found_rule : Rule
 found_rule = record (new_rule (codes "found")) { long = Some (codes "found"); action = Some SetTrue }
 
+-- `--NAME WAY`, which is `loopback` where it is left out
+abbrev pub way_rule : List ℕ → Rule
+way_rule name = record (new_rule name) { long = Some name; action = Some Set; defaults = codes "loopback" ∷ [] }
+
+-- `--no-track`
+abbrev pub no_track_rule : Rule
+no_track_rule = record (new_rule (codes "no-track")) { long = Some (codes "no-track"); action = Some SetTrue }
+
 -- `--boot`, from 0 to 18446744073709551615
 abbrev pub boot_rule : Rule
 boot_rule = record (new_rule (codes "boot")) {
@@ -51,13 +59,27 @@ sim_app = with_rule (with_rule (new_app (codes "sim")) (file_rule (codes "SETTIN
 abbrev pub loop_app : App
 loop_app = with_rule (with_rule (new_app (codes "loop")) (file_rule (codes "SETTINGS"))) (file_rule (codes "SCRIPT"))
 
--- `gate SETTINGS --id I --rounds N [--found]`
+-- `[--inside WAY] [--outside WAY] [--link WAY]`
+abbrev pub with_ways : App → App
+with_ways a = with_rule (with_rule (with_rule a (way_rule (codes "inside"))) (way_rule (codes "outside"))) (way_rule (codes "link"))
+
+-- `--rounds N [--found]`
+abbrev pub with_rounds : App → App
+with_rounds a = with_rule (with_rule a rounds_rule) found_rule
+
+-- `gate SETTINGS --id I --rounds N [--found]`, the ways, `[--no-track]`
 abbrev pub gate_app : App
-gate_app = with_rule (with_rule (with_rule (with_rule (new_app (codes "gate")) (file_rule (codes "SETTINGS"))) id_rule) rounds_rule) found_rule
+gate_app = with_rule (with_ways (with_rounds (with_rule (with_rule (new_app (codes "gate")) (file_rule (codes "SETTINGS"))) id_rule))) no_track_rule
 
 -- `peer-off SETTINGS --id I --boot N`
 abbrev pub peer_off_app : App
 peer_off_app = with_rule (with_rule (with_rule (new_app (codes "peer-off")) (file_rule (codes "SETTINGS"))) id_rule) boot_rule
+
+-- `side SETTINGS --id I SIDE STATE`
+abbrev pub side_app : App
+side_app =
+    with_rule (with_rule (with_rule (with_rule (new_app (codes "side")) (file_rule (codes "SETTINGS"))) id_rule) (file_rule (codes "SIDE")))
+    (file_rule (codes "STATE"))
 
 -- the program, of which one command has to be named, and which has no command `help`
 abbrev pub top_app : App
@@ -68,8 +90,8 @@ top_app = record (new_app (codes "natpair")) {
 -- all commands
 abbrev pub line_app : App
 line_app =
-    with_subcommand (with_subcommand (with_subcommand (with_subcommand (with_subcommand top_app
-    init_app.top) sim_app.top) loop_app.top) gate_app.top) peer_off_app.top
+    with_subcommand (with_subcommand (with_subcommand (with_subcommand (with_subcommand (with_subcommand top_app
+    init_app.top) sim_app.top) loop_app.top) gate_app.top) peer_off_app.top) side_app.top
 
 -- `clap` takes the words for this command line: it finds no fault in them
 abbrev pub Takes : List Text → Type 0

@@ -1,16 +1,19 @@
 -- The task that words ask for.
-use Rattle.std.specs.Prelude.{◌≡◌, ◌⊎◌, ◌<◌, ◌^◌, ℕ, Bool, true, false, List, [], codes, Option, Some, None, unwrap_or, string_bytes}
+use Rattle.std.specs.Prelude.{◌≡◌, ◌⊎◌, ◌<◌, ◌^◌, ℕ, Bool, true, false, not, List, [], codes, Option, Some, None, unwrap_or, string_bytes, if◌then◌else◌}
 use Rattle.std.specs.Str.{bytes_eq}
 use Rattle.std.specs.Str.Parse.{IsNumeral, digits_value, without_leading_plus}
 use Rattle.std.specs.Option.{option_map_or}
 use Rattle.clap.specs.Words.{Row, Text, first_of, one_of}
 use Rattle.command_line.specs.Line.{Takes, entered_by}
 use Rattle.command_line.specs.declared.faults.LineFault.{LineFault}
-use Rattle.command_line.specs.declared.faults.LineFault.TheVariants.{Refused, FoundNeedsIdZero, NoMemory}
+use Rattle.command_line.specs.declared.faults.LineFault.TheVariants.{Refused, FoundNeedsIdZero, NoSide, NoMemory}
 use Rattle.nat_types.specs.declared.gateways.GatewayId.{GatewayId}
 use Rattle.nat_types.specs.declared.gateways.GatewayId.TheVariants.{Zero, One}
+use Rattle.nat_types.specs.declared.gateways.Side.{Side}
+use Rattle.nat_types.specs.declared.gateways.Side.TheVariants.{Inside, Outside}
+use Rattle.command_line.specs.declared.tasks.WayWords.{WayWords}
 use Rattle.command_line.specs.declared.tasks.Task.{Task}
-use Rattle.command_line.specs.declared.tasks.Task.TheVariants.{Init, Sim, Loop, Gate, PeerOff}
+use Rattle.command_line.specs.declared.tasks.Task.TheVariants as task
 
 -- the word at a name
 abbrev pub word_of : Text → List Row → Text
@@ -71,21 +74,43 @@ abbrev pub ReadsId : List Row → Option GatewayId → Type 0
 ReadsId rows (Some id) = IsId rows id
 ReadsId rows None = LacksId rows
 
+-- the words of the three ways
+pub record AreWays (rows : List Row) (ways : WayWords) : Type 0 where
+  pub inside : string_bytes ways.inside ≡ word_of (codes "inside") rows
+  pub outside : string_bytes ways.outside ≡ word_of (codes "outside") rows
+  pub link : string_bytes ways.link ≡ word_of (codes "link") rows
+
+-- one of two things by its word, if it is one of their words
+abbrev pub either_of : {X : Type 0} → Text → X → Text → X → Text → Option X
+either_of one x two y word = if bytes_eq word one then Some x else if bytes_eq word two then Some y else None
+
+-- the side that is named
+abbrev pub side_in : List Row → Option Side
+side_in rows = either_of (codes "inside") Inside (codes "outside") Outside (word_of (codes "SIDE") rows)
+
+-- whether it is said to be up
+abbrev pub state_in : List Row → Option Bool
+state_in rows = either_of (codes "up") true (codes "down") false (word_of (codes "STATE") rows)
+
 -- the task of a command, by the values that the words give it
 abbrev pub IsTask : Text → List Row → Task → Type 0
-IsTask name rows (Init file) = (name ≡ codes "init") × (string_bytes file ≡ word_of (codes "FILE") rows)
-IsTask name rows (Sim settings script) =
+IsTask name rows (task.Init file) = (name ≡ codes "init") × (string_bytes file ≡ word_of (codes "FILE") rows)
+IsTask name rows (task.Sim settings script) =
     (name ≡ codes "sim") × (string_bytes settings ≡ word_of (codes "SETTINGS") rows)
     × (string_bytes script ≡ word_of (codes "SCRIPT") rows)
-IsTask name rows (Loop settings script) =
+IsTask name rows (task.Loop settings script) =
     (name ≡ codes "loop") × (string_bytes settings ≡ word_of (codes "SETTINGS") rows)
     × (string_bytes script ≡ word_of (codes "SCRIPT") rows)
-IsTask name rows (Gate settings id rounds found) =
+IsTask name rows (task.Gate settings id rounds found ways track) =
     (name ≡ codes "gate") × (string_bytes settings ≡ word_of (codes "SETTINGS") rows)
     × IsId rows id × IsNumber 32 (codes "rounds") rows rounds × (found ≡ flag_of (codes "found") rows)
-IsTask name rows (PeerOff settings id boot) =
+    × AreWays rows ways × (track ≡ not (flag_of (codes "no-track") rows))
+IsTask name rows (task.PeerOff settings id boot) =
     (name ≡ codes "peer-off") × (string_bytes settings ≡ word_of (codes "SETTINGS") rows)
     × IsId rows id × IsNumber 64 (codes "boot") rows boot
+IsTask name rows (task.Side settings id side up) =
+    (name ≡ codes "side") × (string_bytes settings ≡ word_of (codes "SETTINGS") rows)
+    × IsId rows id × (side_in rows ≡ Some side) × (state_in rows ≡ Some up)
 
 -- the task of the command that words enter
 abbrev pub Asks : Option (Text × List Row) → Task → Type 0
@@ -94,15 +119,15 @@ Asks (Some entered) task = IsTask entered.0 entered.1 task
 
 -- only gateway 0 founds the pair
 abbrev pub FoundsAtZero : Task → Type 0
-FoundsAtZero (Gate settings id rounds found) = found ≡ true → id ≡ Zero
+FoundsAtZero (task.Gate settings id rounds found ways track) = found ≡ true → id ≡ Zero
 FoundsAtZero _ = Unit {0}
 
--- one of the five commands
+-- one of the six commands
 abbrev pub IsNamed : Text → Type 0
 IsNamed name = (name ≡ codes "init") ⊎ ((name ≡ codes "sim") ⊎ ((name ≡ codes "loop")
-    ⊎ ((name ≡ codes "gate") ⊎ (name ≡ codes "peer-off"))))
+    ⊎ ((name ≡ codes "gate") ⊎ ((name ≡ codes "peer-off") ⊎ (name ≡ codes "side")))))
 
--- one of the five commands was entered
+-- one of the six commands was entered
 abbrev pub Enters : Option (Text × List Row) → Type 0
 Enters None = ⊥
 Enters (Some entered) = IsNamed entered.0
@@ -117,7 +142,9 @@ HasNumbersOfPeerOff rows = HasId rows × HasNumber 64 (codes "boot") rows
 
 -- those of the command do
 abbrev pub HasNumbers : Text → List Row → Type 0
-HasNumbers name rows = (name ≡ codes "gate" → HasNumbersOfGate rows) × (name ≡ codes "peer-off" → HasNumbersOfPeerOff rows)
+HasNumbers name rows =
+    (name ≡ codes "gate" → HasNumbersOfGate rows) × (name ≡ codes "peer-off" → HasNumbersOfPeerOff rows)
+    × (name ≡ codes "side" → HasId rows)
 
 -- those of the command that was entered do
 abbrev pub Numbered : Option (Text × List Row) → Type 0
@@ -128,6 +155,16 @@ Numbered (Some entered) = HasNumbers entered.0 entered.1
 abbrev pub FoundsAtOne : List Row → Type 0
 FoundsAtOne rows = (flag_of (codes "found") rows ≡ true) × IsId rows One
 
+-- the words of `side` name no side, or don't say whether it is up or down
+abbrev pub LacksSide : List Row → Type 0
+LacksSide rows = (side_in rows ≡ None) ⊎ (state_in rows ≡ None)
+
+-- why the values of `side` are refused
+abbrev pub RefusesSide : List Row → LineFault → Type 0
+RefusesSide rows NoSide = LacksSide rows
+RefusesSide rows NoMemory = Unit {0}
+RefusesSide rows _ = ⊥
+
 -- why the values of `gate` are refused
 abbrev pub RefusesGate : List Row → LineFault → Type 0
 RefusesGate rows FoundNeedsIdZero = FoundsAtOne rows
@@ -137,6 +174,7 @@ RefusesGate rows _ = ⊥
 -- why a command with its values is refused
 abbrev pub RefusesValues : Text → List Row → LineFault → Type 0
 RefusesValues name rows FoundNeedsIdZero = (name ≡ codes "gate") × FoundsAtOne rows
+RefusesValues name rows NoSide = (name ≡ codes "side") × LacksSide rows
 RefusesValues name rows NoMemory = Unit {0}
 RefusesValues name rows _ = ⊥
 
@@ -150,8 +188,10 @@ RefusesWords words (Refused error) = ¬ (Takes words)
 RefusesWords words NoMemory = Unit {0}
 RefusesWords words _ = ⊥
 
--- why words are no task: `clap` refuses them; or it takes them, and `--found` stands beside `--id 1`; or for want of memory
+-- why words are no task: `clap` refuses them; or it takes them, and `--found` stands beside `--id 1`, or the words of
+-- `side` name none; or for want of memory
 abbrev pub Refuses : List Text → LineFault → Type 0
 Refuses words (Refused error) = ¬ (Takes words)
 Refuses words FoundNeedsIdZero = Takes words × RefusesEntered (entered_by words) FoundNeedsIdZero
+Refuses words NoSide = Takes words × RefusesEntered (entered_by words) NoSide
 Refuses words NoMemory = Unit {0}

@@ -2,11 +2,20 @@
 ghost use Rattle.std.specs.Prelude.{◌≡◌, codes, false, IfOk};
 ghost use Rattle.clap.specs.Words.{app_of, with_rule, with_subcommand};
 ghost use Rattle.clap.specs.declared.builder.command.Command.TheViews.{out-Command as fields_of};
-ghost use Rattle.command_line.specs.Line.{file_rule, id_rule, init_app, sim_app, loop_app, gate_app, peer_off_app, top_app, line_app};
+ghost use Rattle.command_line.specs.Line.{file_rule, id_rule, init_app, sim_app, loop_app, with_rounds, with_ways, gate_app, peer_off_app, side_app, top_app, line_app};
 
 use crate::options;
 use clap::Command;
 use std::alloc::{AllocError, Global};
+
+/// What stands below the options of `gate`.
+const GATE_HELP: &str = "A way is one of
+  loopback                          the ports of the settings, on this machine
+  descriptor:N                      an open descriptor, 3 or above, of a packet socket
+  vxlan:OWN:PORT,OTHER:PORT,NUMBER  VXLAN between two ends, NUMBER the network's
+  udp:OWN:PORT,OTHER:PORT           UDP between two ends
+
+Example: natpair gate S.toml --id 0 --rounds 1000 --found";
 
 fn init<'a>(alloc: Global) -> Result<Command<'a>, AllocError>
     ensures app { IfOk result (λ c. app_of c ≡ init_app) }
@@ -65,15 +74,40 @@ fn with_gateway<'a>(alloc: Global, command: Command<'a>) -> Result<Command<'a>, 
     command.arg(settings)?.arg(options::id(alloc))
 }
 
+/// The options `--rounds` and `--found`.
+fn with_rounds<'a>(alloc: Global, command: Command<'a>) -> Result<Command<'a>, AllocError>
+    requires local { (fields_of command).has_globals ≡ false }
+    ensures app { IfOk result (λ c. app_of c ≡ with_rounds (app_of command.entry)) }
+    ensures local { IfOk result (λ c. (fields_of c).has_globals ≡ false) }
+{
+    let command = command.arg(options::rounds(alloc))?;
+    command.arg(options::found(alloc))
+}
+
+/// The options `--inside`, `--outside` and `--link`.
+fn with_ways<'a>(alloc: Global, command: Command<'a>) -> Result<Command<'a>, AllocError>
+    requires local { (fields_of command).has_globals ≡ false }
+    ensures app { IfOk result (λ c. app_of c ≡ with_ways (app_of command.entry)) }
+    ensures local { IfOk result (λ c. (fields_of c).has_globals ≡ false) }
+{
+    let inside = "The inside's way, as in --inside descriptor:3";
+    let outside = "The outside's way, as in --outside descriptor:4";
+    let link = "The link's way, as in --link udp:10.1.0.1:7000,10.1.0.2:7000";
+    command
+        .arg(options::way(alloc, "inside", inside))?
+        .arg(options::way(alloc, "outside", outside))?
+        .arg(options::way(alloc, "link", link))
+}
+
 fn gate<'a>(alloc: Global) -> Result<Command<'a>, AllocError>
     ensures app { IfOk result (λ c. app_of c ≡ gate_app) }
     ensures local { IfOk result (λ c. (fields_of c).has_globals ≡ false) }
 {
     let command = Command::new(alloc, "gate")
-        .about("Runs one gateway on loopback sockets")
-        .after_help("Example: natpair gate S.toml --id 0 --rounds 1000 --found");
-    let command = with_gateway(alloc, command)?.arg(options::rounds(alloc))?;
-    command.arg(options::found(alloc))
+        .about("Runs one gateway: on interfaces, over VXLAN, or on loopback sockets")
+        .after_help(GATE_HELP);
+    let command = with_rounds(alloc, with_gateway(alloc, command)?)?;
+    with_ways(alloc, command)?.arg(options::no_track(alloc))
 }
 
 fn peer_off<'a>(alloc: Global) -> Result<Command<'a>, AllocError>
@@ -84,6 +118,18 @@ fn peer_off<'a>(alloc: Global) -> Result<Command<'a>, AllocError>
         .about("Tells a running gateway that a boot of its peer has ended for good")
         .after_help("Example: natpair peer-off S.toml --id 0 --boot 7");
     with_gateway(alloc, command)?.arg(options::boot(alloc))
+}
+
+fn side<'a>(alloc: Global) -> Result<Command<'a>, AllocError>
+    ensures app { IfOk result (λ c. app_of c ≡ side_app) }
+    ensures local { IfOk result (λ c. (fields_of c).has_globals ≡ false) }
+{
+    let command = Command::new(alloc, "side")
+        .about("Tells a running gateway that a side can't be used, or can be again")
+        .after_help("Example: natpair side S.toml --id 0 inside down");
+    let side = options::file(alloc, "SIDE", "The side, inside or outside");
+    let state = options::file(alloc, "STATE", "Whether it can be used, up or down");
+    with_gateway(alloc, command)?.arg(side)?.arg(state)
 }
 
 fn top<'a>(alloc: Global) -> Command<'a>
@@ -116,5 +162,6 @@ pub(crate) fn line<'a>(alloc: Global) -> Result<Command<'a>, AllocError>
     let line = with_command(line, sim(alloc)?)?;
     let line = with_command(line, repeat(alloc)?)?;
     let line = with_command(line, gate(alloc)?)?;
-    with_command(line, peer_off(alloc)?)
+    let line = with_command(line, peer_off(alloc)?)?;
+    with_command(line, side(alloc)?)
 }

@@ -12,6 +12,9 @@ pub enum LineFault {
     /// `--found` stands beside `--id 1`: only gateway 0 founds the pair.
     #[error("found needs id 0")]
     FoundNeedsIdZero,
+    /// The words of `side` name no side, or don't say whether its cable is in or out.
+    #[error("side needs inside or outside, and up or down")]
+    NoSide,
     #[error("memory 1 NoMemory")]
     NoMemory,
 }

@@ -1,7 +1,7 @@
 //! The options and words that the commands take.
 ghost use Rattle.std.specs.Prelude.{◌≡◌, false};
 ghost use Rattle.clap.specs.Words.{rule_of};
-ghost use Rattle.command_line.specs.Line.{file_rule, id_rule, rounds_rule, found_rule, boot_rule};
+ghost use Rattle.command_line.specs.Line.{file_rule, id_rule, rounds_rule, found_rule, way_rule, no_track_rule, boot_rule};
 
 use clap::builder::ValueParser;
 use clap::{Arg, ArgAction};
@@ -53,6 +53,29 @@ pub(crate) fn found<'a>(alloc: Global) -> Arg<'a>
         .long("found")
         .action(ArgAction::SetTrue)
         .help("Founds the pair: once, at gateway 0, with a new boot file")
+}
+
+/// `--NAME WAY`.
+pub(crate) fn way<'a>(alloc: Global, name: &'a str, help: &'a str) -> Arg<'a>
+    ensures rule { rule_of result ≡ way_rule name.entry.now }
+    ensures local { result.global ≡ false }
+{
+    Arg::new(alloc, name)
+        .long(name)
+        .action(ArgAction::Set)
+        .default_value("loopback")
+        .help(help)
+}
+
+/// `--no-track`.
+pub(crate) fn no_track<'a>(alloc: Global) -> Arg<'a>
+    ensures rule { rule_of result ≡ no_track_rule }
+    ensures local { result.global ≡ false }
+{
+    Arg::new(alloc, "no-track")
+        .long("no-track")
+        .action(ArgAction::SetTrue)
+        .help("Doesn't give way where an interface says that it has no carrier")
 }
 
 /// `--boot`, from 0 to 18446744073709551615.

@@ -2,14 +2,22 @@
 ghost use Rattle.std.specs.Prelude.{◌≡◌, codes, string_bytes, map, option_map, IfOk, IfErr};
 ghost use Rattle.clap.specs.Words.{found_of, rows_of, subcommand_rows_of};
 ghost use Rattle.command_line.specs.Line.{Takes, entered_by};
-ghost use Rattle.command_line.specs.Tasks.{IsTask, Asks, FoundsAtZero, IsNamed, Enters, HasNumbersOfGate, HasNumbersOfPeerOff, HasNumbers, Numbered, RefusesGate, RefusesValues, RefusesEntered, RefusesWords, Refuses};
+ghost use Rattle.command_line.specs.Tasks.{IsTask, Asks, AreWays, FoundsAtZero, IsNamed, Enters, HasId, HasNumbersOfGate, HasNumbersOfPeerOff, HasNumbers, Numbered, RefusesGate, RefusesSide, RefusesValues, RefusesEntered, RefusesWords, Refuses};
 
 use crate::faults::LineFault;
 use crate::{commands, values};
 use clap::ArgMatches;
 use clap::error::ErrorKind;
-use nat_types::GatewayId;
+use nat_types::{GatewayId, Side};
 use std::alloc::{AllocError, Global};
+
+/// The ways of a gateway's places, as they are written.
+#[derive(Debug, Drop)]
+pub struct WayWords {
+    pub inside: String,
+    pub outside: String,
+    pub link: String,
+}
 
 /// What a command line asks for. Files are paths.
 #[derive(Debug, Drop)]
@@ -20,10 +28,27 @@ pub enum Task {
     Sim(String, String),
     /// The same, with frames and datagrams sent through loopback sockets.
     Loop(String, String),
-    /// Run one gateway with settings, for so many rounds, and found the pair if so told.
-    Gate(String, GatewayId, u32, bool),
+    /// Run one gateway with settings, for so many rounds.
+    Gate {
+        settings: String,
+        id: GatewayId,
+        rounds: u32,
+        /// It founds the pair.
+        found: bool,
+        /// Its places are reached by these.
+        ways: WayWords,
+        /// It gives way by the carrier of its interfaces.
+        track: bool,
+    },
     /// Tell a running gateway that this boot of its peer has ended for good.
     PeerOff(String, GatewayId, u64),
+    /// Tell a running gateway that a side is up, or that it is down.
+    Side {
+        settings: String,
+        id: GatewayId,
+        side: Side,
+        up: bool,
+    },
 }
 
 fn init(alloc: Global, matches: &ArgMatches<'_>) -> Result<Task, AllocError>
@@ -49,6 +74,16 @@ fn repeat(alloc: Global, matches: &ArgMatches<'_>) -> Result<Task, AllocError>
     Ok(Task::Loop(settings, script))
 }
 
+fn ways(alloc: Global, matches: &ArgMatches<'_>) -> Result<WayWords, AllocError>
+    ensures { IfOk result (AreWays (rows_of (found_of matches.now))) }
+{
+    Ok(WayWords {
+        inside: values::word(alloc, matches, "inside")?,
+        outside: values::word(alloc, matches, "outside")?,
+        link: values::word(alloc, matches, "link")?,
+    })
+}
+
 /// The gateway to run: only gateway 0 founds the pair.
 fn gate(alloc: Global, matches: &ArgMatches<'_>) -> Result<Task, LineFault>
     requires { HasNumbersOfGate (rows_of (found_of matches.now)) }
@@ -67,7 +102,16 @@ fn gate(alloc: Global, matches: &ArgMatches<'_>) -> Result<Task, LineFault>
         unreachable!()
     };
     let settings = values::word(alloc, matches, "SETTINGS")?;
-    Ok(Task::Gate(settings, id, rounds, found))
+    let ways = ways(alloc, matches)?;
+    let track = !values::flag(matches, "no-track");
+    Ok(Task::Gate {
+        settings,
+        id,
+        rounds,
+        found,
+        ways,
+        track,
+    })
 }
 
 fn peer_off(alloc: Global, matches: &ArgMatches<'_>) -> Result<Task, AllocError>
@@ -82,6 +126,30 @@ fn peer_off(alloc: Global, matches: &ArgMatches<'_>) -> Result<Task, AllocError>
     };
     let settings = values::word(alloc, matches, "SETTINGS")?;
     Ok(Task::PeerOff(settings, id, boot))
+}
+
+fn side(alloc: Global, matches: &ArgMatches<'_>) -> Result<Task, LineFault>
+    requires { HasId (rows_of (found_of matches.now)) }
+    ensures ok { IfOk result (IsTask (codes "side") (rows_of (found_of matches.now))) }
+    ensures zero { IfOk result FoundsAtZero }
+    ensures err { IfErr result (RefusesSide (rows_of (found_of matches.now))) }
+{
+    let Some(id) = values::id(matches) else {
+        unreachable!()
+    };
+    let Some(side) = values::side(matches) else {
+        return Err(LineFault::NoSide);
+    };
+    let Some(up) = values::state(matches) else {
+        return Err(LineFault::NoSide);
+    };
+    let settings = values::word(alloc, matches, "SETTINGS")?;
+    Ok(Task::Side {
+        settings,
+        id,
+        side,
+        up,
+    })
 }
 
 /// The command that a line entered, and its values.
@@ -105,6 +173,7 @@ fn named(alloc: Global, name: &str, matches: &ArgMatches<'_>) -> Result<Task, Li
         "loop" => Ok(repeat(alloc, matches)?),
         "gate" => gate(alloc, matches),
         "peer-off" => Ok(peer_off(alloc, matches)?),
+        "side" => side(alloc, matches),
         _ => unreachable!(),
     }
 }
@@ -143,7 +212,8 @@ fn parse<'a>(alloc: Global, words: &'a [String]) -> Result<ArgMatches<'a>, LineF
 ///
 /// # Errors
 /// What `clap` refuses, a request for help too, is `Refused` with its text; of what it takes, `--found`
-/// beside `--id 1` is `FoundNeedsIdZero`. A number that is missing or beyond its limits `clap` refuses.
+/// beside `--id 1` is `FoundNeedsIdZero`, and words of `side` that name none are `NoSide`. A number that
+/// is missing or beyond its limits `clap` refuses.
 pub fn command(alloc: Global, words: &[String]) -> Result<Task, LineFault>
     ensures taken { IfOk result (λ _. Takes (map string_bytes words.now)) }
     ensures task { IfOk result (Asks (entered_by (map string_bytes words.now))) }

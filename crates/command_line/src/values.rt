@@ -1,11 +1,18 @@
 //! The values that clap gives the options of a command.
 ghost use Rattle.std.specs.Prelude.{◌≡◌, string_bytes, IfOk};
 ghost use Rattle.clap.specs.Words.{found_of, rows_of};
-ghost use Rattle.command_line.specs.Tasks.{word_of, flag_of, ReadsNumber, ReadsId};
+ghost use Rattle.command_line.specs.Tasks.{word_of, flag_of, side_in, state_in, ReadsNumber, ReadsId};
 
 use clap::ArgMatches;
-use nat_types::GatewayId;
+use nat_types::{GatewayId, Side};
 use std::alloc::{AllocError, Global};
+
+/// The text at a name; an empty one where none stands there.
+fn text<'a>(matches: &ArgMatches<'a>, name: &str) -> &'a str
+    ensures { result.now ≡ word_of name.now (rows_of (found_of matches.now)) }
+{
+    matches.get_str(name).unwrap_or("")
+}
 
 /// The word at a name.
 pub(crate) fn word(
@@ -16,8 +23,7 @@ pub(crate) fn word(
     ensures { IfOk result (λ s. string_bytes s
         ≡ word_of name.now (rows_of (found_of matches.now))) }
 {
-    let text = matches.get_str(name).unwrap_or("");
-    String::from_str(alloc, text)
+    String::from_str(alloc, text(matches, name))
 }
 
 /// Whether a flag is set.
@@ -58,6 +64,28 @@ pub(crate) fn id(matches: &ArgMatches<'_>) -> Option<GatewayId>
     match byte(matches, "id") {
         Some(0) => Some(GatewayId::Zero),
         Some(1) => Some(GatewayId::One),
+        _ => None,
+    }
+}
+
+/// The side that the word SIDE names.
+pub(crate) fn side(matches: &ArgMatches<'_>) -> Option<Side>
+    ensures { result ≡ side_in (rows_of (found_of matches.now)) }
+{
+    match text(matches, "SIDE") {
+        "inside" => Some(Side::Inside),
+        "outside" => Some(Side::Outside),
+        _ => None,
+    }
+}
+
+/// Whether the word STATE says that it is up.
+pub(crate) fn state(matches: &ArgMatches<'_>) -> Option<bool>
+    ensures { result ≡ state_in (rows_of (found_of matches.now)) }
+{
+    match text(matches, "STATE") {
+        "up" => Some(true),
+        "down" => Some(false),
         _ => None,
     }
 }

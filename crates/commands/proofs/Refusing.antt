@@ -1,16 +1,17 @@
 -- Words that are refused ask for no task.
-use Rattle.std.proofs.Common.{◌≡◌, ◌∙◌, ℕ, List, Option, Some, None, true, false, codes, ap, refl, sym}
+use Rattle.std.proofs.Common.{◌≡◌, ◌∙◌, inl, inr, ℕ, List, Option, Some, None, Bool, true, false, codes, ap, refl, sym}
 use Rattle.std.specs.Str.{bytes_eq}
 use Rattle.clap.specs.Words.{Row, Text, one_of}
 use Rattle.nat_types.specs.declared.gateways.GatewayId.{GatewayId}
 use Rattle.nat_types.specs.declared.gateways.GatewayId.TheVariants.{Zero, One}
+use Rattle.nat_types.specs.declared.gateways.Side.{Side}
 use Rattle.command_line.specs.Faults.{status_of}
 use Rattle.command_line.specs.Line.{Takes, entered_by}
-use Rattle.command_line.specs.Tasks.{Asks, FoundsAtOne, FoundsAtZero, IsId, IsReadFrom, IsTask, RefusesEntered, Refuses, number_of}
+use Rattle.command_line.specs.Tasks.{Asks, FoundsAtOne, FoundsAtZero, IsId, IsReadFrom, IsTask, LacksSide, RefusesEntered, Refuses, number_of, side_in, state_in}
 use Rattle.command_line.specs.declared.faults.LineFault.{LineFault}
-use Rattle.command_line.specs.declared.faults.LineFault.TheVariants.{Refused, FoundNeedsIdZero, NoMemory}
+use Rattle.command_line.specs.declared.faults.LineFault.TheVariants.{Refused, FoundNeedsIdZero, NoSide, NoMemory}
 use Rattle.command_line.specs.declared.tasks.Task.{Task}
-use Rattle.command_line.specs.declared.tasks.Task.TheVariants.{Init, Sim, Loop, Gate, PeerOff}
+use Rattle.command_line.specs.declared.tasks.Task.TheVariants as kind
 use Rattle.commands.specs.Words.{AreRefused}
 
 -- a text is read as one number
@@ -40,22 +41,48 @@ gates_differ bad = cc
 -- no task founds the pair at gateway 1
 none_at_one : (name : Text) (rows : List Row) (task : Task) → IsTask name rows task → FoundsAtZero task
     → name ≡ codes "gate" → FoundsAtOne rows → ⊥
-none_at_one name rows (Init file) t zero gate one = apart (codes "init") (codes "gate") refl refl (sym t.0 ∙ gate)
-none_at_one name rows (Sim settings script) t zero gate one = apart (codes "sim") (codes "gate") refl refl (sym t.0 ∙ gate)
-none_at_one name rows (Loop settings script) t zero gate one = apart (codes "loop") (codes "gate") refl refl (sym t.0 ∙ gate)
-none_at_one name rows (PeerOff settings id boot) t zero gate one = apart (codes "peer-off") (codes "gate") refl refl (sym t.0 ∙ gate)
-none_at_one name rows (Gate settings id rounds found) t zero gate one =
+none_at_one name rows (kind.Init file) t zero gate one = apart (codes "init") (codes "gate") refl refl (sym t.0 ∙ gate)
+none_at_one name rows (kind.Sim settings script) t zero gate one = apart (codes "sim") (codes "gate") refl refl (sym t.0 ∙ gate)
+none_at_one name rows (kind.Loop settings script) t zero gate one = apart (codes "loop") (codes "gate") refl refl (sym t.0 ∙ gate)
+none_at_one name rows (kind.PeerOff settings id boot) t zero gate one = apart (codes "peer-off") (codes "gate") refl refl (sym t.0 ∙ gate)
+none_at_one name rows (kind.Side settings id side up) t zero gate one = apart (codes "side") (codes "gate") refl refl (sym t.0 ∙ gate)
+none_at_one name rows (kind.Gate settings id rounds found ways track) t zero gate one =
     gates_differ (sym (zero (t.4 ∙ one.0)) ∙ one_id rows id One t.2 one.1)
+
+-- what is found isn't missing
+there : {X : Type 0} (o : Option X) (x : X) → o ≡ Some x → o ≡ None → ⊥
+there o x is none =
+    let bad : Some x ≡ None = sym is ∙ none in
+    cc
+
+-- a task of `side` has both its words
+has_side : (rows : List Row) (side : Side) (up : Bool) → side_in rows ≡ Some side → state_in rows ≡ Some up → LacksSide rows → ⊥
+has_side rows side up one two (inl none) = there (side_in rows) side one none
+has_side rows side up one two (inr none) = there (state_in rows) up two none
+
+-- no task lacks them
+none_lacks : (name : Text) (rows : List Row) (task : Task) → IsTask name rows task → name ≡ codes "side" → LacksSide rows → ⊥
+none_lacks name rows (kind.Init file) t is lacks = apart (codes "init") (codes "side") refl refl (sym t.0 ∙ is)
+none_lacks name rows (kind.Sim settings script) t is lacks = apart (codes "sim") (codes "side") refl refl (sym t.0 ∙ is)
+none_lacks name rows (kind.Loop settings script) t is lacks = apart (codes "loop") (codes "side") refl refl (sym t.0 ∙ is)
+none_lacks name rows (kind.Gate settings id rounds found ways track) t is lacks = apart (codes "gate") (codes "side") refl refl (sym t.0 ∙ is)
+none_lacks name rows (kind.PeerOff settings id boot) t is lacks = apart (codes "peer-off") (codes "side") refl refl (sym t.0 ∙ is)
+none_lacks name rows (kind.Side settings id side up) t is lacks = has_side rows side up t.3 t.4 lacks
 
 none_entered : (entered : Option (Text × List Row)) (task : Task) → Asks entered task → FoundsAtZero task
     → RefusesEntered entered FoundNeedsIdZero → ⊥
 none_entered None task asks zero refused = asks
 none_entered (Some e) task asks zero refused = none_at_one e.0 e.1 task asks zero refused.0 refused.1
 
+none_sided : (entered : Option (Text × List Row)) (task : Task) → Asks entered task → RefusesEntered entered NoSide → ⊥
+none_sided None task asks refused = asks
+none_sided (Some e) task asks refused = none_lacks e.0 e.1 task asks refused.0 refused.1
+
 not_both : (words : List Text) (task : Task) (fault : LineFault) → Takes words → Asks (entered_by words) task → FoundsAtZero task
     → Refuses words fault → status_of fault ≡ 2 → ⊥
 not_both words task (Refused error) takes asks zero refused is = refused takes
 not_both words task FoundNeedsIdZero takes asks zero refused is = none_entered (entered_by words) task asks zero refused.1
+not_both words task NoSide takes asks zero refused is = none_sided (entered_by words) task asks refused.1
 not_both words task NoMemory takes asks zero refused is = cc
 
 pub not_refused : {A : Type 0} (words : List Text) (task : Task) → Takes words → Asks (entered_by words) task → FoundsAtZero task

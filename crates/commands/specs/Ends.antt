@@ -3,7 +3,7 @@ use Rattle.std.specs.Prelude.{◌≡◌, ℕ, List, Option}
 use Rattle.command_line.specs.Line.{entered_by}
 use Rattle.command_line.specs.Tasks.{Asks}
 use Rattle.command_line.specs.declared.tasks.Task.{Task}
-use Rattle.command_line.specs.declared.tasks.Task.TheVariants.{Init, Sim, Loop, Gate, PeerOff}
+use Rattle.command_line.specs.declared.tasks.Task.TheVariants as task
 use Rattle.settings.specs.declared.whole.Settings.{Settings}
 use Rattle.gate.specs.Served.{HasServed}
 use Rattle.simulation.specs.Status.{RunsScript}
@@ -35,11 +35,12 @@ pub record HasLoop (status : ℕ) : Type 0 where
 -- The status with which a task is done, and what was printed until then: that of such a run for `sim` and `loop`, 0 for
 -- the others; and for `gate` there are a start and its rounds.
 abbrev pub Ends : Option (List ℕ) → Option (List ℕ) → Task → ℕ → Type 0
-Ends before after (Init file) status = status ≡ 0
-Ends before after (Sim settings script) status = HasRun status
-Ends before after (Loop settings script) status = HasLoop status
-Ends before after (Gate settings id rounds found) status = (status ≡ 0) × HasServed id rounds found before after
-Ends before after (PeerOff settings id boot) status = status ≡ 0
+Ends before after (task.Init file) status = status ≡ 0
+Ends before after (task.Sim settings script) status = HasRun status
+Ends before after (task.Loop settings script) status = HasLoop status
+Ends before after (task.Gate settings id rounds found ways track) status = (status ≡ 0) × HasServed id rounds found track before after
+Ends before after (task.PeerOff settings id boot) status = status ≡ 0
+Ends before after (task.Side settings id side up) status = status ≡ 0
 
 -- the words ask for a task that is done with this status
 pub record AreDone (words : List (List ℕ)) (before after : Option (List ℕ)) (status : ℕ) : Type 0 where

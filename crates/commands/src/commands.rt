@@ -7,10 +7,10 @@ ghost use Rattle.commands.specs.Words.{AreRefused};
 ghost use Rattle.commands.specs.Ends.{AreDone, Ends, HasLoop, HasRun};
 
 use crate::meters::Meter;
-use boot_file::Uncached;
-use command_line::{Task, command};
+use boot_file::{Lockable, Uncached};
+use command_line::{Task, WayWords, command};
 use faults::{Fault, text_of};
-use gate::{gate, init, peer_off};
+use gate::{Start, WayTexts, gate, init, peer_off, side};
 use loopback::Loopback;
 use loopback_run::run_loop;
 use simulation::{simulate, simulate_watched};
@@ -37,7 +37,7 @@ pub fn act<R: Files + Net + Clock + RandomSource + AllocGlobal, O: Write, E: Wri
     errors: &mut E,
 ) -> u8
 where
-    R::File: Uncached,
+    R::File: Uncached + Lockable,
     ensures usage { result ≡ 2 → AreRefused (map string_bytes words.now) }
     ensures refused { AreRefused (map string_bytes words.now)
         → (result ≡ 1) ⊎ (result ≡ 2) }
@@ -60,7 +60,7 @@ fn done<R: Files + Net + Clock + RandomSource + AllocGlobal, O: Write, E: Write>
     errors: &mut E,
 ) -> u8
 where
-    R::File: Uncached,
+    R::File: Uncached + Lockable,
     requires found { FoundsAtZero task.now }
     ensures status { (result ≡ 0) ⊎ ((result ≡ 1) ⊎ (result ≡ 3)) }
     ensures done { (result ≡ 0) ⊎ (result ≡ 3)
@@ -75,11 +75,40 @@ where
         Task::Loop(settings, script) => {
             repeat(rt, settings.as_str(), script.as_str(), output, errors)
         }
-        Task::Gate(settings, id, rounds, found) => {
-            let (settings, id) = (settings.as_str(), *id);
-            gate(rt, settings, id, *rounds, *found, output, errors)
+        Task::Gate {
+            settings,
+            id,
+            rounds,
+            found,
+            ways,
+            track,
+        } => {
+            let start = Start {
+                settings: settings.as_str(),
+                id: *id,
+                rounds: *rounds,
+                found: *found,
+                ways: texts_of(ways),
+                track: *track,
+            };
+            gate(rt, &start, output, errors)
         }
         Task::PeerOff(settings, id, boot) => peer_off(rt, settings.as_str(), *id, *boot, errors),
+        Task::Side {
+            settings,
+            id,
+            side: told,
+            up,
+        } => side(rt, settings.as_str(), *id, *told, *up, errors),
+    }
+}
+
+/// The texts of ways.
+fn texts_of(words: &WayWords) -> WayTexts<'_> {
+    WayTexts {
+        inside: words.inside.as_str(),
+        outside: words.outside.as_str(),
+        link: words.link.as_str(),
     }
 }
 

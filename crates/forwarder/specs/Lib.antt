@@ -1,2 +1,3 @@
 pub mod Forwarder
 pub mod Plans
+pub mod Room

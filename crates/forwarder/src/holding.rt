@@ -1,8 +1,7 @@
 //! What a packet does that has to wait, or is dropped.
-ghost use Rattle.std.specs.Prelude.{◌≡◌, ◌≤◌, ◌+◌, true, min};
+ghost use Rattle.std.specs.Prelude.{◌≡◌, ◌≤◌, ◌+◌, true};
 ghost use Rattle.waiting.specs.declared.waits.WaitsFor.TheVariants.{Hop, Pair};
 ghost use Rattle.waiting.specs.Packets.{has_place};
-ghost use Rattle.link.specs.Link.{free_places};
 ghost use Rattle.spec_binding.specs.WellFormed.{IsWellFormedEndpoint};
 ghost use Rattle.packet_rules.specs.Arping.{request_frame};
 ghost use Rattle.packet_rules.specs.Flows.{source_of};
@@ -11,6 +10,7 @@ ghost use Rattle.spec_step.specs.Parts.{asked_again, by_plan, by_refusal, framed
 ghost use Rattle.spec_step.specs.Shown.{station_on};
 ghost use Rattle.spec_step.specs.Verdict.{exit_by};
 ghost use Rattle.forwarder.specs.Forwarder.{scene_on, shown_of};
+ghost use Rattle.forwarder.specs.Room.{HasRoomFor, LeavesPlaces, Spends, a_wish, an_ask, frames_alone};
 
 use crate::Forwarder;
 use crate::outgoing::Request;
@@ -52,16 +52,11 @@ impl Forwarder {
         requires since { copy.since ≡ self.old.moment }
         requires asked { copy.asked ≡ self.old.moment }
         requires wait { copy.wait ≡ Hop (exit_by by) hop }
-        requires frames { 1 ≤ page.old.room.frames }
-        requires notes { 1 ≤ page.old.room.notes }
-        requires ready { 1 ≤ self.old.core.table.ready }
+        requires room { HasRoomFor an_ask self.old page.old }
         ensures scene { scene_on self.new page.new
             ≡ by_plan (scene_on self.old page.old) copy.side copy.bytes flow (Ask by hop) }
-        ensures frames { page.old.room.frames ≤ page.new.room.frames + 1 }
-        ensures datagrams { page.new.room.datagrams ≡ page.old.room.datagrams }
-        ensures notes { page.old.room.notes ≤ page.new.room.notes + 1 }
-        ensures ready { self.old.core.table.ready ≤ self.new.core.table.ready + 1 }
-        ensures places { min 64 (free_places self.old.link) ≤ free_places self.new.link }
+        ensures spends { Spends an_ask self.old page.old self.new page.new }
+        ensures places { LeavesPlaces self.old self.new }
     {
         self.wish_for(page, flow, &by);
         self.kept.keep(copy);
@@ -71,13 +66,11 @@ impl Forwarder {
     /// A packet is dropped because another one waits for its next hop, which is asked for again
     /// where it wasn't just now.
     pub(crate) fn ask_again(&mut self, page: &mut OutputBuffer, by: Translation, hop: Ip)
-        requires frames { 1 ≤ page.old.room.frames }
+        requires room { HasRoomFor (frames_alone 1) self.old page.old }
         ensures scene { scene_on self.new page.new
             ≡ asked_again (scene_on self.old page.old) (exit_by by) hop }
         ensures rest { self.new ≡ record self.old { kept = self.new.kept } }
-        ensures frames { page.old.room.frames ≤ page.new.room.frames + 1 }
-        ensures datagrams { page.new.room.datagrams ≡ page.old.room.datagrams }
-        ensures notes { page.new.room.notes ≡ page.old.room.notes }
+        ensures spends { Spends (frames_alone 1) self.old page.old self.new page.new }
     {
         let exit = by.direction().exit();
         if self.kept.ask_again(WaitsFor::Hop(exit, hop), self.moment) {
@@ -92,16 +85,12 @@ impl Forwarder {
         requires since { copy.since ≡ self.old.moment }
         requires asked { copy.asked ≡ self.old.moment }
         requires wait { copy.wait ≡ Pair (source_of flow) }
-        requires notes { 1 ≤ page.old.room.notes }
-        requires ready { 1 ≤ self.old.core.table.ready }
+        requires room { HasRoomFor a_wish self.old page.old }
         ensures scene { scene_on self.new page.new
             ≡ by_plan (scene_on self.old page.old) copy.side copy.bytes flow
             (WaitFor (source_of flow)) }
-        ensures frames { page.new.room.frames ≡ page.old.room.frames }
-        ensures datagrams { page.new.room.datagrams ≡ page.old.room.datagrams }
-        ensures notes { page.old.room.notes ≤ page.new.room.notes + 1 }
-        ensures ready { self.old.core.table.ready ≤ self.new.core.table.ready + 1 }
-        ensures places { min 64 (free_places self.old.link) ≤ free_places self.new.link }
+        ensures spends { Spends a_wish self.old page.old self.new page.new }
+        ensures places { LeavesPlaces self.old self.new }
     {
         self.wish(page, source_endpoint(flow));
         self.kept.keep(copy);
@@ -110,15 +99,11 @@ impl Forwarder {
     /// A packet is dropped; where no port was free, ports may be asked for.
     pub(crate) fn refuse(&mut self, page: &mut OutputBuffer, flow: Flow, reason: Reason)
         requires formed { IsWellFormedEndpoint (source_of flow) }
-        requires notes { 1 ≤ page.old.room.notes }
-        requires ready { 1 ≤ self.old.core.table.ready }
+        requires room { HasRoomFor a_wish self.old page.old }
         ensures scene { scene_on self.new page.new
             ≡ by_refusal (scene_on self.old page.old) flow reason }
-        ensures frames { page.new.room.frames ≡ page.old.room.frames }
-        ensures datagrams { page.new.room.datagrams ≡ page.old.room.datagrams }
-        ensures notes { page.old.room.notes ≤ page.new.room.notes + 1 }
-        ensures ready { self.old.core.table.ready ≤ self.new.core.table.ready + 1 }
-        ensures places { min 64 (free_places self.old.link) ≤ free_places self.new.link }
+        ensures spends { Spends a_wish self.old page.old self.new page.new }
+        ensures places { LeavesPlaces self.old self.new }
     {
         match reason {
             Reason::NoPort => self.wish(page, source_endpoint(flow)),

@@ -1,11 +1,11 @@
 //! What is done with ARP packets (RFC 826).
-ghost use Rattle.std.specs.Prelude.{◌≡◌, ◌≤◌, ◌+◌, min};
-ghost use Rattle.link.specs.Link.{free_places};
+ghost use Rattle.std.specs.Prelude.{◌≡◌};
 ghost use Rattle.packet_rules.specs.Arping.{is_learnable};
 ghost use Rattle.interfaces.specs.Stations.{after_arp};
 ghost use Rattle.spec_step.specs.Parts.{answered_by, arp_taken};
 ghost use Rattle.spec_step.specs.Shown.{station_on, with_station};
 ghost use Rattle.forwarder.specs.Forwarder.{scene_on, shown_of};
+ghost use Rattle.forwarder.specs.Room.{HasRoomFor, LeavesPlaces, Spends, an_arp_packet, frames_alone};
 
 use crate::Forwarder;
 use crate::outgoing::ArpReply;
@@ -35,12 +35,10 @@ impl Forwarder {
 
     /// A packet is answered, where there is a hardware address to answer with.
     fn answer(&self, page: &mut OutputBuffer, side: Side, packet: &ArpPacket, mac: Option<Mac>)
-        requires frames { 1 ≤ page.old.room.frames }
+        requires room { HasRoomFor (frames_alone 1) self.now page.old }
         ensures scene { scene_on self.now page.new
             ≡ answered_by (scene_on self.now page.old) side packet.now mac }
-        ensures frames { page.old.room.frames ≤ page.new.room.frames + 1 }
-        ensures datagrams { page.new.room.datagrams ≡ page.old.room.datagrams }
-        ensures notes { page.new.room.notes ≡ page.old.room.notes }
+        ensures spends { Spends (frames_alone 1) self.now page.old self.now page.new }
     {
         match mac {
             Some(mac) => {
@@ -59,16 +57,11 @@ impl Forwarder {
     /// Takes an ARP packet: its sender may be learnt, a request is answered, and the packet that
     /// waited for that host is taken again.
     pub fn take_arp(&mut self, page: &mut OutputBuffer, side: Side, packet: &ArpPacket)
-        requires frames { 3 ≤ page.old.room.frames }
-        requires notes { 3 ≤ page.old.room.notes }
-        requires ready { 1 ≤ self.old.core.table.ready }
+        requires room { HasRoomFor an_arp_packet self.old page.old }
         ensures scene { scene_on self.new page.new
             ≡ arp_taken (scene_on self.old page.old) side packet.now }
-        ensures frames { page.old.room.frames ≤ page.new.room.frames + 3 }
-        ensures datagrams { page.new.room.datagrams ≡ page.old.room.datagrams }
-        ensures notes { page.old.room.notes ≤ page.new.room.notes + 3 }
-        ensures ready { self.old.core.table.ready ≤ self.new.core.table.ready + 1 }
-        ensures places { min 64 (free_places self.old.link) ≤ free_places self.new.link }
+        ensures spends { Spends an_arp_packet self.old page.old self.new page.new }
+        ensures places { LeavesPlaces self.old self.new }
     {
         let mac = self.station(side).answer_to(packet);
         let learns = self.hear(side, packet);

@@ -1,5 +1,6 @@
 //! The frames that are made where they are to lie.
 ghost use Rattle.std.specs.Prelude.{◌≡◌, length, ⊤};
+ghost use Rattle.arp.specs.declared.packets.TheConstants.{ARP_FRAME};
 ghost use Rattle.packet_rules.specs.Arping.{answer_frame, request_frame};
 ghost use Rattle.packet_rules.specs.Flows.{packet_in};
 ghost use Rattle.packet_rules.specs.Frames.{sent_frame};
@@ -54,7 +55,7 @@ impl WriteBytes for Request {
 
     ghost bytes = { λ f. request_frame f.network f.hop };
 
-    ghost room = { λ _. 42 };
+    ghost room = { λ _. ARP_FRAME };
 
     fn write_to(&self, list: &mut Vec<u8>) {
         append_request(list, &self.network, self.hop);
@@ -75,7 +76,7 @@ impl WriteBytes for ArpReply<'_> {
 
     ghost bytes = { λ f. answer_frame f.network f.packet.now f.mac };
 
-    ghost room = { λ _. 42 };
+    ghost room = { λ _. ARP_FRAME };
 
     fn write_to(&self, list: &mut Vec<u8>) {
         append_answer(list, &self.network, self.packet, self.mac);

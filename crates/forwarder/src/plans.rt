@@ -39,7 +39,7 @@ fn leaving(own: Pair, other: Option<Pair>) -> Translation
 
 impl Forwarder {
     /// What a packet is to do, or why it is dropped; nothing changes.
-    pub fn plan(&self, side: Side, flow: Flow) -> Result<Plan, Reason>
+    pub(crate) fn plan(&self, side: Side, flow: Flow) -> Result<Plan, Reason>
         ensures { result ≡ plan_of (shown_of self.now) side flow }
     {
         match direction_taken(&self.networks, side, flow.source, flow.destination) {

@@ -1,6 +1,5 @@
 //! What a packet does that goes on at once.
-ghost use Rattle.std.specs.Prelude.{◌≡◌, ◌≤◌, ◌+◌, min, if◌then◌else◌};
-ghost use Rattle.link.specs.Link.{free_places};
+ghost use Rattle.std.specs.Prelude.{◌≡◌, ◌≤◌, ◌+◌, if◌then◌else◌};
 ghost use Rattle.activity.specs.declared.packets.Packet.{Packet as Carried};
 ghost use Rattle.spec_binding.specs.WellFormed.{IsWellFormedEndpoint};
 ghost use Rattle.arp.specs.Neighbours.{asks_at};
@@ -15,6 +14,8 @@ ghost use Rattle.spec_step.specs.Parts.{remote, wanted_by, wanted_for};
 ghost use Rattle.spec_step.specs.Verdict.{exit_by};
 ghost use Rattle.spec_step.specs.Shown.{station_on};
 ghost use Rattle.forwarder.specs.Forwarder.{scene_on, shown_of};
+ghost use Rattle.forwarder.specs.Room.{HasRoomFor, LeavesPlaces, Spends, a_packet, a_wish};
+ghost use Rattle.forwarder.specs.Room.{frames_alone, notes_alone};
 
 use crate::Forwarder;
 use crate::outgoing::SentFrame;
@@ -35,16 +36,13 @@ impl Forwarder {
     /// An endpoint wants a port: its pair is made or proposed, or ports are asked for.
     pub(crate) fn wish(&mut self, page: &mut OutputBuffer, endpoint: Endpoint)
         requires formed { IsWellFormedEndpoint endpoint }
-        requires ready { 1 ≤ self.old.core.table.ready }
-        requires notes { 1 ≤ page.old.room.notes }
+        requires room { HasRoomFor a_wish self.old page.old }
         ensures scene { scene_on self.new page.new
             ≡ wanted_by (scene_on self.old page.old) endpoint }
         ensures rest { self.new
             ≡ record self.old { core = self.new.core; link = self.new.link } }
-        ensures room { page.new.room ≡ record page.old.room { notes = page.new.room.notes } }
-        ensures notes { page.old.room.notes ≤ page.new.room.notes + 1 }
-        ensures ready { self.old.core.table.ready ≤ self.new.core.table.ready + 1 }
-        ensures places { min 64 (free_places self.old.link) ≤ free_places self.new.link }
+        ensures spends { Spends a_wish self.old page.old self.new page.new }
+        ensures places { LeavesPlaces self.old self.new }
     {
         let mut notes = page.take_notes();
         let _given = self
@@ -56,16 +54,13 @@ impl Forwarder {
     /// A packet of the inside has its endpoint's pair made, or proposed, or a port wanted for it.
     pub(crate) fn wish_for(&mut self, page: &mut OutputBuffer, flow: Flow, by: &Translation)
         requires formed { IsWellFormedEndpoint (source_of flow) }
-        requires ready { 1 ≤ self.old.core.table.ready }
-        requires notes { 1 ≤ page.old.room.notes }
+        requires room { HasRoomFor a_wish self.old page.old }
         ensures scene { scene_on self.new page.new
             ≡ wanted_for (scene_on self.old page.old) flow by.now }
         ensures rest { self.new
             ≡ record self.old { core = self.new.core; link = self.new.link } }
-        ensures room { page.new.room ≡ record page.old.room { notes = page.new.room.notes } }
-        ensures notes { page.old.room.notes ≤ page.new.room.notes + 1 }
-        ensures ready { self.old.core.table.ready ≤ self.new.core.table.ready + 1 }
-        ensures places { min 64 (free_places self.old.link) ≤ free_places self.new.link }
+        ensures spends { Spends a_wish self.old page.old self.new page.new }
+        ensures places { LeavesPlaces self.old self.new }
     {
         match by {
             Translation::Outward(_) | Translation::Hairpin(_, _) => {
@@ -84,7 +79,7 @@ impl Forwarder {
         way: Way,
         flags: TcpFlags,
     )
-        requires notes { 1 ≤ page.old.room.notes }
+        requires room { HasRoomFor (notes_alone 1) self.old page.old }
         ensures scene { let packet : Carried = record {
           remote = remote;
           way = way;
@@ -93,9 +88,7 @@ impl Forwarder {
         }
             in scene_on self.new page.new ≡ carried_by (scene_on self.old page.old) key packet }
         ensures rest { self.new ≡ record self.old { core = self.new.core } }
-        ensures ready { self.new.core.table.ready ≡ self.old.core.table.ready }
-        ensures room { page.new.room ≡ record page.old.room { notes = page.new.room.notes } }
-        ensures notes { page.old.room.notes ≤ page.new.room.notes + 1 }
+        ensures spends { Spends (notes_alone 1) self.old page.old self.new page.new }
     {
         let mut notes = page.take_notes();
         self.core
@@ -105,13 +98,11 @@ impl Forwarder {
 
     /// The packet as the sessions of its pairs see it: of a hairpin the sender's pair first.
     fn carry_all(&mut self, page: &mut OutputBuffer, flow: Flow, flags: TcpFlags, by: &Translation)
-        requires notes { 2 ≤ page.old.room.notes }
+        requires room { HasRoomFor (notes_alone 2) self.old page.old }
         ensures scene { scene_on self.new page.new
             ≡ carried_all (scene_on self.old page.old) flow flags by.now }
         ensures rest { self.new ≡ record self.old { core = self.new.core } }
-        ensures ready { self.new.core.table.ready ≡ self.old.core.table.ready }
-        ensures room { page.new.room ≡ record page.old.room { notes = page.new.room.notes } }
-        ensures notes { page.old.room.notes ≤ page.new.room.notes + 2 }
+        ensures spends { Spends (notes_alone 2) self.old page.old self.new page.new }
     {
         match by {
             Translation::Outward(pair) => {
@@ -179,14 +170,11 @@ impl Forwarder {
 
     /// Behind a packet that was sent to a neighbour, asks for it, where it is to be asked for.
     fn ask_behind(&mut self, page: &mut OutputBuffer, exit: Side, hop: Ip)
-        requires frames { 1 ≤ page.old.room.frames }
+        requires room { HasRoomFor (frames_alone 1) self.old page.old }
         ensures scene { scene_on self.new page.new
             ≡ renewed_behind (scene_on self.old page.old) exit hop }
-        ensures core { self.new.core ≡ self.old.core }
         ensures link { self.new.link ≡ self.old.link }
-        ensures frames { page.old.room.frames ≤ page.new.room.frames + 1 }
-        ensures datagrams { page.new.room.datagrams ≡ page.old.room.datagrams }
-        ensures notes { page.new.room.notes ≡ page.old.room.notes }
+        ensures spends { Spends (frames_alone 1) self.old page.old self.new page.new }
     {
         if self.ask_neighbour(exit, hop) {
             self.send_request(page, exit, hop);
@@ -205,16 +193,11 @@ impl Forwarder {
         requires forwardable { IsForwardable bytes.now }
         requires read { packet ≡ packet_in bytes.now }
         requires formed { IsWellFormedEndpoint (source_of packet.flow) }
-        requires frames { 2 ≤ page.old.room.frames }
-        requires notes { 3 ≤ page.old.room.notes }
-        requires ready { 1 ≤ self.old.core.table.ready }
+        requires room { HasRoomFor a_packet self.old page.old }
         ensures scene { (side : OnSide) → scene_on self.new page.new
             ≡ by_plan (scene_on self.old page.old) side bytes.now packet.flow (Send by next) }
-        ensures frames { page.old.room.frames ≤ page.new.room.frames + 2 }
-        ensures datagrams { page.new.room.datagrams ≡ page.old.room.datagrams }
-        ensures notes { page.old.room.notes ≤ page.new.room.notes + 3 }
-        ensures ready { self.old.core.table.ready ≤ self.new.core.table.ready + 1 }
-        ensures places { min 64 (free_places self.old.link) ≤ free_places self.new.link }
+        ensures spends { Spends a_packet self.old page.old self.new page.new }
+        ensures places { LeavesPlaces self.old self.new }
     {
         self.wish_for(page, packet.flow, &by);
         self.send_frame(page, &by, next, bytes, &packet);

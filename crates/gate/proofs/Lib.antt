@@ -1,2 +1,3 @@
 mod Beginning
+mod Refusing
 mod Serving

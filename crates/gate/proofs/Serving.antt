@@ -10,8 +10,8 @@ use Rattle.gate.specs.Boots.{HasStarted}
 use Rattle.gate.specs.Served.{AreHeld, HasRounds, HasServed, any_reading}
 
 -- a round by one clock is one by any
-any_round : {C : Type 0} (reads : Reads C) (b : Box) (c : C) (b2 : Box) (c2 : C) → IsRound reads b c b2 c2 → IsRound any_reading b tt b2 tt
-any_round reads b c b2 c2 r = record {
+any_round : {C : Type 0} (track : Bool) (reads : Reads C) (b : Box) (c : C) (b2 : Box) (c2 : C) → IsRound track reads b c b2 c2 → IsRound track any_reading b tt b2 tt
+any_round track reads b c b2 c2 r = record {
   answers = r.answers;
   poll = r.poll;
   between = r.between;
@@ -22,25 +22,25 @@ any_round reads b c b2 c2 r = record {
   no_more = r.no_more;
 }
 
-any_rounds : {C : Type 0} (reads : Reads C) (n : ℕ) (b : Box) (c : C) (b2 : Box) (c2 : C)
-    → AreRounds reads n b c b2 c2 → AreRounds any_reading n b tt b2 tt
-any_rounds reads zero b c b2 c2 h = (h.0, refl)
-any_rounds reads (suc n) b c b2 c2 h =
-    (h.0, (tt, (any_rounds reads n b c h.0 h.1.0 h.1.1.0, any_round reads h.0 h.1.0 b2 c2 h.1.1.1)))
+any_rounds : {C : Type 0} (track : Bool) (reads : Reads C) (n : ℕ) (b : Box) (c : C) (b2 : Box) (c2 : C)
+    → AreRounds track reads n b c b2 c2 → AreRounds track any_reading n b tt b2 tt
+any_rounds track reads zero b c b2 c2 h = (h.0, refl)
+any_rounds track reads (suc n) b c b2 c2 h =
+    (h.0, (tt, (any_rounds track reads n b c h.0 h.1.0 h.1.1.0, any_round track reads h.0 h.1.0 b2 c2 h.1.1.1)))
 
 -- the rounds by a clock
-pub has_rounds : {C : Type 0} (reads : Reads C) (n : ℕ) (g : Shown) (answers : List Polled) (c : C) (g2 : Shown) (answers2 : List Polled) (left : ℕ) (c2 : C)
-    → AreRounds reads n (box g answers 0) c (box g2 answers2 left) c2 → HasRounds n g answers g2 answers2
-has_rounds reads n g answers c g2 answers2 left c2 h =
-    record { left_out = left; had = any_rounds reads n (box g answers 0) c (box g2 answers2 left) c2 h }
+pub has_rounds : {C : Type 0} (track : Bool) (reads : Reads C) (n : ℕ) (g : Shown) (answers : List Polled) (c : C) (g2 : Shown) (answers2 : List Polled) (left : ℕ) (c2 : C)
+    → AreRounds track reads n (box g answers 0) c (box g2 answers2 left) c2 → HasRounds n track g answers g2 answers2
+has_rounds track reads n g answers c g2 answers2 left c2 h =
+    record { left_out = left; had = any_rounds track reads n (box g answers 0) c (box g2 answers2 left) c2 h }
 
 -- a start, rounds, and the end
-pub all_served : {T E : Type 0} (r : Result T E) (id : GatewayId) (rounds : ℕ) (found : Bool) (before between after : Option (List ℕ))
+pub all_served : {T E : Type 0} (r : Result T E) (id : GatewayId) (rounds : ℕ) (found track : Bool) (before between after : Option (List ℕ))
     (settings : Settings) (start last : Shown) (heard answers : List Polled)
     → AreHeld settings → HasStarted settings id found before between start → heard ≡ []
-    → HasRounds rounds start heard last answers → OnOk r (Appends between after (codes "end\n"))
-    → OnOk r (HasServed id rounds found before after)
-all_served (Ok x) id rounds found before between after settings start last heard answers held started none had ended = record {
+    → HasRounds rounds track start heard last answers → OnOk r (Appends between after (codes "end\n"))
+    → OnOk r (HasServed id rounds found track before after)
+all_served (Ok x) id rounds found track before between after settings start last heard answers held started none had ended = record {
   settings = settings;
   held = held;
   start = start;
@@ -48,7 +48,7 @@ all_served (Ok x) id rounds found before between after settings start last heard
   started = started;
   last = last;
   answers = answers;
-  rounds_had = subst (λ (from : List Polled). HasRounds rounds start from last answers) none had;
+  rounds_had = subst (λ (from : List Polled). HasRounds rounds track start from last answers) none had;
   ended = ended;
 }
-all_served (Err e) id rounds found before between after settings start last heard answers held started none had ended = tt
+all_served (Err e) id rounds found track before between after settings start last heard answers held started none had ended = tt

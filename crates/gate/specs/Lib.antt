@@ -1,2 +1,4 @@
 pub mod Boots
+pub mod Faults
 pub mod Served
+pub mod Starts

@@ -19,16 +19,17 @@ pub record AreHeld (settings : Settings) : Type 0 where
 abbrev pub any_reading : Reads (Unit {0})
 any_reading before moment after = Unit {0}
 
--- So many rounds were had by a gateway, at whatever moments, from one that shows this, and a wire that has answered this.
+-- So many rounds were had by a gateway, at whatever moments, from one that shows this, and a wire that has answered this;
+-- what carriers tell counted or not.
 -- However many events, ticks too, may have been left out for want of memory.
-pub record HasRounds (rounds : ℕ) (g : Shown) (answers : List Polled) (g2 : Shown) (answers2 : List Polled) : Type 0 where
+pub record HasRounds (rounds : ℕ) (track : Bool) (g : Shown) (answers : List Polled) (g2 : Shown) (answers2 : List Polled) : Type 0 where
   pub left_out : ℕ
-  pub had : AreRounds any_reading rounds (box g answers 0) tt (box g2 answers2 left_out) tt
+  pub had : AreRounds track any_reading rounds (box g answers 0) tt (box g2 answers2 left_out) tt
 
 -- With the settings of some text the gateway of this id starts, in some boot, whose line is printed; it has its rounds,
 -- with a wire that hasn't answered before; and `end` is printed. There are such settings, boot, answers and events left
 -- out: nothing says which.
-pub record HasServed (id : GatewayId) (rounds : ℕ) (found : Bool) (before after : Option (List ℕ)) : Type 0 where
+pub record HasServed (id : GatewayId) (rounds : ℕ) (found track : Bool) (before after : Option (List ℕ)) : Type 0 where
   pub settings : Settings
   pub held : AreHeld settings
   pub start : Shown
@@ -36,5 +37,5 @@ pub record HasServed (id : GatewayId) (rounds : ℕ) (found : Bool) (before afte
   pub started : HasStarted settings id found before between start
   pub last : Shown
   pub answers : List Polled
-  pub rounds_had : HasRounds rounds start [] last answers
+  pub rounds_had : HasRounds rounds track start [] last answers
   pub ended : Appends between after (codes "end\n")

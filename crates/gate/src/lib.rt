@@ -1,7 +1,11 @@
-//! What is done at a box: its boot file, its rounds, and the operator's word.
+//! What is done at a box: its boot file, its rounds, and the words that its operator says to it.
 #![tactic(auto)]
 
 mod refusals;
 mod running;
+mod saying;
+mod ways;
 
-pub use running::{gate, init, peer_off};
+pub use running::{Start, gate, init};
+pub use saying::{peer_off, side};
+pub use ways::WayTexts;

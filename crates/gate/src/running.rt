@@ -1,22 +1,25 @@
-//! What is done at a box: its boot file, its rounds, and the operator's word.
-ghost use Rattle.std.specs.Prelude.{◌≡◌, ◌⊎◌, ◌<◌, ◌↔◌, ◌∷◌, IfOk, IsTrue, Ok, OnOk, codes};
+//! What is done at a box: its boot file and its rounds.
+ghost use Rattle.std.specs.Prelude.{◌≡◌, ◌⊎◌, ◌<◌, ◌↔◌, IfErr, IfOk, IsTrue, Ok, OnOk, codes};
 ghost use Rattle.std.specs.Io.KnownBytes.{Appends};
-ghost use Rattle.byteorder.specs.Endian.{big_bytes};
 ghost use Rattle.nat_types.specs.declared.gateways.GatewayId.TheVariants.{Zero};
-ghost use Rattle.settings.specs.Parts.{gateway_of};
 ghost use Rattle.boot_store.specs.Crash.{Decides, Keeps, Rises, Since};
 ghost use Rattle.gate.specs.Boots.{HasBoot, HasStarted, IsStart, boot_line};
+ghost use Rattle.gate.specs.Faults.{IsOfNoWay, IsOfRun};
 ghost use Rattle.gate.specs.Served.{AreHeld, HasRounds, HasServed};
+ghost use Rattle.gate.specs.Starts.{Refuses};
 
-use crate::refusals::{BoxFault, of_file};
-use boot_file::Uncached;
+use crate::refusals::BoxFault;
+use crate::saying::control_path;
+use crate::ways::{WayTexts, ways_of};
+use boot_file::{Lockable, Uncached};
 use boot_store::{Disk, next_boot};
+use control::Control;
 use faults::text_of;
 use gateway::{Gateway, Hashers};
 use nat_types::{GatewayId, NoMemory};
-use rounds::{Stopwatch, serve, spelled_word};
+use rounds::{Stopwatch, serve};
 use settings::Settings;
-use sockets::{Sockets, Wire, ports_of, send_once};
+use sockets::{Sockets, Wire, ports_of};
 use std::alloc::Global;
 use std::fs::Files;
 use std::io::Write;
@@ -33,56 +36,75 @@ where
 {
     match boot_file::create(rt, file) {
         Ok(()) => 0,
-        Err(fault) => of_file(fault).tell(errors),
+        Err(fault) => BoxFault::from(fault).tell(errors),
     }
 }
 
-/// Runs one gateway for so many rounds, with the settings of the file at a path; where `found`,
-/// gateway 0 founds the pair. The boot number is printed first. The answer is the exit status: 0, or
-/// 1 for a fault, which is told on `errors`.
+/// How a box is run.
+#[derive(Clone, Copy, Debug)]
+pub struct Start<'a> {
+    /// The path of its settings.
+    pub settings: &'a str,
+    /// Which gateway it is.
+    pub id: GatewayId,
+    /// How many rounds it has.
+    pub rounds: u32,
+    /// Whether it founds the pair.
+    pub found: bool,
+    /// How its places are reached.
+    pub ways: WayTexts<'a>,
+    /// Whether what the carriers of its interfaces tell counts.
+    pub track: bool,
+}
+
+/// Runs one gateway; only gateway 0 founds a pair. The boot number is printed first. The answer is the exit status: 0,
+/// or 1 for a fault, which is told on `errors`.
 pub fn gate<R: Files + Net + Clock + RandomSource + AllocGlobal, O: Write, E: Write>(
     rt: &R,
-    settings: &str,
-    id: GatewayId,
-    rounds: u32,
-    found: bool,
+    start: &Start<'_>,
     output: &mut O,
     errors: &mut E,
 ) -> u8
 where
-    R::File: Uncached,
-    requires found { IsTrue found → id ≡ Zero }
+    R::File: Uncached + Lockable,
+    requires found { IsTrue start.now.found → start.now.id ≡ Zero }
     ensures status { (result ≡ 0) ⊎ (result ≡ 1) }
-    ensures served { result ≡ 0 → HasServed id rounds found
-        (O.contents output.old) (O.contents output.new) }
+    ensures served { result ≡ 0 → HasServed start.now.id start.now.rounds start.now.found
+        start.now.track (O.contents output.old) (O.contents output.new) }
 {
-    match served(rt, settings, id, rounds, found, output, errors) {
+    match served(rt, start, output, errors) {
         Ok(()) => 0,
         Err(fault) => fault.tell(errors),
     }
 }
 
-/// Faults are found in this order: the settings' file, the settings, the sockets, the seed of the
-/// table's hashers, the boot file. So a start that is refused for one of the others takes no number.
+/// Faults are found in this order: the settings' file, the settings, the ways, their descriptors, the control socket's
+/// path, the boot file and its lock, the control socket, the sockets, the seed of the table's hashers, the boot number.
+/// So a start that is refused for one of the others takes no number, and one on a box that runs already touches none of
+/// its sockets.
 fn served<R: Files + Net + Clock + RandomSource + AllocGlobal, O: Write, E: Write>(
     rt: &R,
-    settings: &str,
-    id: GatewayId,
-    rounds: u32,
-    found: bool,
+    start: &Start<'_>,
     output: &mut O,
     errors: &mut E,
 ) -> Result<(), BoxFault>
 where
-    R::File: Uncached,
-    requires found { IsTrue found → id ≡ Zero }
-    ensures { OnOk result (HasServed id rounds found
-        (O.contents output.old) (O.contents output.new)) }
+    R::File: Uncached + Lockable,
+    requires found { IsTrue start.now.found → start.now.id ≡ Zero }
+    ensures ok { OnOk result (HasServed start.now.id start.now.rounds start.now.found
+        start.now.track (O.contents output.old) (O.contents output.new)) }
+    ensures err { IfErr result (Refuses start.now.ways) }
 {
-    let settings = settings_at(rt, settings)?;
-    let mut wire = Sockets::bind(rt, rt.alloc(), ports_of(&settings, id))?;
-    let mut gateway = started(rt, &settings, id, found, output)?;
-    let ended = rounds_of(rt, &mut gateway, &mut wire, rounds, output, errors);
+    let settings = settings_at(rt, start.settings)?;
+    let ways = ways_of(start.ways)?;
+    ways.inherit()?;
+    let path = control_path(rt.alloc(), &settings, start.id)?;
+    let mut disk = boot_file::open(rt, settings.gateway(start.id).boot_file.as_str())?;
+    let control = Control::open(rt, &path)?;
+    let ports = ports_of(&settings, start.id);
+    let mut wire = Sockets::open(rt, rt.alloc(), &ways, ports, control)?;
+    let mut gateway = started(rt, &mut disk, &settings, start.id, start.found, output)?;
+    let ended = rounds_of(rt, &mut gateway, &mut wire, start, output, errors);
     gateway.end();
     ended
 }
@@ -92,14 +114,15 @@ fn rounds_of<R: Clock + AllocGlobal, W: Wire, O: Write, E: Write>(
     rt: &R,
     gateway: &mut Gateway,
     wire: &mut W,
-    rounds: u32,
+    start: &Start<'_>,
     output: &mut O,
     errors: &mut E,
 ) -> Result<(), BoxFault>
-    ensures rounds { HasRounds rounds gateway.old (W.answers wire.old)
+    ensures rounds { HasRounds start.now.rounds start.now.track gateway.old (W.answers wire.old)
         gateway.new (W.answers wire.new) }
     ensures ended { OnOk result
         (Appends (O.contents output.old) (O.contents output.new) (codes "end\n")) }
+    ensures err { IfErr result IsOfRun }
 {
     let mut clock = Stopwatch::start(rt);
     serve(
@@ -107,7 +130,8 @@ fn rounds_of<R: Clock + AllocGlobal, W: Wire, O: Write, E: Write>(
         gateway,
         wire,
         &mut clock,
-        rounds,
+        start.rounds,
+        start.track,
         output,
         errors,
     )?;
@@ -116,32 +140,32 @@ fn rounds_of<R: Clock + AllocGlobal, W: Wire, O: Write, E: Write>(
 
 /// The hashers of a seed that is drawn now. Where the system refuses a seed, that is told as memory
 /// that it refuses.
-fn drawn<R: RandomSource>(rt: &R) -> Result<Hashers, BoxFault> {
+fn drawn<R: RandomSource>(rt: &R) -> Result<Hashers, BoxFault>
+    ensures err { IfErr result IsOfRun }
+{
     match Hashers::drawn(rt) {
         Ok(hashers) => Ok(hashers),
         Err(_refused) => Err(BoxFault::from(NoMemory)),
     }
 }
 
-/// A gateway in the next boot of its boot file, whose number is printed before anything is sent. Its
+/// A gateway in the next boot of its disk, whose number is printed before anything is sent. Its
 /// seed is drawn first, so that a start without one takes no number.
-fn started<R: Files + RandomSource + AllocGlobal, O: Write>(
+fn started<R: RandomSource + AllocGlobal, D: Disk, O: Write>(
     rt: &R,
+    disk: &mut D,
     settings: &Settings,
     id: GatewayId,
     found: bool,
     output: &mut O,
 ) -> Result<Gateway, BoxFault>
-where
-    R::File: Uncached,
     requires found { IsTrue found → id ≡ Zero }
-    ensures { IfOk result (HasStarted settings.now id found
+    ensures start { IfOk result (HasStarted settings.now id found
         (O.contents output.old) (O.contents output.new)) }
+    ensures err { IfErr result IsOfNoWay }
 {
     let hashers = drawn(rt)?;
-    let file = settings.gateway(id).boot_file.as_str();
-    let mut disk = boot_file::open(rt, file)?;
-    let (boot, gateway) = booted(rt.alloc(), &mut disk, settings, id, found, hashers)?;
+    let (boot, gateway) = booted(rt.alloc(), disk, settings, id, found, hashers)?;
     match announced(output, boot) {
         Ok(()) => Ok(gateway),
         Err(fault) => {
@@ -153,8 +177,9 @@ where
 
 /// Prints the number of a boot.
 fn announced<O: Write>(output: &mut O, boot: u64) -> Result<(), BoxFault>
-    ensures { OnOk result
+    ensures printed { OnOk result
         (Appends (O.contents output.old) (O.contents output.new) (boot_line boot)) }
+    ensures err { IfErr result IsOfRun }
 {
     writeln!(output, "boot {boot}")?;
     output.flush()?;
@@ -175,6 +200,7 @@ fn booted<D: Disk>(
     ensures begins { IfOk result (λ start. IsStart settings.now id found start.0 start.1) }
     ensures own { IfOk result (λ start. HasBoot start.0 start.1) }
     ensures above_zero { IfOk result (λ start. 0 < start.0) }
+    ensures err { IfErr result IsOfNoWay }
     ensures rises { D.honest disk.old
         → IfOk result (λ start. Rises (D.now disk.old) (D.now disk.new) (Ok start.0)) }
     ensures decided { D.honest disk.old
@@ -204,57 +230,10 @@ fn begun(
     Gateway::new(alloc, settings, id, boot, found, hashers)
 }
 
-/// Tells a running gateway that this boot of the other is off. The answer is the exit status: 0, or
-/// 1 for a fault, which is told on `errors`.
-pub fn peer_off<R: Files + Net + AllocGlobal, E: Write>(
-    rt: &R,
-    settings: &str,
-    id: GatewayId,
-    boot: u64,
-    errors: &mut E,
-) -> u8
-    ensures status { (result ≡ 0) ⊎ (result ≡ 1) }
-{
-    match said_off(rt, settings, id, boot) {
-        Ok(()) => 0,
-        Err(fault) => fault.tell(errors),
-    }
-}
-
-/// Sends the operator's word to the gateway's port of the link.
-fn said_off<R: Files + Net + AllocGlobal>(
-    rt: &R,
-    settings: &str,
-    id: GatewayId,
-    boot: u64,
-) -> Result<(), BoxFault> {
-    let settings = settings_at(rt, settings)?;
-    let word = word_to(&settings, id, boot);
-    send_once(rt, word.port, &word.bytes)?;
-    Ok(())
-}
-
-/// The operator's word, and the port on the loopback address that it goes to.
-#[derive(Drop)]
-struct Word {
-    port: u16,
-    bytes: [u8; 10],
-}
-
-/// The word that this boot of the other gateway is off, for the gateway's port of the link.
-fn word_to(settings: &Settings, id: GatewayId, boot: u64) -> Word
-    ensures port { result.port ≡ (gateway_of settings.now id).link }
-    ensures bytes { result.bytes ≡ 78 ∷ 79 ∷ big_bytes 8 boot }
-{
-    Word {
-        port: settings.gateway(id).link,
-        bytes: spelled_word(boot),
-    }
-}
-
 /// The settings in the file at a path.
-fn settings_at<R: Files + AllocGlobal>(rt: &R, path: &str) -> Result<Settings, BoxFault>
-    ensures { IfOk result AreHeld }
+pub(crate) fn settings_at<R: Files + AllocGlobal>(rt: &R, path: &str) -> Result<Settings, BoxFault>
+    ensures held { IfOk result AreHeld }
+    ensures err { IfErr result IsOfRun }
 {
     let text = text_of(rt, path)?;
     let settings = settings_file::read(rt.alloc(), text.as_str())?;

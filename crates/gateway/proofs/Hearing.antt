@@ -1,8 +1,10 @@
--- A datagram that is dropped.
-use Rattle.std.proofs.Common.{◌≡◌, Option, Some, None, Result, Ok, Err, refl}
+-- A datagram that is dropped; and whether the other gateway was heard lately.
+use Rattle.std.proofs.Common.{◌≡◌, ℕ, Option, Some, None, Result, Ok, Err, refl}
 use Rattle.link.specs.declared.datagrams.Datagram.{Datagram}
 use Rattle.link.specs.declared.faults.LinkFault.{LinkFault}
+use Rattle.link.specs.Hearing as link
 use Rattle.link.specs.Link.{answered, refusal, taken_of, taking}
+use Rattle.spec_binding.specs.Ledgers.{is_heard}
 use Rattle.spec_step.specs.Parts.{datagram_read, heard_unless}
 use Rattle.spec_step.specs.Shown.{GatewayAndOutput}
 
@@ -14,3 +16,8 @@ unless-is s d (Some g) f is = refl
 pub unheard-is : (s : GatewayAndOutput) (r : Result Datagram LinkFault) (f : LinkFault) → taking s.shown.link r ≡ Err f → datagram_read s r ≡ s
 unheard-is s (Ok d) f is = unless-is s d (refusal s.shown.link d) f is
 unheard-is s (Err g) f is = refl
+
+-- the link's word for a peer that was heard lately, and the protocol's, are one
+pub same_heard : (heard : Option ℕ) (now : ℕ) → link.is_heard heard now ≡ is_heard heard now
+same_heard None now = refl
+same_heard (Some last) now = refl

@@ -1,9 +1,13 @@
 -- For how much there is to be room.
-use Rattle.std.specs.Prelude.{ℕ, if◌then◌else◌}
+use Rattle.std.specs.Prelude.{ℕ, ◌+◌, ◌*◌, length, if◌then◌else◌}
 use Rattle.nat_types.specs.declared.records.Record.{Record}
+use Rattle.link.specs.declared.datagrams.TheConstants.{RECORDS_IN_A_DATAGRAM}
 use Rattle.link.specs.Link.{needs_answer}
 use Rattle.spec_step.specs.declared.events.Event.{Event}
 use Rattle.spec_step.specs.declared.events.Event.TheVariants.{Frame, Datagram, Tick, Stop, PeerOff, Side}
+use Rattle.output.specs.declared.pages.Room.{Room}
+use Rattle.forwarder.specs.declared.forwarders.Forwarder.{Forwarder}
+use Rattle.forwarder.specs.Room.{Needs, all_for_pairs, frames_alone, notes_alone}
 
 -- how many places of the link the answer to a record takes
 abbrev pub answers_to : Record → ℕ
@@ -17,3 +21,49 @@ most_datagrams (Tick now) = 1
 most_datagrams Stop = 1
 most_datagrams (PeerOff boot) = 1
 most_datagrams (Side side up) = 0
+
+-- a router that is told something: an advertisement, and where it becomes Active the frame that tells its address
+abbrev pub a_router : Needs
+a_router = frames_alone 2
+
+abbrev pub both_routers : Needs
+both_routers = frames_alone (2 * a_router.frames)
+
+-- the idle pairs: a note of each entry, and one more
+abbrev pub idle_needs : Forwarder → Needs
+idle_needs f = notes_alone (length f.core.table.entries + 1)
+
+-- a tick: the stop of both routers, and their tick; and the idle pairs
+abbrev pub tick_needs : Forwarder → Needs
+tick_needs f = record (idle_needs f) { frames = 2 * both_routers.frames }
+
+-- so many records: of each a note, a pair, and the packet whose wait it may end
+abbrev pub records_need : ℕ → Needs
+records_need count = record { frames = 2 * count; notes = 4 * count; pairs = 2 * count }
+
+-- the other gateway began anew, or is off: a note of each entry, and the packets that waited for pairs
+abbrev pub waiting_needs : Forwarder → Needs
+waiting_needs f = record all_for_pairs { notes = length f.core.table.entries + all_for_pairs.notes }
+
+-- a datagram: the other gateway may have begun anew, and each record is taken
+abbrev pub datagram_needs : Forwarder → Needs
+datagram_needs f = record {
+  frames = (waiting_needs f).frames + (records_need RECORDS_IN_A_DATAGRAM).frames;
+  notes = (waiting_needs f).notes + (records_need RECORDS_IN_A_DATAGRAM).notes;
+  pairs = (waiting_needs f).pairs + (records_need RECORDS_IN_A_DATAGRAM).pairs;
+}
+
+-- for so many new pairs a core is made ready at most, and a page for so many frames and datagrams
+abbrev pub most_pairs : ℕ
+most_pairs = all_for_pairs.pairs + (records_need RECORDS_IN_A_DATAGRAM).pairs
+
+abbrev pub most_on_a_page : ℕ
+most_on_a_page = 4096
+
+-- no table has more entries
+abbrev pub most_entries : ℕ
+most_entries = 1000000
+
+-- room on a page for that much, and for the datagram at the end
+abbrev pub room_for : Needs → Room
+room_for needs = record { frames = needs.frames; datagrams = 1; notes = needs.notes }

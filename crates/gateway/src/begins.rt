@@ -19,7 +19,7 @@ use bind_core::Core;
 use bindings::{Hashers, PortBounds};
 use forwarder::Forwarder;
 use interfaces::Interface;
-use link::Link;
+use link::{Link, RECORDS_IN_A_DATAGRAM};
 use nat_types::{GatewayId, Side};
 use packet_rules::Networks;
 use settings::{PortRange, Settings};
@@ -49,14 +49,21 @@ fn bounds_of(range: PortRange) -> PortBounds
     }
 }
 
-/// For how many records the link has room: a whole table's batch, and 64 answers beside it.
+/// The records of a batch for each port: of both protocols an Owner and a Put.
+const RECORDS_OF_A_PORT: usize = 4;
+
+/// The records of a batch that are of no port: Begin and Done.
+const RECORDS_OF_NO_PORT: usize = 2;
+
+/// For how many records the link has room: a whole table's batch, and the answers to a datagram beside
+/// it.
 fn link_places(zero: PortBounds, one: PortBounds) -> usize
     requires zero { zero.lowest.0 ≤ zero.highest.0 }
     requires one { one.lowest.0 ≤ one.highest.0 }
     ensures { result ≡ places_of zero one }
 {
     let ports = ports_in(zero) + ports_in(one);
-    4 * ports + 66
+    RECORDS_OF_A_PORT * ports + RECORDS_OF_NO_PORT + RECORDS_IN_A_DATAGRAM
 }
 
 /// How many ports lie between bounds.

@@ -1,5 +1,5 @@
 //! A datagram of the other gateway.
-ghost use Rattle.std.specs.Prelude.{◌≡◌, ◌≤◌, ◌+◌, ℕ, [], true, length, vec_capacity, if◌then◌else◌};
+ghost use Rattle.std.specs.Prelude.{◌≡◌, ◌≤◌, ℕ, [], true, length, vec_capacity, if◌then◌else◌};
 ghost use Rattle.link.specs.Link.{free_places, occupied, taking};
 ghost use Rattle.link.specs.Reading.{reading};
 ghost use Rattle.spec_binding.specs.Resets.{restart_batch};
@@ -9,6 +9,8 @@ ghost use Rattle.spec_step.specs.Founding.{link_places};
 ghost use Rattle.spec_step.specs.Parts.{datagram_taken, reset as reset_of};
 ghost use Rattle.spec_step.specs.Steps.{outcome_heard};
 ghost use Rattle.forwarder.specs.Forwarder.{scene_on, shown_of};
+ghost use Rattle.forwarder.specs.Room.{HasRoomFor, Spends, places_for_answers};
+ghost use Rattle.gateway.specs.Rooms.{datagram_needs, waiting_needs};
 
 use crate::records::take_records;
 use forwarder::Forwarder;
@@ -22,21 +24,16 @@ use waiting::HeldPacket;
 /// are taken again. `list` is an empty list with room for all packets that wait.
 fn reset(forwarder: &mut Forwarder, page: &mut OutputBuffer, list: Vec<HeldPacket>)
     requires empty { list.items ≡ [] }
-    requires room { length forwarder.old.kept ≤ vec_capacity list }
+    requires list { length forwarder.old.kept ≤ vec_capacity list }
     requires begins { occupied forwarder.old.link ≡ 0 }
     requires acknowledged { forwarder.old.link.acknowledged ≡ 0 }
     requires places { forwarder.old.link.capacity
         ≡ link_places forwarder.old.core.table.zero forwarder.old.core.table.one }
-    requires frames { 128 ≤ page.old.room.frames }
-    requires notes { length forwarder.old.core.table.entries + 192 ≤ page.old.room.notes }
-    requires ready { 64 ≤ forwarder.old.core.table.ready }
+    requires room { HasRoomFor (waiting_needs forwarder.old) forwarder.old page.old }
     ensures scene { scene_on forwarder.new page.new ≡ reset_of (scene_on forwarder.old page.old) }
-    ensures frames { page.old.room.frames ≤ page.new.room.frames + 128 }
-    ensures datagrams { page.new.room.datagrams ≡ page.old.room.datagrams }
-    ensures notes { page.old.room.notes
-        ≤ page.new.room.notes + (length forwarder.old.core.table.entries + 192) }
-    ensures ready { forwarder.old.core.table.ready ≤ forwarder.new.core.table.ready + 64 }
-    ensures places { 64 ≤ free_places forwarder.new.link }
+    ensures spends { Spends (waiting_needs forwarder.old) forwarder.old page.old
+        forwarder.new page.new }
+    ensures places { places_for_answers ≤ free_places forwarder.new.link }
     ensures moment { forwarder.new.moment ≡ forwarder.old.moment }
 {
     limits_law();
@@ -58,22 +55,18 @@ fn reset_where(
     list: Vec<HeldPacket>,
 )
     requires empty { list.items ≡ [] }
-    requires room { length forwarder.old.kept ≤ vec_capacity list }
+    requires list { length forwarder.old.kept ≤ vec_capacity list }
     requires begins { restarted ≡ true → occupied forwarder.old.link ≡ 0 }
     requires acknowledged { restarted ≡ true → forwarder.old.link.acknowledged ≡ 0 }
     requires places { forwarder.old.link.capacity
         ≡ link_places forwarder.old.core.table.zero forwarder.old.core.table.one }
-    requires frames { 128 ≤ page.old.room.frames }
-    requires notes { length forwarder.old.core.table.entries + 192 ≤ page.old.room.notes }
-    requires ready { 64 ≤ forwarder.old.core.table.ready }
+    requires room { HasRoomFor (waiting_needs forwarder.old) forwarder.old page.old }
     ensures scene { let s = scene_on forwarder.old page.old
         in scene_on forwarder.new page.new ≡ (if restarted then reset_of s else s) }
-    ensures frames { page.old.room.frames ≤ page.new.room.frames + 128 }
-    ensures datagrams { page.new.room.datagrams ≡ page.old.room.datagrams }
-    ensures notes { page.old.room.notes
-        ≤ page.new.room.notes + (length forwarder.old.core.table.entries + 192) }
-    ensures ready { forwarder.old.core.table.ready ≤ forwarder.new.core.table.ready + 64 }
-    ensures places { (more : ℕ) → more ≤ 64 → more ≤ free_places forwarder.old.link
+    ensures spends { Spends (waiting_needs forwarder.old) forwarder.old page.old
+        forwarder.new page.new }
+    ensures places { (more : ℕ) → more ≤ places_for_answers
+        → more ≤ free_places forwarder.old.link
         → more ≤ free_places forwarder.new.link }
     ensures moment { forwarder.new.moment ≡ forwarder.old.moment }
 {
@@ -90,13 +83,11 @@ pub(crate) fn take_datagram(
     list: Vec<HeldPacket>,
 ) -> Outcome
     requires empty { list.items ≡ [] }
-    requires room { length forwarder.old.kept ≤ vec_capacity list }
+    requires list { length forwarder.old.kept ≤ vec_capacity list }
     requires moment { IsMoment forwarder.old.moment }
     requires places { forwarder.old.link.capacity
         ≡ link_places forwarder.old.core.table.zero forwarder.old.core.table.one }
-    requires frames { 256 ≤ page.old.room.frames }
-    requires notes { length forwarder.old.core.table.entries + 448 ≤ page.old.room.notes }
-    requires ready { 192 ≤ forwarder.old.core.table.ready }
+    requires room { HasRoomFor (datagram_needs forwarder.old) forwarder.old page.old }
     ensures scene { scene_on forwarder.new page.new
         ≡ datagram_taken (scene_on forwarder.old page.old) bytes.now }
     ensures outcome { result ≡ outcome_heard (taking forwarder.old.link (reading bytes.now)) }

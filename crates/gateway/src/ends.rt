@@ -1,5 +1,6 @@
 //! The datagram at the end of a step.
 ghost use Rattle.std.specs.Prelude.{◌≡◌, ◌≤◌, length, ⊤};
+ghost use Rattle.link.specs.declared.writing.TheConstants.{LONGEST_DATAGRAM};
 ghost use Rattle.link.specs.Grammar.{spelling};
 ghost use Rattle.link.specs.Link.{wanted};
 ghost use Rattle.spec_step.specs.Parts.{answer_sent, link_answered, link_ticked};
@@ -20,7 +21,7 @@ impl WriteBytes for DatagramBytes<'_> {
 
     ghost bytes = { λ l. spelling l.0.now };
 
-    ghost room = { λ _. 2214 };
+    ghost room = { λ _. LONGEST_DATAGRAM };
 
     fn write_to(&self, list: &mut Vec<u8>) {
         match link::write(self.0, list) {

@@ -16,11 +16,12 @@ ghost use Rattle.spec_step.specs.Rests.{most_notes};
 ghost use Rattle.gateway.specs.Gateway.{IsGateway};
 
 use crate::begins::begin;
-use crate::rooms::entry_count;
+use crate::rooms::{PACKET_NOTES, entry_count};
 use crate::{NoMemory, Out, steps};
 use addresses::Port;
 use bindings::Hashers;
 use forwarder::Forwarder;
+use link::RECORDS_IN_A_DATAGRAM;
 use nat_types::{GatewayId, Pair, Side};
 use settings::Settings;
 use spec_step::{Event, Outcome, beginnings, beginnings_settle};
@@ -89,8 +90,8 @@ impl Gateway {
         ensures { result ≡ most_notes self.now }
     {
         self.forwarder.kept.recall();
-        let freed = 3 * self.forwarder.kept.len();
-        entry_count(&self.forwarder) + freed + 64 * (1 + freed) + 3
+        let freed = PACKET_NOTES * self.forwarder.kept.len();
+        entry_count(&self.forwarder) + freed + RECORDS_IN_A_DATAGRAM * (1 + freed) + PACKET_NOTES
     }
 
     /// Its clock's moment, in centiseconds.
@@ -129,13 +130,11 @@ impl Gateway {
     }
 
     /// Whether the other gateway was heard at most 300 centiseconds ago.
+    #[tactic(auto, using(crate::proofs::Hearing::same_heard))]
     pub fn hears_peer(&self) -> bool
         ensures { result ≡ is_heard self.now.link.heard self.now.moment }
     {
-        match self.forwarder.link.heard() {
-            Some(last) => self.forwarder.moment.saturating_sub(last) <= 300,
-            None => false,
-        }
+        self.forwarder.link.hears(self.forwarder.moment)
     }
 
     /// All pairs of its table, by protocol (tcp first) and port; a proposal given up is none.

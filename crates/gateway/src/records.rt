@@ -1,6 +1,7 @@
 //! The records of a datagram, each taken with what follows from it.
 ghost use Rattle.std.specs.Prelude.{◌≡◌, ◌≤◌, ◌<◌, ◌+◌, ◌*◌, true, ℕ, length};
 ghost use Rattle.std.specs.List.{AllByRecursion};
+ghost use Rattle.link.specs.declared.datagrams.TheConstants.{RECORDS_IN_A_DATAGRAM};
 ghost use Rattle.link.specs.Grammar.{IsWellFormedRecord};
 ghost use Rattle.link.specs.Link.{answers_count, free_places, needs_answer};
 ghost use Rattle.spec_binding.specs.Ledgers.{rests_for, taken_ledger};
@@ -9,7 +10,8 @@ ghost use Rattle.vrrp_states.specs.Table.{IsMoment};
 ghost use Rattle.spec_step.specs.Parts.{record_done, record_shown, record_told, records_done};
 ghost use Rattle.spec_step.specs.Shown.{scene};
 ghost use Rattle.forwarder.specs.Forwarder.{scene_on, shown_of};
-ghost use Rattle.gateway.specs.Rooms.{answers_to};
+ghost use Rattle.forwarder.specs.Room.{HasRoomFor, Spends, a_wish, places_for_answers};
+ghost use Rattle.gateway.specs.Rooms.{answers_to, records_need};
 
 use crate::routers::start_routers;
 use forwarder::Forwarder;
@@ -21,9 +23,8 @@ use waiting::WaitsFor;
 /// Takes a record with the core. The answer is the endpoint whose packets needn't wait any more.
 fn take_alone(forwarder: &mut Forwarder, page: &mut OutputBuffer, entry: Record) -> Option<Endpoint>
     requires formed { IsWellFormedRecord entry }
-    requires ready { 1 ≤ forwarder.old.core.table.ready }
     requires places { needs_answer entry ≡ true → 0 < free_places forwarder.old.link }
-    requires notes { 1 ≤ page.old.room.notes }
+    requires room { HasRoomFor a_wish forwarder.old page.old }
     ensures ended { let g = shown_of forwarder.old in result
         ≡ taken_ended g.ledger.book (rests_for g.moment g.ledger entry) entry }
     ensures shown { let g = shown_of forwarder.old in shown_of forwarder.new ≡ record g {
@@ -31,10 +32,7 @@ fn take_alone(forwarder: &mut Forwarder, page: &mut OutputBuffer, entry: Record)
       link = answered g.link (taken_answer g.ledger.book (rests_for g.moment g.ledger entry) entry);
     } }
     ensures told { page.new.told ≡ record_told (shown_of forwarder.old) entry page.old.told }
-    ensures frames { page.new.room.frames ≡ page.old.room.frames }
-    ensures datagrams { page.new.room.datagrams ≡ page.old.room.datagrams }
-    ensures notes { page.old.room.notes ≤ page.new.room.notes + 1 }
-    ensures ready { forwarder.old.core.table.ready ≤ forwarder.new.core.table.ready + 1 }
+    ensures spends { Spends a_wish forwarder.old page.old forwarder.new page.new }
     ensures places { free_places forwarder.old.link
         ≤ free_places forwarder.new.link + answers_to entry }
 {
@@ -57,17 +55,13 @@ fn take_and_start(
 ) -> Option<Endpoint>
     requires formed { IsWellFormedRecord entry }
     requires moment { IsMoment forwarder.old.moment }
-    requires ready { 1 ≤ forwarder.old.core.table.ready }
     requires places { needs_answer entry ≡ true → 0 < free_places forwarder.old.link }
-    requires notes { 1 ≤ page.old.room.notes }
+    requires room { HasRoomFor a_wish forwarder.old page.old }
     ensures ended { let g = shown_of forwarder.old in result
         ≡ taken_ended g.ledger.book (rests_for g.moment g.ledger entry) entry }
     ensures shown { shown_of forwarder.new ≡ record_shown (shown_of forwarder.old) entry }
     ensures told { page.new.told ≡ record_told (shown_of forwarder.old) entry page.old.told }
-    ensures frames { page.new.room.frames ≡ page.old.room.frames }
-    ensures datagrams { page.new.room.datagrams ≡ page.old.room.datagrams }
-    ensures notes { page.old.room.notes ≤ page.new.room.notes + 1 }
-    ensures ready { forwarder.old.core.table.ready ≤ forwarder.new.core.table.ready + 1 }
+    ensures spends { Spends a_wish forwarder.old page.old forwarder.new page.new }
     ensures places { free_places forwarder.old.link
         ≤ free_places forwarder.new.link + answers_to entry }
     ensures moment { forwarder.new.moment ≡ forwarder.old.moment }
@@ -81,23 +75,17 @@ fn take_and_start(
     ended
 }
 
-/// Takes a record, and the packets again that needn't wait any more. It needs room for two frames
-/// and four notes, and a core that is ready for two pairs.
+/// Takes a record, and the packets again that needn't wait any more.
 pub(crate) fn take_record(forwarder: &mut Forwarder, page: &mut OutputBuffer, entry: Record)
     requires formed { IsWellFormedRecord entry }
     requires moment { IsMoment forwarder.old.moment }
-    requires ready { 2 ≤ forwarder.old.core.table.ready }
     requires places { needs_answer entry ≡ true → 0 < free_places forwarder.old.link }
-    requires frames { 2 ≤ page.old.room.frames }
-    requires notes { 4 ≤ page.old.room.notes }
+    requires room { HasRoomFor (records_need 1) forwarder.old page.old }
     ensures scene { scene_on forwarder.new page.new
         ≡ record_done (scene_on forwarder.old page.old) entry }
-    ensures frames { page.old.room.frames ≤ page.new.room.frames + 2 }
-    ensures datagrams { page.new.room.datagrams ≡ page.old.room.datagrams }
-    ensures notes { page.old.room.notes ≤ page.new.room.notes + 4 }
-    ensures ready { forwarder.old.core.table.ready ≤ forwarder.new.core.table.ready + 2 }
-    // What is pushed leaves 64 places of the link free, where they were.
-    ensures places { (more : ℕ) → more ≤ 64
+    ensures spends { Spends (records_need 1) forwarder.old page.old forwarder.new page.new }
+    // What is pushed leaves places of the link free, where they were.
+    ensures places { (more : ℕ) → more ≤ places_for_answers
         → more + answers_to entry ≤ free_places forwarder.old.link
         → more ≤ free_places forwarder.new.link }
     ensures moment { forwarder.new.moment ≡ forwarder.old.moment }
@@ -111,12 +99,10 @@ pub(crate) fn take_record(forwarder: &mut Forwarder, page: &mut OutputBuffer, en
 /// Takes the records of a datagram, one after another.
 pub(crate) fn take_records(forwarder: &mut Forwarder, page: &mut OutputBuffer, records: &[Record])
     requires formed { AllByRecursion IsWellFormedRecord records.now }
-    requires few { length records.now ≤ 64 }
+    requires few { length records.now ≤ RECORDS_IN_A_DATAGRAM }
     requires moment { IsMoment forwarder.old.moment }
-    requires ready { 2 * length records.now ≤ forwarder.old.core.table.ready }
     requires places { answers_count records.now ≤ free_places forwarder.old.link }
-    requires frames { 2 * length records.now ≤ page.old.room.frames }
-    requires notes { 4 * length records.now ≤ page.old.room.notes }
+    requires room { HasRoomFor (records_need (length records.now)) forwarder.old page.old }
     ensures scene { scene_on forwarder.new page.new
         ≡ records_done (scene_on forwarder.old page.old) records.now }
     ensures datagrams { page.new.room.datagrams ≡ page.old.room.datagrams }

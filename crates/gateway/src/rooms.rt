@@ -1,10 +1,13 @@
 //! The memory that a step takes before it begins.
 ghost use Rattle.std.specs.Prelude.{◌≡◌, ◌≤◌, OnOk, IfOk, length, vec_capacity, []};
 ghost use Rattle.forwarder.specs.Forwarder.{scene_on};
+ghost use Rattle.gateway.specs.Rooms.{datagram_needs, room_for, tick_needs, waiting_needs};
+ghost use Rattle.gateway.specs.Rooms.{most_entries, most_on_a_page, most_pairs};
 
 use crate::NoMemory;
 use addresses::{Ip, Port, Protocol};
 use forwarder::Forwarder;
+use link::RECORDS_IN_A_DATAGRAM;
 use nat_types::Endpoint;
 use output::{OutputBuffer, Room};
 use std::alloc::Global;
@@ -17,10 +20,91 @@ const ANY_ENDPOINT: Endpoint = Endpoint {
     port: Port(1),
 };
 
+/// A packet that is taken sends its own frame, and a request behind it.
+const PACKET_FRAMES: usize = 2;
+
+/// A packet that is taken makes at most so many notes: of a new pair, and of the use of two.
+pub(crate) const PACKET_NOTES: usize = 3;
+
+/// Both routers that are told something send at most so many frames: an advertisement each, and the
+/// frame that tells an address.
+const ROUTER_FRAMES: usize = 4;
+
+/// So many packets may wait for pairs.
+pub(crate) const WAITING: usize = 64;
+
+/// The frames that they send at most when they are taken again.
+const WAITING_FRAMES: usize = PACKET_FRAMES * WAITING;
+
+/// The notes that they make at most then.
+const WAITING_NOTES: usize = PACKET_NOTES * WAITING;
+
+/// The frames of a datagram's records at most: each may end the wait of a packet.
+const RECORD_FRAMES: usize = PACKET_FRAMES * RECORDS_IN_A_DATAGRAM;
+
+/// The notes of a datagram's records at most: each has one, beside those of the packet whose wait it
+/// ends.
+const RECORD_NOTES: usize = (1 + PACKET_NOTES) * RECORDS_IN_A_DATAGRAM;
+
 /// For so many new pairs a core is made ready, at most.
-const MOST_PAIRS: usize = 192;
+pub(crate) const MOST_PAIRS: usize = WAITING + 2 * RECORDS_IN_A_DATAGRAM;
 
 const ENDPOINTS: [Endpoint; MOST_PAIRS] = [ANY_ENDPOINT; MOST_PAIRS];
+
+/// Room for the datagram at the end alone.
+pub(crate) const END_ROOM: Room = Room {
+    frames: 0,
+    datagrams: 1,
+    notes: 0,
+};
+
+/// What a frame asks room for that is taken: an answer, and a packet.
+pub(crate) const FRAME_ROOM: Room = Room {
+    frames: 1 + PACKET_FRAMES,
+    datagrams: 1,
+    notes: PACKET_NOTES,
+};
+
+/// What the stop of both routers asks room for.
+pub(crate) const STOP_ROOM: Room = Room {
+    frames: ROUTER_FRAMES,
+    datagrams: 1,
+    notes: 0,
+};
+
+/// What a tick asks room for: a stop of both routers and their tick, and the notes of idle pairs.
+pub(crate) fn tick_room(forwarder: &Forwarder) -> Room
+    ensures { result ≡ room_for (tick_needs forwarder.now) }
+{
+    Room {
+        frames: 2 * ROUTER_FRAMES,
+        datagrams: 1,
+        notes: entry_count(forwarder) + 1,
+    }
+}
+
+/// What the word that the other gateway is off asks room for: a note of each entry, and the packets
+/// that waited for pairs.
+pub(crate) fn word_room(forwarder: &Forwarder) -> Room
+    ensures { result ≡ room_for (waiting_needs forwarder.now) }
+{
+    Room {
+        frames: WAITING_FRAMES,
+        datagrams: 1,
+        notes: entry_count(forwarder) + WAITING_NOTES,
+    }
+}
+
+/// What a datagram asks room for: what the other gateway's beginning anew does, and its records.
+pub(crate) fn datagram_room(forwarder: &Forwarder) -> Room
+    ensures { result ≡ room_for (datagram_needs forwarder.now) }
+{
+    Room {
+        frames: WAITING_FRAMES + RECORD_FRAMES,
+        datagrams: 1,
+        notes: entry_count(forwarder) + WAITING_NOTES + RECORD_NOTES,
+    }
+}
 
 /// Makes a page ready for so much, and a core for so many new pairs. An `Err` stands for a refused
 /// growth; nothing shows then.
@@ -30,9 +114,9 @@ pub(crate) fn make_ready(
     room: Room,
     pairs: usize,
 ) -> Result<(), NoMemory>
-    requires frames { room.frames ≤ 4096 }
-    requires datagrams { room.datagrams ≤ 4096 }
-    requires pairs { pairs ≤ 192 }
+    requires frames { room.frames ≤ most_on_a_page }
+    requires datagrams { room.datagrams ≤ most_on_a_page }
+    requires pairs { pairs ≤ most_pairs }
     ensures scene { scene_on forwarder.new page.new ≡ scene_on forwarder.old page.old }
     ensures rest { forwarder.new ≡ record forwarder.old {
       core = record forwarder.old.core {
@@ -52,7 +136,7 @@ pub(crate) fn make_ready(
 /// How many entries the table has.
 pub(crate) fn entry_count(forwarder: &Forwarder) -> usize
     ensures count { result ≡ length forwarder.now.core.table.entries }
-    ensures few { result ≤ 1000000 }
+    ensures few { result ≤ most_entries }
 {
     forwarder.core.recall();
     forwarder.core.table().recall();

@@ -1,5 +1,7 @@
 //! The virtual routers of a gateway: what they are told, and the frames of what they do then.
 ghost use Rattle.std.specs.Prelude.{◌≡◌, ◌≤◌, ◌+◌, ⊤};
+ghost use Rattle.arp.specs.declared.packets.TheConstants.{ARP_FRAME};
+ghost use Rattle.vrrp_packet.specs.declared.TheConstants.{ADVERT_FRAME};
 ghost use Rattle.vrrp_states.specs.Table.{IsMoment};
 ghost use Rattle.packet_rules.specs.Adverts.{advert_frame};
 ghost use Rattle.packet_rules.specs.Arping.{gratuitous_frame};
@@ -8,7 +10,9 @@ ghost use Rattle.spec_step.specs.Parts.{all_framed, frames_of, started};
 ghost use Rattle.spec_step.specs.Shown.{Shown, scene, with_station};
 ghost use Rattle.spec_step.specs.Routers.{BothAct, RouterActs};
 ghost use Rattle.forwarder.specs.Forwarder.{scene_on, shown_of};
+ghost use Rattle.forwarder.specs.Room.{HasRoomFor, Spends};
 ghost use Rattle.gateway.specs.Cues.{event_of};
+ghost use Rattle.gateway.specs.Rooms.{a_router, both_routers};
 
 use addresses::Ip;
 use forwarder::Forwarder;
@@ -39,7 +43,7 @@ impl WriteBytes for AdvertFrame<'_> {
 
     ghost bytes = { λ f. advert_frame f.station.now.network f.priority f.station.now.interval };
 
-    ghost room = { λ _. 46 };
+    ghost room = { λ _. ADVERT_FRAME };
 
     fn write_to(&self, list: &mut Vec<u8>) {
         self.station.append_advert(list, self.priority);
@@ -57,7 +61,7 @@ impl WriteBytes for GratuitousFrame<'_> {
 
     ghost bytes = { λ f. gratuitous_frame f.station.now.network };
 
-    ghost room = { λ _. 42 };
+    ghost room = { λ _. ARP_FRAME };
 
     fn write_to(&self, list: &mut Vec<u8>) {
         self.station.append_gratuitous(list);
@@ -98,16 +102,14 @@ fn tell(station: &mut Interface, cue: Cue, now: u64) -> Action
 /// Tells the router on a side something, and sends its frames.
 pub(crate) fn cue_router(forwarder: &mut Forwarder, page: &mut OutputBuffer, side: Side, cue: Cue)
     requires moment { IsMoment forwarder.old.moment }
-    requires frames { 2 ≤ page.old.room.frames }
+    requires room { HasRoomFor a_router forwarder.old page.old }
     ensures acts { RouterActs (scene_on forwarder.old page.old) side (event_of cue)
         (scene_on forwarder.new page.new) }
     ensures rest { forwarder.new ≡ record forwarder.old {
       inside = forwarder.new.inside;
       outside = forwarder.new.outside;
     } }
-    ensures frames { page.old.room.frames ≤ page.new.room.frames + 2 }
-    ensures datagrams { page.new.room.datagrams ≡ page.old.room.datagrams }
-    ensures notes { page.new.room.notes ≡ page.old.room.notes }
+    ensures spends { Spends a_router forwarder.old page.old forwarder.new page.new }
 {
     let now = forwarder.moment;
     match side {
@@ -125,16 +127,14 @@ pub(crate) fn cue_router(forwarder: &mut Forwarder, page: &mut OutputBuffer, sid
 /// Tells both routers something, that of the inside first.
 pub(crate) fn cue_both(forwarder: &mut Forwarder, page: &mut OutputBuffer, cue: Cue)
     requires moment { IsMoment forwarder.old.moment }
-    requires frames { 4 ≤ page.old.room.frames }
+    requires room { HasRoomFor both_routers forwarder.old page.old }
     ensures act { BothAct (scene_on forwarder.old page.old) (event_of cue)
         (scene_on forwarder.new page.new) }
     ensures rest { forwarder.new ≡ record forwarder.old {
       inside = forwarder.new.inside;
       outside = forwarder.new.outside;
     } }
-    ensures frames { page.old.room.frames ≤ page.new.room.frames + 4 }
-    ensures datagrams { page.new.room.datagrams ≡ page.old.room.datagrams }
-    ensures notes { page.new.room.notes ≡ page.old.room.notes }
+    ensures spends { Spends both_routers forwarder.old page.old forwarder.new page.new }
 {
     cue_router(forwarder, page, Side::Inside, cue);
     cue_router(forwarder, page, Side::Outside, cue);

@@ -20,30 +20,18 @@ use crate::NoMemory;
 use crate::arrivals::take_reading;
 use crate::datagrams::take_datagram;
 use crate::ends::{end_other, end_tick};
-use crate::rooms::{entry_count, list_for, make_ready};
+use crate::rooms::{
+    END_ROOM, FRAME_ROOM, MOST_PAIRS, STOP_ROOM, WAITING, datagram_room, list_for, make_ready,
+    tick_room, word_room,
+};
 use crate::ticks::{take_stop, take_tick};
 use crate::turns::plug;
 use crate::words::take_word;
 use forwarder::Forwarder;
 use nat_types::Side;
-use output::{OutputBuffer, Room};
+use output::OutputBuffer;
 use spec_step::{Event, Outcome, parts_stand, steps_go, steps_keep, steps_settle};
 use std::alloc::Global;
-
-/// What a frame asks room for that is taken: an answer, a packet that goes on and a request behind it,
-/// three notes, and the datagram at the end.
-const FRAME_ROOM: Room = Room {
-    frames: 3,
-    datagrams: 1,
-    notes: 3,
-};
-
-/// Room for the datagram at the end alone.
-const END_ROOM: Room = Room {
-    frames: 0,
-    datagrams: 1,
-    notes: 0,
-};
 
 fn frame_came(
     alloc: Global,
@@ -89,14 +77,10 @@ fn datagram_came(
     ensures err { OnErr result (scene_on forwarder.new page.new
         ≡ scene_on forwarder.old page.old) }
 {
-    let room = Room {
-        frames: 256,
-        datagrams: 1,
-        notes: entry_count(forwarder) + 448,
-    };
+    let room = datagram_room(forwarder);
     match list_for(alloc, forwarder) {
         Ok(list) => {
-            make_ready(forwarder, page, room, 192)?;
+            make_ready(forwarder, page, room, MOST_PAIRS)?;
             Ok(take_datagram(forwarder, page, bytes, list))
         }
         Err(fault) => Err(fault),
@@ -116,11 +100,7 @@ fn clock_ticked(
     ensures err { OnErr result (scene_on forwarder.new page.new
         ≡ scene_on forwarder.old page.old) }
 {
-    let room = Room {
-        frames: 8,
-        datagrams: 1,
-        notes: entry_count(forwarder) + 1,
-    };
+    let room = tick_room(forwarder);
     make_ready(forwarder, page, room, 0)?;
     take_tick(forwarder, page, now);
     Ok(Outcome::Done)
@@ -135,12 +115,7 @@ fn stop_came(forwarder: &mut Forwarder, page: &mut OutputBuffer) -> Result<Outco
     ensures err { OnErr result (scene_on forwarder.new page.new
         ≡ scene_on forwarder.old page.old) }
 {
-    let room = Room {
-        frames: 4,
-        datagrams: 1,
-        notes: 0,
-    };
-    make_ready(forwarder, page, room, 0)?;
+    make_ready(forwarder, page, STOP_ROOM, 0)?;
     take_stop(forwarder, page);
     Ok(Outcome::Done)
 }
@@ -160,14 +135,10 @@ fn word_came(
     ensures err { OnErr result (scene_on forwarder.new page.new
         ≡ scene_on forwarder.old page.old) }
 {
-    let room = Room {
-        frames: 128,
-        datagrams: 1,
-        notes: entry_count(forwarder) + 193,
-    };
+    let room = word_room(forwarder);
     match list_for(alloc, forwarder) {
         Ok(list) => {
-            make_ready(forwarder, page, room, 64)?;
+            make_ready(forwarder, page, room, WAITING)?;
             Ok(take_word(forwarder, page, boot, list))
         }
         Err(fault) => Err(fault),

@@ -1,11 +1,13 @@
 //! A tick of the clock, and the stop of both routers.
-ghost use Rattle.std.specs.Prelude.{◌≡◌, ◌≤◌, ◌+◌, length};
+ghost use Rattle.std.specs.Prelude.{◌≡◌};
 ghost use Rattle.vrrp_states.specs.Table.{IsMoment};
 ghost use Rattle.spec_step.specs.declared.events.Event.TheVariants.{Stop as StopEvent};
 ghost use Rattle.spec_step.specs.declared.events.Event.TheVariants.{Tick as TickEvent};
 ghost use Rattle.spec_step.specs.Parts.{idle_taken};
 ghost use Rattle.spec_step.specs.Steps.{Does, clock_after};
 ghost use Rattle.forwarder.specs.Forwarder.{scene_on};
+ghost use Rattle.forwarder.specs.Room.{HasRoomFor};
+ghost use Rattle.gateway.specs.Rooms.{both_routers, idle_needs, tick_needs};
 
 use crate::routers::{Cue, cue_both};
 use crate::turns::take_turn;
@@ -25,7 +27,7 @@ fn clock_after(moment: u64, now: u64) -> u64
 
 /// Lets the idle pairs go.
 fn release_idle(forwarder: &mut Forwarder, page: &mut OutputBuffer)
-    requires notes { length forwarder.old.core.table.entries + 1 ≤ page.old.room.notes }
+    requires room { HasRoomFor (idle_needs forwarder.old) forwarder.old page.old }
     ensures scene { scene_on forwarder.new page.new
         ≡ idle_taken (scene_on forwarder.old page.old) }
     ensures datagrams { page.new.room.datagrams ≡ page.old.room.datagrams }
@@ -41,8 +43,7 @@ fn release_idle(forwarder: &mut Forwarder, page: &mut OutputBuffer)
 /// where the gateway is to give way or to come back.
 pub(crate) fn take_tick(forwarder: &mut Forwarder, page: &mut OutputBuffer, now: u64)
     requires moment { IsMoment forwarder.old.moment }
-    requires frames { 8 ≤ page.old.room.frames }
-    requires notes { length forwarder.old.core.table.entries + 1 ≤ page.old.room.notes }
+    requires room { HasRoomFor (tick_needs forwarder.old) forwarder.old page.old }
     ensures does { Does (scene_on forwarder.old page.old) (TickEvent now)
         (scene_on forwarder.new page.new) }
     ensures datagrams { page.new.room.datagrams ≡ page.old.room.datagrams }
@@ -57,7 +58,7 @@ pub(crate) fn take_tick(forwarder: &mut Forwarder, page: &mut OutputBuffer, now:
 /// Stops both routers for good.
 pub(crate) fn take_stop(forwarder: &mut Forwarder, page: &mut OutputBuffer)
     requires moment { IsMoment forwarder.old.moment }
-    requires frames { 4 ≤ page.old.room.frames }
+    requires room { HasRoomFor both_routers forwarder.old page.old }
     ensures does { Does (scene_on forwarder.old page.old) StopEvent
         (scene_on forwarder.new page.new) }
     ensures datagrams { page.new.room.datagrams ≡ page.old.room.datagrams }

@@ -1,11 +1,13 @@
 //! Giving way: the turn with which a tick begins, what a gateway says of itself, and its cables.
-ghost use Rattle.std.specs.Prelude.{◌≡◌, ◌≤◌, ◌+◌};
+ghost use Rattle.std.specs.Prelude.{◌≡◌};
 ghost use Rattle.vrrp_states.specs.Table.{IsMoment};
 ghost use Rattle.interfaces.specs.Stations.{with_plug};
 ghost use Rattle.spec_step.specs.GivingWay.{GivingWay, TakesTurn, returned, turn_of};
 ghost use Rattle.spec_step.specs.declared.turns.Turn.TheVariants.{Leaves};
 ghost use Rattle.spec_step.specs.Shown.{has_side_out, is_whole, serves, station_on, with_station};
 ghost use Rattle.forwarder.specs.Forwarder.{scene_on, shown_of};
+ghost use Rattle.forwarder.specs.Room.{HasRoomFor, Spends};
+ghost use Rattle.gateway.specs.Rooms.{both_routers};
 
 use crate::routers::{Cue, cue_both, start_routers};
 use forwarder::Forwarder;
@@ -56,7 +58,7 @@ fn turn_of(forwarder: &Forwarder) -> Turn
 /// Gives way: both routers are stopped.
 fn leave(forwarder: &mut Forwarder, page: &mut OutputBuffer)
     requires moment { IsMoment forwarder.old.moment }
-    requires frames { 4 ≤ page.old.room.frames }
+    requires room { HasRoomFor both_routers forwarder.old page.old }
     ensures turn { TakesTurn (scene_on forwarder.old page.old) Leaves
         (scene_on forwarder.new page.new) }
     ensures rest { forwarder.new ≡ record forwarder.old {
@@ -64,9 +66,7 @@ fn leave(forwarder: &mut Forwarder, page: &mut OutputBuffer)
       inside = forwarder.new.inside;
       outside = forwarder.new.outside;
     } }
-    ensures frames { page.old.room.frames ≤ page.new.room.frames + 4 }
-    ensures datagrams { page.new.room.datagrams ≡ page.old.room.datagrams }
-    ensures notes { page.new.room.notes ≡ page.old.room.notes }
+    ensures spends { Spends both_routers forwarder.old page.old forwarder.new page.new }
 {
     cue_both(forwarder, page, Cue::Stop);
     forwarder.away = true;
@@ -91,16 +91,14 @@ fn come_back(forwarder: &mut Forwarder)
 /// Takes the turn with which a tick begins.
 pub(crate) fn take_turn(forwarder: &mut Forwarder, page: &mut OutputBuffer)
     requires moment { IsMoment forwarder.old.moment }
-    requires frames { 4 ≤ page.old.room.frames }
+    requires room { HasRoomFor both_routers forwarder.old page.old }
     ensures turn { GivingWay (scene_on forwarder.old page.old) (scene_on forwarder.new page.new) }
     ensures rest { forwarder.new ≡ record forwarder.old {
       away = forwarder.new.away;
       inside = forwarder.new.inside;
       outside = forwarder.new.outside;
     } }
-    ensures frames { page.old.room.frames ≤ page.new.room.frames + 4 }
-    ensures datagrams { page.new.room.datagrams ≡ page.old.room.datagrams }
-    ensures notes { page.new.room.notes ≡ page.old.room.notes }
+    ensures spends { Spends both_routers forwarder.old page.old forwarder.new page.new }
 {
     match turn_of(forwarder) {
         Turn::Leaves => leave(forwarder, page),

@@ -1,8 +1,10 @@
 //! The operator's word that the other gateway is off.
-ghost use Rattle.std.specs.Prelude.{◌≡◌, ◌≤◌, ◌+◌, [], None, length, vec_capacity};
+ghost use Rattle.std.specs.Prelude.{◌≡◌, ◌≤◌, [], None, length, vec_capacity};
 ghost use Rattle.spec_step.specs.Parts.{word_taken};
 ghost use Rattle.spec_step.specs.Steps.{outcome_word, word_by, word_refusal};
 ghost use Rattle.forwarder.specs.Forwarder.{scene_on, shown_of};
+ghost use Rattle.forwarder.specs.Room.{HasRoomFor};
+ghost use Rattle.gateway.specs.Rooms.{waiting_needs};
 
 use forwarder::Forwarder;
 use output::OutputBuffer;
@@ -28,10 +30,8 @@ fn word_refusal(forwarder: &Forwarder, boot: u64) -> Option<Reason>
 fn go_alone(forwarder: &mut Forwarder, page: &mut OutputBuffer, boot: u64, list: Vec<HeldPacket>)
     requires heard { word_refusal (shown_of forwarder.old) boot ≡ None }
     requires empty { list.items ≡ [] }
-    requires room { length forwarder.old.kept ≤ vec_capacity list }
-    requires frames { 128 ≤ page.old.room.frames }
-    requires notes { length forwarder.old.core.table.entries + 192 ≤ page.old.room.notes }
-    requires ready { 64 ≤ forwarder.old.core.table.ready }
+    requires list { length forwarder.old.kept ≤ vec_capacity list }
+    requires room { HasRoomFor (waiting_needs forwarder.old) forwarder.old page.old }
     ensures scene { scene_on forwarder.new page.new
         ≡ word_taken (scene_on forwarder.old page.old) boot }
     ensures datagrams { page.new.room.datagrams ≡ page.old.room.datagrams }
@@ -53,10 +53,8 @@ pub(crate) fn take_word(
     list: Vec<HeldPacket>,
 ) -> Outcome
     requires empty { list.items ≡ [] }
-    requires room { length forwarder.old.kept ≤ vec_capacity list }
-    requires frames { 128 ≤ page.old.room.frames }
-    requires notes { length forwarder.old.core.table.entries + 192 ≤ page.old.room.notes }
-    requires ready { 64 ≤ forwarder.old.core.table.ready }
+    requires list { length forwarder.old.kept ≤ vec_capacity list }
+    requires room { HasRoomFor (waiting_needs forwarder.old) forwarder.old page.old }
     ensures scene { scene_on forwarder.new page.new
         ≡ word_by (scene_on forwarder.old page.old) boot
         (word_refusal (shown_of forwarder.old) boot) }

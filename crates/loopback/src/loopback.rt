@@ -89,11 +89,13 @@ impl Ports {
         })
     }
 
-    fn port(&mut self, place: Place) -> &mut Port {
+    /// The port of a place; the operator's has none.
+    fn port(&mut self, place: Place) -> Option<&mut Port> {
         match place {
-            Place::Link => &mut self.link,
-            Place::Side(Side::Inside) => &mut self.inside,
-            Place::Side(Side::Outside) => &mut self.outside,
+            Place::Link => Some(&mut self.link),
+            Place::Side(Side::Inside) => Some(&mut self.inside),
+            Place::Side(Side::Outside) => Some(&mut self.outside),
+            Place::Operator => None,
         }
     }
 }
@@ -113,7 +115,7 @@ impl Both {
         })
     }
 
-    fn port(&mut self, id: GatewayId, place: Place) -> &mut Port {
+    fn port(&mut self, id: GatewayId, place: Place) -> Option<&mut Port> {
         match id {
             GatewayId::Zero => self.zero.port(place),
             GatewayId::One => self.one.port(place),
@@ -185,13 +187,13 @@ impl<R: Net + Clock + AllocGlobal> Channel for Loopback<'_, R> {
         }
     }
 
-    /// A send, a receive or a clock that fails loses the bytes.
+    /// A send, a receive or a clock that fails loses the bytes, and so does the operator's place.
     fn pass(&mut self, id: GatewayId, place: Place, bytes: &[u8]) -> Passed {
         match &mut self.hold {
-            Hold::Bound(both, _) => {
-                let port = both.port(id, place);
-                port.pass(self.rt, bytes).unwrap_or(Passed::Lost)
-            }
+            Hold::Bound(both, _) => match both.port(id, place) {
+                Some(port) => port.pass(self.rt, bytes).unwrap_or(Passed::Lost),
+                None => Passed::Lost,
+            },
             Hold::Unasked | Hold::Refused(_) => Passed::Lost,
         }
     }

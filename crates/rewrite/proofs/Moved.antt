@@ -32,7 +32,7 @@ tcp_sum-moved old new (a ∷ b ∷ c ∷ d ∷ e ∷ f ∷ g ∷ h ∷ i ∷ j �
 tcp_sum-moved old new _ old_fits new_fits long is_source is_destination = absurd (omega arith)
 
 -- an update by the flows is the sum that the whole sums ask for
-moved_sum-update : (t old new s s2 u : ℕ) → s2 + old ≡ s + new → IsUpdate t old new u → u ≡ moved_sum t s s2
+pub moved_sum-update : (t old new s s2 u : ℕ) → s2 + old ≡ s + new → IsUpdate t old new u → u ≡ moved_sum t s s2
 moved_sum-update t old new s s2 u same is_update = omega arith
 
 -- the ports and a TCP checksum, written one after the other

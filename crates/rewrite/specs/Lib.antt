@@ -1,2 +1,3 @@
+pub mod PassedOn
 pub mod Sums
 pub mod Translated

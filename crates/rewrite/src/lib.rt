@@ -10,11 +10,14 @@
 //! ```
 #![tactic(auto)]
 
+mod errors;
 mod flows;
 mod headers;
+mod insides;
 mod laws;
 mod packets;
 mod segments;
 
-pub use laws::{header_law, moved_sum_law, tcp_law, udp_law};
+pub use errors::{error_hairpin, error_inward, error_outward, rewrite_error};
+pub use laws::{header_law, hides_inside, moved_sum_law, tcp_law, udp_law};
 pub use packets::{RewriteFault, hairpin, inward, outward, rewrite_packet};

@@ -106,14 +106,14 @@ pub fn rewrite_packet(packet: &mut [u8], old: Flow, new: Flow) -> Result<(), Rew
     Ok(())
 }
 
-fn time_to_live(packet: &[u8]) -> u8
+pub(crate) fn time_to_live(packet: &[u8]) -> u8
     requires { IsIpv4 packet.now }
     ensures { result ≡ (header_of packet.now).ttl }
 {
     Ipv4View { bytes: packet }.ttl()
 }
 
-fn header_length(packet: &[u8]) -> usize
+pub(crate) fn header_length(packet: &[u8]) -> usize
     requires { IsIpv4 packet.now }
     ensures { result ≡ (header_of packet.now).header_length }
 {

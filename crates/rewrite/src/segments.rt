@@ -10,7 +10,7 @@ use addresses::Protocol;
 use ipv4::{Flow, TcpViewMut, UdpViewMut};
 
 /// The checksum of a UDP header, where the field was `old` and the sum is now `sum`.
-fn udp_field(old: u16, sum: u16) -> u16
+pub(crate) fn udp_field(old: u16, sum: u16) -> u16
     ensures { result ≡ udp_field old sum }
 {
     match (old, sum) {

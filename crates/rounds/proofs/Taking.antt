@@ -6,16 +6,16 @@ use Rattle.sockets.specs.Letters.{Polled, ReceivedDatagram, answer_of, came, fai
 use Rattle.sockets.specs.declared.places.Place.{Place}
 use Rattle.sockets.specs.declared.wire.WireFault.{WireFault}
 use Rattle.spec_step.specs.declared.events.Event.{Event}
-use Rattle.rounds.specs.Rounds.{AreRounds, Box, Brings, IsRound, Reads, State, Takes, TakesAll, TakesNew}
+use Rattle.rounds.specs.Rounds.{AreRounds, Box, Brings, IsRound, Reads, State, TakesAny, TakesAll, TakesNew}
 use Rattle.rounds.specs.Polls.{Asks, HasAsked, HasPolled}
 
 -- ---- what an answer brings
 
 -- a letter came, so many bytes of a receiver's room, and was taken
-pub one_came : (b b2 : Box) (place : Place) (count : ℕ) (room : List ℕ) (found : Option (Place × ℕ)) (event : Event)
+pub one_came : (track : Bool) (b b2 : Box) (place : Place) (count : ℕ) (room : List ℕ) (found : Option (Place × ℕ)) (event : Option Event)
     → found ≡ Some (place, count) → b2.answers ≡ b.answers ++ answer_of {E = WireFault} (Ok found) room ∷ []
-    → Brings (record { place = place; bytes = take count room }) event → Takes b.state event b2.state → Asks b true b2
-one_came b b2 place count room found event is new brings takes = record {
+    → Brings track (record { place = place; bytes = take count room }) event → TakesAny b.state event b2.state → Asks track b true b2
+one_came track b b2 place count room found event is new brings takes = record {
   answer = came (record { place = place; bytes = take count room });
   is_more = refl;
   taken = record {
@@ -25,9 +25,9 @@ one_came b b2 place count room found event is new brings takes = record {
 }
 
 -- nothing was there
-pub none_came : (b b2 : Box) (room : List ℕ) (found : Option (Place × ℕ)) → found ≡ None
-    → b2.answers ≡ b.answers ++ answer_of {E = WireFault} (Ok found) room ∷ [] → b2.state ≡ b.state → Asks b false b2
-none_came b b2 room found is new same = record {
+pub none_came : (track : Bool) (b b2 : Box) (room : List ℕ) (found : Option (Place × ℕ)) → found ≡ None
+    → b2.answers ≡ b.answers ++ answer_of {E = WireFault} (Ok found) room ∷ [] → b2.state ≡ b.state → Asks track b false b2
+none_came track b b2 room found is new same = record {
   answer = nothing;
   is_more = refl;
   taken = record {
@@ -37,8 +37,8 @@ none_came b b2 room found is new same = record {
 }
 
 -- to receive failed
-pub one_failed : (b b2 : Box) → b2.answers ≡ b.answers ++ failed ∷ [] → b2.state ≡ b.state → Asks b true b2
-one_failed b b2 new same = record { answer = failed; is_more = refl; taken = record { new = new; taken = same } }
+pub one_failed : (track : Bool) (b b2 : Box) → b2.answers ≡ b.answers ++ failed ∷ [] → b2.state ≡ b.state → Asks track b true b2
+one_failed track b b2 new same = record { answer = failed; is_more = refl; taken = record { new = new; taken = same } }
 
 -- ---- one answer after another
 
@@ -48,22 +48,22 @@ letters_joined (came letter ∷ xs) ys = ap (λ (x : List ReceivedDatagram). let
 letters_joined (nothing ∷ xs) ys = letters_joined xs ys
 letters_joined (failed ∷ xs) ys = letters_joined xs ys
 
-all_joined : (s t u : State) (xs ys : List ReceivedDatagram) → TakesAll s xs t → TakesAll t ys u → TakesAll s (xs ++ ys) u
-all_joined s t u [] ys one two = subst (λ (x : State). TakesAll x ys u) one two
-all_joined s t u (x ∷ xs) ys one two = (one.0, (one.1.0, all_joined one.0 t u xs ys one.1.1 two))
+all_joined : (track : Bool) (s t u : State) (xs ys : List ReceivedDatagram) → TakesAll track s xs t → TakesAll track t ys u → TakesAll track s (xs ++ ys) u
+all_joined track s t u [] ys one two = subst (λ (x : State). TakesAll track x ys u) one two
+all_joined track s t u (x ∷ xs) ys one two = (one.0, (one.1.0, all_joined track one.0 t u xs ys one.1.1 two))
 
-joined : (a b c : Box) (xs ys : List Polled) → TakesNew a xs b → TakesNew b ys c → TakesNew a (xs ++ ys) c
-joined a b c xs ys one two = record {
+joined : (track : Bool) (a b c : Box) (xs ys : List Polled) → TakesNew track a xs b → TakesNew track b ys c → TakesNew track a (xs ++ ys) c
+joined track a b c xs ys one two = record {
   new = two.new ∙ (ap (λ (x : List Polled). x ++ ys) one.new ∙ append_assoc a.answers xs ys);
-  taken = subst (λ (x : List ReceivedDatagram). TakesAll a.state x c.state) (sym (letters_joined xs ys))
-      (all_joined a.state b.state c.state (letters_of xs) (letters_of ys) one.taken two.taken);
+  taken = subst (λ (x : List ReceivedDatagram). TakesAll track a.state x c.state) (sym (letters_joined xs ys))
+      (all_joined track a.state b.state c.state (letters_of xs) (letters_of ys) one.taken two.taken);
 }
 
 -- ---- a poll
 
 -- the wire wasn't asked yet
-pub none_asked : (b b2 : Box) → b2 ≡ b → HasAsked 0 b b2
-none_asked b b2 same = record {
+pub none_asked : (track : Bool) (b b2 : Box) → b2 ≡ b → HasAsked track 0 b b2
+none_asked track b b2 same = record {
   answers = [];
   count = refl;
   not_yet = refl;
@@ -79,13 +79,13 @@ not_false x true is e = refl
 not_false x false is e = absurd (cc)
 
 -- it was asked once more, and there may be more
-pub asked_on : (n : ℕ) (a b c : Box) (more : Bool) → HasAsked n a b → Asks b more c → more ≡ true → HasAsked (n + 1) a c
-asked_on n a b c more had one is = record {
+pub asked_on : (track : Bool) (n : ℕ) (a b c : Box) (more : Bool) → HasAsked track n a b → Asks track b more c → more ≡ true → HasAsked track (n + 1) a c
+asked_on track n a b c more had one is = record {
   answers = had.answers ++ one.answer ∷ [];
   count = length-append had.answers (one.answer ∷ []) ∙ ap (λ (k : ℕ). k + 1) had.count;
   not_yet = let last = not_true more (is_nothing one.answer) is one.is_more in
       list_any-append is_nothing had.answers (one.answer ∷ []) ∙ cc;
-  taken = joined a b c had.answers (one.answer ∷ []) had.taken one.taken;
+  taken = joined track a b c had.answers (one.answer ∷ []) had.taken one.taken;
 }
 
 is_end : (answer : Polled) → is_nothing answer ≡ true → answer ≡ nothing
@@ -94,8 +94,8 @@ is_end nothing is = refl
 is_end failed is = absurd (cc)
 
 -- it was asked once more, and nothing was there
-pub polled_out : (n most : ℕ) (a b c : Box) (more : Bool) → HasAsked n a b → Asks b more c → more ≡ false → n < most → HasPolled most a c
-polled_out n most a b c more had one is below =
+pub polled_out : (track : Bool) (n most : ℕ) (a b c : Box) (more : Bool) → HasAsked track n a b → Asks track b more c → more ≡ false → n < most → HasPolled track most a c
+polled_out track n most a b c more had one is below =
     let last = is_end one.answer (not_false more (is_nothing one.answer) is one.is_more) in
     record {
       answers = had.answers ++ one.answer ∷ [];
@@ -104,18 +104,18 @@ polled_out n most a b c more had one is below =
         not_yet = had.not_yet;
         ends = inl (ap (λ (x : Polled). had.answers ++ x ∷ []) last, subst (λ (k : ℕ). k < most) (sym had.count) below);
       };
-      taken = joined a b c had.answers (one.answer ∷ []) had.taken one.taken;
+      taken = joined track a b c had.answers (one.answer ∷ []) had.taken one.taken;
     }
 
 -- it was asked as often as it may be
-pub polled_most : (n most : ℕ) (a b : Box) → HasAsked n a b → n ≡ most → HasPolled most a b
-polled_most n most a b had is = record {
+pub polled_most : (track : Bool) (n most : ℕ) (a b : Box) → HasAsked track n a b → n ≡ most → HasPolled track most a b
+polled_most track n most a b had is = record {
   answers = had.answers;
   poll = record { before = had.answers; not_yet = had.not_yet; ends = inr (refl, had.count ∙ is) };
   taken = had.taken;
 }
 
 -- one round more
-pub one_round_more : {C : Type 0} (reads : Reads C) (n : ℕ) (a b c : Box) (x y z : C)
-    → AreRounds reads n a x b y → IsRound reads b y c z → AreRounds reads (n + 1) a x c z
-one_round_more reads n a b c x y z before last = rw add-one (b, (y, (before, last)))
+pub one_round_more : {C : Type 0} (track : Bool) (reads : Reads C) (n : ℕ) (a b c : Box) (x y z : C)
+    → AreRounds track reads n a x b y → IsRound track reads b y c z → AreRounds track reads (n + 1) a x c z
+one_round_more track reads n a b c x y z before last = rw add-one (b, (y, (before, last)))

@@ -1,26 +1,21 @@
 -- What came by a wire, as an event of the gateway.
-use Rattle.std.specs.Prelude.{ℕ, Bool, ◌&&◌, ◌==◌, List, length, slice_index, drop, Option, Some, None, if◌then◌else◌}
+use Rattle.std.specs.Prelude.{ℕ, Bool, not, ◌||◌, List, Option, Some, None, option_and_then, if◌then◌else◌}
 use Rattle.std.specs.Borrow.{Bor}
-use Rattle.byteorder.specs.Endian.{big_number}
+use Rattle.control.specs.Words.{word_of}
+use Rattle.control.specs.declared.words.Word.{Word}
+use Rattle.control.specs.declared.words.Word.TheVariants as word
 use Rattle.sockets.specs.declared.places.Place.{Place}
-use Rattle.sockets.specs.declared.places.Place.TheVariants.{Link, Side}
+use Rattle.sockets.specs.declared.places.Place.TheVariants as place
 use Rattle.spec_step.specs.declared.events.Event.{Event}
-use Rattle.spec_step.specs.declared.events.Event.TheVariants.{Frame, Datagram, PeerOff}
+use Rattle.spec_step.specs.declared.events.Event.TheVariants.{Frame, Datagram, PeerOff, Side}
 
--- ten bytes that begin with NO
-abbrev pub is_word : List ℕ → Bool
-is_word bytes = (length bytes == 10) && ((slice_index bytes 0 == 78) && (slice_index bytes 1 == 79))
+-- the operator's word of a boot; and of a side, unless its carrier tells it and none is tracked
+abbrev pub said_by : Bool → Word → Option Event
+said_by track (word.PeerOff boot) = Some (PeerOff boot)
+said_by track (word.Side side up carrier) = if track || not carrier then Some (Side side up) else None
 
--- the boot of which the operator's word speaks
-abbrev pub word_in : List ℕ → Option ℕ
-word_in bytes = if is_word bytes then Some (big_number 8 (drop 2 bytes)) else None
-
--- a datagram of the link
-abbrev pub said_by : Bor (List ℕ) → Option ℕ → Event
-said_by bytes (Some boot) = PeerOff boot
-said_by bytes None = Datagram bytes
-
--- a datagram that came at a place
-abbrev pub event_of : Place → Bor (List ℕ) → Event
-event_of (Side side) bytes = Frame side bytes
-event_of Link bytes = said_by bytes (word_in bytes.now)
+-- what came at a place: a frame, a datagram, or what is said
+abbrev pub event_of : Bool → Place → Bor (List ℕ) → Option Event
+event_of track (place.Side side) bytes = Some (Frame side bytes)
+event_of track place.Link bytes = Some (Datagram bytes)
+event_of track place.Operator bytes = option_and_then (said_by track) (word_of bytes.now)

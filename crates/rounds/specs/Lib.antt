@@ -3,3 +3,4 @@ pub mod Views
 pub mod Rounds
 pub mod LeftOut
 pub mod Polls
+pub mod Outages

@@ -5,20 +5,20 @@ use Rattle.sockets.specs.Letters.{Polled, is_nothing}
 use Rattle.rounds.specs.Rounds.{Box, IsPoll, TakesNew}
 
 -- the wire was asked so often, and each time something may have been left
-pub record HasAsked (n : ℕ) (b b2 : Box) : Type 0 where
+pub record HasAsked (track : Bool) (n : ℕ) (b b2 : Box) : Type 0 where
   pub answers : List Polled
   pub count : length answers ≡ n
   pub not_yet : list_any is_nothing answers ≡ false
-  pub taken : TakesNew b answers b2
+  pub taken : TakesNew track b answers b2
 
 -- the wire was asked once, and there may be more
-pub record Asks (b : Box) (more : Bool) (b2 : Box) : Type 0 where
+pub record Asks (track : Bool) (b : Box) (more : Bool) (b2 : Box) : Type 0 where
   pub answer : Polled
   pub is_more : more ≡ not (is_nothing answer)
-  pub taken : TakesNew b (answer ∷ []) b2
+  pub taken : TakesNew track b (answer ∷ []) b2
 
 -- a whole poll
-pub record HasPolled (most : ℕ) (b b2 : Box) : Type 0 where
+pub record HasPolled (track : Bool) (most : ℕ) (b b2 : Box) : Type 0 where
   pub answers : List Polled
   pub poll : IsPoll most answers
-  pub taken : TakesNew b answers b2
+  pub taken : TakesNew track b answers b2

@@ -10,6 +10,7 @@ seen g = record {
   moment = g.moment;
   inside = is_active g.inside;
   outside = is_active g.outside;
+  away = g.away;
   synced = is_synced g.ledger.book.stage;
   peer = g.link.known;
   heard = is_heard g.link.heard g.moment;

@@ -6,11 +6,13 @@ mod clocks;
 mod left;
 mod letters;
 mod logs;
+mod outages;
 mod rounds;
 mod views;
 
 pub use clocks::{Clockwork, Stopwatch};
 pub use left::LeftOut;
-pub use letters::{event_of, spelled_word};
+pub use letters::event_of;
+pub use outages::PATIENCE;
 pub use rounds::{MOST, WAIT, serve};
 pub use views::{View, view_of};

@@ -19,6 +19,7 @@ pub(crate) fn tell<E: Write>(
     after: &View,
 ) -> io::Result<()> {
     tell_outcome(errors, after.moment, event, outcome)?;
+    tell_away(errors, before, after)?;
     for side in [Side::Inside, Side::Outside] {
         tell_router(errors, side, before, after)?;
     }
@@ -56,6 +57,15 @@ fn name_of(event: &Event<'_>) -> &'static str {
     }
 }
 
+fn tell_away<E: Write>(errors: &mut E, before: &View, after: &View) -> io::Result<()> {
+    let moment = after.moment;
+    match (before.away, after.away) {
+        (false, true) => writeln!(errors, "log {moment} away"),
+        (true, false) => writeln!(errors, "log {moment} back"),
+        _ => Ok(()),
+    }
+}
+
 fn tell_router<E: Write>(
     errors: &mut E,
     side: Side,
@@ -70,13 +80,14 @@ fn tell_router<E: Write>(
     writeln!(errors, "log {moment} {side} {state}")
 }
 
-/// The state of a side's router, which is started as soon as the table is loaded.
+/// The state of a side's router. It is started as soon as the table is loaded, and stopped while the
+/// gateway is away.
 fn state_of(view: &View, side: Side) -> &'static str {
     let active = match side {
         Side::Inside => view.inside,
         Side::Outside => view.outside,
     };
-    match (view.synced, active) {
+    match (view.synced && !view.away, active) {
         (_, true) => "Active",
         (true, false) => "Backup",
         (false, false) => "Initialize",

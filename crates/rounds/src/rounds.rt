@@ -1,13 +1,15 @@
 //! The rounds of a box.
 ghost use Rattle.std.specs.Prelude.{◌≡◌, OnOk, codes};
 ghost use Rattle.std.specs.Io.KnownBytes.{Appends};
-ghost use Rattle.rounds.specs.Rounds.{AreRounds, IsRound, RunsTo, Takes, box, state};
+ghost use Rattle.rounds.specs.Letters.{event_of};
+ghost use Rattle.rounds.specs.Rounds.{AreRounds, IsRound, RunsTo, Takes, TakesAny, box, state};
 ghost use Rattle.rounds.specs.Polls.{Asks, HasPolled};
 
 use crate::Clockwork;
 use crate::left::LeftOut;
 use crate::letters::event_of;
 use crate::logs::tell;
+use crate::outages::Outages;
 use crate::views::{View, view_of};
 use gateway::{Event, Gateway, Out};
 use sockets::{LONGEST, Place, Wire};
@@ -22,17 +24,20 @@ pub const MOST: usize = 256;
 /// How long a round waits for its first datagram, in milliseconds.
 pub const WAIT: u64 = 10;
 
-/// What the gateway has told in its last step, how it stood then, and how many events were left out.
+/// What the gateway has told in its last step, how it stood then, what was told of the places, and how many events
+/// were left out.
 #[derive(Drop)]
 struct Desk {
     out: Out,
     view: View,
+    outages: Outages,
     left: LeftOut,
 }
 
 /// Runs a box for so many rounds, writes `end`, and is done. A round hands in what comes by the
 /// wire, and then one tick; what the gateway tells is sent at once. On `errors` stands a line for
-/// each event that is dropped, and for each change that an operator watches for.
+/// each event that is dropped, and for each change that an operator watches for. What carriers tell of the sides
+/// counts where they are tracked.
 ///
 /// A send that fails is a lost datagram; where to receive fails, nothing was received. An event for
 /// which memory is refused changes nothing: a frame or a datagram is lost then, and what a tick was
@@ -47,16 +52,17 @@ pub fn serve<W: Wire, C: Clockwork, O: Write, E: Write>(
     wire: &mut W,
     clock: &mut C,
     rounds: u32,
+    track: bool,
     output: &mut O,
     errors: &mut E,
 ) -> io::Result<LeftOut>
-    ensures rounds { RunsTo C.reads rounds
+    ensures rounds { RunsTo track C.reads rounds
         (box gateway.old (W.answers wire.old) 0) clock.old
         (box gateway.new (W.answers wire.new)) clock.new result }
     ensures ended { OnOk result
         (Appends (O.contents output.old) (O.contents output.new) (codes "end\n")) }
 {
-    let left = run(alloc, gateway, wire, clock, rounds, errors);
+    let left = run(alloc, gateway, wire, clock, rounds, track, errors);
     output.write_all(b"end\n")?;
     output.flush()?;
     Ok(left)
@@ -69,55 +75,60 @@ fn run<W: Wire, C: Clockwork, E: Write>(
     wire: &mut W,
     clock: &mut C,
     rounds: u32,
+    track: bool,
     errors: &mut E,
 ) -> LeftOut
-    ensures { AreRounds C.reads rounds
+    ensures { AreRounds track C.reads rounds
         (box gateway.old (W.answers wire.old) 0) clock.old
         (box gateway.new (W.answers wire.new) result) clock.new }
 {
     let mut desk = Desk {
         out: Out::new(alloc),
         view: view_of(gateway),
+        outages: Outages::none(),
         left: LeftOut::none(),
     };
     let mut room = [0; LONGEST];
     for _ in 0..rounds {
-        round(gateway, wire, clock, &mut room, &mut desk, errors);
+        round(gateway, wire, clock, track, &mut room, &mut desk, errors);
     }
     desk.left
 }
 
-/// Hands in what comes, and then the clock's moment.
+/// Hands in what comes, and then the clock's moment; and tells which places fail.
 fn round<W: Wire, C: Clockwork, E: Write>(
     gateway: &mut Gateway,
     wire: &mut W,
     clock: &mut C,
+    track: bool,
     room: &mut [u8; LONGEST],
     desk: &mut Desk,
     errors: &mut E,
 )
-    ensures { IsRound C.reads (box gateway.old (W.answers wire.old) desk.old.left) clock.old
+    ensures { IsRound track C.reads (box gateway.old (W.answers wire.old) desk.old.left) clock.old
         (box gateway.new (W.answers wire.new) desk.new.left) clock.new }
 {
-    take_what_comes(gateway, wire, room, desk, errors);
+    take_what_comes(gateway, wire, track, room, desk, errors);
     let tick = Event::Tick(clock.moment());
     hand_in(gateway, tick, wire, desk, errors);
+    let _left_out = desk.outages.tell(wire, gateway.moment(), errors);
 }
 
 /// Waits for a datagram, and hands in what is there.
 fn take_what_comes<W: Wire, E: Write>(
     gateway: &mut Gateway,
     wire: &mut W,
+    track: bool,
     room: &mut [u8; LONGEST],
     desk: &mut Desk,
     errors: &mut E,
 )
-    ensures { HasPolled 256 (box gateway.old (W.answers wire.old) desk.old.left)
+    ensures { HasPolled track 256 (box gateway.old (W.answers wire.old) desk.old.left)
         (box gateway.new (W.answers wire.new) desk.new.left) }
 {
     let mut limit = Duration::from_millis(WAIT);
     for _ in 0..MOST {
-        if !take_next(gateway, wire, limit, room, desk, errors) {
+        if !take_next(gateway, wire, limit, track, room, desk, errors) {
             return;
         }
         limit = Duration::ZERO;
@@ -129,21 +140,41 @@ fn take_next<W: Wire, E: Write>(
     gateway: &mut Gateway,
     wire: &mut W,
     limit: Duration,
+    track: bool,
     room: &mut [u8; LONGEST],
     desk: &mut Desk,
     errors: &mut E,
 ) -> bool
-    ensures { Asks (box gateway.old (W.answers wire.old) desk.old.left) result
+    ensures { Asks track (box gateway.old (W.answers wire.old) desk.old.left) result
         (box gateway.new (W.answers wire.new) desk.new.left) }
 {
     match wire.receive(limit, room) {
         Ok(Some((place, count))) => {
-            let event = event_of(place, &room[..count]);
-            hand_in(gateway, event, wire, desk, errors);
+            take_letter(gateway, place, &room[..count], wire, track, desk, errors);
             true
         }
         Ok(None) => false,
         Err(_nothing_received) => true,
+    }
+}
+
+/// Hands in what came at a place, if it is an event.
+fn take_letter<W: Wire, E: Write>(
+    gateway: &mut Gateway,
+    place: Place,
+    bytes: &[u8],
+    wire: &mut W,
+    track: bool,
+    desk: &mut Desk,
+    errors: &mut E,
+)
+    ensures taken { TakesAny (state gateway.old desk.old.left) (event_of track place bytes.entry)
+        (state gateway.new desk.new.left) }
+    ensures answers { W.answers wire.new ≡ W.answers wire.old }
+{
+    match event_of(place, bytes, track) {
+        Some(event) => hand_in(gateway, event, wire, desk, errors),
+        None => {}
     }
 }
 

@@ -14,6 +14,8 @@ pub struct View {
     pub inside: bool,
     /// Whether the outside's virtual router is Active.
     pub outside: bool,
+    /// Whether it gave way to the other gateway.
+    pub away: bool,
     /// Whether its table is loaded.
     pub synced: bool,
     /// The known boot of the other gateway, or 0.
@@ -30,6 +32,7 @@ pub fn view_of(gateway: &Gateway) -> View
         moment: gateway.moment(),
         inside: gateway.is_active(Side::Inside),
         outside: gateway.is_active(Side::Outside),
+        away: gateway.is_away(),
         synced: gateway.synced(),
         peer: gateway.known_peer(),
         heard: gateway.hears_peer(),

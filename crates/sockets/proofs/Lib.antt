@@ -1,0 +1,5 @@
+mod Hearing
+mod Boards
+mod Commas
+mod Texts
+mod WayTexts

@@ -2,3 +2,13 @@ pub mod Ports
 pub mod Letters
 pub mod Answers
 pub mod Failing
+pub mod Ends
+pub mod Ways
+pub mod Vxlan
+pub mod FarEnds
+pub mod Rooms
+pub mod Traffic
+pub mod Kept
+pub mod Hearing
+pub mod Bringing
+pub mod Boards

@@ -5,11 +5,13 @@ ghost use Rattle.sockets.specs.Ports.{own_settings, link_ports};
 use nat_types::{GatewayId, Side};
 use settings::Settings;
 
-/// Where a datagram comes from or goes to: the link between the boxes, or the wire of a side.
+/// Where a datagram comes from or goes to: the link between the boxes, or the network of a side. A word of the control
+/// socket comes from the operator; nothing is sent there.
 #[derive(Clone, Copy, Debug, PartialEq, Eq)]
 pub enum Place {
     Link,
     Side(Side),
+    Operator,
 }
 
 /// The UDP ports of a box on the loopback address: its own, and those that it sends to.

@@ -1,21 +1,27 @@
-//! The three sockets of a box on the loopback address, all waited for at once.
-ghost use Rattle.std.specs.Prelude.{◌≡◌, ◌≤◌, [], IfOk, IfSome, OnErr, IsErrOf};
+//! The sockets of a box, all waited for at once.
+ghost use Rattle.std.specs.Prelude.{◌≡◌, ◌≤◌, [], IfOk, IfSome};
+ghost use Rattle.sockets.specs.Boards.{HearsAt, IsAsBefore, IsNew, Opens, SendsAt, Tells};
+ghost use Rattle.sockets.specs.Hearing.{told};
 
+use crate::channels::Channel;
 use crate::wire::{LONGEST, Wire, WireFault};
-use crate::{Answers, Place, Ports};
-use mio::net::UdpSocket;
-use mio::{Events, Interest, Poll, Token};
+use crate::{Answers, Attachment, Place, Ports, Way, Ways};
+use control::Control;
+use mio::{Events, Poll, Token};
 use nat_types::Side;
 use std::alloc::{AllocError, Global};
-use std::io::{self, ErrorKind};
-use std::net::{Ipv4Addr, Net, SocketAddr, SocketAddrV4};
+use std::io;
+use std::net::Net;
 use std::time::Duration;
 use thiserror::Error;
+
+/// The token of the control socket and of its callers.
+const CONTROL: Token = Token(3);
 
 /// Why sockets can't be had.
 #[derive(Clone, Copy, Debug, PartialEq, Eq, Error)]
 pub enum SocketFault {
-    /// A port can't be bound, or not waited for.
+    /// A port can't be bound, or a socket or descriptor can't be waited for.
     #[error("socket 1 NoSocket")]
     NoSocket,
     #[error("memory 1 NoMemory")]
@@ -44,160 +50,208 @@ impl From<io::Error> for SocketFault {
     }
 }
 
-/// A socket that never waits, and where it sends.
+/// The places of a box, and its control socket.
 #[derive(Drop)]
-struct Socket {
-    inner: UdpSocket,
-    target: SocketAddr,
-    /// There may be something to receive. It is set when a wait reports the socket.
-    ready: bool,
-}
-
-impl Socket {
-    fn bind<R: Net>(net: &R, ports: (u16, u16)) -> io::Result<Socket> {
-        let inner = UdpSocket::bind(net, loopback(ports.0))?;
-        Ok(Socket {
-            inner,
-            target: loopback(ports.1),
-            ready: true,
-        })
-    }
-
-    /// The next datagram that is there, if one is.
-    fn take(&mut self, room: &mut [u8; LONGEST]) -> Result<Option<usize>, WireFault>
-        ensures { IfOk result (λ found. IfSome found (λ count. count ≤ 4096)) }
-    {
-        if !self.ready {
-            return Ok(None);
-        }
-        match self.inner.recv_from(room) {
-            Ok((count, _)) => Ok(Some(count)),
-            Err(error) if error.kind() == ErrorKind::WouldBlock => {
-                self.ready = false;
-                Ok(None)
-            }
-            Err(_) => Err(WireFault),
-        }
-    }
-}
-
-fn loopback(port: u16) -> SocketAddr {
-    SocketAddr::V4(SocketAddrV4::new(Ipv4Addr::LOCALHOST, port))
-}
-
-/// Sends one datagram to a port of the loopback address, from any port that is free.
-///
-/// # Errors
-///
-/// `NoSocket` where no port can be had, or the system doesn't take the datagram.
-pub fn send_once<R: Net>(net: &R, port: u16, bytes: &[u8]) -> Result<(), SocketFault>
-    ensures { OnErr result (IsErrOf result SocketFault.NoSocket) }
-{
-    let socket = Socket::bind(net, (0, port))?;
-    socket.inner.send_to(bytes, socket.target)?;
-    Ok(())
-}
-
-/// Three sockets: for the link and for each side.
-#[derive(Drop)]
-struct Trio {
+struct Board {
     poll: Poll,
     events: Events,
-    link: Socket,
-    inside: Socket,
-    outside: Socket,
-    /// The socket that is asked first, so that none is passed over for long.
+    link: Attachment<Channel>,
+    inside: Attachment<Channel>,
+    outside: Attachment<Channel>,
+    control: Control,
+    /// The place that is asked first, so that none is passed over for long.
     first: Place,
 }
 
-impl Trio {
-    fn bind<R: Net>(net: &R, alloc: Global, ports: Ports) -> Result<Trio, SocketFault> {
-        let mut trio = Trio {
-            poll: Poll::new(net)?,
-            events: Events::with_capacity(alloc, 3)?,
-            link: Socket::bind(net, ports.link)?,
-            inside: Socket::bind(net, ports.inside)?,
-            outside: Socket::bind(net, ports.outside)?,
+impl Board {
+    fn open<R: Net>(
+        net: &R,
+        alloc: Global,
+        ways: &Ways,
+        ports: Ports,
+        mut control: Control,
+    ) -> Result<Board, SocketFault>
+        ensures { IfOk result (Opens ways.now ports) }
+    {
+        let poll = Poll::new(net)?;
+        control.register(poll.registry(), CONTROL)?;
+        Ok(Board {
+            link: attached(net, &poll, 0, ways.link, ports.link)?,
+            inside: attached(net, &poll, 1, ways.inside, ports.inside)?,
+            outside: attached(net, &poll, 2, ways.outside, ports.outside)?,
+            events: Events::with_capacity(alloc, 8)?,
+            poll,
+            control,
             first: Place::Link,
-        };
-        trio.register()?;
-        Ok(trio)
+        })
     }
 
-    fn register(&mut self) -> io::Result<()> {
-        let registry = self.poll.registry();
-        registry.register(&mut self.link.inner, Token(0), Interest::READABLE)?;
-        registry.register(&mut self.inside.inner, Token(1), Interest::READABLE)?;
-        registry.register(&mut self.outside.inner, Token(2), Interest::READABLE)
-    }
-
-    fn socket(&mut self, place: Place) -> &mut Socket {
+    fn attachment(&self, place: Place) -> Option<&Attachment<Channel>> {
         match place {
-            Place::Link => &mut self.link,
-            Place::Side(Side::Inside) => &mut self.inside,
-            Place::Side(Side::Outside) => &mut self.outside,
+            Place::Link => Some(&self.link),
+            Place::Side(Side::Inside) => Some(&self.inside),
+            Place::Side(Side::Outside) => Some(&self.outside),
+            Place::Operator => None,
         }
     }
 
-    fn send(&mut self, to: Place, bytes: &[u8]) -> io::Result<()> {
-        let socket = self.socket(to);
-        socket.inner.send_to(bytes, socket.target)?;
-        Ok(())
+    fn strangers(&self, place: Place) -> u64 {
+        match self.attachment(place) {
+            Some(attachment) => attachment.strangers(),
+            None => self.control.refused(),
+        }
     }
 
-    /// The next datagram that is there, of any socket.
-    fn next(&mut self, room: &mut [u8; LONGEST]) -> Result<Option<(Place, usize)>, WireFault>
-        ensures { IfOk result (λ found. IfSome found (λ datagram. datagram.1 ≤ 4096)) }
+    fn send(&mut self, to: Place, bytes: &[u8]) -> Result<(), WireFault>
+        ensures { SendsAt self.old self.new to result bytes.now }
     {
-        for _ in 0..3 {
+        match to {
+            Place::Link => self.link.send(bytes),
+            Place::Side(Side::Inside) => self.inside.send(bytes),
+            Place::Side(Side::Outside) => self.outside.send(bytes),
+            Place::Operator => Err(WireFault),
+        }
+    }
+
+    /// The next of a place.
+    fn take(&mut self, place: Place, room: &mut [u8; LONGEST]) -> Result<Option<usize>, WireFault>
+        ensures hears { HearsAt self.old self.new place (told result room.new) }
+        ensures within { IfOk result (λ found. IfSome found (λ count. count ≤ 4096)) }
+    {
+        match place {
+            Place::Link => self.link.take(room),
+            Place::Side(Side::Inside) => self.inside.take(room),
+            Place::Side(Side::Outside) => self.outside.take(room),
+            Place::Operator => Ok(self.control.take(self.poll.registry(), CONTROL, room)),
+        }
+    }
+
+    /// The next that is there, of any place.
+    fn next(&mut self, room: &mut [u8; LONGEST]) -> Result<Option<(Place, usize)>, WireFault>
+        ensures hears { Tells self.old self.new result room.new }
+        ensures within { IfOk result (λ found. IfSome found (λ datagram. datagram.1 ≤ 4096)) }
+    {
+        for _ in 0..4 {
             let place = self.first;
             self.first = after(place);
-            if let Some(count) = self.socket(place).take(room)? {
-                return Ok(Some((place, count)));
+            match self.take(place, room) {
+                Ok(Some(count)) => return Ok(Some((place, count))),
+                Ok(None) => {}
+                Err(fault) => return Err(fault),
             }
         }
         Ok(None)
     }
 
-    /// Waits until a socket has something, or `limit` has passed.
-    fn wait(&mut self, limit: Duration) -> io::Result<()> {
-        self.poll.poll(&mut self.events, Some(limit))?;
-        for event in &self.events {
-            match event.token() {
-                Token(0) => self.link.ready = true,
-                Token(1) => self.inside.ready = true,
-                _ => self.outside.ready = true,
-            }
+    /// Waits until a place has something, or `limit` has passed.
+    fn wait(&mut self, limit: Duration) -> Result<(), WireFault>
+        ensures same { IsAsBefore self.old self.new }
+    {
+        if self.poll.poll(&mut self.events, Some(limit)).is_err() {
+            return Err(WireFault);
         }
+        wake(
+            &self.events,
+            &mut self.link,
+            &mut self.inside,
+            &mut self.outside,
+            &mut self.control,
+        );
         Ok(())
     }
 
-    /// Whether a socket may have something, as far as is known.
-    fn is_any_ready(&self) -> bool {
-        self.link.ready || self.inside.ready || self.outside.ready
+    /// Hears the system, where there is time to wait and a place may have something already.
+    fn catch_up(&mut self, limit: Duration) -> Result<(), WireFault>
+        ensures same { IsAsBefore self.old self.new }
+    {
+        if limit > Duration::ZERO && self.is_any_ready() {
+            self.wait(Duration::ZERO)
+        } else {
+            Ok(())
+        }
     }
 
-    /// The next datagram of any socket; where none is there, one is waited for.
+    /// Waits, but not where a place may still have something.
+    fn wait_for_any(&mut self, limit: Duration) -> Result<(), WireFault>
+        ensures same { IsAsBefore self.old self.new }
+    {
+        if self.is_any_ready() {
+            self.wait(Duration::ZERO)
+        } else {
+            self.wait(limit)
+        }
+    }
+
+    /// Whether a place may have something, as far as is known.
+    fn is_any_ready(&self) -> bool {
+        self.link.is_ready()
+            || self.inside.is_ready()
+            || self.outside.is_ready()
+            || self.control.is_ready()
+    }
+
+    /// The next of any place; where none is there, one is waited for.
     ///
-    /// A socket that was found empty isn't asked again before the system says that it has something.
-    /// So a call with a time to wait hears the system first: else a flood at one socket would hide
-    /// the others for as long as it lasts.
+    /// A place that had nothing isn't asked again before the system says that it has something. So a call with a time
+    /// to wait hears the system first: else a flood at one place would hide the others for as long as it lasts. Where
+    /// a place may still have something, as after very many strangers, nothing is waited for.
     fn receive(
         &mut self,
         limit: Duration,
         room: &mut [u8; LONGEST],
     ) -> Result<Option<(Place, usize)>, WireFault>
-        ensures { IfOk result (λ found. IfSome found (λ datagram. datagram.1 ≤ 4096)) }
+        ensures hears { Tells self.old self.new result room.new }
+        ensures within { IfOk result (λ found. IfSome found (λ datagram. datagram.1 ≤ 4096)) }
     {
-        if limit > Duration::ZERO && self.is_any_ready() {
-            self.wait(Duration::ZERO).map_err(|_| WireFault)?;
+        if self.catch_up(limit).is_err() {
+            return Err(WireFault);
         }
-        if let Some(found) = self.next(room)? {
-            return Ok(Some(found));
+        match self.next(room) {
+            Ok(Some(found)) => return Ok(Some(found)),
+            Ok(None) => {}
+            Err(fault) => return Err(fault),
         }
-        self.wait(limit).map_err(|_| WireFault)?;
+        if self.wait_for_any(limit).is_err() {
+            return Err(WireFault);
+        }
         self.next(room)
     }
+}
+
+/// Tells the places that a wait has reported, by their tokens.
+fn wake(
+    events: &Events<Global>,
+    link: &mut Attachment<Channel>,
+    inside: &mut Attachment<Channel>,
+    outside: &mut Attachment<Channel>,
+    control: &mut Control,
+)
+    ensures link { link.new ≡ link.old }
+    ensures inside { inside.new ≡ inside.old }
+    ensures outside { outside.new ≡ outside.old }
+{
+    for event in events {
+        match event.token() {
+            Token(0) => link.wake(),
+            Token(1) => inside.wake(),
+            Token(2) => outside.wake(),
+            _ => control.wake(),
+        }
+    }
+}
+
+/// A place by its way, reported by waits under a token's number.
+fn attached<R: Net>(
+    net: &R,
+    poll: &Poll,
+    number: usize,
+    way: Way,
+    ports: (u16, u16),
+) -> io::Result<Attachment<Channel>>
+    ensures { IfOk result (IsNew way ports) }
+{
+    let channel = Channel::open(net, poll.registry(), Token(number), way, ports)?;
+    Ok(Attachment::new(channel, way.far_end(ports)))
 }
 
 /// The place that is asked next.
@@ -205,30 +259,44 @@ fn after(place: Place) -> Place {
     match place {
         Place::Link => Place::Side(Side::Inside),
         Place::Side(Side::Inside) => Place::Side(Side::Outside),
-        Place::Side(Side::Outside) => Place::Link,
+        Place::Side(Side::Outside) => Place::Operator,
+        Place::Operator => Place::Link,
     }
 }
 
-/// The sockets of a box: for the link and for each side.
+/// The sockets of a box: for the link and for each side, and its control socket.
 #[derive(Drop)]
 pub struct Sockets {
-    trio: Trio,
+    board: Board,
     answers: Answers,
 }
 
 impl Sockets {
-    /// Binds the own ports.
+    /// Opens what the ways of a box need, and takes its control socket. Where a way is the loopback address it has
+    /// these ports. Descriptors were inherited before ([`Ways::inherit`]).
     ///
     /// # Errors
     ///
-    /// `NoSocket` where a port can't be had, `NoMemory`.
-    pub fn bind<R: Net>(net: &R, alloc: Global, ports: Ports) -> Result<Sockets, SocketFault>
+    /// `NoSocket` where one can't be had, `NoMemory`.
+    pub fn open<R: Net>(
+        net: &R,
+        alloc: Global,
+        ways: &Ways,
+        ports: Ports,
+        control: Control,
+    ) -> Result<Sockets, SocketFault>
         ensures { IfOk result (λ s. ⟦<Sockets as Wire>⟧.answers s ≡ []) }
     {
         Ok(Sockets {
-            trio: Trio::bind(net, alloc, ports)?,
+            board: Board::open(net, alloc, ways, ports, control)?,
             answers: Answers::none(),
         })
+    }
+
+    /// How much came to a place from others than those it hears, or was no frame of its network; of the operator's
+    /// place, how many callers said no word. It stays at its greatest number.
+    pub fn strangers(&self, place: Place) -> u64 {
+        self.board.strangers(place)
     }
 }
 
@@ -236,7 +304,7 @@ impl Wire for Sockets {
     ghost answers = { λ s. s.answers };
 
     fn send(&mut self, to: Place, bytes: &[u8]) -> Result<(), WireFault> {
-        self.trio.send(to, bytes).map_err(|_| WireFault)
+        self.board.send(to, bytes)
     }
 
     fn receive(
@@ -244,8 +312,15 @@ impl Wire for Sockets {
         limit: Duration,
         room: &mut [u8; LONGEST],
     ) -> Result<Option<(Place, usize)>, WireFault> {
-        let result = self.trio.receive(limit, room);
+        let result = self.board.receive(limit, room);
         self.answers.keep(result, room);
         result
+    }
+
+    fn is_failing(&self, place: Place) -> bool {
+        match self.board.attachment(place) {
+            Some(attachment) => attachment.is_failing(),
+            None => false,
+        }
     }
 }

@@ -19,7 +19,7 @@ pub trait Wire {
     /// What was answered each time that a datagram was asked for, in order.
     ghost answers: { Self → List Polled };
 
-    /// Sends a datagram. After an Err it is lost.
+    /// Sends a datagram. After an Err it is lost, and so is what would go to the operator.
     fn send(&mut self, to: Place, bytes: &[u8]) -> Result<(), WireFault>
         ensures answers { answers self.new ≡ answers self.old };
 
@@ -33,6 +33,10 @@ pub trait Wire {
         ensures within { IfOk result (λ found. IfSome found (λ datagram. datagram.1 ≤ 4096)) }
         ensures answers { answers self.new
             ≡ answers self.old ++ answer_of result room.new ∷ [] };
+
+    /// Whether the last datagram of a place failed: it couldn't be sent, or to receive it failed. It is so until one
+    /// is sent or comes.
+    fn is_failing(&self, place: Place) -> bool;
 }
 
 /// A wire whose call with a given number, counted from 1 over both its calls, fails; all others are those of the
@@ -108,5 +112,10 @@ impl<W: Wire> Wire for Failing<'_, W> {
         let result = self.asked(limit, room);
         self.answers.keep(result, room);
         result
+    }
+
+    /// As the wire below says: a call that fails here doesn't reach it.
+    fn is_failing(&self, place: Place) -> bool {
+        self.wire.is_failing(place)
     }
 }

@@ -11,3 +11,6 @@ returns-in-Gate-clause-done g c h =
 
 pub returns-in-PeerOff-clause-done : goal.returns-in-PeerOff-clause-done
 returns-in-PeerOff-clause-done g c h = rw c.in-PeerOff.is (is_0 _ c.peer_off.ensures.status h)
+
+pub returns-in-Side-clause-done : goal.returns-in-Side-clause-done
+returns-in-Side-clause-done g c h = rw c.in-Side.is (is_0 _ c.side.ensures.status h)

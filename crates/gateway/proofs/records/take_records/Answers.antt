@@ -13,10 +13,10 @@ loop-entry-init c = record {
   moment = refl;
   formed = c.requires.formed;
   few = c.requires.few;
-  ready = c.requires.ready;
+  ready = c.requires.room.pairs;
   places = c.requires.places;
-  frames = c.requires.frames;
-  notes = c.requires.notes;
+  frames = c.requires.room.frames;
+  notes = c.requires.room.notes;
   datagrams = refl;
 }
 
@@ -29,12 +29,6 @@ take_record-requires-clause-formed c =
 pub take_record-requires-clause-moment : goal.take_record-requires-clause-moment
 take_record-requires-clause-moment c = rw c.loop-entry.invariant.moment c.requires.moment
 
-pub take_record-requires-clause-ready : goal.take_record-requires-clause-ready
-take_record-requires-clause-ready c =
-    let e = ap (length {A = Record}) (next-at c.args.records.now c.loop-entry.entry-index c.entry-item.result c.loop-entry-test.true c.entry-item.is) in
-    let ready = c.loop-entry.invariant.ready in
-    omega (arith, e, ready)
-
 pub take_record-requires-clause-places : goal.take_record-requires-clause-places
 take_record-requires-clause-places c =
     let rest = drop (c.loop-entry.entry-index + 1) c.args.records.now in
@@ -42,17 +36,17 @@ take_record-requires-clause-places c =
     let places = rw e at c.loop-entry.invariant.places in
     λ needs. first-place c.entry-item.result rest _ places needs
 
-pub take_record-requires-clause-frames : goal.take_record-requires-clause-frames
-take_record-requires-clause-frames c =
+pub take_record-requires-clause-room : goal.take_record-requires-clause-room
+take_record-requires-clause-room c =
     let e = ap (length {A = Record}) (next-at c.args.records.now c.loop-entry.entry-index c.entry-item.result c.loop-entry-test.true c.entry-item.is) in
     let frames = c.loop-entry.invariant.frames in
-    omega (arith, e, frames)
-
-pub take_record-requires-clause-notes : goal.take_record-requires-clause-notes
-take_record-requires-clause-notes c =
-    let e = ap (length {A = Record}) (next-at c.args.records.now c.loop-entry.entry-index c.entry-item.result c.loop-entry-test.true c.entry-item.is) in
     let notes = c.loop-entry.invariant.notes in
-    omega (arith, e, notes)
+    let ready = c.loop-entry.invariant.ready in
+    record {
+      frames = omega (arith, e, frames);
+      notes = omega (arith, e, notes);
+      pairs = omega (arith, e, ready);
+    }
 
 pub loop-entry-preserved : goal.loop-entry-preserved
 loop-entry-preserved c =
@@ -69,9 +63,9 @@ loop-entry-preserved c =
     let places = inv.places in
     let frames = inv.frames in
     let notes = inv.notes in
-    let ready2 = made.ready in
-    let frames2 = made.frames in
-    let notes2 = made.notes in
+    let ready2 = made.spends.pairs in
+    let frames2 = made.spends.frames in
+    let notes2 = made.spends.notes in
     let more = count-more entry rest in
     let most = count-most rest in
     let counted = ap answers_count e in
@@ -84,5 +78,5 @@ loop-entry-preserved c =
       places = made.places (answers_count rest) (omega (arith, most, size, few)) (omega (arith, counted, more, places));
       frames = omega (arith, size, frames, frames2);
       notes = omega (arith, size, notes, notes2);
-      datagrams = made.datagrams ∙ inv.datagrams;
+      datagrams = made.spends.datagrams ∙ inv.datagrams;
     }

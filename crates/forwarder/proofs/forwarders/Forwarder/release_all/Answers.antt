@@ -29,7 +29,7 @@ loop-packet-preserved c =
           ∙ next-taken (scene_on c.loop-packet.self c.loop-packet.page) all (length c.loop-packet.yielded) _ c.in-Some.packet turn.0 turn.1 count
           ∙ c.loop-packet.invariant.scene;
       frames = omega arith;
-      datagrams = c.take_again.ensures.datagrams ∙ c.loop-packet.invariant.datagrams;
+      datagrams = c.take_again.ensures.spends.datagrams ∙ c.loop-packet.invariant.datagrams;
       notes = omega arith;
       ready = omega arith;
       places = omega arith;

@@ -1,0 +1,4 @@
+pub mod Words
+pub mod Paths
+pub mod Heard
+pub mod Saying

@@ -1,0 +1,17 @@
+-- Where the control socket of a box lies.
+use Rattle.std.specs.Prelude.{ℕ, ◌≡◌, List, ◌++◌, codes}
+
+-- a folder, and a socket in it
+pub record Paths : Type 0 where
+  pub folder : List ℕ
+  pub socket : List ℕ
+
+abbrev pub folder_of : List ℕ → List ℕ
+folder_of boot_file = boot_file ++ codes ".control"
+
+abbrev pub socket_of : List ℕ → List ℕ
+socket_of boot_file = folder_of boot_file ++ codes "/socket"
+
+-- those beside a boot file
+abbrev pub IsBeside : List ℕ → Paths → Type 0
+IsBeside boot_file paths = (paths.folder ≡ folder_of boot_file) × (paths.socket ≡ socket_of boot_file)

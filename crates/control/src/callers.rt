@@ -1,0 +1,167 @@
+//! The end at which words are heard.
+ghost use Rattle.std.specs.Prelude.{◌≡◌, ◌≤◌, ◌<◌, length, vec_len, IfSome};
+ghost use Rattle.control.specs.Heard.{IsWord};
+ghost use Rattle.control.specs.Saying.{Says};
+
+use crate::saying::HEARD;
+use crate::{ControlPath, NoSocket, word_of};
+use mio::net::{UnixListener, UnixStream};
+use mio::{Interest, Registry, Token};
+use std::fs::Files;
+use std::io::{self, ErrorKind, Read, Write};
+use std::net::Net;
+
+/// How many callers are waited for at once. Who calls when all are waited for takes the place of the one that was
+/// waited for longest.
+const CALLERS: usize = 8;
+
+/// How many are taken in one call at most, so that a flood of callers ends none.
+const MOST: usize = 64;
+
+/// The control socket of a box, in a folder that only the box's own user may enter.
+#[derive(Drop)]
+pub struct Control {
+    listener: UnixListener,
+    callers: Vec<UnixStream>,
+    /// Somebody may have called, or said something. It is set when a wait reports the listener or a caller.
+    ready: bool,
+    refused: u64,
+}
+
+/// What a caller has said.
+#[derive(Clone, Copy)]
+enum Said {
+    /// Nothing yet.
+    Nothing,
+    /// So many bytes, which spell a word.
+    Word(usize),
+    /// What is no word; or it has gone.
+    NoWord,
+}
+
+impl Control {
+    /// Makes the folder, where it isn't there, and the socket. One that was left there is removed: the caller holds
+    /// the lock of the boot file beside it, so no other box listens at it.
+    ///
+    /// # Errors
+    ///
+    /// `NoSocket` where one of these can't be had.
+    pub fn open<R: Files + Net + AllocGlobal>(
+        rt: &R,
+        path: &ControlPath,
+    ) -> Result<Control, NoSocket> {
+        let _is_there = rt.create_dir_with_mode(path.folder(), 0o700);
+        check(os::chmod(path.folder().as_bytes(), 0o700))?;
+        let _missing = rt.remove_file(path.socket());
+        Ok(Control {
+            listener: UnixListener::bind(rt, path.socket())?,
+            callers: Vec::new(rt.alloc()),
+            ready: true,
+            refused: 0,
+        })
+    }
+
+    /// Has a wait report who calls, and who says something, under a token.
+    pub fn register(&mut self, registry: &Registry, token: Token) -> io::Result<()> {
+        registry.register(&mut self.listener, token, Interest::READABLE)
+    }
+
+    /// A wait has reported its token.
+    pub fn wake(&mut self) {
+        self.ready = true;
+    }
+
+    /// Whether there may be somebody to hear, as far as is known.
+    pub fn is_ready(&self) -> bool {
+        self.ready
+    }
+
+    /// How many callers said what is no word, or nothing at all until others took their place.
+    pub fn refused(&self) -> u64 {
+        self.refused
+    }
+
+    /// A word that somebody says, if one is there: how many bytes of the room it has. Who said it is told that it was
+    /// heard. Before None everybody was looked at who calls or is waited for; after very many callers `is_ready` still
+    /// says that there may be more.
+    pub fn take(&mut self, registry: &Registry, token: Token, room: &mut [u8]) -> Option<usize>
+        ensures within { IfSome result (λ count. count ≤ length room.new) }
+        ensures words { IfSome result (λ count. IsWord count room.new) }
+    {
+        for _ in 0..MOST {
+            if !self.ready {
+                return None;
+            }
+            if let Some(count) = self.hear(room) {
+                return Some(count);
+            }
+            self.ready = self.accept(registry, token);
+        }
+        None
+    }
+
+    /// A word of those who are waited for, one after the other. Who said it, who said something else and who has gone
+    /// is no longer waited for.
+    fn hear(&mut self, room: &mut [u8]) -> Option<usize>
+        ensures within { IfSome result (λ count. count ≤ length room.new) }
+        ensures words { IfSome result (λ count. IsWord count room.new) }
+    {
+        let mut at = 0;
+        for _ in 0..CALLERS {
+            let caller = self.callers.get_mut(at)?;
+            match asked(caller, room) {
+                Said::Nothing => at += 1,
+                Said::Word(count) => {
+                    let _gone = caller.write(HEARD);
+                    self.callers.remove(at);
+                    return Some(count);
+                }
+                Said::NoWord => self.refuse(at),
+            }
+        }
+        None
+    }
+
+    /// Takes who calls next, and says whether somebody did. Where too many are waited for, who was waited for longest
+    /// is refused.
+    fn accept(&mut self, registry: &Registry, token: Token) -> bool {
+        let Ok((mut caller, _)) = self.listener.accept() else {
+            return false;
+        };
+        if self.callers.len() >= CALLERS {
+            self.refuse(0);
+        }
+        let interest = Interest::READABLE;
+        if registry.register(&mut caller, token, interest).is_ok() {
+            let _is_kept = self.callers.push(caller);
+        }
+        true
+    }
+
+    /// A caller is no longer waited for, and has no answer.
+    fn refuse(&mut self, at: usize)
+        requires { at < vec_len self.old.callers }
+    {
+        self.callers.remove(at);
+        self.refused = self.refused.saturating_add(1);
+    }
+}
+
+/// What a caller has said by now.
+fn asked(caller: &mut UnixStream, room: &mut [u8]) -> Said
+    ensures { Says result room.new }
+{
+    match caller.read(room) {
+        Ok(count) if word_of(&room[..count]).is_some() => Said::Word(count),
+        Err(error) if error.kind() == ErrorKind::WouldBlock => Said::Nothing,
+        Ok(_) | Err(_) => Said::NoWord,
+    }
+}
+
+/// The error of a call that has just failed, where it has.
+fn check(status: i32) -> io::Result<()> {
+    if status < 0 {
+        return Err(io::Error::from_raw_os_error(os::errno()));
+    }
+    Ok(())
+}

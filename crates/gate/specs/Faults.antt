@@ -1,0 +1,42 @@
+-- The faults of a box, as those of its parts are told.
+use Rattle.boot_file.specs.declared.faults.FileFault.{FileFault}
+use Rattle.boot_file.specs.declared.faults.FileFault.TheVariants as file
+use Rattle.boot_store.specs.declared.faults.BootFault.{BootFault}
+use Rattle.boot_store.specs.declared.faults.BootFault.TheVariants as boot
+use Rattle.control.specs.declared.paths.PathFault.{PathFault}
+use Rattle.control.specs.declared.paths.PathFault.TheVariants as path
+use Rattle.faults.specs.declared.faults.Fault.TheVariants.{NoFile, Exists, NotWritten, NoMemory}
+use Rattle.gate.specs.declared.refusals.BoxFault.{BoxFault}
+use Rattle.gate.specs.declared.refusals.BoxFault.TheVariants as fault
+
+-- of a control socket's path
+abbrev pub of_path : PathFault → BoxFault
+of_path path.LongPath = fault.LongPath
+of_path path.NoMemory = fault.Run NoMemory
+
+-- of a boot file that can't be had
+abbrev pub of_file : FileFault → BoxFault
+of_file file.NoFile = fault.Run NoFile
+of_file file.Exists = fault.Run Exists
+of_file file.NotWritten = fault.Run NotWritten
+of_file file.InUse = fault.InUse
+of_file file.NotLocked = fault.Device
+
+-- of a boot number that can't be had
+abbrev pub of_boot : BootFault → BoxFault
+of_boot boot.Device = fault.Device
+of_boot boot.Damaged = fault.Damaged
+of_boot boot.BootsUsedUp = fault.BootsUsedUp
+of_boot boot.FoundTwice = fault.FoundTwice
+
+-- it is of settings, of output or of memory
+abbrev pub IsOfRun : BoxFault → Type 0
+IsOfRun (fault.Run why) = Unit {0}
+IsOfRun other = ⊥
+
+-- it is of no way, nor of a way's descriptor
+abbrev pub IsOfNoWay : BoxFault → Type 0
+IsOfNoWay (fault.NoWay side) = ⊥
+IsOfNoWay fault.NoWayOfLink = ⊥
+IsOfNoWay (fault.NoDescriptor why) = ⊥
+IsOfNoWay other = Unit {0}

@@ -1,0 +1,3 @@
+pub mod Error
+pub mod Packet
+pub mod Quoted

@@ -1,0 +1,174 @@
+//! The packet inside an error, as much of it as was sent: its header whole and right, and at least
+//! 8 bytes behind it, where both ports stand. It may be cut anywhere behind them, so its total
+//! length isn't asked, and it may be the first fragment of its packet.
+//!
+//! ```text
+//! 45         00 001e 0001   0000     05    11  c992 c0000201  c6336407     4e20  0035 000a5cdf
+//! 4, 5 words -- ---- number offset 0 TTL 5 UDP sum  192.0.2.1 198.51.100.7 20000 53   ..
+//! ```
+ghost use Rattle.std.specs.Prelude.{◌≡◌, ◌≤◌, ◌+◌, ◌↔◌, length, IsOk, IfOk, IfErr, List, ℕ, false};
+ghost use Rattle.ipv4.specs.Header.{header_of};
+ghost use Rattle.icmp.specs.Quoted.{IsQuoted, has_no_header, has_no_ports, has_no_packet, behind, quoted_flow};
+ghost use Rattle.icmp.specs.declared.quoted.field.TheConstants.{FIXED, BEHIND};
+
+use crate::IcmpFault;
+use addresses::{Ip, Port, Protocol};
+use byteorder::{BigEndian, ByteOrder};
+use ipv4::Flow;
+use sums::is_right;
+
+/// Where what is read of the packet lies; the ports are counted from the header's end.
+mod field {
+    use std::ops::Range;
+
+    /// The version in the high half, the header's length in 4-byte words in the low one.
+    pub const VERSION_AND_LENGTH: usize = 0;
+    /// The flags in the high 3 bits, the fragment's offset in the low 13.
+    pub const FRAGMENT: Range<usize> = 6..8;
+
+    pub const PROTOCOL: usize = 9;
+
+    pub const SOURCE: Range<usize> = 12..16;
+
+    pub const DESTINATION: Range<usize> = 16..20;
+    /// The bytes of a header without options.
+    pub const FIXED: usize = 20;
+
+    pub const SOURCE_PORT: Range<usize> = 0..2;
+
+    pub const DESTINATION_PORT: Range<usize> = 2..4;
+    /// The fewest bytes behind the header (RFC 792).
+    pub const BEHIND: usize = 8;
+}
+
+/// One more than the greatest offset of a fragment.
+const OFFSETS: u16 = 0x2000;
+
+/// A UDP or TCP packet as an error holds it, with what stands behind.
+#[derive(Clone, Copy)]
+pub struct QuotedView<'a> {
+    pub bytes: &'a [u8],
+    ghost right: { IsQuoted bytes.now },
+}
+
+impl<'a> QuotedView<'a> {
+    pub fn parse(bytes: &'a [u8]) -> Result<QuotedView<'a>, IcmpFault>
+        ensures ok { IsOk result ↔ IsQuoted bytes.now }
+        ensures fault { IfErr result (λ f. f ≡ IcmpFault.BadError) }
+        ensures bytes { IfOk result (λ v. v.bytes.now ≡ bytes.now) }
+    {
+        if no_packet(bytes) {
+            return Err(IcmpFault::BadError);
+        }
+        Ok(QuotedView { bytes })
+    }
+
+    /// The bytes of the header, 20 to 60.
+    pub fn header_length(&self) -> usize
+        ensures value { result ≡ (header_of self.now.bytes.now).header_length }
+        ensures low { 20 ≤ result }
+        ensures high { result + 8 ≤ length self.now.bytes.now }
+    {
+        header_length(self.bytes)
+    }
+
+    /// From where to where the packet went, and by which protocol.
+    pub fn flow(&self) -> Flow
+        ensures { result ≡ quoted_flow self.now.bytes.now }
+    {
+        let ports = self.behind();
+        Flow {
+            protocol: self.protocol(),
+            source: Ip(BigEndian::read_u32(&self.bytes[field::SOURCE])),
+            source_port: Port(BigEndian::read_u16(&ports[field::SOURCE_PORT])),
+            destination: Ip(BigEndian::read_u32(&self.bytes[field::DESTINATION])),
+            destination_port: Port(BigEndian::read_u16(&ports[field::DESTINATION_PORT])),
+        }
+    }
+
+    /// What stands behind the header.
+    pub fn behind(&self) -> &'a [u8]
+        ensures bytes { result.now ≡ behind self.now.bytes.now }
+        ensures long { 8 ≤ length result.now }
+    {
+        &self.bytes[self.header_length()..]
+    }
+
+    fn protocol(&self) -> Protocol
+        ensures { result ≡ (quoted_flow self.now.bytes.now).protocol }
+    {
+        if protocol(self.bytes) == Protocol::Tcp.number() {
+            Protocol::Tcp
+        } else {
+            Protocol::Udp
+        }
+    }
+}
+
+fn version(bytes: &[u8]) -> u8
+    requires { 20 ≤ length bytes.now }
+    ensures { result ≡ (header_of bytes.now).version }
+{
+    bytes[field::VERSION_AND_LENGTH] / 16
+}
+
+fn header_length(bytes: &[u8]) -> usize
+    requires { 20 ≤ length bytes.now }
+    ensures { result ≡ (header_of bytes.now).header_length }
+{
+    4 * usize::from(bytes[field::VERSION_AND_LENGTH] % 16)
+}
+
+fn fragment_offset(bytes: &[u8]) -> u16
+    requires { 20 ≤ length bytes.now }
+    ensures { result ≡ (header_of bytes.now).fragment_offset }
+{
+    BigEndian::read_u16(&bytes[field::FRAGMENT]) % OFFSETS
+}
+
+fn protocol(bytes: &[u8]) -> u8
+    requires { 20 ≤ length bytes.now }
+    ensures { result ≡ (header_of bytes.now).protocol }
+{
+    bytes[field::PROTOCOL]
+}
+
+fn no_header(bytes: &[u8]) -> bool
+    ensures { result ≡ has_no_header bytes.now }
+{
+    if bytes.len() < field::FIXED {
+        return true;
+    }
+    let length = header_length(bytes);
+    if version(bytes) != 4 || length < field::FIXED || bytes.len() < length + field::BEHIND {
+        return true;
+    }
+    !is_right(&bytes[..length])
+        || fragment_offset(bytes) != 0
+        || Protocol::from_number(protocol(bytes)).is_none()
+}
+
+fn no_ports(bytes: &[u8]) -> bool
+    requires long { 20 ≤ length bytes.now }
+    requires there { (header_of bytes.now).header_length + 8 ≤ length bytes.now }
+    ensures { result ≡ has_no_ports bytes.now }
+{
+    let ports = &bytes[header_length(bytes)..];
+    BigEndian::read_u16(&ports[field::SOURCE_PORT]) == 0
+        || BigEndian::read_u16(&ports[field::DESTINATION_PORT]) == 0
+}
+
+/// Whether the bytes hold no packet that can be told.
+pub(crate) fn no_packet(bytes: &[u8]) -> bool
+    ensures { result ≡ has_no_packet bytes.now }
+{
+    no_header(bytes) || no_ports(bytes)
+}
+
+/// The packets inside that aren't refused are those of the grammar; and the numbers that the
+/// definitions take from the code are the RFC's.
+pub fn quoted_grammar()
+    ensures grammar { (bytes : List ℕ) → (has_no_packet bytes ≡ false) ↔ IsQuoted bytes }
+    ensures fixed { FIXED ≡ 20 }
+    ensures behind { BEHIND ≡ 8 }
+{}

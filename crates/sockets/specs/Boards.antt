@@ -1,0 +1,81 @@
+-- What is told of each place of a box: what its own attachment has heard.
+use Rattle.std.specs.Prelude.{ℕ, Bool, true, false, ◌≡◌, List, [], ◌∷◌, ◌++◌, take, Option, Some, None, Result, Ok, Err}
+use Rattle.nat_types.specs.declared.gateways.Side.TheVariants.{Inside, Outside}
+use Rattle.sockets.specs.declared.places.Place.{Place}
+use Rattle.sockets.specs.declared.places.Place.TheVariants.{Link, Side, Operator}
+use Rattle.sockets.specs.declared.places.Ports.{Ports}
+use Rattle.sockets.specs.declared.ways.Way.{Way}
+use Rattle.sockets.specs.declared.ways.Ways.{Ways}
+use Rattle.sockets.specs.declared.channels.Channel.{Channel}
+use Rattle.sockets.specs.declared.sockets.Board.{Board}
+use Rattle.sockets.specs.FarEnds.{Arrival, far_end_of, head_of}
+use Rattle.sockets.specs.Hearing.{Attached, Hears}
+use Rattle.sockets.specs.Traffic.{handed_on}
+
+abbrev pub is_link : Place → Bool
+is_link Link = true
+is_link other = false
+
+abbrev pub is_inside : Place → Bool
+is_inside (Side Inside) = true
+is_inside other = false
+
+abbrev pub is_outside : Place → Bool
+is_outside (Side Outside) = true
+is_outside other = false
+
+-- what is told, where it is of the place; else nothing
+abbrev pub where_it_is : Bool → List (List ℕ) → List (List ℕ)
+where_it_is true told = told
+where_it_is false told = []
+
+-- what came by a channel
+abbrev pub came : Channel → List Arrival
+came c = c.traffic.came
+
+-- this is told of a place: just what its own attachment has heard, and no other has heard anything
+pub record HearsAt (b b2 : Board) (place : Place) (told : List (List ℕ)) : Type 0 where
+  pub link : Hears came b.link b2.link (where_it_is (is_link place) told)
+  pub inside : Hears came b.inside b2.inside (where_it_is (is_inside place) told)
+  pub outside : Hears came b.outside b2.outside (where_it_is (is_outside place) told)
+
+-- the same of an answer, which may tell of nothing
+abbrev pub Tells : {E : Type 0} → Board → Board → Result (Option (Place × ℕ)) E → List ℕ → Type 0
+Tells b b2 (Ok (Some found)) room = HearsAt b b2 found.0 (take found.1 room ∷ [])
+Tells b b2 (Ok None) room = HearsAt b b2 Operator []
+Tells b b2 (Err fault) room = HearsAt b b2 Operator []
+
+-- none has heard anything, nor has anything come
+pub record IsAsBefore (b b2 : Board) : Type 0 where
+  pub link : b2.link ≡ b.link
+  pub inside : b2.inside ≡ b.inside
+  pub outside : b2.outside ≡ b.outside
+
+-- bytes are handed on to the far end, behind what stands before them; or not, where the answer is an Err
+pub record HandsOn {T E : Type 0} (a a2 : Attached Channel) (result : Result T E) (bytes : List ℕ) : Type 0 where
+  pub sent : a2.conduit.traffic.sent ≡ a.conduit.traffic.sent ++ handed_on result (head_of a.far ++ bytes)
+  pub came : came a2.conduit ≡ came a.conduit
+  pub same_far : a2.far ≡ a.far
+  pub strangers : a2.strangers ≡ a.strangers
+
+abbrev pub HandsOnWhere : {T E : Type 0} → Bool → Attached Channel → Attached Channel → Result T E → List ℕ → Type 0
+HandsOnWhere true a a2 result bytes = HandsOn a a2 result bytes
+HandsOnWhere false a a2 result bytes = a2 ≡ a
+
+-- bytes go to a place by its own attachment, and nothing by another
+pub record SendsAt {T E : Type 0} (b b2 : Board) (place : Place) (result : Result T E) (bytes : List ℕ) : Type 0 where
+  pub link : HandsOnWhere (is_link place) b.link b2.link result bytes
+  pub inside : HandsOnWhere (is_inside place) b.inside b2.inside result bytes
+  pub outside : HandsOnWhere (is_outside place) b.outside b2.outside result bytes
+
+-- just opened by its way: nothing has come
+pub record IsNew (way : Way) (ports : ℕ × ℕ) (a : Attached Channel) : Type 0 where
+  pub far : a.far ≡ far_end_of way ports
+  pub came : came a.conduit ≡ []
+  pub strangers : a.strangers ≡ 0
+
+-- each place has its own way, and its own ports where that is the loopback address
+pub record Opens (ways : Ways) (ports : Ports) (b : Board) : Type 0 where
+  pub link : IsNew ways.link ports.link b.link
+  pub inside : IsNew ways.inside ports.inside b.inside
+  pub outside : IsNew ways.outside ports.outside b.outside

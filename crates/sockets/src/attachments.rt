@@ -1,0 +1,211 @@
+//! A place of a box, attached to what carries its bytes.
+ghost use Rattle.std.specs.Prelude.{◌≡◌, ◌≤◌, ◌++◌, ◌∷◌, [], false, take, is_err, IfOk, IfSome};
+ghost use Rattle.sockets.specs.Bringing.{IsHeardWithin, brought};
+ghost use Rattle.sockets.specs.Hearing.{Hears, counted, failing_after, told};
+ghost use Rattle.sockets.specs.FarEnds.{all_heard, head_of, strangers_among};
+ghost use Rattle.sockets.specs.Rooms.{arrival};
+ghost use Rattle.sockets.specs.Traffic.{handed_on};
+
+use crate::{Arrived, Conduit, FarEnd, LONGEST, WireFault};
+use std::marker::Model;
+
+/// How much from strangers is taken in one call at most, so that a flood of it ends none.
+const MOST: usize = 64;
+
+/// A place of a box, attached to what carries its bytes: it hears its far end alone.
+#[derive(Drop)]
+pub struct Attachment<C> {
+    conduit: C,
+    far: FarEnd,
+    strangers: u64,
+    failing: bool,
+    /// There may be something to receive. It is set when a wait reports the conduit.
+    ready: bool,
+    /// What is sent next, as it is sent.
+    room: [u8; LONGEST],
+}
+
+impl<C> Model for Attachment<C> {
+    ghost use Rattle.sockets.specs.Hearing.{Attached};
+
+    ghost Value = { Attached C };
+
+    ghost view = { λ a. record {
+      conduit = a.conduit;
+      far = a.far;
+      strangers = a.strangers;
+      failing = a.failing;
+    } };
+}
+
+/// What one call to a conduit brought.
+#[derive(Clone, Copy)]
+enum Brought {
+    /// So many bytes of the far end's.
+    Heard(usize),
+    /// A stranger's.
+    Stranger,
+    Nothing,
+    Failed,
+}
+
+impl<C: Conduit> Attachment<C> {
+    /// Nothing is known to have failed, and no stranger has sent anything.
+    pub fn new(conduit: C, far: FarEnd) -> Attachment<C>
+        ensures { result ≡ record {
+          conduit = conduit;
+          far = far;
+          strangers = 0;
+          failing = false;
+        } }
+    {
+        Attachment {
+            conduit,
+            far,
+            strangers: 0,
+            failing: false,
+            ready: true,
+            room: [0; LONGEST],
+        }
+    }
+
+    /// What carries its bytes.
+    pub fn conduit(&self) -> &C
+        ensures { result.now ≡ self.now.conduit }
+    {
+        &self.conduit
+    }
+
+    /// A wait has reported the conduit.
+    pub fn wake(&mut self)
+        ensures { self.new ≡ self.old }
+    {
+        self.ready = true;
+    }
+
+    /// Whether there may be something to receive, as far as is known.
+    pub fn is_ready(&self) -> bool {
+        self.ready
+    }
+
+    /// How much came from others than the far end, or was no frame of its network.
+    pub fn strangers(&self) -> u64
+        ensures { result ≡ self.now.strangers }
+    {
+        self.strangers
+    }
+
+    /// Whether the last datagram couldn't be sent, or to receive one failed.
+    pub fn is_failing(&self) -> bool
+        ensures { result ≡ self.now.failing }
+    {
+        self.failing
+    }
+
+    /// Sends bytes to the far end, for VXLAN behind its header. After an Err they are lost.
+    pub fn send(&mut self, bytes: &[u8]) -> Result<(), WireFault>
+        ensures sent { C.sent self.new.conduit ≡ C.sent self.old.conduit
+            ++ handed_on result (head_of self.old.far ++ bytes.now) }
+        ensures came { C.came self.new.conduit ≡ C.came self.old.conduit }
+        ensures far { self.new.far ≡ self.old.far }
+        ensures strangers { self.new.strangers ≡ self.old.strangers }
+        ensures failing { self.new.failing ≡ is_err result }
+    {
+        let result = self.hand_on(bytes);
+        self.failing = result.is_err();
+        result
+    }
+
+    fn hand_on(&mut self, bytes: &[u8]) -> Result<(), WireFault>
+        ensures sent { C.sent self.new.conduit ≡ C.sent self.old.conduit
+            ++ handed_on result (head_of self.old.far ++ bytes.now) }
+        ensures came { C.came self.new.conduit ≡ C.came self.old.conduit }
+        ensures far { self.new.far ≡ self.old.far }
+        ensures strangers { self.new.strangers ≡ self.old.strangers }
+    {
+        match self.far.lay(bytes, &mut self.room) {
+            Some(count) => self.conduit.send(&self.room, count),
+            None => Err(WireFault),
+        }
+    }
+
+    /// What the far end has sent next, if something is there: how many bytes of the room it has. Whatever else came
+    /// is counted, and changes nothing.
+    pub fn take(&mut self, room: &mut [u8; LONGEST]) -> Result<Option<usize>, WireFault>
+        ensures within { IfOk result (λ found. IfSome found (λ count. count ≤ 4096)) }
+        ensures hears { Hears C.came self.old self.new (told result room.new) }
+        ensures sent { C.sent self.new.conduit ≡ C.sent self.old.conduit }
+        ensures failing { self.new.failing ≡ failing_after result self.old.failing }
+    {
+        let result = self.look(room);
+        self.failing = match result {
+            Ok(Some(_)) => false,
+            Ok(None) => self.failing,
+            Err(_) => true,
+        };
+        result
+    }
+
+    fn look(&mut self, room: &mut [u8; LONGEST]) -> Result<Option<usize>, WireFault>
+        ensures within { IfOk result (λ found. IfSome found (λ count. count ≤ 4096)) }
+        ensures hears { Hears C.came self.old self.new (told result room.new) }
+        ensures sent { C.sent self.new.conduit ≡ C.sent self.old.conduit }
+        ensures failing { self.new.failing ≡ self.old.failing }
+    {
+        for _ in 0..MOST {
+            match self.next(room) {
+                Brought::Heard(count) => return Ok(Some(count)),
+                Brought::Stranger => {}
+                Brought::Nothing => return Ok(None),
+                Brought::Failed => return Err(WireFault),
+            }
+        }
+        Ok(None)
+    }
+
+    /// The next that came. A conduit that had nothing isn't asked again before a wait reports it; nor is one that
+    /// failed twice, so that what always fails doesn't keep the box busy.
+    fn next(&mut self, room: &mut [u8; LONGEST]) -> Brought
+        ensures within { IsHeardWithin result }
+        ensures hears { Hears C.came self.old self.new (brought result room.new) }
+        ensures sent { C.sent self.new.conduit ≡ C.sent self.old.conduit }
+        ensures failing { self.new.failing ≡ self.old.failing }
+    {
+        if !self.ready {
+            return Brought::Nothing;
+        }
+        match self.conduit.receive(room) {
+            Ok(Some(arrived)) => self.judge(arrived, room),
+            Ok(None) => {
+                self.ready = false;
+                Brought::Nothing
+            }
+            Err(WireFault) => {
+                self.ready = !self.failing;
+                Brought::Failed
+            }
+        }
+    }
+
+    /// Whether what came is the far end's.
+    fn judge(&mut self, arrived: Arrived, room: &mut [u8; LONGEST]) -> Brought
+        requires { arrived.count ≤ 4096 }
+        ensures within { IsHeardWithin result }
+        ensures told { brought result room.new
+            ≡ all_heard self.old.far (arrival (take arrived.count room.old) arrived.sender ∷ []) }
+        ensures counted { self.new.strangers ≡ counted self.old.strangers
+            (strangers_among self.old.far
+            (arrival (take arrived.count room.old) arrived.sender ∷ [])) }
+        ensures conduit { self.new.conduit ≡ self.old.conduit }
+        ensures far { self.new.far ≡ self.old.far }
+        ensures failing { self.new.failing ≡ self.old.failing }
+    {
+        match self.far.hears(arrived.sender, arrived.count, room) {
+            Some(count) => Brought::Heard(count),
+            None => {
+                self.strangers = self.strangers.saturating_add(1);
+                Brought::Stranger
+            }
+        }
+    }
+}

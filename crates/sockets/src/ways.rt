@@ -1,0 +1,124 @@
+//! By what way each place of a box is reached.
+ghost use Rattle.std.specs.Prelude.{◌≡◌, MatchOption, IfErr};
+ghost use Rattle.sockets.specs.Ways.{IsWayText, IsNoWayText, IsVxlanText, IsNoVxlanText, IsDescriptorText, IsNoDescriptorText, IsDescriptor, Names};
+
+use crate::{End, Ends, FarEnd, Network};
+use std::os::fd::RawFd;
+use thiserror::Error;
+
+/// By what way the datagrams of the link, or the frames of a side, come to a box and leave it.
+#[derive(Clone, Copy, Debug, PartialEq, Eq)]
+pub enum Way {
+    /// UDP between two ports of the loopback address, which the settings give the place.
+    Loopback,
+    /// UDP between two ends, each frame a datagram.
+    Udp(Ends),
+    /// UDP between two ends, each frame behind VXLAN's header with this network's number.
+    Vxlan(Ends, Network),
+    /// An open descriptor, which the box inherits: each frame is a read or a write.
+    Descriptor(u16),
+}
+
+impl Way {
+    /// The way that a text writes:
+    ///
+    /// - `loopback`
+    /// - `udp:10.0.0.1:7000,10.0.0.2:7000`: the own end, the other's
+    /// - `vxlan:10.0.0.1:4789,10.0.0.9:4789,12`: and the network's number
+    /// - `descriptor:3`, or a greater one
+    pub fn read(text: &str) -> Option<Way>
+        ensures { MatchOption result (IsNoWayText text.now) (IsWayText text.now) }
+    {
+        if text == "loopback" {
+            return Some(Way::Loopback);
+        }
+        if let Some(ends) = text.strip_prefix("udp:") {
+            return Some(Way::Udp(Ends::read(ends)?));
+        }
+        if let Some(rest) = text.strip_prefix("vxlan:") {
+            return vxlan_in(rest);
+        }
+        descriptor_in(text.strip_prefix("descriptor:")?)
+    }
+}
+
+/// The ends and the network of a text as `10.0.0.1:4789,10.0.0.9:4789,12`.
+fn vxlan_in(text: &str) -> Option<Way>
+    ensures { MatchOption result (IsNoVxlanText text.now) (IsVxlanText text.now) }
+{
+    let (own, rest) = text.split_once(',')?;
+    let (other, digits) = rest.split_once(',')?;
+    let ends = Ends {
+        own: End::read(own)?,
+        other: End::read(other)?,
+    };
+    let network = Network::new(digits.parse::<u32>().ok()?)?;
+    Some(Way::Vxlan(ends, network))
+}
+
+/// A descriptor's number, of which the first three are the standard ones.
+fn descriptor_in(text: &str) -> Option<Way>
+    ensures { MatchOption result (IsNoDescriptorText text.now) (IsDescriptorText text.now) }
+{
+    match text.parse::<u16>().ok()? {
+        0..=2 => None,
+        number => Some(Way::Descriptor(number)),
+    }
+}
+
+impl Way {
+    ghost use Rattle.sockets.specs.FarEnds.{far_end_of};
+
+    /// Whom a place speaks with by this way. On the loopback address it is the second of the place's ports.
+    pub fn far_end(self, ports: (u16, u16)) -> FarEnd
+        ensures { result ≡ far_end_of self ports }
+    {
+        match self {
+            Way::Loopback => FarEnd::Udp(Ends::on_loopback(ports).other),
+            Way::Udp(ends) => FarEnd::Udp(ends.other),
+            Way::Vxlan(ends, network) => FarEnd::Vxlan(ends.other.address, network),
+            Way::Descriptor(_) => FarEnd::Interface,
+        }
+    }
+}
+
+/// A descriptor that isn't open.
+#[derive(Clone, Copy, Debug, PartialEq, Eq, Error)]
+#[error("way 2 NoDescriptor {0}")]
+pub struct NoDescriptor(pub u16);
+
+/// The ways of a box.
+#[derive(Clone, Copy, Debug, PartialEq, Eq)]
+pub struct Ways {
+    pub inside: Way,
+    pub outside: Way,
+    pub link: Way,
+}
+
+impl Ways {
+    /// Makes the descriptors of the ways ones that never wait. It comes before anything is opened: else what the box
+    /// opens itself could be taken for one that it inherits.
+    ///
+    /// # Errors
+    ///
+    /// The first that isn't open, of the inside, the outside and the link.
+    pub fn inherit(&self) -> Result<(), NoDescriptor>
+        ensures { IfErr result (λ fault. Names self.now fault.0) }
+    {
+        inherit(self.inside)?;
+        inherit(self.outside)?;
+        inherit(self.link)
+    }
+}
+
+/// Makes the descriptor of a way, if it has one, one that never waits.
+fn inherit(way: Way) -> Result<(), NoDescriptor>
+    ensures { IfErr result (λ fault. IsDescriptor way fault.0) }
+{
+    match way {
+        Way::Descriptor(number) if os::set_nonblocking(RawFd::from(number), true) < 0 => {
+            Err(NoDescriptor(number))
+        }
+        _ => Ok(()),
+    }
+}

@@ -1,0 +1,151 @@
+"""What the standards ask, measured on the running pair from outside, and held against docs/RFC.md."""
+
+import functools
+import math
+import tempfile
+from pathlib import Path
+from typing import NamedTuple
+
+import rfc_page
+from benches import Couple, Scripted, Wired
+from pair import SETTINGS
+from rfc_clock import BY_THE_CLOCK, both_boxes, no_room
+from rfc_hosts import by_hosts
+from rfc_linux import at_linux
+from rfc_packets import AT_A_BOX
+from rfc_routers import BY_THE_TABLE, ended, on_the_wire, taken_over
+from scene import scene, show
+
+RANGE, NARROW = "zero = [20000, 39999]", "zero = [20000, 20001]"
+
+
+class Line(NamedTuple):
+    """What a probe saw of a requirement, and whether that is what the requirement wants."""
+
+    requirement: str
+    bench: str
+    expected: str
+    seen: str
+    holds: bool
+
+
+class Report:
+    """All lines, and what a box has to do as the other did it."""
+
+    def __init__(self):
+        self.lines = []
+        self.kept = {}
+
+    def note(self, bench, requirement, expected, seen, holds):
+        self.lines.append(Line(requirement, bench.name, expected, seen, bool(holds)))
+
+    def verdicts(self, page):
+        """Of each requirement: met where all its lines, or all lines of its parts, hold, not met where none of them does."""
+        found = {}
+        for line in self.lines:
+            found.setdefault(line.requirement, []).append(line.holds)
+        for name in [name for name, row in page.items() if row.has_parts]:
+            parts = [holds for part, holds in found.items() if part.startswith(f"{name} ")]
+            found[name] = [each for holds in parts for each in holds]
+        return {name: "met" if all(holds) else "in part" if any(holds) else "not met" for name, holds in found.items()
+                if holds}
+
+
+class Fresh:
+    """Makes runs of `natpair sim` by one settings file."""
+
+    name = "sim"
+
+    def __init__(self, program, settings):
+        self.make = functools.partial(Scripted, program, settings)
+
+    def __call__(self, lines=()):
+        return self.make(lines)
+
+
+def by_sim(options, report):
+    fresh = Fresh(options.program, SETTINGS)
+    for probe in (*BY_THE_CLOCK, *BY_THE_TABLE):
+        probe(fresh, report)
+    both_boxes(functools.partial(Couple, options.program, SETTINGS), report)
+    with tempfile.TemporaryDirectory(prefix="natpair-rfc-") as folder:
+        narrow = Path(folder) / "natpair.toml"
+        narrow.write_text(SETTINGS.read_text(encoding="utf-8").replace(RANGE, NARROW), encoding="utf-8")
+        no_room(Fresh(options.program, narrow), report)
+
+
+def at_box(current, number, report):
+    bench = Wired(number, current)
+    for probe in AT_A_BOX:
+        probe(bench, report)
+    on_the_wire(bench, report)
+    by_hosts(current, bench, report)
+    current.say(f"box {number}: {sum(line.bench == bench.name for line in report.lines)} lines")
+    return bench
+
+
+def on_the_pair(options, report):
+    """Each probe at box 0, and after its kill at box 1; at last box 1 is ended."""
+    with scene(options, options.capture) as current:
+        at_box(current, 0, report)
+        bench = Wired(1, current)
+        killed = current.kill(0)
+        current.tell_takeover(1, killed)
+        moment = current.observer.took_over(1, killed) or math.inf
+        taken_over(bench, report, moment - killed, current.networks.down_interval(1))
+        current.boxes[1].peer_off(current.boxes[0].boot)
+        current.say("box 1 is told that box 0 is off")
+        bench = at_box(current, 1, report)
+        current.tell_drops()
+        ended(bench, report, current.boxes[1])
+
+
+def order_of(page, name):
+    return list(page).index(name) if name in page else len(page)
+
+
+def uneven(lines):
+    """The requirements of which a line holds at one box and not at another."""
+    found = {}
+    for line in lines:
+        found.setdefault((line.requirement, line.expected), set()).add(line.holds)
+    return {name for (name, _), holds in found.items() if len(holds) > 1}
+
+
+def fault(name, row, seen, differ, whole):
+    """What is wrong with a requirement's verdict, if anything. A part of the probes sees some of the parts alone."""
+    if row is None:
+        return "NOT ON THE PAGE"
+    if seen is None:
+        return "NOT MEASURED" if whole and (row.is_measured or row.has_parts) else ""
+    is_seen_whole = row.is_measured or row.has_parts and whole
+    if seen != row.verdict and is_seen_whole or not (row.is_measured or row.has_parts):
+        return "NOT WHAT THE PAGE SAYS"
+    return "THE BOXES DIFFER" if name in differ else ""
+
+
+def tell(report, page, whole):
+    """Prints both tables; whether the page says what was seen, and says of each requirement whether it is seen (by all of
+    the probes, or by a part of them)."""
+    lines = sorted(report.lines, key=lambda line: order_of(page, line.requirement))
+    heads = ["requirement", "at", "expected", "seen", "verdict"]
+    show("what was seen", heads, [(*line[:4], "met" if line.holds else "not met") for line in lines], left=True)
+    found, differ = report.verdicts(page), uneven(report.lines)
+    faults = {name: fault(name, page.get(name), found.get(name), differ, whole) for name in dict.fromkeys([*page, *found])}
+    rows = [(name, found.get(name, ""), page[name].verdict if name in page else "", text) for name, text in faults.items()
+            if text or name in found]
+    show("verdicts", ["requirement", "seen", "docs/RFC.md", ""], rows, left=True)
+    wrong = sum(bool(text) for text in faults.values())
+    print(f"{len(found)} requirements measured by {len(report.lines)} lines, {len(faults) - len(found)} by docs/RFC.md alone;"
+          f" {wrong} not as the page says", flush=True)
+    return wrong == 0
+
+
+def rfc(options):
+    page, report = rfc_page.read(), Report()
+    if options.linux:
+        return at_linux(report, page)
+    if not options.sim:
+        on_the_pair(options, report)
+    by_sim(options, report)
+    return tell(report, page, not options.sim)

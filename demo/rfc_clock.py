@@ -1,0 +1,193 @@
+"""Probes by `natpair sim`, whose clock can stand at any moment: how long a pair lives, and who keeps it alive.
+
+A pair is there as long as a packet from outside to its port comes in. That packet itself is a use, so each moment is
+looked at in a run of its own.
+"""
+
+import os
+
+from benches import HOSTS, REMOTES, End, is_error
+from packets import ACK, DONT_FRAGMENT, FIN, IPV4, PLAIN, PSH, RST, SYN, TCP, UDP, ethernet, ipv4, udp
+from rfc_packets import LONGEST, PLACES, packet_bytes, port_of, told, yes
+
+HOST, REMOTE, STRANGER = End(HOSTS[0], 5000), End(REMOTES[0], 53), End(REMOTES[1], 9)
+TICK = 1
+UDP_REST, SHORT, LONG = 30_000, 24_000, 744_000
+# Each side's segments of a connection: is it the remote end's, and its flags.
+OPENED = ((0, SYN), (1, SYN | ACK), (0, ACK))
+USED = (*OPENED, (0, ACK | PSH), (1, ACK | PSH))
+
+
+def seconds(centiseconds):
+    return f"{centiseconds / 100:,.2f}".rstrip("0").rstrip(".") + " s"
+
+
+def begin(bench, protocol, course=()):
+    """Makes a pair, by a datagram or by the segments of a course; its outside port."""
+    if protocol == UDP:
+        return port_of(bench.udp(HOST, REMOTE.place))
+    port = None
+    for is_remote, flags in course:
+        found = bench.tcp(REMOTE, bench.outside(port), flags) if is_remote else bench.tcp(HOST, REMOTE.place, flags)
+        port = port or port_of(found)
+    return port
+
+
+def is_there(bench, protocol, port):
+    return bool(bench.send(protocol, REMOTE, bench.outside(port), patient=False))
+
+
+def there_after(fresh, protocol, course, steps):
+    """Whether a pair is there, in a run in which it is made and these steps follow: a time of rest, or what is done then."""
+    bench = fresh()
+    port = begin(bench, protocol, course)
+    for step in steps:
+        if callable(step):
+            step(bench, port)
+        else:
+            bench.rest(step)
+    return is_there(bench, protocol, port)
+
+
+def limit(report, fresh, requirement, what, rest, protocol, course=(), before=()):
+    """A pair is there a hundredth of a second before its rest is over."""
+    short = there_after(fresh, protocol, course, (*before, rest - TICK))
+    whole = there_after(fresh, protocol, course, (*before, rest))
+    seen = f"{yes_there(short)} at {seconds(rest - TICK)}, {yes_there(whole)} at {seconds(rest)}"
+    report.note(fresh, requirement, f"{what}: there until {seconds(rest)}", seen, short)
+
+
+def udp_timers(fresh, report):
+    limit(report, fresh, "4787 REQ-5", "UDP, without a packet", UDP_REST, UDP)
+    for name, use, holds in (("outward", lambda bench, port: bench.udp(HOST, REMOTE.place), "4787 REQ-6"),
+                             ("inward", lambda bench, port: bench.udp(REMOTE, bench.outside(port)), "4787 REQ-6")):
+        there = there_after(fresh, UDP, (), (UDP_REST - TICK, use, UDP_REST - TICK))
+        report.note(fresh, holds, f"a packet {name} begins the rest anew", "anew" if there else "not", there)
+
+
+def tcp_timers(fresh, report):
+    name = "5382 REQ-5"
+    limit(report, fresh, name, "a SYN alone", SHORT, TCP, OPENED[:1])
+    limit(report, fresh, name, "a SYN and its answer", SHORT, TCP, OPENED[:2])
+    limit(report, fresh, name, "a handshake, then silence", LONG, TCP, OPENED)
+    limit(report, fresh, name, "a connection in use", LONG, TCP, USED)
+    limit(report, fresh, name, "closed by one end", LONG, TCP, (*USED, (0, FIN | ACK)))
+    limit(report, fresh, name, "closed by both ends", SHORT, TCP, (*USED, (0, FIN | ACK), (1, FIN | ACK)))
+
+
+def resets(fresh, report):
+    """A RST comes in, and nothing more; or the connection goes on, so that it wasn't the end's."""
+    limit(report, fresh, "7857 2.2 a", "after a RST, without a packet", SHORT, TCP, (*USED, (1, RST)))
+    there = there_after(fresh, TCP, (*USED, (1, RST), (0, ACK | PSH), (1, ACK)), (LONG - TICK,))
+    report.note(fresh, "7857 2.2 b", f"segments both ways after a RST: there until {seconds(LONG)}",
+                "there" if there else "gone before", there)
+
+
+def forged(bench, port):
+    """A packet to a pair's port that says it comes from an inside address."""
+    mark = os.urandom(6)
+    place = HOSTS[2].address, 7
+    packet = ipv4(place[0], bench.virtual, UDP, udp(place, bench.outside(port), mark))
+    bench.put("outside", ethernet(bench.own_mac("outside"), REMOTES[1].mac, IPV4, packet))
+
+
+def told_in(bench, port):
+    """A remote station's error about the pair."""
+    about = ipv4(bench.virtual, REMOTE.place[0], UDP, udp(bench.outside(port), REMOTE.place, b"asked"))
+    bench.icmp(REMOTES[0], bench.virtual, 3, 3, bytes(4), about)
+
+
+def told_out(bench, port):
+    """A stranger's segment comes in, and the host tells of it by an error."""
+    heard = bench.tcp(STRANGER, bench.outside(port), SYN)
+    bench.icmp(HOSTS[0], STRANGER.place[0], 3, 3, bytes(4), packet_bytes(heard))
+
+
+def knocked(bench, port):
+    bench.tcp(STRANGER, bench.outside(port), SYN)
+
+
+def answered(bench, _):
+    """The host's RST to a stranger."""
+    bench.tcp(HOST, STRANGER.place, RST | ACK)
+
+
+def acknowledged(bench, port):
+    bench.tcp(STRANGER, bench.outside(port), ACK)
+
+
+def five_knocked(bench, port):
+    for number in range(5):
+        bench.tcp(End(REMOTES[1], 10 + number), bench.outside(port), SYN)
+
+
+# What must not keep a pair: its requirement, what is said of it, how its pair is made, and what is done with it.
+NO_USES = (
+    ("7857 6", "a packet that is refused, from a forged inside address, doesn't refresh", UDP, (),
+     (UDP_REST - TICK, forged, TICK)),
+    ("5508 REQ-6", "an error of a remote station doesn't refresh", UDP, (), (UDP_REST - TICK, told_in, TICK)),
+    # A stranger's SYN is a use of its own, so each is set against the moment at which that one's rest is over.
+    ("7857 6.1 a", "a host's error to a stranger doesn't refresh", TCP, OPENED[:1], (1000, told_out, SHORT)),
+    ("7857 6.1 b", "a host's RST to a stranger doesn't refresh", TCP, OPENED[:1],
+     (1000, knocked, 1000, answered, SHORT - 1000)),
+    ("own 1", f"a stranger's ACK keeps a half-open pair for {seconds(SHORT)} at most", TCP, OPENED[:1],
+     (1000, acknowledged, SHORT)),
+    ("own 2", f"five strangers' SYNs keep a half-open pair for {seconds(SHORT)} at most", TCP, OPENED[:1],
+     (1000, five_knocked, SHORT)),
+)
+
+
+def no_uses(fresh, report):
+    for requirement, what, protocol, course, steps in NO_USES:
+        there = there_after(fresh, protocol, course, steps)
+        report.note(fresh, requirement, what, yes_there(there), not there)
+
+
+def too_large(fresh, report):
+    """A packet of one byte more than an outside network of 1,500 bytes takes."""
+    bench = fresh()
+    packet = ipv4(HOSTS[0].address, PLACES[0][0], UDP, udp(HOST.place, PLACES[0], bytes(LONGEST - 27)),
+                  PLAIN._replace(fragment=DONT_FRAGMENT))
+    bench.put("inside", ethernet(bench.own_mac("inside"), HOSTS[0].mac, IPV4, packet))
+    found = bench.heard(lambda frame: is_error(frame, packet[12:28]), 0)
+    report.note(bench, "4787 REQ-13 b", f"{LONGEST + 1} bytes, not to be cut, are answered by an error", yes(found),
+                bool(found))
+
+
+def no_room(narrow, report):
+    """Two ports, both taken: what a third end hears."""
+    bench = narrow()
+    for number in (5000, 5001):
+        bench.udp(End(HOSTS[0], number), REMOTE.place)
+    packet = ipv4(HOSTS[1].address, REMOTE.place[0], UDP, udp((HOSTS[1].address, 5002), REMOTE.place, b"no port"))
+    bench.put("inside", ethernet(bench.own_mac("inside"), HOSTS[1].mac, IPV4, packet))
+    found = bench.heard(lambda frame: is_error(frame, packet[12:28]), 0)
+    report.note(bench, "5508 REQ-8", "a new flow without a free port is answered by an error", yes(found),
+                bool(found))
+
+
+def both_boxes(couple, report):
+    """While both are Active, a host's packets may go by either, and one box doesn't see what the other carries."""
+    bench = couple()
+    ports = []
+    for bench.box in (0, 1, 0):
+        ports.append(port_of(bench.udp(HOST, REMOTE.place)))
+    report.note(bench, "4787 REQ-1", "one outside port by box 0, box 1, box 0", told(ports),
+                None not in ports and len(set(ports)) == 1)
+    bench.rest(UDP_REST - 50)
+    bench.box = 1
+    bench.udp(HOST, REMOTE.place)
+    bench.rest(100)
+    bench.box = 0
+    there = is_there(bench, UDP, ports[0])
+    report.note(bench, "4787 REQ-5", "UDP, carried by box 1 alone: there at box 0 after 300 s", yes_there(there), there)
+    bench.rest(UDP_REST + 100)
+    there = is_there(bench, UDP, ports[0])
+    report.note(bench, "4787 REQ-5", "without a packet at either box: let go by both", yes_there(there), not there)
+
+
+def yes_there(there):
+    return "there" if there else "gone"
+
+
+BY_THE_CLOCK = (udp_timers, tcp_timers, resets, no_uses, too_large)

@@ -1,0 +1,342 @@
+"""Probes that are made at the running pair, at each box: what becomes of packets."""
+
+import os
+
+from benches import HOSTS, REMOTES, SILENCE, End, is_error
+from packets import (ACK, DONT_FRAGMENT, FIN, ICMP, IPV4, MORE_FRAGMENTS, PLAIN, PSH, RST, SYN, TCP, UDP, Packet,
+                     ethernet, ipv4, is_ipv4, tcp, udp)
+
+# Both protocols, and the standard that speaks of each.
+KINDS = ((UDP, "4787"), (TCP, "5382"))
+# Three ends of two remote stations.
+PLACES = ((REMOTES[0].address, 53), (REMOTES[0].address, 54), (REMOTES[1].address, 53))
+# A port of a range that no probe's pair gets: the highest.
+FREE = 39_999
+# So many pairs more are a load.
+LOAD = 200
+# An unasked SYN has to stay without an answer for so many seconds.
+QUIET = 6.0
+LONGEST = 1500
+
+
+def port_of(packet):
+    return packet.source_port if packet else None
+
+
+def told(values):
+    return ", ".join("nothing" if value is None else str(value) for value in values)
+
+
+def yes(found):
+    return "comes out" if found else "nothing"
+
+
+def ports_of(bench, protocol, end):
+    """By which outside ports three remote ends see an end."""
+    return [port_of(bench.send(protocol, end, place)) for place in PLACES]
+
+
+def mapping(bench, report):
+    for protocol, standard in KINDS:
+        seen = ports_of(bench, protocol, End(HOSTS[0], 5000))
+        report.note(bench, f"{standard} REQ-1", "one outside port towards three remote ends", told(seen),
+                    None not in seen and len(set(seen)) == 1)
+        kept = report.kept.setdefault(protocol, seen[0])
+        if bench.name != "box 0":
+            report.note(bench, f"{standard} REQ-1", f"the port of before the kill, {kept}", told(seen[:1]),
+                        seen[0] == kept)
+
+
+def apart(bench, report):
+    """Five ends of three hosts, one of them at a port below 1024."""
+    ends = [End(HOSTS[0], 5000), End(HOSTS[0], 5001), End(HOSTS[1], 5000), End(HOSTS[2], 5000), End(HOSTS[1], 700)]
+    for protocol, requirement in ((UDP, "4787 REQ-3 a"), (TCP, "5382 REQ-7")):
+        seen = [port_of(bench.send(protocol, end, PLACES[0])) for end in ends]
+        report.note(bench, requirement, "five inside ends, five outside ports", told(seen),
+                    None not in seen and len(set(seen)) == 5)
+        if protocol == UDP:
+            report.note(bench, "4787 REQ-3 b", "ports from 1024 on stay there", told(seen[:4]),
+                        None not in seen[:4] and min(seen[:4]) >= 1024)
+            report.note(bench, "4787 REQ-3 c", "port 700 stays below 1024", told(seen[4:]), (seen[4] or 1024) < 1024)
+
+
+def parity(bench, report):
+    numbers = tuple(bench.first + number for number in (6000, 6001, 6003, 6002))
+    seen = [port_of(bench.send(UDP, End(HOSTS[2], number), PLACES[0])) for number in numbers]
+    even = [None not in seen and port % 2 == number % 2 for port, number in zip(seen, numbers)]
+    report.note(bench, "4787 REQ-4", f"even or odd as {told(numbers)}", told(seen), all(even))
+
+
+def order(bench, report):
+    """Whether a stranger who has a port can say which the next ones are."""
+    numbers = range(bench.first + 6010, bench.first + 6018, 2)
+    seen = [port_of(bench.send(UDP, End(HOSTS[3], number), PLACES[0])) for number in numbers]
+    steps = {later - port for port, later in zip(seen, seen[1:])} if None not in seen else {0}
+    report.note(bench, "7857 8", "four new pairs' ports in no plain order", told(seen), len(steps) > 1)
+
+
+def protocols(bench, report):
+    """A port of a UDP pair isn't open to TCP for that pair's end."""
+    end = End(HOSTS[3], 6100)
+    port = port_of(bench.send(UDP, end, PLACES[0]))
+    found = bench.tcp(End(REMOTES[0], 53), bench.outside(port), SYN, patient=False)
+    to = found and (found.target, found.target_port)
+    report.note(bench, "7857 5", "TCP to a UDP pair's port doesn't reach its end", yes(to == end.place), to != end.place)
+
+
+def let_in(bench, protocol, end):
+    """Who reaches an end that has spoken to one remote end alone: that one, another port of it, another station."""
+    port = port_of(bench.send(protocol, end, PLACES[0]))
+    strangers = (End(REMOTES[0], 53), End(REMOTES[0], 99), End(REMOTES[1], 7))
+    found = [bench.send(protocol, stranger, bench.outside(port)) for stranger in strangers]
+    return sum(bool(each) and (each.target, each.target_port) == end.place for each in found)
+
+
+def filtering(bench, report):
+    for (protocol, standard), requirement in zip(KINDS, ("REQ-8", "REQ-3")):
+        count = let_in(bench, protocol, End(HOSTS[1], 5100))
+        report.note(bench, f"{standard} {requirement}", "in from the remote end, its other port, another station",
+                    f"{count} of 3", count == 3)
+        found = bench.send(protocol, End(REMOTES[1], 7), bench.outside(FREE), patient=False)
+        report.note(bench, f"{standard} {requirement}", "nobody in at a port without a pair", yes(found), not found)
+
+
+def across(bench, protocol):
+    """Two inside ends speak by the outside address: what each sees of the other, and what it has to see."""
+    ends = End(HOSTS[0], 5200), End(HOSTS[1], 5300)
+    own = [bench.outside(port_of(bench.send(protocol, end, PLACES[0]))) for end in ends]
+    seen = []
+    for end, other in ((0, 1), (1, 0)):
+        found = bench.send(protocol, ends[end], own[other])
+        arrived = found and (found.target, found.target_port) == ends[other].place
+        seen.append((found.source, found.source_port) if arrived else None)
+    return seen, own
+
+
+def hairpin(bench, report):
+    for (protocol, standard), requirement in zip(KINDS, ("REQ-9", "REQ-8")):
+        seen, own = across(bench, protocol)
+        told_ends = told([each and f"{each[0]}:{each[1]}" for each in seen])
+        report.note(bench, f"{standard} {requirement}", "two hosts meet, each seen by its outside end", told_ends,
+                    seen == own)
+
+
+def behaviour(bench):
+    """Mapping, filtering and hairpin in short."""
+    ports = len(set(ports_of(bench, UDP, End(HOSTS[0], 5000))))
+    seen, own = across(bench, UDP)
+    meet = "hosts meet" if seen == own else "hosts don't meet"
+    return f"{ports} port, {let_in(bench, UDP, End(HOSTS[1], 5100))} of 3 let in, {meet}"
+
+
+def steady(bench, report):
+    """The same with many pairs more, and as it was at the other box."""
+    before = report.kept.setdefault("behaviour", behaviour(bench))
+    for number in range(LOAD):
+        bench.send(UDP, End(HOSTS[2], 10_000 + bench.first + number), PLACES[0])
+    seen = behaviour(bench)
+    report.note(bench, "4787 REQ-11", f"with {LOAD} pairs more: {before}", seen, seen == before)
+
+
+SIMULTANEOUS = ((0, SYN), (1, SYN), (0, SYN | ACK), (1, SYN | ACK), (0, ACK), (1, ACK))
+ORDINARY = ((0, SYN), (1, SYN | ACK), (0, ACK), (0, ACK | PSH), (1, ACK | PSH), (1, FIN | ACK), (0, ACK),
+            (0, FIN | ACK), (1, ACK), (0, RST))
+
+
+class Half:
+    """One end of a connection: the number of its first byte, how many it has sent, and whether it has begun and ended."""
+
+    def __init__(self, first):
+        self.first = first
+        self.next = first + 1
+
+    def numbers(self, flags, other):
+        """The numbers of its next segment, of one byte where it has data."""
+        own = self.first if flags & SYN else self.next
+        self.next += bool(flags & PSH) + bool(flags & FIN)
+        return own, other.next
+
+
+def segments(bench, end, remote, course):
+    """How many segments of a course come through: of each, whether the remote end sends it, and its flags."""
+    port, passed = None, 0
+    halves = Half(1000), Half(5000)
+    for is_remote, flags in course:
+        numbers = halves[is_remote].numbers(flags, halves[1 - is_remote])
+        text = b"x" if flags & PSH else b""
+        if is_remote:
+            found = bench.tcp(remote, bench.outside(port), flags, text, numbers)
+        else:
+            found = bench.tcp(end, remote.place, flags, text, numbers)
+            port = port_of(found) or port
+        passed += bool(found)
+    return passed
+
+
+def connections(bench, report):
+    for what, number, course in (("both ends open at once", 5400, SIMULTANEOUS),
+                                 ("opened, used, closed, reset", 5402, ORDINARY)):
+        passed = segments(bench, End(HOSTS[2], bench.first + number), End(REMOTES[1], 80), course)
+        report.note(bench, "5382 REQ-2", f"each segment comes through: {what}", f"{passed} of {len(course)}",
+                    passed == len(course))
+
+
+def contents(bench, report):
+    """What looks like an address stays: no protocol is meddled with."""
+    address = HOSTS[0].address
+    asked = b"Contact: <sip:a@" + address.encode() + b":5060>\r\n"
+    command = b"PORT " + address.replace(".", ",").encode() + b",19,136\r\n"
+    for protocol, requirement, text, numbers in ((UDP, "4787 REQ-10", asked, (53, 69, 1900, 5060)),
+                                                 (TCP, "5382 REQ-6", command, (21, 554, 1723, 6667))):
+        whole = 0
+        for number in numbers:
+            place, end = (REMOTES[2].address, number), End(HOSTS[0], 5450)
+            found = bench.udp(end, place, text=text) if protocol == UDP else bench.tcp(end, place, ACK | PSH, text)
+            whole += bool(found) and found.data.endswith(text)
+        report.note(bench, requirement, f"an address in the text stays, to ports {told(numbers)}",
+                    f"{whole} of {len(numbers)}", whole == len(numbers))
+
+
+def arrived(found, kind, station):
+    """Whether a message of this type came to a station."""
+    return bool(found) and found.payload[0] == kind and found.target == station.address
+
+
+def packet_bytes(packet):
+    return packet.frame[14 : 14 + packet.length] if packet else b""
+
+
+def errors_in(bench, report):
+    """A remote station and a router on the way tell of a packet; then the pair is used again."""
+    for protocol, standard, number, last in ((UDP, "4787", "REQ-12 b", "REQ-12 a"), (TCP, "5382", "REQ-9", "REQ-10")):
+        end = End(HOSTS[0], 5500)
+        sent = bench.send(protocol, end, PLACES[0])
+        about = packet_bytes(sent)
+        told_by = ((REMOTES[0], 3, 3, bytes(4)), (REMOTES[1], 3, 4, b"\0\0\5\0"), (REMOTES[1], 11, 0, bytes(4)))
+        found = [bench.icmp(who, bench.virtual, kind, code, rest, about) for who, kind, code, rest in told_by]
+        names = ("port unreachable from the remote station", "fragmentation needed from a router", "TTL over from a router")
+        for name, each, (_, kind, _, _) in zip(names, found, told_by):
+            came = arrived(each, kind, HOSTS[0])
+            report.note(bench, f"{standard} {number}", f"{name} comes in", yes(came), came)
+        if protocol == UDP:
+            restored = arrived(found[0], 3, HOSTS[0]) and source_of(found[0].payload[8:]) == end.place
+            report.note(bench, "5508 REQ-4", "an error about a pair comes in, with the inside end in it", yes(restored),
+                        restored)
+        again = bench.send(protocol, end, PLACES[0])
+        report.note(bench, f"{standard} {last}", "the pair stays after all of them", told([port_of(again)]),
+                    bool(again) and port_of(again) == port_of(sent))
+
+
+def source_of(body):
+    """From which end the packet in these bytes came."""
+    packet = Packet(bytes(14) + body)
+    return packet.source, packet.source_port
+
+
+def errors_out(bench, report):
+    """A host tells the remote station, and another inside host, of a packet of theirs."""
+    ends = End(HOSTS[0], 5200), End(HOSTS[1], 5300)
+    ports = [port_of(bench.send(UDP, end, PLACES[0])) for end in ends]
+    heard = bench.udp(End(REMOTES[0], 53), bench.outside(ports[0]))
+    found = bench.icmp(HOSTS[0], REMOTES[0].address, 3, 3, bytes(4), packet_bytes(heard))
+    came = arrived(found, 3, REMOTES[0]) and found.source == bench.virtual
+    report.note(bench, "5508 REQ-5", "a host's error about a pair goes out", yes(came), came)
+    heard = bench.udp(ends[0], bench.outside(ports[1]))
+    found = bench.icmp(HOSTS[1], bench.virtual, 3, 3, bytes(4), packet_bytes(heard))
+    came = arrived(found, 3, HOSTS[0]) and source_of(found.payload[8:]) == ends[0].place
+    report.note(bench, "5508 REQ-7", "a host's error about another's hairpin reaches it", yes(came), came)
+
+
+def queries(bench, report):
+    """Echo through the pair, and between two hosts by the outside address; what is neither query nor error."""
+    asked = b"\0\7\0\1"
+    found = bench.icmp(HOSTS[0], REMOTES[0].address, 8, 0, asked)
+    went = arrived(found, 8, REMOTES[0]) and found.source == bench.virtual
+    report.note(bench, "5508 REQ-1", "an Echo goes out", yes(went), went)
+    back = bench.icmp(REMOTES[0], bench.virtual, 0, 0, found.payload[4:8]) if went else None
+    report.note(bench, "5508 REQ-1", "its Reply comes back to the host", yes(back), arrived(back, 0, HOSTS[0]))
+    found = bench.icmp(HOSTS[0], bench.virtual, 8, 0, asked)
+    reached = any(arrived(found, 8, host) for host in HOSTS)
+    report.note(bench, "7857 11", "an Echo to the outside address reaches a host", yes(reached), reached)
+    found = bench.icmp(HOSTS[0], REMOTES[0].address, 9, 0, bytes(4))
+    report.note(bench, "5508 REQ-11", "what is neither query nor error doesn't go out", yes(found), not found)
+
+
+def own_messages(bench, report):
+    """What the box says itself: to an Echo at its addresses, and of a packet whose TTL is over."""
+    for station, address in ((HOSTS[0], bench.settings["inside"]["virtual"]), (REMOTES[0], bench.virtual)):
+        found = bench.icmp(station, address, 8, 0, b"\0\7\0\1")
+        answered = arrived(found, 0, station) and found.source == address
+        report.note(bench, "5508 REQ-10", f"{address} answers an Echo", yes(answered), answered)
+    packet = ipv4(HOSTS[0].address, REMOTES[0].address, UDP, udp((HOSTS[0].address, 5000), PLACES[0], b""),
+                  PLAIN._replace(ttl=1))
+    bench.put("inside", ethernet(bench.own_mac("inside"), HOSTS[0].mac, IPV4, packet))
+    found = bench.heard(lambda frame: is_error(frame, packet[12:28]), SILENCE)
+    report.note(bench, "5508 REQ-10", "a packet with TTL 1 is answered by an error", yes(found), bool(found))
+
+
+def unasked(bench, report):
+    """A SYN that nobody asked for. What comes to its sender in six seconds, and then."""
+    stranger, place = End(REMOTES[2], 80), bench.outside(FREE)
+    packet = ipv4(stranger.station.address, place[0], TCP, tcp(stranger.place, place, SYN, b""))
+
+    def is_answer(frame):
+        return is_ipv4(frame) and Packet(frame).target == stranger.station.address
+
+    bench.put("outside", ethernet(bench.own_mac("outside"), stranger.station.mac, IPV4, packet))
+    soon = bench.heard(is_answer, QUIET)
+    report.note(bench, "5382 REQ-4 a", "no answer to an unasked SYN in 6 s", yes(soon), not soon)
+    late = bench.heard(lambda frame: is_answer(frame) and frame[23] == ICMP, 1.0)
+    report.note(bench, "5382 REQ-4 b", "an ICMP error after that", yes(late), bool(late))
+
+
+def pieces(end, place, header=PLAIN._replace(identification=77)):
+    """A datagram cut in two, each with a mark of its own."""
+    marks = os.urandom(16), os.urandom(16)
+    whole = udp(end.place, place, marks[0] + marks[1])
+    cut = ((whole[:24], header.fragment | MORE_FRAGMENTS), (whole[24:], header.fragment | 3))
+    return [(ipv4(end.station.address, place[0], UDP, part, header._replace(fragment=fragment)), mark)
+            for (part, fragment), mark in zip(cut, marks)]
+
+
+def both_come(bench, station, parts):
+    """How many of some packets come out, in the packets that they were or in one."""
+    mac, seen = bench.own_mac(station.side), set()
+
+    def are_there(frame):
+        seen.update(mark for _, mark in parts if is_ipv4(frame) and mark in frame)
+        return len(seen) == len(parts)
+
+    bench.put(station.side, *(ethernet(mac, station.mac, IPV4, packet) for packet, _ in parts))
+    bench.heard(are_there, SILENCE)
+    return len(seen)
+
+
+def fragments(bench, report):
+    end, remote = End(HOSTS[0], 5000), End(REMOTES[0], 53)
+    port = port_of(bench.send(UDP, end, remote.place))
+    for name, sender, place in (("out", end, remote.place), ("in", remote, bench.outside(port))):
+        for way, step in (("in order", 1), ("the later one first", -1)):
+            count = both_come(bench, sender.station, pieces(sender, place)[::step])
+            report.note(bench, "4787 REQ-14", f"two fragments go {name}, {way}", f"{count} of 2", count == 2)
+
+
+def large(bench, report):
+    """As much as a network of 1,500 bytes takes, not to be cut."""
+    text = bytes(LONGEST - 28 - 6)
+    found = bench.udp(End(HOSTS[0], 5000), PLACES[0], PLAIN._replace(fragment=DONT_FRAGMENT), text)
+    seen = (found.length, found.fragment == DONT_FRAGMENT) if found else (0, False)
+    report.note(bench, "4787 REQ-13 a", f"{LONGEST} bytes, not to be cut, go out so",
+                f"{seen[0]} bytes{', not to be cut' if seen[1] else ''}", seen == (LONGEST, True))
+
+
+def identification(bench, report):
+    """Two hosts' packets to one remote end, which may be cut behind the pair, with one number."""
+    header = PLAIN._replace(identification=0x1234)
+    found = [bench.udp(End(host, 5000), PLACES[0], header) for host in HOSTS[:2]]
+    seen = [each and f"{each.identification:04x}" for each in found]
+    report.note(bench, "7857 9", "two hosts' 1234 leave as two numbers", told(seen), len(set(seen)) == 2)
+
+
+AT_A_BOX = (mapping, apart, parity, order, protocols, filtering, hairpin, steady, connections, contents, errors_in,
+            errors_out, queries, own_messages, unasked, fragments, large, identification)

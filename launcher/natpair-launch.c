@@ -1,0 +1,497 @@
+// natpair-launch: opens the sockets of a box's two interfaces, leaves a keeper of them behind, gives up every
+// privilege, and becomes `natpair gate`.
+//
+//     natpair-launch --inside IF --outside IF [OPTION..] -- natpair gate SETTINGS ..
+//
+// README.md beside this file says what it does, in which order, and why.
+
+#define _GNU_SOURCE
+#include <arpa/inet.h>
+#include <errno.h>
+#include <fcntl.h>
+#include <grp.h>
+#include <linux/capability.h>
+#include <linux/filter.h>
+#include <linux/if_packet.h>
+#include <linux/netlink.h>
+#include <linux/rtnetlink.h>
+#include <net/ethernet.h>
+#include <net/if.h>
+#include <poll.h>
+#include <pwd.h>
+#include <signal.h>
+#include <stdarg.h>
+#include <stdbool.h>
+#include <stdint.h>
+#include <stdio.h>
+#include <stdlib.h>
+#include <string.h>
+#include <sys/ioctl.h>
+#include <sys/prctl.h>
+#include <sys/socket.h>
+#include <sys/syscall.h>
+#include <sys/un.h>
+#include <time.h>
+#include <unistd.h>
+
+#ifndef PACKET_IGNORE_OUTGOING
+#define PACKET_IGNORE_OUTGOING 23
+#endif
+
+enum { INSIDE, OUTSIDE, SIDES };
+
+static const char *const NAMES[SIDES] = {"inside", "outside"};
+
+// The gate's descriptors: 3 and 4 for the sides, 5 for the link.
+enum { FIRST = 3, LINK = FIRST + SIDES, ABOVE = 10 };
+
+// The room for frames that wait, in bytes, and a frame counts about twice its length.
+enum { ROOM = 8 << 20 };
+
+// A cable that is out is told once it was out for so long; one that is in, at once. In milliseconds.
+enum { HELD_BACK = 1000 };
+
+// How long the keeper sleeps at most, and how soon it tries again where nobody heard it. In milliseconds.
+enum { NAP = 1000, AGAIN = 100 };
+
+// How long the gate may take to hear a word, in seconds.
+enum { PATIENCE = 2 };
+
+struct options {
+    const char *interface[SIDES];
+    const char *link;
+    const char *boot_file;
+    const char *user;
+    int room;
+    char **gate;
+};
+
+// One line on standard error, by one write, so that the lines of two programs don't mix. It never waits: where nobody
+// reads, the line is left out.
+__attribute__((format(printf, 1, 2))) static void say(const char *format, ...)
+{
+    char line[512];
+    va_list words;
+    va_start(words, format);
+    int length = vsnprintf(line, sizeof line - 1, format, words);
+    va_end(words);
+    if (length < 0)
+        return;
+    if (length > (int)sizeof line - 2)
+        length = sizeof line - 2;
+    line[length] = '\n';
+    struct pollfd output = {STDERR_FILENO, POLLOUT, 0};
+    if (poll(&output, 1, 0) <= 0 || write(STDERR_FILENO, line, length + 1) < 0)
+        return;
+}
+
+#define refuse(...) (say("natpair-launch: " __VA_ARGS__), exit(1))
+
+static void usage(void)
+{
+    say("usage: natpair-launch --inside IF --outside IF [--boot-file FILE] [--link-udp OWN:PORT,OTHER:PORT]\n"
+        "                      [--user NAME] [--room BYTES] -- natpair gate SETTINGS ..");
+    exit(2);
+}
+
+// The sockets
+
+static int number_of(const char *interface)
+{
+    struct ifreq asked = {0};
+    int any = socket(AF_INET, SOCK_DGRAM | SOCK_CLOEXEC, 0);
+    strncpy(asked.ifr_name, interface, IFNAMSIZ - 1);
+    int done = any < 0 ? -1 : ioctl(any, SIOCGIFINDEX, &asked);
+    if (any >= 0)
+        close(any);
+    return done < 0 ? -1 : asked.ifr_ifindex;
+}
+
+// Takes only frames without a VLAN's number. The kernel takes a tag off before a packet socket sees the frame, which
+// would then count as one of the interface's own network.
+static int pass_own_network(int sock)
+{
+    struct sock_filter lines[] = {
+        BPF_STMT(BPF_LD | BPF_B | BPF_ABS, (uint32_t)(SKF_AD_OFF + SKF_AD_VLAN_TAG_PRESENT)),
+        BPF_JUMP(BPF_JMP | BPF_JEQ | BPF_K, 0, 3, 0),
+        BPF_STMT(BPF_LD | BPF_H | BPF_ABS, (uint32_t)(SKF_AD_OFF + SKF_AD_VLAN_TAG)),
+        BPF_STMT(BPF_ALU | BPF_AND | BPF_K, 0x0fff),
+        BPF_JUMP(BPF_JMP | BPF_JEQ | BPF_K, 0, 0, 1),
+        BPF_STMT(BPF_RET | BPF_K, 0x7fffffff),
+        BPF_STMT(BPF_RET | BPF_K, 0),
+    };
+    struct sock_fprog filter = {sizeof lines / sizeof lines[0], lines};
+    return setsockopt(sock, SOL_SOCKET, SO_ATTACH_FILTER, &filter, sizeof filter);
+}
+
+static int pass_nothing(int sock)
+{
+    struct sock_filter line = BPF_STMT(BPF_RET | BPF_K, 0);
+    struct sock_fprog filter = {1, &line};
+    return setsockopt(sock, SOL_SOCKET, SO_ATTACH_FILTER, &filter, sizeof filter);
+}
+
+static void make_room(int sock, const char *place, int room)
+{
+    int had = 0;
+    socklen_t size = sizeof had;
+    if (setsockopt(sock, SOL_SOCKET, SO_RCVBUFFORCE, &room, sizeof room) < 0)
+        setsockopt(sock, SOL_SOCKET, SO_RCVBUF, &room, sizeof room);
+    getsockopt(sock, SOL_SOCKET, SO_RCVBUF, &had, &size);
+    // The kernel gives twice what was asked for, since it counts its own bookkeeping too.
+    if (had / 2 < room)
+        say("natpair-launch: %s: room for %d bytes and not %d: net.core.rmem_max is smaller", place, had / 2, room);
+}
+
+// Makes a socket's descriptor one that none of the gate's can be.
+static int out_of_the_way(int sock)
+{
+    int high = fcntl(sock, F_DUPFD_CLOEXEC, ABOVE);
+    close(sock);
+    return high;
+}
+
+// Binds a packet socket to an interface, for all frames that come to it. It needs no privilege.
+static int bind_to(int sock, int interface)
+{
+    struct sockaddr_ll place = {
+        .sll_family = AF_PACKET, .sll_protocol = htons(ETH_P_ALL), .sll_ifindex = interface};
+    struct packet_mreq member = {.mr_ifindex = interface, .mr_type = PACKET_MR_PROMISC};
+    if (setsockopt(sock, SOL_PACKET, PACKET_ADD_MEMBERSHIP, &member, sizeof member) < 0)
+        return -1;
+    return bind(sock, (struct sockaddr *)&place, sizeof place);
+}
+
+static int open_side(const char *side, const char *interface, int room)
+{
+    int one = 1;
+    int number = number_of(interface);
+    if (number < 0)
+        refuse("%s: no interface %s", side, interface);
+    // Protocol 0: until it is bound, nothing comes. With another one frames of all interfaces would.
+    int sock = socket(AF_PACKET, SOCK_RAW | SOCK_CLOEXEC, 0);
+    if (sock < 0)
+        refuse("%s: no packet socket: %s", side, strerror(errno));
+    sock = out_of_the_way(sock);
+    make_room(sock, side, room);
+    // What this machine itself sends there isn't heard: a read can't tell it from what comes.
+    if (setsockopt(sock, SOL_PACKET, PACKET_IGNORE_OUTGOING, &one, sizeof one) < 0 || pass_own_network(sock) < 0
+        || bind_to(sock, number) < 0)
+        refuse("%s: %s: %s", side, interface, strerror(errno));
+    return sock;
+}
+
+// Reads ADDRESS:PORT, up to `end`.
+static bool read_end(const char *text, const char *end, struct sockaddr_in *found)
+{
+    char address[INET_ADDRSTRLEN] = {0};
+    const char *colon = memchr(text, ':', end - text);
+    if (colon == NULL || colon - text >= INET_ADDRSTRLEN || end - colon < 2 || end - colon > 6)
+        return false;
+    memcpy(address, text, colon - text);
+    long port = 0;
+    for (const char *digit = colon + 1; digit < end; digit++) {
+        if (*digit < '0' || *digit > '9')
+            return false;
+        port = port * 10 + (*digit - '0');
+    }
+    found->sin_family = AF_INET;
+    found->sin_port = htons((uint16_t)port);
+    return port > 0 && port < 65536 && inet_pton(AF_INET, address, &found->sin_addr) == 1;
+}
+
+// A connected UDP socket: the kernel hands on only what comes from the other end, and what came before it was
+// connected is dropped.
+static int open_link(const char *text, int room)
+{
+    struct sockaddr_in own = {0}, other = {0};
+    const char *comma = strchr(text, ',');
+    if (comma == NULL || !read_end(text, comma, &own) || !read_end(comma + 1, text + strlen(text), &other))
+        refuse("link: %s isn't OWN:PORT,OTHER:PORT", text);
+    int sock = socket(AF_INET, SOCK_DGRAM | SOCK_CLOEXEC, 0);
+    if (sock < 0)
+        refuse("link: %s", strerror(errno));
+    sock = out_of_the_way(sock);
+    make_room(sock, "link", room);
+    int none = 0;
+    if (pass_nothing(sock) < 0 || bind(sock, (struct sockaddr *)&own, sizeof own) < 0
+        || connect(sock, (struct sockaddr *)&other, sizeof other) < 0
+        || setsockopt(sock, SOL_SOCKET, SO_DETACH_FILTER, &none, sizeof none) < 0)
+        refuse("link: %s: %s", text, strerror(errno));
+    return sock;
+}
+
+// Privileges
+
+static void become(const char *name)
+{
+    int dies_with_parent = 0;
+    struct passwd *user = getpwnam(name);
+    if (user == NULL)
+        refuse("no user %s", name);
+    prctl(PR_GET_PDEATHSIG, &dies_with_parent);
+    if (initgroups(name, user->pw_gid) < 0 || setresgid(user->pw_gid, user->pw_gid, user->pw_gid) < 0
+        || setresuid(user->pw_uid, user->pw_uid, user->pw_uid) < 0)
+        refuse("%s: %s", name, strerror(errno));
+    // A change of user forgets whether the process dies with its parent.
+    prctl(PR_SET_PDEATHSIG, dies_with_parent);
+}
+
+static void give_up_privileges(const char *user)
+{
+    struct __user_cap_header_struct head = {_LINUX_CAPABILITY_VERSION_3, 0};
+    struct __user_cap_data_struct none[2] = {{0}}, left[2] = {{0}};
+    for (int number = 0; prctl(PR_CAPBSET_READ, number, 0, 0, 0) >= 0; number++)
+        prctl(PR_CAPBSET_DROP, number, 0, 0, 0);
+    if (user != NULL)
+        become(user);
+    prctl(PR_CAP_AMBIENT, PR_CAP_AMBIENT_CLEAR_ALL, 0, 0, 0);
+    if (syscall(SYS_capset, &head, none) < 0 || prctl(PR_SET_NO_NEW_PRIVS, 1, 0, 0, 0) < 0)
+        refuse("privileges: %s", strerror(errno));
+    if (syscall(SYS_capget, &head, left) < 0 || memcmp(left, none, sizeof none) != 0)
+        refuse("privileges: some are left");
+}
+
+// The keeper
+
+struct side {
+    const char *name;
+    const char *interface;
+    int sock;
+    // Whether the cable is in, since when, and what the gate was told last: -1 before anything.
+    bool in;
+    int64_t since;
+    int told;
+};
+
+struct keeper {
+    struct side side[SIDES];
+    struct sockaddr_un place;
+    pid_t gate;
+};
+
+static int64_t now(void)
+{
+    struct timespec moment;
+    clock_gettime(CLOCK_MONOTONIC, &moment);
+    return (int64_t)moment.tv_sec * 1000 + moment.tv_nsec / 1000000;
+}
+
+static bool has_carrier(const char *interface)
+{
+    struct ifreq asked = {0};
+    int any = socket(AF_INET, SOCK_DGRAM | SOCK_CLOEXEC, 0);
+    strncpy(asked.ifr_name, interface, IFNAMSIZ - 1);
+    bool found = any >= 0 && ioctl(any, SIOCGIFFLAGS, &asked) == 0;
+    if (any >= 0)
+        close(any);
+    return found && (asked.ifr_flags & IFF_UP) && (asked.ifr_flags & IFF_RUNNING);
+}
+
+// Binds the side's socket anew where its interface was deleted and made again.
+static void keep_bound(struct side *side)
+{
+    struct sockaddr_ll bound = {0};
+    socklen_t size = sizeof bound;
+    int number = number_of(side->interface);
+    if (number < 0 || getsockname(side->sock, (struct sockaddr *)&bound, &size) < 0 || bound.sll_ifindex == number)
+        return;
+    if (bind_to(side->sock, number) == 0)
+        say("keeper %s bound anew to %s", side->name, side->interface);
+}
+
+static void look_at(struct side *side)
+{
+    keep_bound(side);
+    bool in = has_carrier(side->interface);
+    if (in == side->in)
+        return;
+    side->in = in;
+    side->since = now();
+    say("keeper %s cable %s", side->name, in ? "in" : "out");
+}
+
+// Whether the gate of this keeper, and no other one, is at the other end.
+static bool is_own_gate(int sock, pid_t gate)
+{
+    struct ucred who = {0};
+    socklen_t size = sizeof who;
+    return getsockopt(sock, SOL_SOCKET, SO_PEERCRED, &who, &size) == 0 && who.pid == gate;
+}
+
+// Hands the gate one word, and says whether it was heard.
+static bool is_heard(const struct keeper *keeper, const uint8_t *word, size_t length)
+{
+    char answer[8];
+    struct timeval patience = {PATIENCE, 0};
+    int sock = socket(AF_UNIX, SOCK_STREAM | SOCK_CLOEXEC, 0);
+    if (sock < 0)
+        return false;
+    setsockopt(sock, SOL_SOCKET, SO_RCVTIMEO, &patience, sizeof patience);
+    setsockopt(sock, SOL_SOCKET, SO_SNDTIMEO, &patience, sizeof patience);
+    bool heard = connect(sock, (const struct sockaddr *)&keeper->place, sizeof keeper->place) == 0
+        && is_own_gate(sock, keeper->gate) && send(sock, word, length, MSG_NOSIGNAL) == (ssize_t)length
+        && recv(sock, answer, 5, MSG_WAITALL) == 5 && memcmp(answer, "heard", 5) == 0;
+    close(sock);
+    return heard;
+}
+
+// Tells the gate a side's cable where that is new to it and was so for long enough; gives how long to wait, in
+// milliseconds, until there may be something to tell.
+static int tell(struct keeper *keeper, int number)
+{
+    struct side *side = &keeper->side[number];
+    if (keeper->place.sun_path[0] == '\0' || side->told == side->in)
+        return NAP;
+    int64_t wait = side->since + HELD_BACK - now();
+    if (side->told == 1 && wait > 0)
+        return wait < NAP ? (int)wait : NAP;
+    uint8_t word[5] = {'N', 'S', (uint8_t)number, side->in, 1};
+    if (!is_heard(keeper, word, sizeof word))
+        return AGAIN;
+    side->told = side->in;
+    return NAP;
+}
+
+// A socket at which the kernel says that some interface has changed.
+static int bell(void)
+{
+    struct sockaddr_nl place = {.nl_family = AF_NETLINK, .nl_groups = RTMGRP_LINK};
+    int sock = socket(AF_NETLINK, SOCK_RAW | SOCK_CLOEXEC | SOCK_NONBLOCK, NETLINK_ROUTE);
+    if (sock < 0 || bind(sock, (struct sockaddr *)&place, sizeof place) < 0)
+        refuse("netlink: %s", strerror(errno));
+    return sock;
+}
+
+// Until the gate ends.
+static void keep(struct keeper *keeper, int changes, int end)
+{
+    char rest[8192];
+    struct pollfd waited[2] = {{changes, POLLIN, 0}, {end, POLLIN, 0}};
+    while (waited[1].revents == 0) {
+        int nap = NAP;
+        for (int number = 0; number < SIDES; number++) {
+            look_at(&keeper->side[number]);
+            int wait = tell(keeper, number);
+            nap = wait < nap ? wait : nap;
+        }
+        poll(waited, 2, nap);
+        // What was said of an interface doesn't matter: all are looked at.
+        while (recv(changes, rest, sizeof rest, 0) > 0)
+            ;
+    }
+}
+
+// Leaves a keeper behind, as a child of the process that becomes the gate.
+static void leave_keeper(const struct options *options, const int *socks)
+{
+    pid_t gate = getpid();
+    int changes = bell();
+    int end = (int)syscall(SYS_pidfd_open, gate, 0);
+    if (end < 0)
+        refuse("pidfd: %s", strerror(errno));
+    pid_t child = fork();
+    if (child < 0)
+        refuse("keeper: %s", strerror(errno));
+    if (child > 0)
+        return;
+    prctl(PR_SET_PDEATHSIG, SIGKILL);
+    prctl(PR_SET_NAME, "natpair-keeper");
+    signal(SIGPIPE, SIG_IGN);
+    struct keeper keeper = {.place = {.sun_family = AF_UNIX}, .gate = gate};
+    for (int number = 0; number < SIDES; number++)
+        keeper.side[number] = (struct side){NAMES[number], options->interface[number], socks[number],
+            has_carrier(options->interface[number]), now(), -1};
+    if (options->boot_file != NULL)
+        snprintf(keeper.place.sun_path, sizeof keeper.place.sun_path, "%s.control/socket", options->boot_file);
+    close(STDIN_FILENO);
+    close(STDOUT_FILENO);
+    if (getppid() == gate)
+        keep(&keeper, changes, end);
+    _exit(0);
+}
+
+// The start
+
+static struct options read_words(int count, char **words)
+{
+    struct options found = {.room = ROOM};
+    int next = 1;
+    for (; next + 1 < count && strcmp(words[next], "--") != 0; next += 2) {
+        const char *name = words[next], *value = words[next + 1];
+        if (strcmp(name, "--inside") == 0)
+            found.interface[INSIDE] = value;
+        else if (strcmp(name, "--outside") == 0)
+            found.interface[OUTSIDE] = value;
+        else if (strcmp(name, "--link-udp") == 0)
+            found.link = value;
+        else if (strcmp(name, "--boot-file") == 0)
+            found.boot_file = value;
+        else if (strcmp(name, "--user") == 0)
+            found.user = value;
+        else if (strcmp(name, "--room") == 0 && atoi(value) > 0)
+            found.room = atoi(value);
+        else
+            usage();
+    }
+    if (next + 1 >= count || found.interface[INSIDE] == NULL || found.interface[OUTSIDE] == NULL)
+        usage();
+    found.gate = words + next + 1;
+    return found;
+}
+
+static void check(const struct options *options)
+{
+    struct sockaddr_un place;
+    for (int number = 0; number < SIDES; number++)
+        if (strlen(options->interface[number]) >= IFNAMSIZ)
+            refuse("%s: no interface %s", NAMES[number], options->interface[number]);
+    if (options->boot_file != NULL && strlen(options->boot_file) + strlen(".control/socket") >= sizeof place.sun_path)
+        refuse("the boot file's path is too long for a socket beside it");
+    if (geteuid() == 0 && options->user == NULL)
+        refuse("as root it wants --user NAME, the user that the gate runs as");
+    if (options->boot_file == NULL)
+        say("natpair-launch: without --boot-file the gate isn't told of its cables");
+}
+
+// The gate's words, and after them where its places are.
+static char **gate_words(const struct options *options)
+{
+    static char *const ways[] = {
+        "--inside", "descriptor:3", "--outside", "descriptor:4", "--link", "descriptor:5"};
+    int count = 0, more = options->link == NULL ? 4 : 6;
+    while (options->gate[count] != NULL)
+        count++;
+    char **words = calloc(count + more + 1, sizeof *words);
+    if (words == NULL)
+        refuse("no memory");
+    memcpy(words, options->gate, count * sizeof *words);
+    memcpy(words + count, ways, more * sizeof *words);
+    return words;
+}
+
+static void put_at(int sock, int place)
+{
+    // The copy stays open when the gate begins.
+    if (sock < 0 || dup2(sock, place) < 0)
+        refuse("descriptor %d: %s", place, strerror(errno));
+}
+
+int main(int count, char **words)
+{
+    struct options options = read_words(count, words);
+    int socks[SIDES];
+    check(&options);
+    for (int number = 0; number < SIDES; number++)
+        socks[number] = open_side(NAMES[number], options.interface[number], options.room);
+    int link = options.link == NULL ? -1 : open_link(options.link, options.room);
+    give_up_privileges(options.user);
+    leave_keeper(&options, socks);
+    for (int number = 0; number < SIDES; number++)
+        put_at(socks[number], FIRST + number);
+    if (link >= 0)
+        put_at(link, LINK);
+    execvp(options.gate[0], gate_words(&options));
+    say("natpair-launch: %s: %s", options.gate[0], strerror(errno));
+    return 127;
+}

@@ -1,0 +1,69 @@
+"""Stands for `natpair gate` in the launcher's test: says what it was given and what comes.
+
+    stand_in.py CONTROL [WORD..]
+
+It prints its words, what /proc says of its privileges, and a line for each frame (`frame DESCRIPTOR HEX`) and each word
+of the control socket (`word HEX`). A frame of the experimental EtherType 88b5 is written to the other side as it came.
+CONTROL is the folder of its control socket, or `-` for none.
+"""
+
+import os
+import selectors
+import socket
+import sys
+
+OTHER = {3: 4, 4: 3}
+
+
+def say(*words):
+    print(*words, flush=True)
+
+
+def tell_status():
+    with open("/proc/self/status", encoding="ascii") as file:
+        for line in file:
+            name, value = line.split(":", 1)
+            if name in ("Uid", "CapInh", "CapPrm", "CapEff", "CapBnd", "CapAmb", "NoNewPrivs"):
+                say("status", name, *value.split())
+
+
+def take_frame(number):
+    try:
+        frame = os.read(number, 4096)
+    except OSError as error:
+        say("error", number, error.strerror)
+        return
+    say("frame", number, frame.hex())
+    if frame[12:14] == b"\x88\xb5" and number in OTHER:
+        os.write(OTHER[number], frame)
+
+
+def take_word(listener):
+    caller, _ = listener.accept()
+    with caller:
+        caller.settimeout(2)
+        word = caller.recv(64)
+        say("word", word.hex())
+        caller.sendall(b"heard")
+
+
+def main():
+    say("words", *sys.argv[2:])
+    tell_status()
+    table = selectors.DefaultSelector()
+    for number in [int(word.split(":")[1]) for word in sys.argv[2:] if word.startswith("descriptor:")]:
+        os.set_blocking(number, False)
+        table.register(number, selectors.EVENT_READ, lambda number=number: take_frame(number))
+    if sys.argv[1] != "-":
+        os.mkdir(sys.argv[1], 0o700)
+        listener = socket.socket(socket.AF_UNIX)
+        listener.bind(f"{sys.argv[1]}/socket")
+        listener.listen()
+        table.register(listener, selectors.EVENT_READ, lambda: take_word(listener))
+    say("ready")
+    while True:
+        for key, _ in table.select():
+            key.data()
+
+
+main()
