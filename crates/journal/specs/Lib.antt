@@ -1,3 +1,5 @@
 pub mod Origins
 pub mod Tally
 pub mod Entries
+pub mod Texts
+pub mod Pairs
