@@ -7,7 +7,7 @@ use Rattle.journal.specs.declared.causes.Cause.{Cause}
 use Rattle.journal.specs.Origins.{key_of}
 use Rattle.journal.specs.Tally.{Account, IsAccountOf, Noted, begins, count, most, opened, second_of, turned}
 
-zeros : (n i : ℕ) → get_or (replicate n 0) i 0 ≡ 0
+zeros : (n i : ℕ) → ◌≡◌ {A = ℕ} (get_or (replicate n 0) i 0) 0
 zeros zero i = refl
 zeros (suc n) zero = refl
 zeros (suc n) (suc i) = zeros n i

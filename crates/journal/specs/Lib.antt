@@ -3,3 +3,5 @@ pub mod Tally
 pub mod Entries
 pub mod Texts
 pub mod Pairs
+pub mod Fates
+pub mod Filters

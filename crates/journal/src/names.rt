@@ -7,8 +7,8 @@ use crate::Cause;
 use crate::entries::{Entry, Role};
 use packet_rules::Reason;
 
-pub(crate) fn reason_name(reason: Reason) -> &'static str
-    ensures { result.now ≡ reason_name reason }
+pub(crate) fn reason_name(reason: &Reason) -> &str
+    ensures { result.now ≡ reason_name reason.now }
 {
     match reason {
         Reason::ShortFrame => "ShortFrame",
@@ -32,8 +32,8 @@ pub(crate) fn reason_name(reason: Reason) -> &'static str
     }
 }
 
-pub(crate) fn role_name(role: Role) -> &'static str
-    ensures { result.now ≡ role_name role }
+pub(crate) fn role_name(role: &Role) -> &str
+    ensures { result.now ≡ role_name role.now }
 {
     match role {
         Role::Initialize => "Initialize",
@@ -43,8 +43,8 @@ pub(crate) fn role_name(role: Role) -> &'static str
 }
 
 /// The name of what happened, among the keys and values.
-pub(crate) fn event_name(entry: Entry) -> &'static str
-    ensures { result.now ≡ event_name entry }
+pub(crate) fn event_name(entry: &Entry) -> &str
+    ensures { result.now ≡ event_name entry.now }
 {
     match entry {
         Entry::First(_, Cause::Dropped(_)) => "dropped",

@@ -1,12 +1,11 @@
 //! A record's text, and its keys and values.
-ghost use Rattle.std.specs.Prelude.{Some};
-ghost use Rattle.journal.specs.Pairs.{pairs_of};
+ghost use Rattle.std.specs.Prelude.{Some, OnOk, decimal};
 ghost use Rattle.journal.specs.Texts.{cause_text, role_name, text_of};
 
 use crate::Cause;
 use crate::entries::{Entry, Role};
 use crate::names::{event_name, reason_name, role_name};
-use log::kv::{Error, Source, VisitSource, With};
+use log::kv::{Error, Source, ToValue, VisitSource};
 use std::fmt::{self, Display, Formatter};
 
 /// What a record tells, and when: in centiseconds since the box's start. Its text is for people; its keys and values say
@@ -47,7 +46,7 @@ impl Display for Cause {
     fn fmt<W: fmt::Write>(&self, f: &mut Formatter<W>) -> fmt::Result {
         match self {
             Cause::Dropped(reason) => {
-                write!(f, "dropped {} {}", reason.number(), reason_name(*reason))
+                write!(f, "dropped {} {}", reason.number(), reason_name(reason))
             }
             Cause::NoMemory => f.write_str("left out NoMemory"),
         }
@@ -58,39 +57,47 @@ impl Display for Role {
     ghost output = { λ r. Some (role_name r) };
 
     fn fmt<W: fmt::Write>(&self, f: &mut Formatter<W>) -> fmt::Result {
-        f.write_str(role_name(*self))
+        f.write_str(role_name(self))
     }
 }
 
 impl Source for Note {
-    ghost pairs = { λ n. Some (pairs_of n.moment n.entry) };
-
     fn visit<V: VisitSource>(&self, visitor: &mut V) -> Result<(), Error> {
-        let head = with(with((), "at", self.moment), "event", event_name(self.entry));
-        match self.entry {
-            Entry::First(_, Cause::Dropped(reason)) => {
-                let numbered = with(head, "number", reason.number());
-                with(numbered, "reason", reason_name(reason)).visit(visitor)
+        visit_number(visitor, "at", self.moment)?;
+        visit_word(visitor, "event", event_name(&self.entry))?;
+        match &self.entry {
+            Entry::First(_, cause) => visit_cause(visitor, cause),
+            Entry::Others(_, cause, number) => {
+                visit_cause(visitor, cause)?;
+                visit_number(visitor, "more", *number)
             }
-            Entry::Others(_, Cause::Dropped(reason), number) => {
-                let numbered = with(head, "number", reason.number());
-                let named = with(numbered, "reason", reason_name(reason));
-                with(named, "more", number).visit(visitor)
-            }
-            Entry::Others(_, Cause::NoMemory, number) => with(head, "more", number).visit(visitor),
-            Entry::Role(_, role) => with(head, "role", role_name(role)).visit(visitor),
-            Entry::Boot(boot) => with(head, "boot", boot).visit(visitor),
-            Entry::PeerBoot(boot) => with(head, "boot", boot).visit(visitor),
-            _ => head.visit(visitor),
+            Entry::Role(_, role) => visit_word(visitor, "role", role_name(role)),
+            Entry::Boot(boot) => visit_number(visitor, "boot", *boot),
+            Entry::PeerBoot(boot) => visit_number(visitor, "boot", *boot),
+            _ => Ok(()),
         }
     }
 }
 
-/// One pair more.
-fn with<S, T>(before: S, key: &'static str, value: T) -> With<'static, S, T>
-    ensures before { result.before ≡ before }
-    ensures key { result.key.now ≡ key.now }
-    ensures value { result.value ≡ value }
+/// A reason, by number and name.
+fn visit_cause<V: VisitSource>(visitor: &mut V, cause: &Cause) -> Result<(), Error> {
+    match cause {
+        Cause::Dropped(reason) => {
+            visit_number(visitor, "number", u64::from(reason.number()))?;
+            visit_word(visitor, "reason", reason_name(reason))
+        }
+        Cause::NoMemory => Ok(()),
+    }
+}
+
+fn visit_number<V: VisitSource>(visitor: &mut V, key: &str, number: u64) -> Result<(), Error>
+    ensures { OnOk result (V.visit_pair_gives visitor.old (key.now, decimal number) visitor.new) }
 {
-    With { before, key, value }
+    visitor.visit_pair(key, number.to_value())
+}
+
+fn visit_word<V: VisitSource>(visitor: &mut V, key: &str, word: &str) -> Result<(), Error>
+    ensures { OnOk result (V.visit_pair_gives visitor.old (key.now, word.now) visitor.new) }
+{
+    visitor.visit_pair(key, word.to_value())
 }
