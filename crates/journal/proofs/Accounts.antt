@@ -1,5 +1,5 @@
 -- An account that has just begun.
-use Rattle.std.proofs.Common.{◌≡◌, ◌<◌, ℕ, suc, Bool, true, false, cond, nat_lt, min, List, length, get_or, replicate, refl, sym, ◌∙◌, ap, arith}
+use Rattle.std.proofs.Common.{◌≡◌, ◌<◌, ℕ, zero, suc, Bool, true, false, cond, nat_lt, min, List, length, get_or, replicate, refl, sym, ◌∙◌, ap, arith}
 use Rattle.std.proofs.lemmas.List.{length-replicate}
 use Rattle.std.proofs.lemmas.Bool.{ltb-true}
 use Rattle.journal.specs.declared.origins.Origin.{Origin}
@@ -18,7 +18,7 @@ pub opened-account : (all : List Noted) (second : ℕ)
     → ((later : ℕ) (origin : Origin) (cause : Cause) → second < later → count all later origin cause ≡ 0)
     → IsAccountOf all (opened second)
 opened-account all second none past = record {
-  whole = length-replicate 76 0;
+  whole = length-replicate {A = ℕ} 76 0;
   counted = λ origin cause. zeros 76 (key_of origin cause) ∙ sym (ap (λ n. min n most) (none origin cause));
   past = past;
 }

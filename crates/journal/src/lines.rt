@@ -71,9 +71,9 @@ impl<'f, W: fmt::Write> VisitSource for Behind<'f, W> {
 pub(crate) struct LeftOutLines(pub(crate) u64);
 
 impl Display for LeftOutLines {
-    ghost output = { λ l. Some (codes "left out " ++ decimal l.0 ++ codes " lines") };
+    ghost output = { λ l. Some (codes "lines left out: " ++ decimal l.0) };
 
     fn fmt<W: fmt::Write>(&self, f: &mut Formatter<W>) -> fmt::Result {
-        write!(f, "left out {} lines", self.0)
+        write!(f, "lines left out: {}", self.0)
     }
 }
