@@ -8,7 +8,7 @@ mod words;
 use anyhow::{Result, bail};
 use journal::{Cause, Origin, Tally, Unhindered, filter_of, tell, tell_loss, tell_turn};
 use log::Log;
-use log::filter::{Filter, FilteredLog};
+use log::filter::FilteredLog;
 use pages::{Page, Paper};
 use std::cell::Cell;
 use std::fs;
@@ -18,7 +18,7 @@ use words::{cause_of, entry_of, format_of, given, origin_of};
 #[derive(Drop)]
 struct Station<'a> {
     tally: Tally,
-    log: FilteredLog<Unhindered<Page<'a>>, Filter>,
+    log: FilteredLog<Unhindered<Page<'a>>>,
 }
 
 /// A box's records from the start on, in a format, by the option's filter and the environment's; or none where one of

@@ -1,5 +1,5 @@
 -- The level of a record, and where it belongs.
-use Rattle.std.specs.Prelude.{ℕ, ◌&&◌, nat_le, if◌then◌else◌}
+use Rattle.std.specs.Prelude.{◌&&◌, nat_le, if◌then◌else◌}
 use Rattle.log.specs.declared.level.Level.{Level}
 use Rattle.log.specs.declared.level.Level.TheVariants.{Warn, Info, Debug}
 use Rattle.journal.specs.Origins.{cause_number, origin_of}

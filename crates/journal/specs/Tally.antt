@@ -1,5 +1,5 @@
 -- What of the drops of a second is a record.
-use Rattle.std.specs.Prelude.{ℕ, Bool, ◌≡◌, ◌<◌, ◌≤◌, ◌-◌, ◌/◌, ◌==◌, ◌&&◌, suc, List, [], ◌∷◌, Option, Some, None, min, nat_lt, set, get_or, replicate, length, if◌then◌else◌}
+use Rattle.std.specs.Prelude.{ℕ, Bool, ◌≡◌, ◌<◌, ◌-◌, ◌/◌, ◌==◌, ◌&&◌, suc, List, [], ◌∷◌, Option, Some, None, min, nat_lt, set, get_or, replicate, length, if◌then◌else◌}
 use Rattle.journal.specs.Origins.{key_of}
 use Rattle.journal.specs.declared.origins.Origin.{Origin}
 use Rattle.journal.specs.declared.causes.Cause.{Cause}

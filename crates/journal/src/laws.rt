@@ -20,5 +20,4 @@ pub fn account_law()
     ensures others { (all : List Noted) → (a : Account) → (origin : Place) → (cause : Why)
         → IsAccountOf all a → count all a.second origin cause ≤ most
         → count_at a origin cause - 1 ≡ others all a.second origin cause }
-{
-}
+{}

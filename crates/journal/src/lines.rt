@@ -23,10 +23,7 @@ pub(crate) struct Shown<'a, 'r, D, K, S> {
 }
 
 impl<'a, 'r, D, K, S> Shown<'a, 'r, D, K, S> {
-    pub(crate) fn new(
-        format: Format,
-        record: &'a Record<'r, D, K, S>,
-    ) -> Shown<'a, 'r, D, K, S> {
+    pub(crate) fn new(format: Format, record: &'a Record<'r, D, K, S>) -> Shown<'a, 'r, D, K, S> {
         Shown { format, record }
     }
 }
