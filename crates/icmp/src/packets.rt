@@ -25,8 +25,8 @@ pub struct ErrorPacket {
 }
 
 impl ErrorPacket {
-    /// Reads a packet that carries an error, or refuses it: as NotError where it isn't of ICMP, else
-    /// as [`ErrorView::parse`] does.
+    /// Reads a packet that carries an error, or refuses it: as NotError where it isn't of ICMP,
+    /// else as [`ErrorView::parse`] does.
     pub fn parse(view: &Ipv4View<'_>) -> Result<ErrorPacket, IcmpFault>
         ensures refusal { result_err result ≡ packet_refusal view.now.bytes.now }
         ensures ok { IsOk result ↔ IsErrorPacket view.now.bytes.now }

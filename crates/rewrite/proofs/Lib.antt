@@ -1,2 +1,3 @@
 mod Moved
 mod Parts
+mod Shows

@@ -45,3 +45,16 @@ shortest-ports Tcp n h = omega arith
 pub word_at-segment : (place n : ℕ) (packet rest : List ℕ) → rest ≡ drop (header_of packet).header_length packet → place + 2 ≤ length (payload_of packet) → place + 2 ≤ n → word_at place (payload_of packet) ≡ word_at place (take n rest)
 word_at-segment place n packet rest is_rest in_payload in_segment =
     word_at-payload place packet in_payload ∙ (ap (word_at place) (sym is_rest) ∙ sym (word_at-take place n rest in_segment))
+
+-- two parts rewritten, each by a function of what it was, and the rest
+pub joined-parts : (H : List ℕ → List ℕ) (M : Flow → List ℕ → List ℕ) (a b : List ℕ) (f f' : Flow) (packet rest front : List ℕ) (h h' n n' : ℕ) → h ≡ h' → n ≡ n' → f ≡ f' → front ≡ take h packet → rest ≡ drop h packet → a ≡ H front → b ≡ M f (take n rest) → a ++ (b ++ drop n rest) ≡ H (take h' packet) ++ M f' (take n' (drop h' packet)) ++ drop n' (drop h' packet)
+joined-parts H M a b f f' packet rest front h h' n n' is_h is_n is_f is_front is_rest is_a is_b =
+    let header : a ≡ H (take h' packet) = is_a ∙ ap H (is_front ∙ ap (λ (k : ℕ). take k packet) is_h) in
+    let behind : rest ≡ drop h' packet = is_rest ∙ ap (λ (k : ℕ). drop k packet) is_h in
+    let by_flow : M f (take n rest) ≡ M f' (take n rest) = ap (λ (x : Flow). M x (take n rest)) is_f in
+    let by_rest : M f' (take n rest) ≡ M f' (take n (drop h' packet)) = ap (λ (r : List ℕ). M f' (take n r)) behind in
+    let by_length : M f' (take n (drop h' packet)) ≡ M f' (take n' (drop h' packet)) = ap (λ (k : ℕ). M f' (take k (drop h' packet))) is_n in
+    let message : b ≡ M f' (take n' (drop h' packet)) = is_b ∙ (by_flow ∙ (by_rest ∙ by_length)) in
+    let left : drop n rest ≡ drop n' (drop h' packet) = ap (drop n) behind ∙ ap (λ (k : ℕ). drop k (drop h' packet)) is_n in
+    let both : a ++ b ≡ H (take h' packet) ++ M f' (take n' (drop h' packet)) = ap₂ (λ (x y : List ℕ). x ++ y) header message in
+    sym (append_assoc a b (drop n rest)) ∙ ap₂ (λ (x y : List ℕ). x ++ y) both left

@@ -6,11 +6,10 @@ use Rattle.addresses.specs.declared.internet.Ip.{Ip}
 use Rattle.addresses.specs.declared.transport.Port.{Port}
 use Rattle.addresses.specs.declared.transport.Protocol.{Protocol}
 use Rattle.addresses.specs.declared.transport.Protocol.TheVariants.{Udp, Tcp}
-use Rattle.ipv4.specs.Header.{word_at, header_of, payload_of}
+use Rattle.ipv4.specs.Header.{word_at, header_of}
 use Rattle.ipv4.specs.declared.flows.Flow.{Flow}
-use Rattle.icmp.specs.Error.{inside_of}
 use Rattle.icmp.specs.Packet.{error_flow}
-use Rattle.icmp.specs.Quoted.{behind, quoted_flow}
+use Rattle.icmp.specs.Quoted.{behind}
 use Rattle.icmp.specs.declared.packets.ErrorFlow.{ErrorFlow}
 use Rattle.rewrite.specs.Sums.{flow_sum}
 use Rattle.rewrite.specs.Translated.{with_word, header_with, header_bytes, rest_of, moved_sum, udp_field}

@@ -1,9 +1,9 @@
 //! ICMP errors about translated packets, outward, inward and back in (RFC 5508, section 4).
 ghost use Rattle.std.specs.Prelude.{◌≡◌, ◌≤◌, ◌-◌, ◌++◌, ◌↔◌, IsOk, OnOk, OnErr, length, take, drop};
 ghost use Rattle.ipv4.specs.Header.{header_of, payload_of, IsIpv4};
-ghost use Rattle.icmp.specs.Error.{IsError, inside_of};
+ghost use Rattle.icmp.specs.Error.{IsError};
 ghost use Rattle.icmp.specs.Packet.{IsErrorPacket, error_flow};
-ghost use Rattle.icmp.specs.Quoted.{IsQuoted};
+ghost use Rattle.rewrite.specs.Translated.{with_word};
 ghost use Rattle.rewrite.specs.PassedOn.{checksummed, inside_with, message_with, own_flow as flow_of_header, passed_on, error_from, error_to, error_outward_of, error_inward_of, error_hairpin_of};
 
 use crate::RewriteFault;
@@ -44,8 +44,8 @@ pub fn error_inward(packet: &mut [u8], to: Ip, port: Port) -> Result<(), Rewrite
     rewrite_error(packet, old, sent_to(old, to, port))
 }
 
-/// Passes an error back in: to an address and port inside, about a packet that went from there to an
-/// address and port outside. Bytes behind the message stay.
+/// Passes an error back in: to an address and port inside, about a packet that went from there to
+/// an address and port outside. Bytes behind the message stay.
 pub fn error_hairpin(
     packet: &mut [u8],
     to: Ip,
@@ -97,11 +97,7 @@ fn sent_to(flow: ErrorFlow, to: Ip, port: Port) -> ErrorFlow
 
 /// Gives an error of the flow `old`, which its reader has found, the flow `new`. Bytes behind the
 /// message stay.
-pub fn rewrite_error(
-    packet: &mut [u8],
-    old: ErrorFlow,
-    new: ErrorFlow,
-) -> Result<(), RewriteFault>
+pub fn rewrite_error(packet: &mut [u8], old: ErrorFlow, new: ErrorFlow) -> Result<(), RewriteFault>
     requires ipv4 { IsIpv4 packet.old }
     requires error { IsErrorPacket packet.old }
     requires flow { old ≡ error_flow packet.old }
@@ -164,8 +160,16 @@ fn sum_message(message: &mut [u8])
     requires { 8 ≤ length message.old }
     ensures { message.new ≡ checksummed 2 message.old }
 {
+    write_checksum(message, 0);
+    let checksum = 65535 - sum(message);
+    write_checksum(message, checksum);
+}
+
+fn write_checksum(message: &mut [u8], checksum: u16)
+    requires { 8 ≤ length message.old }
+    ensures checksum { message.new ≡ with_word 2 checksum message.old }
+    ensures same_length { length message.new ≡ length message.old }
+{
     let mut view = ErrorViewMut::new(message);
-    view.set_checksum(0);
-    let checksum = 65535 - sum(view.bytes);
     view.set_checksum(checksum);
 }

@@ -1,11 +1,10 @@
 //! The packet inside an error: other addresses and ports, and checksums that follow. Of the packet
 //! 8 bytes stand behind its header at least, so a TCP checksum may be cut off.
-ghost use Rattle.std.specs.Prelude.{◌≡◌, ◌≤◌, ◌+◌, length, slice_index};
-ghost use Rattle.ipv4.specs.Header.{header_of, word_at};
-ghost use Rattle.icmp.specs.Quoted.{IsQuoted, behind};
-ghost use Rattle.rewrite.specs.Sums.{flow_sum};
-ghost use Rattle.rewrite.specs.Translated.{moved_sum, udp_field, with_word};
-ghost use Rattle.rewrite.specs.PassedOn.{inside_header, ports_inside, moved_field, udp_inside, tcp_inside, behind_with, inside_with};
+ghost use Rattle.std.specs.Prelude.{◌≡◌, ◌≤◌, ◌+◌, length};
+ghost use Rattle.ipv4.specs.Header.{header_of};
+ghost use Rattle.icmp.specs.Quoted.{IsQuoted};
+ghost use Rattle.rewrite.specs.Translated.{with_word};
+ghost use Rattle.rewrite.specs.PassedOn.{with_long, checksummed, inside_header, ports_inside, moved_field, udp_inside, tcp_inside, behind_with, inside_with};
 
 use crate::flows::update_flow;
 use crate::segments::udp_field;
@@ -38,16 +37,41 @@ fn header_length(inside: &[u8]) -> usize
     QuotedView { bytes: inside }.header_length()
 }
 
-/// Writes the addresses, and sums the header anew.
 fn rewrite_header_inside(header: &mut [u8], new: Flow)
     requires { 20 ≤ length header.old }
     ensures { header.new ≡ inside_header new header.old }
 {
+    write_addresses(header, new);
+    sum_header(header);
+}
+
+fn write_addresses(header: &mut [u8], new: Flow)
+    requires { 20 ≤ length header.old }
+    ensures addresses { header.new
+        ≡ with_long 16 new.destination.0 (with_long 12 new.source.0 header.old) }
+    ensures same_length { length header.new ≡ length header.old }
+{
     let mut view = Ipv4ViewMut::new(header);
     view.set_source(new.source);
     view.set_destination(new.destination);
-    view.set_checksum(0);
-    let checksum = 65535 - sum(view.bytes);
+}
+
+/// Writes the checksum of a header: the complement of its sum.
+fn sum_header(header: &mut [u8])
+    requires { 20 ≤ length header.old }
+    ensures { header.new ≡ checksummed 10 header.old }
+{
+    write_header_checksum(header, 0);
+    let checksum = 65535 - sum(header);
+    write_header_checksum(header, checksum);
+}
+
+fn write_header_checksum(header: &mut [u8], checksum: u16)
+    requires { 20 ≤ length header.old }
+    ensures checksum { header.new ≡ with_word 10 checksum header.old }
+    ensures same_length { length header.new ≡ length header.old }
+{
+    let mut view = Ipv4ViewMut::new(header);
     view.set_checksum(checksum);
 }
 

@@ -1,8 +1,13 @@
-//! What follows of checksums from the definition of a translation.
-ghost use Rattle.std.specs.Prelude.{◌≡◌, ℕ, ◌+◌, ◌%◌, ◌<◌, ◌≤◌, List, length, slice_index};
+//! What follows of checksums from the definition of a translation, and of an error's addresses.
+ghost use Rattle.std.specs.Prelude.{◌≡◌, ℕ, ◌+◌, ◌%◌, ◌^◌, ◌<◌, ◌≤◌, List, length, slice_index};
 ghost use Rattle.sums.specs.Sum.{word_sum, IsRight};
 ghost use Rattle.ipv4.specs.declared.flows.Flow.{Flow as FlowValue};
-ghost use Rattle.ipv4.specs.Header.{word_at};
+ghost use Rattle.addresses.specs.declared.internet.Ip.{Ip as IpValue};
+ghost use Rattle.addresses.specs.declared.transport.Port.{Port as PortValue};
+ghost use Rattle.ipv4.specs.Header.{word_at, header_of, payload_of, IsIpv4};
+ghost use Rattle.icmp.specs.Error.{inside_of};
+ghost use Rattle.icmp.specs.Packet.{IsErrorPacket};
+ghost use Rattle.rewrite.specs.PassedOn.{error_outward_of};
 ghost use Rattle.rewrite.specs.Translated.{header_with, moved_sum, summed, udp_with, tcp_with};
 
 /// A checksum moved from a whole sum `s` to `s2` is a number below 65535 that is as right as it
@@ -42,4 +47,16 @@ pub fn tcp_law()
     ensures right { (old new : FlowValue) (segment : List ℕ) → 20 ≤ length segment
         → IsRight (summed old 6 segment)
         → IsRight (summed new 6 (tcp_with old new segment)) }
+{}
+
+/// An error passed on outward comes from the outside address, and the packet inside went to it: of
+/// the inside nothing is left there.
+pub fn hides_inside()
+    ensures source { (packet : List ℕ) (from : IpValue) (port : PortValue) → IsIpv4 packet
+        → from.0 < 2 ^ 32
+        → (header_of (error_outward_of from port packet)).source ≡ from.0 }
+    ensures destination_inside { (packet : List ℕ) (from : IpValue) (port : PortValue)
+        → IsIpv4 packet → IsErrorPacket packet → from.0 < 2 ^ 32
+        → let passed = error_outward_of from port packet in
+        (header_of (inside_of (payload_of passed))).destination ≡ from.0 }
 {}

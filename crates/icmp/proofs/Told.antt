@@ -1,0 +1,122 @@
+-- Where no test fails, bytes are in the grammar, and the other way round.
+use Rattle.std.proofs.Common.{◌≡◌, ◌≤◌, ◌<◌, ℕ, ◌-◌, ◌%◌, Bool, true, false, not, ◌||◌, ◌==◌, nat_lt, List, length, take, drop, arith, ap, ◌∙◌, sym, Some, None, if◌then◌else◌, refl}
+use Rattle.std.proofs.lemmas.Bool.Decides.{nat_tests}
+use Rattle.std.proofs.lemmas.List.{length-drop}
+use Rattle.std.proofs.Math.Seq.{take-length}
+use Rattle.sums.specs.Sum.{word_sum}
+use Rattle.ipv4.specs.Header.{header_of, word_at, has_wrong_sum}
+use Rattle.icmp.specs.declared.faults.IcmpFault.TheVariants.{NotError, BadError}
+use Rattle.icmp.specs.Quoted.{IsQuoted, behind, has_no_packet}
+use Rattle.icmp.specs.Error.{IsError, inside_of, has_error_kind, has_no_error}
+use Rattle.icmp.proofs.Grammar.{none-passes, passes-none}
+
+pub quoted-told : (packet : List ℕ) → has_no_packet packet ≡ false → IsQuoted packet
+quoted-told packet e =
+    let h = header_of packet in
+    let p = none-passes (length packet) h.version h.header_length (word_sum (take h.header_length packet)) h.fragment_offset h.protocol (word_at 0 (behind packet)) (word_at 2 (behind packet)) e in
+    record {
+      long = p.whole;
+      version = p.version_four;
+      holds_fields = p.holds_fields;
+      there = p.there;
+      sum = (p.sum_zero, p.sum_some);
+      first = p.first;
+      protocol = p.translated;
+      from = p.from_some;
+      to = p.to_some;
+    }
+
+pub told-quoted : (packet : List ℕ) → IsQuoted packet → has_no_packet packet ≡ false
+told-quoted packet g =
+    let h = header_of packet in
+    passes-none (length packet) h.version h.header_length (word_sum (take h.header_length packet)) h.fragment_offset h.protocol (word_at 0 (behind packet)) (word_at 2 (behind packet)) (record {
+      whole = g.long;
+      version_four = g.version;
+      holds_fields = g.holds_fields;
+      there = g.there;
+      sum_zero = g.sum.0;
+      sum_some = g.sum.1;
+      first = g.first;
+      translated = g.protocol;
+      from_some = g.from;
+      to_some = g.to;
+    })
+
+-- a whole rest is what stands behind
+pub take-rest : (n : ℕ) (bytes : List ℕ) → take (length bytes - n) (drop n bytes) ≡ drop n bytes
+take-rest n bytes = ap (λ (k : ℕ). take k (drop n bytes)) (sym (length-drop n bytes)) ∙ take-length (drop n bytes)
+
+-- of three tests none fails where not one of them does
+three-clear : (a b d : Bool) → (a || b || d) ≡ false → (a ≡ false) × ((b ≡ false) × (d ≡ false))
+three-clear false false false e = (refl, (refl, refl))
+three-clear false false true e = cc
+three-clear false true d e = cc
+three-clear true b d e = cc
+
+clear-three : (a b d : Bool) → a ≡ false → b ≡ false → d ≡ false → (a || b || d) ≡ false
+clear-three false false false e f g = refl
+clear-three false false true e f g = cc
+clear-three false true d e f g = cc
+clear-three true b d e f g = cc
+
+not_below : (m n : ℕ) → nat_lt m n ≡ false → n ≤ m
+not_below m n e = grind (arith, nat_tests)
+
+below_not : (m n : ℕ) → n ≤ m → nat_lt m n ≡ false
+below_not m n e = grind (arith, nat_tests)
+
+right-clear : (n : ℕ) → (not (n % 65535 == 0) || (n == 0)) ≡ false → (n % 65535 ≡ 0) × (0 < n)
+right-clear n e =
+    let zero : n % 65535 ≡ 0 = grind (arith, nat_tests) in
+    let some : 0 < n = grind (arith, nat_tests) in
+    (zero, some)
+
+clear-right : (n : ℕ) → n % 65535 ≡ 0 → 0 < n → (not (n % 65535 == 0) || (n == 0)) ≡ false
+clear-right n zero some = grind (arith, nat_tests)
+
+-- a message of an error's type with which nothing is wrong
+pub error-told : (message : List ℕ) → has_error_kind message ≡ true → has_no_error message ≡ false → IsError message
+error-told message kind e =
+    let p = three-clear (nat_lt (length message) 8) (has_wrong_sum message) (has_no_packet (inside_of message)) e in
+    record {
+      long = not_below (length message) 8 p.0;
+      kind = kind;
+      sum = right-clear (word_sum message) p.1.0;
+      inside = quoted-told (inside_of message) p.1.1;
+    }
+
+pub told-error : (message : List ℕ) → IsError message → has_no_error message ≡ false
+told-error message g =
+    clear-three (nat_lt (length message) 8) (has_wrong_sum message) (has_no_packet (inside_of message))
+    (below_not (length message) 8 g.long)
+    (clear-right (word_sum message) g.sum.0 g.sum.1)
+    (told-quoted (inside_of message) g.inside)
+
+-- two tests, and three, in an order
+pub two-clear : (k b : Bool) → (if not k then Some NotError else (if b then Some BadError else None)) ≡ None → (k ≡ true) × (b ≡ false)
+two-clear true false e = (refl, refl)
+two-clear true true e = cc
+two-clear false b e = cc
+
+pub clear-two : (k b : Bool) → k ≡ true → b ≡ false → (if not k then Some NotError else (if b then Some BadError else None)) ≡ None
+clear-two true false e f = refl
+clear-two true true e f = cc
+clear-two false b e f = cc
+
+pub all-clear : (p k b : Bool) → (if not p then Some NotError else (if not k then Some NotError else (if b then Some BadError else None))) ≡ None → (p ≡ true) × ((k ≡ true) × (b ≡ false))
+all-clear true true false e = (refl, (refl, refl))
+all-clear true true true e = cc
+all-clear true false b e = cc
+all-clear false k b e = cc
+
+pub clear-all : (p k b : Bool) → p ≡ true → k ≡ true → b ≡ false → (if not p then Some NotError else (if not k then Some NotError else (if b then Some BadError else None))) ≡ None
+clear-all true true false e f g = refl
+clear-all true true true e f g = cc
+clear-all true false b e f g = cc
+clear-all false k b e f g = cc
+
+pub same-number : (m n : ℕ) → (m == n) ≡ true → m ≡ n
+same-number m n e = grind (arith, nat_tests)
+
+pub number-same : (m n : ℕ) → m ≡ n → (m == n) ≡ true
+number-same m n e = grind (arith, nat_tests)
