@@ -1,11 +1,10 @@
 -- Errors passed on: the error frames of a step are, one for one and in order, errors at hand with addresses and ports
 -- replaced by pairs that translate there; and what an error sent outward hides.
-use Rattle.std.specs.Prelude.{◌≡◌, ℕ, true, List, [], ◌∷◌, ◌++◌, map, Some, Ok}
+use Rattle.std.specs.Prelude.{◌≡◌, ℕ, List, ◌++◌, map, Some, Ok}
 use Rattle.std.specs.List.{AllByRecursion, filter, flat_map}
 use Rattle.std.specs.List.Sorted.{IsPermutation}
 use Rattle.addresses.specs.declared.ethernet.Mac.{Mac}
-use Rattle.nat_types.specs.declared.gateways.Side.{Side}
-use Rattle.nat_types.specs.declared.gateways.Side.TheVariants.{Inside, Outside}
+use Rattle.nat_types.specs.declared.gateways.Side.TheVariants.{Outside}
 use Rattle.nat_types.specs.declared.notes.Note.{Note}
 use Rattle.nat_types.specs.declared.pairs.Pair.{Pair}
 use Rattle.arp.specs.Neighbours.{mac_at}
@@ -18,7 +17,7 @@ use Rattle.packet_rules.specs.Errors.{AreErrorPairs, HidesInside, error_directio
 use Rattle.packet_rules.specs.Frames.{hop_of, pairs_of, way_of}
 use Rattle.output.specs.Output.{Sent}
 use Rattle.spec_step.specs.Shown.{GatewayAndOutput, Shown}
-use Rattle.spec_step.specs.Truly.{AreSent, AtHand, Known, Sending, known_of, near_on, packets_of, translated_frames, used_pairs}
+use Rattle.spec_step.specs.Truly.{AreSent, AtHand, Sending, known_of, near_on, packets_of, translated_frames, used_pairs}
 use Rattle.spec_step.specs.Verdict.{exit_by, pair_at}
 
 -- the flow of a frame's error
