@@ -25,7 +25,9 @@ pub fn answer(given: &mut Given) -> Result<String> {
         call @ ("outward" | "inward" | "hairpin") => packets::rewritten(given, call),
         "error" => errors::error(alloc, given.bytes()?.as_slice()),
         "write-error" => errors::write_error(given),
-        call @ ("error-outward" | "error-inward" | "error-hairpin") => errors::passed_on(given, call),
+        call @ ("error-outward" | "error-inward" | "error-hairpin") => errors::passed_on(
+            given, call,
+        ),
         "arp" => neighbours::arp(alloc, given.bytes()?.as_slice()),
         call @ ("arp-request" | "arp-reply" | "gratuitous") => neighbours::arp_written(given, call),
         "is-learnable" => Ok(format!(in alloc; "{}", neighbours::is_learnt(given)?)?),
