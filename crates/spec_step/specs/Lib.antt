@@ -1,10 +1,12 @@
 pub mod Shown
 pub mod Verdict
 pub mod Parts
+pub mod Errors
 pub mod Routers
 pub mod GivingWay
 pub mod Steps
 pub mod Truly
+pub mod PassedOn
 pub mod Others
 pub mod Machine
 pub mod Rests
