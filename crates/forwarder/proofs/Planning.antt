@@ -21,14 +21,14 @@ use Rattle.packet_rules.specs.Steps.{and_then}
 use Rattle.spec_step.specs.declared.plans.Plan.{Plan}
 use Rattle.spec_step.specs.declared.plans.Plan.TheVariants.{Send, Ask, AskAgain, Wait as WaitFor}
 use Rattle.spec_step.specs.Shown.{Shown}
-use Rattle.spec_step.specs.Verdict.{exit_by, hop_by, look_for, next_by, plan_by, plan_from, plan_of, plan_on, plan_to, target_pair}
+use Rattle.spec_step.specs.Verdict.{exit_by, hop_to, look_for, next_to, plan_by, plan_from, plan_of, plan_on, plan_to, plan_via, target_pair}
 
 -- a packet whose next hop isn't known waits for it, where there is a place
-pub plan-waits : (g : Shown) (flow : Flow) (by : Translation) (hop : Ip) (place : Bool) → hop ≡ hop_by g by flow → next_by g by flow ≡ None → has_place g.kept (wait.Hop (exit_by by) hop) ≡ place
-    → (let r : Result Plan Reason = cond place (Ok (Ask by hop)) (Ok (AskAgain by hop)) in r) ≡ plan_by g flow by
-plan-waits g flow by hop place is none at =
+pub plan-waits : (g : Shown) (to : Ip) (by : Translation) (hop : Ip) (place : Bool) → hop ≡ hop_to g by to → next_to g by to ≡ None → has_place g.kept (wait.Hop (exit_by by) hop) ≡ place
+    → (let r : Result Plan Reason = cond place (Ok (Ask by hop)) (Ok (AskAgain by hop)) in r) ≡ plan_via g by to
+plan-waits g to by hop place is none at =
     sym (
-    ap (λ (o : Option Mac). plan_to g by (hop_by g by flow) o) none
+    ap (λ (o : Option Mac). plan_to g by (hop_to g by to) o) none
     ∙ ap (λ (i : Ip). let r : Result Plan Reason = cond (has_place g.kept (wait.Hop (exit_by by) i)) (Ok (Ask by i)) (Ok (AskAgain by i)) in r) (sym is)
     ∙ ap (λ (b : Bool). let r : Result Plan Reason = cond b (Ok (Ask by hop)) (Ok (AskAgain by hop)) in r) at
     )

@@ -1,46 +1,24 @@
--- ICMP errors about translated packets: which are taken, which way they go, by which pairs, and the frame by which one is
--- passed on (RFC 5508, section 4).
-use Rattle.std.specs.Prelude.{◌≡◌, ℕ, Bool, ◌==◌, ◌&&◌, Option, Result, Ok, Err, List, ◌++◌, take, if◌then◌else◌}
-use Rattle.std.specs.Option.{option_map}
+-- ICMP errors about translated packets: which way they go, by which pairs, and the frame by which one is passed on
+-- (RFC 5508, section 4).
+use Rattle.std.specs.Prelude.{◌≡◌, ℕ, Bool, ◌==◌, ◌&&◌, Result, Ok, Err, List, ◌++◌, take, if◌then◌else◌}
 use Rattle.addresses.specs.declared.ethernet.Mac.{Mac}
 use Rattle.nat_types.specs.declared.gateways.Side.{Side}
 use Rattle.nat_types.specs.declared.pairs.Endpoint.{Endpoint}
 use Rattle.nat_types.specs.declared.pairs.Key.{Key}
-use Rattle.frames.specs.Frame.{Frame, frame_of}
+use Rattle.frames.specs.Frame.{frame_of}
 use Rattle.ipv4.specs.Header.{header_of}
-use Rattle.icmp.specs.Packet.{error_flow, error_packet_of, packet_refusal}
-use Rattle.icmp.specs.declared.faults.IcmpFault.{IcmpFault}
-use Rattle.icmp.specs.declared.faults.IcmpFault.TheVariants.{NotError, BadError}
+use Rattle.icmp.specs.Packet.{error_flow}
 use Rattle.icmp.specs.declared.packets.ErrorFlow.{ErrorFlow}
-use Rattle.icmp.specs.declared.packets.ErrorPacket.{ErrorPacket}
 use Rattle.rewrite.specs.PassedOn.{error_from, error_to, passed_on}
 use Rattle.packet_rules.specs.declared.networks.Direction.{Direction}
 use Rattle.packet_rules.specs.declared.networks.Networks.{Networks}
-use Rattle.packet_rules.specs.declared.networks.Network.{Network}
 use Rattle.packet_rules.specs.declared.reasons.Reason.{Reason}
-use Rattle.packet_rules.specs.declared.reasons.Reason.TheVariants.{NotUdpTcp, BadTransport, NoBinding}
+use Rattle.packet_rules.specs.declared.reasons.Reason.TheVariants.{NoBinding}
 use Rattle.packet_rules.specs.declared.translations.Translation.{Translation}
 use Rattle.packet_rules.specs.declared.translations.Translation.TheVariants.{Outward, Inward, Hairpin}
 use Rattle.packet_rules.specs.Frames.{sent_header}
 use Rattle.packet_rules.specs.Networks.{direction_of}
-use Rattle.packet_rules.specs.Steps.{and_then, ttl_refusal, unless, virtual_refusal}
-
--- the reason for a fault of an error
-abbrev pub reason_of_icmp : IcmpFault → Reason
-reason_of_icmp NotError = NotUdpTcp
-reason_of_icmp BadError = BadTransport
-
--- 6. a packet of neither UDP nor TCP carries an error
-unfoldable pub error_refusal : List ℕ → Option Reason
-error_refusal packet = option_map reason_of_icmp (packet_refusal packet)
-
--- 5, 6. a packet of neither is read as an error, or this is the reason of the first step that refuses it
-unfoldable pub error_reading : Network → Frame → Result ErrorPacket Reason
-error_reading network frame =
-    unless (virtual_refusal network frame) (
-    unless (error_refusal frame.body) (
-    unless (ttl_refusal frame.body) (
-    Ok (error_packet_of frame.body))))
+use Rattle.packet_rules.specs.Steps.{and_then}
 
 -- the key of the pair by which the packet inside went out, if it did
 abbrev pub key_about : ErrorFlow → Key

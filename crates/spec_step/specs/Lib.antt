@@ -1,7 +1,6 @@
 pub mod Shown
 pub mod Verdict
 pub mod Parts
-pub mod Errors
 pub mod Routers
 pub mod GivingWay
 pub mod Steps
