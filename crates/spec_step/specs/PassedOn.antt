@@ -8,21 +8,15 @@ use Rattle.nat_types.specs.declared.gateways.Side.TheVariants.{Outside}
 use Rattle.nat_types.specs.declared.notes.Note.{Note}
 use Rattle.nat_types.specs.declared.pairs.Pair.{Pair}
 use Rattle.arp.specs.Neighbours.{mac_at}
-use Rattle.frames.specs.Frame.{frame_of}
-use Rattle.icmp.specs.Packet.{error_flow}
-use Rattle.icmp.specs.declared.packets.ErrorFlow.{ErrorFlow}
 use Rattle.bindings.specs.Entries.{slot_of}
 use Rattle.packet_rules.specs.declared.translations.Translation.{Translation}
 use Rattle.packet_rules.specs.Errors.{AreErrorPairs, HidesInside, error_direction, is_error_frame, passed_frame}
+use Rattle.packet_rules.specs.Flows.{error_flow_in}
 use Rattle.packet_rules.specs.Frames.{hop_of, pairs_of, way_of}
 use Rattle.output.specs.Output.{Sent}
 use Rattle.spec_step.specs.Shown.{GatewayAndOutput, Shown}
 use Rattle.spec_step.specs.Truly.{AreSent, AtHand, Sending, known_of, near_on, packets_of, translated_frames, used_pairs}
 use Rattle.spec_step.specs.Verdict.{exit_by, pair_at}
-
--- the flow of a frame's error
-abbrev pub error_flow_in : List ℕ → ErrorFlow
-error_flow_in bytes = error_flow (frame_of bytes).body
 
 -- a gateway translates by a pair
 abbrev pub Translates : Shown → Pair → Type 0
