@@ -82,7 +82,8 @@ impl FarEnd {
 
     /// What a datagram to it is: the bytes, for VXLAN behind a header. None where there is no room.
     pub(crate) fn lay(self, bytes: &[u8], room: &mut [u8; LONGEST]) -> Option<usize>
-        ensures { IfSome result (λ count. (count ≤ 4096) × (take count room.new ≡ head_of self ++ bytes.now)) }
+        ensures within { IfSome result (λ count. count ≤ 4096) }
+        ensures laid { IfSome result (λ count. take count room.new ≡ head_of self ++ bytes.now) }
     {
         let start = match self {
             FarEnd::Vxlan(_, network) => {
