@@ -4,6 +4,7 @@ use addresses::Protocol;
 use anyhow::{Context, Result};
 use arp::ArpPacket;
 use cases_words::Given;
+use icmp::ErrorFlow;
 use interfaces::Interface;
 use ipv4::Flow;
 use nat_types::{Key, Pair};
@@ -23,6 +24,12 @@ fn flow_text(alloc: Global, flow: Flow) -> Result<String> {
         destination_port,
     } = flow;
     Ok(format!(in alloc; "{protocol} {source} {source_port} to {destination} {destination_port}")?)
+}
+
+fn error_text(alloc: Global, flow: ErrorFlow) -> Result<String> {
+    let (source, destination) = (flow.source, flow.destination);
+    let inside = flow_text(alloc, flow.inside)?;
+    Ok(format!(in alloc; "error {source} to {destination} about {inside}")?)
 }
 
 fn arp_text(alloc: Global, packet: &ArpPacket) -> Result<String> {
@@ -49,6 +56,7 @@ fn reading_text(alloc: Global, reading: Result<Reading, Reason>) -> Result<Strin
             Ok(format!(in alloc; "{advert}, from {from}")?)
         }
         Ok(Reading::Packet(packet)) => flow_text(alloc, packet.flow),
+        Ok(Reading::Error(packet)) => error_text(alloc, packet.flow),
         Err(reason) => {
             let number = reason.number();
             Ok(format!(in alloc; "dropped {number}, {reason}")?)

@@ -1,5 +1,5 @@
 -- What a plan holds of the gateway that it was made for.
-use Rattle.std.proofs.Common.{◌≡◌, Bool, true, false, cond, Option, Some, None, Result, Ok, Err, refl, sym, ap, subst, ◌∙◌}
+use Rattle.std.proofs.Common.{◌≡◌, Bool, true, false, cond, Option, Some, None, Result, Ok, Err, refl, sym, ap, subst, ◌∙◌, ⊥}
 use Rattle.addresses.specs.declared.ethernet.Mac.{Mac}
 use Rattle.addresses.specs.declared.internet.Ip.{Ip}
 use Rattle.nat_types.specs.declared.gateways.Side.{Side}
@@ -18,17 +18,19 @@ use Rattle.packet_rules.specs.declared.translations.Translation.TheVariants.{Out
 use Rattle.packet_rules.specs.Flows.{source_of}
 use Rattle.packet_rules.specs.Networks.{direction_of}
 use Rattle.packet_rules.specs.Steps.{and_then}
+use Rattle.packet_rules.specs.Errors.{error_direction}
 use Rattle.spec_step.specs.declared.plans.Plan.{Plan}
 use Rattle.spec_step.specs.declared.plans.Plan.TheVariants.{Send, Ask, AskAgain, Wait as WaitFor}
 use Rattle.spec_step.specs.Shown.{Shown}
-use Rattle.spec_step.specs.Verdict.{exit_by, hop_by, look_for, next_by, plan_by, plan_from, plan_of, plan_on, plan_to, target_pair}
+use Rattle.spec_step.specs.Verdict.{exit_by, hop_to, look_for, next_to, plan_by, plan_from, plan_of, plan_on, plan_to, plan_via, target_pair, error_by, error_on, error_plan, pair_in_of, pair_out}
+use Rattle.icmp.specs.declared.packets.ErrorFlow.{ErrorFlow}
 
 -- a packet whose next hop isn't known waits for it, where there is a place
-pub plan-waits : (g : Shown) (flow : Flow) (by : Translation) (hop : Ip) (place : Bool) → hop ≡ hop_by g by flow → next_by g by flow ≡ None → has_place g.kept (wait.Hop (exit_by by) hop) ≡ place
-    → (let r : Result Plan Reason = cond place (Ok (Ask by hop)) (Ok (AskAgain by hop)) in r) ≡ plan_by g flow by
-plan-waits g flow by hop place is none at =
+pub plan-waits : (g : Shown) (to : Ip) (by : Translation) (hop : Ip) (place : Bool) → hop ≡ hop_to g by to → next_to g by to ≡ None → has_place g.kept (wait.Hop (exit_by by) hop) ≡ place
+    → (let r : Result Plan Reason = cond place (Ok (Ask by hop)) (Ok (AskAgain by hop)) in r) ≡ plan_via g by to
+plan-waits g to by hop place is none at =
     sym (
-    ap (λ (o : Option Mac). plan_to g by (hop_by g by flow) o) none
+    ap (λ (o : Option Mac). plan_to g by (hop_to g by to) o) none
     ∙ ap (λ (i : Ip). let r : Result Plan Reason = cond (has_place g.kept (wait.Hop (exit_by by) i)) (Ok (Ask by i)) (Ok (AskAgain by i)) in r) (sym is)
     ∙ ap (λ (b : Bool). let r : Result Plan Reason = cond b (Ok (Ask by hop)) (Ok (AskAgain by hop)) in r) at
     )
@@ -83,3 +85,46 @@ holds g side flow = at (direction_of g.networks side flow.source.0 flow.destinat
 -- of a plan that was made for this gateway
 pub plan-holds : (g : Shown) (side : Side) (flow : Flow) (plan : Result Plan Reason) → plan ≡ plan_of g side flow → Holds g flow plan
 plan-holds g side flow plan is = subst (λ (p : Result Plan Reason). Holds g flow p) (sym is) (holds g side flow)
+
+-- ---- an error
+
+-- what is planned to wait has a place; and none waits for a pair
+abbrev pub HoldsError : Shown → Result Plan Reason → Type 0
+HoldsError g (Ok (Send by next)) = Unit {0}
+HoldsError g (Ok (Ask by hop)) = has_place g.kept (wait.Hop (exit_by by) hop) ≡ true
+HoldsError g (Ok (AskAgain by hop)) = Unit {0}
+HoldsError g (Ok (WaitFor e)) = ⊥
+HoldsError g (Err reason) = Unit {0}
+
+to-error : (g : Shown) (by : Translation) (hop : Ip) (next : Option Mac) → HoldsError g (plan_to g by hop next)
+to-error g by hop (Some next) = tt
+to-error g by hop None = at (has_place g.kept (wait.Hop (exit_by by) hop)) refl
+  where
+    at : (b : Bool) → has_place g.kept (wait.Hop (exit_by by) hop) ≡ b → HoldsError g (let r : Result Plan Reason = cond b (Ok (Ask by hop)) (Ok (AskAgain by hop)) in r)
+    at true is = is
+    at false is = tt
+
+-- by a pair that is found, or not
+found-error : (g : Shown) (flow : ErrorFlow) (by : Pair → Translation) (r : Result Pair Reason) → HoldsError g (and_then r (λ p. error_by g flow (by p)))
+found-error g flow by (Ok p) = to-error g (by p) _ _
+found-error g flow by (Err reason) = tt
+
+on-error : (g : Shown) (flow : ErrorFlow) (w : Direction) → HoldsError g (error_on g flow w)
+on-error g flow way.Outward = found-error g flow Outward (pair_in_of g flow)
+on-error g flow way.Inward = found-error g flow Inward (pair_out g flow)
+on-error g flow way.Hairpin = at (pair_out g flow)
+  where
+    at : (r : Result Pair Reason) → HoldsError g (and_then r (λ other. and_then (pair_in_of g flow) (λ own. error_by g flow (Hairpin own other))))
+    at (Ok other) = found-error g flow (λ own. Hairpin own other) (pair_in_of g flow)
+    at (Err reason) = tt
+
+error-holds : (g : Shown) (side : Side) (flow : ErrorFlow) → HoldsError g (error_plan g side flow)
+error-holds g side flow = at (error_direction g.networks side flow)
+  where
+    at : (r : Result Direction Reason) → HoldsError g (and_then r (error_on g flow))
+    at (Ok w) = on-error g flow w
+    at (Err reason) = tt
+
+-- of a plan that was made for this gateway
+pub error-plan-holds : (g : Shown) (side : Side) (flow : ErrorFlow) (plan : Result Plan Reason) → plan ≡ error_plan g side flow → HoldsError g plan
+error-plan-holds g side flow plan is = subst (λ (p : Result Plan Reason). HoldsError g p) (sym is) (error-holds g side flow)

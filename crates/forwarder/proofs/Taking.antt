@@ -9,9 +9,10 @@ use Rattle.packet_rules.specs.declared.reasons.Reason.{Reason}
 use Rattle.packet_rules.specs.Flows.{flow_in}
 use Rattle.packet_rules.specs.Steps.{IsForwardable}
 use Rattle.spec_step.specs.declared.plans.Plan.{Plan}
-use Rattle.spec_step.specs.Parts.{by_verdict, flow_taken}
+use Rattle.spec_step.specs.Parts.{by_verdict, flow_taken, by_error_verdict, error_taken}
 use Rattle.spec_step.specs.Shown.{GatewayAndOutput}
-use Rattle.spec_step.specs.Verdict.{plan_of}
+use Rattle.spec_step.specs.Verdict.{plan_of, error_plan}
+use Rattle.icmp.specs.declared.packets.ErrorFlow.{ErrorFlow}
 
 -- a packet that is translated comes from a port above 0
 pub source-above : (bytes : List ℕ) → IsForwardable bytes → 0 < (flow_in bytes).source_port.0
@@ -25,3 +26,6 @@ source-above bytes is = above (frame_of bytes).body is.transport
 -- a plan that is done is the one that was made
 pub taken-as : (s : GatewayAndOutput) (side : Side) (bytes : List ℕ) (flow : Flow) (plan : Result Plan Reason) → plan ≡ plan_of s.shown side flow → by_verdict s side bytes flow plan ≡ flow_taken s side bytes flow
 taken-as s side bytes flow plan is = ap (by_verdict s side bytes flow) is
+
+pub error-taken-as : (s : GatewayAndOutput) (side : Side) (bytes : List ℕ) (flow : ErrorFlow) (plan : Result Plan Reason) → plan ≡ error_plan s.shown side flow → by_error_verdict s side bytes flow plan ≡ error_taken s side bytes flow
+error-taken-as s side bytes flow plan is = ap (by_error_verdict s side bytes flow) is

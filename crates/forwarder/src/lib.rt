@@ -1,6 +1,7 @@
 //! What takes packets: a gateway but for its clock, its routers and the other gateway's datagrams.
 #![tactic(auto)]
 
+mod errors;
 mod forwarders;
 mod holding;
 mod hosts;

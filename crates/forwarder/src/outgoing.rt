@@ -2,15 +2,18 @@
 ghost use Rattle.std.specs.Prelude.{◌≡◌, length, ⊤};
 ghost use Rattle.arp.specs.declared.packets.TheConstants.{ARP_FRAME};
 ghost use Rattle.packet_rules.specs.Arping.{answer_frame, request_frame};
-ghost use Rattle.packet_rules.specs.Flows.{packet_in};
+ghost use Rattle.packet_rules.specs.Errors.{passed_frame};
+ghost use Rattle.packet_rules.specs.Flows.{error_in, packet_in};
 ghost use Rattle.packet_rules.specs.Frames.{sent_frame};
-ghost use Rattle.packet_rules.specs.Steps.{IsForwardable};
+ghost use Rattle.packet_rules.specs.Steps.{IsForwardable, IsPassable};
 
 use addresses::{Ip, Mac};
 use arp::ArpPacket;
+use icmp::ErrorPacket;
 use ipv4::Packet;
 use output::WriteBytes;
-use packet_rules::{Network, Networks, Translation, append_answer, append_request, append_sent};
+use packet_rules::{Network, Networks, Translation};
+use packet_rules::{append_answer, append_passed, append_request, append_sent};
 
 /// The frame by which a packet is sent on.
 #[derive(Drop)]
@@ -33,6 +36,37 @@ impl WriteBytes for SentFrame<'_> {
 
     fn write_to(&self, list: &mut Vec<u8>) {
         append_sent(
+            list,
+            self.networks,
+            self.by,
+            self.next,
+            self.bytes,
+            self.packet,
+        );
+    }
+}
+
+/// The frame by which an error is passed on.
+#[derive(Drop)]
+pub(crate) struct PassedFrame<'a> {
+    pub networks: &'a Networks,
+    pub by: &'a Translation,
+    pub next: Mac,
+    /// The frame that came.
+    pub bytes: &'a [u8],
+    /// What was read of it.
+    pub packet: &'a ErrorPacket,
+}
+
+impl WriteBytes for PassedFrame<'_> {
+    ghost can_write = { λ f. IsPassable f.bytes.now × (f.packet.now ≡ error_in f.bytes.now) };
+
+    ghost bytes = { λ f. passed_frame f.networks.now f.by.now f.next f.bytes.now };
+
+    ghost room = { λ f. length f.bytes.now };
+
+    fn write_to(&self, list: &mut Vec<u8>) {
+        append_passed(
             list,
             self.networks,
             self.by,

@@ -2,13 +2,14 @@
 ghost use Rattle.std.specs.Prelude.{◌≡◌};
 ghost use Rattle.spec_binding.specs.Rows.{new_pair};
 ghost use Rattle.packet_rules.specs.Flows.{source_of};
-ghost use Rattle.spec_step.specs.Verdict.{look_for, plan_by, plan_from, plan_of};
-ghost use Rattle.spec_step.specs.Verdict.{plan_on, target_pair};
+ghost use Rattle.spec_step.specs.Verdict.{look_for, plan_from, plan_of, plan_via};
+ghost use Rattle.spec_step.specs.Verdict.{pair_at, plan_on, target_pair};
 ghost use Rattle.forwarder.specs.Forwarder.{shown_of};
 ghost use Rattle.forwarder.specs.Plans.{leaving_by};
 
 use crate::Forwarder;
-use addresses::Port;
+use addresses::{Ip, Port};
+use bindings::Entry;
 use ipv4::Flow;
 use nat_types::{EntryState, Key, Pair, Side};
 use packet_rules::{Direction, Reason, Translation, direction_taken, source_endpoint, target_key};
@@ -25,6 +26,20 @@ fn own_pair(flow: Flow, port: Port) -> Pair
         port,
     };
     Pair::new(key, flow.source, flow.source_port)
+}
+
+/// The pair of an entry, where there is one and it translates.
+pub(crate) fn pair_of(entry: Option<Entry>) -> Result<Pair, Reason>
+    ensures { result ≡ pair_at entry }
+{
+    match entry {
+        None => Err(Reason::NoBinding),
+        Some(entry) => match entry.state {
+            EntryState::Live | EntryState::Held => Ok(entry.pair),
+            EntryState::Pending | EntryState::Closing => Err(Reason::CannotWait),
+            EntryState::Doomed => Err(Reason::NoBinding),
+        },
+    }
 }
 
 /// How a packet of the inside leaves: by its own pair, and of a hairpin to the other one's endpoint.
@@ -54,7 +69,7 @@ impl Forwarder {
         match way {
             Direction::Outward => self.plan_from(flow, None, self.look_for(flow)),
             Direction::Inward => match self.target_pair(flow) {
-                Ok(pair) => self.plan_by(flow, Translation::Inward(pair)),
+                Ok(pair) => self.plan_to(flow.destination, Translation::Inward(pair)),
                 Err(reason) => Err(reason),
             },
             Direction::Hairpin => match self.target_pair(flow) {
@@ -75,14 +90,7 @@ impl Forwarder {
     fn target_pair(&self, flow: Flow) -> Result<Pair, Reason>
         ensures { result ≡ target_pair (shown_of self.now) flow }
     {
-        match self.core.table().pair_of_port(target_key(flow)) {
-            None => Err(Reason::NoBinding),
-            Some(entry) => match entry.state {
-                EntryState::Live | EntryState::Held => Ok(entry.pair),
-                EntryState::Pending | EntryState::Closing => Err(Reason::CannotWait),
-                EntryState::Doomed => Err(Reason::NoBinding),
-            },
-        }
+        pair_of(self.core.table().pair_of_port(target_key(flow)))
     }
 
     /// What a packet of the inside is to do, by what its endpoint is given.
@@ -90,7 +98,7 @@ impl Forwarder {
         ensures { result ≡ plan_from (shown_of self.now) flow (leaving_by other) given }
     {
         match given {
-            Want::Port(port) => self.plan_by(flow, leaving(own_pair(flow, port), other)),
+            Want::Port(port) => self.plan_to(flow.destination, leaving(own_pair(flow, port), other)),
             Want::Wait => {
                 let endpoint = source_endpoint(flow);
                 if self.kept.has_place(WaitsFor::Pair(endpoint)) {
@@ -105,11 +113,12 @@ impl Forwarder {
         }
     }
 
-    /// What a packet whose pairs are known is to do: it goes on, or waits for its next hop.
-    fn plan_by(&self, flow: Flow, by: Translation) -> Result<Plan, Reason>
-        ensures { result ≡ plan_by (shown_of self.now) flow by }
+    /// What a packet to this address whose pairs are known is to do: it goes on, or waits for its next
+    /// hop.
+    pub(crate) fn plan_to(&self, to: Ip, by: Translation) -> Result<Plan, Reason>
+        ensures { result ≡ plan_via (shown_of self.now) by to }
     {
-        let hop = by.next_hop(&self.networks, flow.destination);
+        let hop = by.next_hop(&self.networks, to);
         let exit = by.direction().exit();
         match self.station(exit).mac_of(hop, self.moment) {
             Some(next) => Ok(Plan::Send { by, next }),

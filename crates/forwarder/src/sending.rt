@@ -169,7 +169,7 @@ impl Forwarder {
     }
 
     /// Behind a packet that was sent to a neighbour, asks for it, where it is to be asked for.
-    fn ask_behind(&mut self, page: &mut OutputBuffer, exit: Side, hop: Ip)
+    pub(crate) fn ask_behind(&mut self, page: &mut OutputBuffer, exit: Side, hop: Ip)
         requires room { HasRoomFor (frames_alone 1) self.old page.old }
         ensures scene { scene_on self.new page.new
             ≡ renewed_behind (scene_on self.old page.old) exit hop }

@@ -118,6 +118,7 @@ impl Forwarder {
     {
         match self.read_frame(packet.side, &packet.bytes) {
             Ok(Reading::Packet(reading)) => self.take_flow_again(page, reading, packet),
+            Ok(Reading::Error(reading)) => self.take_error_again(page, reading, packet),
             Ok(Reading::Arp(_)) => {}
             Ok(Reading::Advert(_, _)) => {}
             Err(_) => {}

@@ -21,7 +21,7 @@ use Rattle.spec_binding.proofs.Offered.{change-leaves}
 use Rattle.waiting.specs.declared.waits.Ended.TheVariants.{One, AllPairs}
 use Rattle.waiting.specs.declared.waits.WaitsFor.TheVariants as wait
 use Rattle.packet_rules.specs.declared.readings.Reading.{Reading}
-use Rattle.packet_rules.specs.declared.readings.Reading.TheVariants.{Arp, Advert, Packet}
+use Rattle.packet_rules.specs.declared.readings.Reading.TheVariants.{Arp, Advert, Packet, Error}
 use Rattle.packet_rules.specs.declared.reasons.Reason.{Reason}
 use Rattle.packet_rules.specs.Arping.{answer_to, is_learnable}
 use Rattle.interfaces.specs.Stations.{Interface, after_arp, is_active, with_plug}
@@ -38,7 +38,7 @@ use Rattle.spec_step.specs.Routers.{BothAct, RouterActs}
 use Rattle.spec_step.specs.Shown.{GatewayAndOutput, Shown, id_of, is_running, is_up, scene, station_on, with_notes, with_station}
 use Rattle.spec_step.specs.Steps.{Does, FrameDoes, ended_on, stopped, ticked, word_by, word_refusal}
 use Rattle.spec_step.specs.Verdict.{reading_on}
-use Rattle.gateway.proofs.Staying.{Stays, answered-capacity, flow-stays, released-stays, row-stays, stays-here, stays-then}
+use Rattle.gateway.proofs.Staying.{Stays, answered-capacity, flow-stays, released-stays, row-stays, stays-here, stays-then, error-stays}
 
 -- an equal scene
 stays-as : (g : Shown) (s s2 : GatewayAndOutput) → s2 ≡ s → Stays g s.shown → Stays g s2.shown
@@ -87,6 +87,7 @@ frame-stays : (s : GatewayAndOutput) (side : Side) (bytes : List ℕ) (r : Resul
 frame-stays s side bytes (Ok (Arp p)) s2 does = stays-as s.shown (arp_taken s side p) s2 does (arp-stays s side p)
 frame-stays s side bytes (Ok (Advert a from)) s2 does = router-stays s side _ s2 does
 frame-stays s side bytes (Ok (Packet packet)) s2 does = stays-as s.shown _ s2 does (flow-stays s side bytes packet.flow)
+frame-stays s side bytes (Ok (Error packet)) s2 does = stays-as s.shown _ s2 does (error-stays s side bytes packet.flow)
 frame-stays s side bytes (Err reason) s2 does = stays-as s.shown s s2 does (stays-here s.shown)
 
 -- ---- datagrams

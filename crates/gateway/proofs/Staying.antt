@@ -18,18 +18,20 @@ use Rattle.arp.specs.Neighbours.{asks_at}
 use Rattle.waiting.specs.declared.waits.WaitsFor.TheVariants as wait
 use Rattle.waiting.specs.Packets.{HeldPacket, asks_again, ended_by, left_by, with_asked}
 use Rattle.packet_rules.specs.declared.readings.Reading.{Reading}
-use Rattle.packet_rules.specs.declared.readings.Reading.TheVariants.{Arp, Advert, Packet}
+use Rattle.packet_rules.specs.declared.readings.Reading.TheVariants.{Arp, Advert, Packet, Error}
 use Rattle.packet_rules.specs.declared.reasons.Reason.{Reason}
 use Rattle.packet_rules.specs.declared.reasons.Reason.TheVariants.{ShortFrame, NotMine, BadHeader, BadLength, BadHeaderSum, Fragment, TtlOver, NotUdpTcp, BadTransport, BadArp, BadAdvert, NotUp, NoBinding, NoPort, CannotWait, BadDatagram, OldWord, HostLimit}
 use Rattle.packet_rules.specs.declared.translations.Translation.{Translation}
 use Rattle.packet_rules.specs.declared.translations.Translation.TheVariants.{Outward, Inward, Hairpin}
 use Rattle.packet_rules.specs.Flows.{source_of}
 use Rattle.packet_rules.specs.Frames.{sent_frame}
+use Rattle.packet_rules.specs.Errors.{passed_frame}
 use Rattle.spec_step.specs.declared.plans.Plan.{Plan}
 use Rattle.spec_step.specs.declared.plans.Plan.TheVariants.{Send, Ask, AskAgain, Wait as WaitFor}
-use Rattle.spec_step.specs.Parts.{all_taken, asked_again, by_plan, by_refusal, by_row, by_verdict, carried_all, carried_by, flow_taken, released, retaken_by, taken_again, flags_in, framed, neighbour_asked, renewed_behind, request_by, wanted_by, wanted_for}
+use Rattle.spec_step.specs.Parts.{all_taken, asked_again, by_plan, by_refusal, by_row, by_verdict, carried_all, carried_by, flow_taken, released, retaken_by, taken_again, flags_in, framed, neighbour_asked, renewed_behind, request_by, wanted_by, wanted_for, by_error_plan, by_error_verdict, error_taken}
 use Rattle.spec_step.specs.Shown.{GatewayAndOutput, Shown, scene, station_on}
-use Rattle.spec_step.specs.Verdict.{exit_by, hop_by, plan_of, reading_on}
+use Rattle.spec_step.specs.Verdict.{exit_by, hop_by, plan_of, reading_on, error_hop, error_plan}
+use Rattle.icmp.specs.declared.packets.ErrorFlow.{ErrorFlow}
 
 pub record Stays (g g2 : Shown) : Type 0 where
   pub moment : g2.moment ≡ g.moment
@@ -136,8 +138,23 @@ verdict-stays s side bytes flow (Err reason) = refusal-stays s flow reason
 pub flow-stays : (s : GatewayAndOutput) (side : Side) (bytes : List ℕ) (flow : Flow) → Stays s.shown (flow_taken s side bytes flow).shown
 flow-stays s side bytes flow = verdict-stays s side bytes flow (plan_of s.shown side flow)
 
+-- an error
+error-plan-stays : (s : GatewayAndOutput) (side : Side) (bytes : List ℕ) (flow : ErrorFlow) (plan : Plan) → Stays s.shown (by_error_plan s side bytes flow plan).shown
+error-plan-stays s side bytes flow (Send by next) = renewed-stays (framed s (exit_by by) (passed_frame s.shown.networks by next bytes)) (exit_by by) (error_hop s.shown by flow)
+error-plan-stays s side bytes flow (Ask by hop) = record { moment = refl; capacity = refl; zero = refl; one = refl }
+error-plan-stays s side bytes flow (AskAgain by hop) = again-asked-stays s (exit_by by) hop
+error-plan-stays s side bytes flow (WaitFor endpoint) = stays-here s.shown
+
+pub error-stays : (s : GatewayAndOutput) (side : Side) (bytes : List ℕ) (flow : ErrorFlow) → Stays s.shown (error_taken s side bytes flow).shown
+error-stays s side bytes flow = at (error_plan s.shown side flow)
+  where
+    at : (r : Result Plan Reason) → Stays s.shown (by_error_verdict s side bytes flow r).shown
+    at (Ok plan) = error-plan-stays s side bytes flow plan
+    at (Err reason) = stays-here s.shown
+
 retaken-stays : (s : GatewayAndOutput) (side : Side) (bytes : List ℕ) (r : Result Reading Reason) → Stays s.shown (retaken_by s side bytes r).shown
 retaken-stays s side bytes (Ok (Packet packet)) = flow-stays s side bytes packet.flow
+retaken-stays s side bytes (Ok (Error packet)) = error-stays s side bytes packet.flow
 retaken-stays s side bytes (Ok (Arp p)) = stays-here s.shown
 retaken-stays s side bytes (Ok (Advert a from)) = stays-here s.shown
 retaken-stays s side bytes (Err reason) = stays-here s.shown

@@ -47,5 +47,6 @@ pub(crate) fn take_reading(
             Ok(Outcome::Done)
         }
         Reading::Packet(packet) => forwarder.take_packet(alloc, page, side, bytes, packet),
+        Reading::Error(packet) => forwarder.take_error(alloc, page, side, bytes, packet),
     }
 }

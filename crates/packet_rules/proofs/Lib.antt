@@ -1,5 +1,6 @@
 mod Appended
 mod Cut
+mod ErrorSorts
 mod Exchange
 mod Learning
 mod Passing

@@ -10,21 +10,25 @@ use Rattle.ipv4.specs.Header.{IsIpv4, header_of, payload_of, ipv4_refusal, word_
 use Rattle.ipv4.specs.Carried.{IsTransport, transport_refusal as carried_refusal}
 use Rattle.ipv4.specs.Flow.{packet_of as packet_read}
 use Rattle.ipv4.specs.declared.faults.Ipv4Fault.{Ipv4Fault}
+use Rattle.icmp.specs.declared.errors.TheConstants.{PROTOCOL}
+use Rattle.icmp.specs.declared.faults.IcmpFault.{IcmpFault}
+use Rattle.icmp.specs.Packet.{IsErrorPacket, error_packet_of, packet_refusal}
 use Rattle.vrrp_packet.specs.Message.{advert_refusal, IsAdvert, advert_of}
 use Rattle.packet_rules.specs.declared.networks.Network.{Network}
 use Rattle.packet_rules.specs.declared.readings.Reading.{Reading}
-use Rattle.packet_rules.specs.declared.readings.Reading.TheVariants.{Arp, Advert, Packet}
+use Rattle.packet_rules.specs.declared.readings.Reading.TheVariants.{Arp, Advert, Packet, Error}
 use Rattle.packet_rules.specs.declared.reasons.Reason.{Reason}
 use Rattle.packet_rules.specs.declared.reasons.Reason.TheVariants.{ShortFrame, TtlOver, BadArp, BadAdvert}
 use Rattle.frames.specs.declared.ethernet.TheConstants.{LONGEST}
-use Rattle.packet_rules.specs.Flows.{flow_in}
-use Rattle.packet_rules.specs.Steps.{reason_of, size_refusal, up_refusal, destination_refusal, header_refusal, virtual_refusal, transport_refusal, ttl_refusal, is_vrrp, is_from_peer, arp_reading, advert_reading, packet_reading, ipv4_reading, body_reading, reading_of, unless, IsForwardable, Carries}
+use Rattle.packet_rules.specs.Flows.{error_flow_in, flow_in}
+use Rattle.packet_rules.specs.Steps.{reason_of, reason_of_icmp, size_refusal, up_refusal, destination_refusal, header_refusal, virtual_refusal, transport_refusal, error_refusal, ttl_refusal, is_vrrp, is_from_peer, arp_reading, advert_reading, transport_reading, error_reading, packet_reading, ipv4_reading, body_reading, reading_of, unless, IsForwardable, IsPassable, Carries}
 
 -- the grammars of what a frame carries
 pub record Grammars : Type 0 where
   pub arp : (bytes : List ℕ) → (arp_refusal bytes ≡ None) ↔ IsArp bytes
   pub ipv4 : (bytes : List ℕ) → (ipv4_refusal bytes ≡ None) ↔ IsIpv4 bytes
   pub transport : (packet : List ℕ) → (carried_refusal packet ≡ None) ↔ IsTransport packet
+  pub error : (packet : List ℕ) → (packet_refusal packet ≡ None) ↔ IsErrorPacket packet
   pub advert : (packet : List ℕ) → (advert_refusal packet ≡ None) ↔ IsAdvert packet
 
 unless-passes : (o : Option Reason) (step : Result Reading Reason) (r : Reading) → unless o step ≡ Ok r → (o ≡ None) × (step ≡ Ok r)
@@ -42,6 +46,10 @@ ok-passes false x r reason is = cc
 map-none : (o : Option Ipv4Fault) → option_map reason_of o ≡ None → o ≡ None
 map-none None is = refl
 map-none (Some fault) is = cc
+
+icmp-none : (o : Option IcmpFault) → option_map reason_of_icmp o ≡ None → o ≡ None
+icmp-none None is = refl
+icmp-none (Some fault) is = cc
 
 no-fault : {F : Type 0} (o : Option F) → is_none o ≡ true → o ≡ None
 no-fault None is = refl
@@ -74,12 +82,11 @@ advert-passes g network bytes r is =
     let most = mod_below (word_at 4 (payload_of packet)) 4096 (omega arith) in
     subst (Carries bytes) ok.1 (advert.interval, omega (arith, most))
 
-packet-passes : (g : Grammars) (network : Network) (bytes : List ℕ) (r : Reading) → size_refusal bytes ≡ None → IsIpv4 (frame_of bytes).body → packet_reading network (frame_of bytes) ≡ Ok r → Carries bytes r
-unfolding packet_reading transport_refusal ttl_refusal flow_in
-packet-passes g network bytes r size ipv4 is =
+transport-passes : (g : Grammars) (bytes : List ℕ) (r : Reading) → size_refusal bytes ≡ None → IsIpv4 (frame_of bytes).body → transport_reading (frame_of bytes).body ≡ Ok r → Carries bytes r
+unfolding transport_reading transport_refusal ttl_refusal flow_in
+transport-passes g bytes r size ipv4 is =
     let packet = (frame_of bytes).body in
-    let s1 = unless-passes (virtual_refusal network (frame_of bytes)) _ r is in
-    let s2 = unless-passes _ _ r s1.1 in
+    let s2 = unless-passes _ _ r is in
     let s3 = unless-passes _ _ r s2.1 in
     let sizes = size-passes bytes size in
     let known : IsForwardable bytes = record {
@@ -91,6 +98,34 @@ packet-passes g network bytes r size ipv4 is =
     } in
     let same : Packet (packet_read packet) ≡ r = cc in
     subst (Carries bytes) same (known, refl)
+
+error-passes : (g : Grammars) (bytes : List ℕ) (r : Reading) → size_refusal bytes ≡ None → IsIpv4 (frame_of bytes).body → error_reading (frame_of bytes).body ≡ Ok r → Carries bytes r
+unfolding error_reading error_refusal ttl_refusal error_flow_in
+error-passes g bytes r size ipv4 is =
+    let packet = (frame_of bytes).body in
+    let s2 = unless-passes _ _ r is in
+    let s3 = unless-passes _ _ r s2.1 in
+    let sizes = size-passes bytes size in
+    let known : IsPassable bytes = record {
+      whole = sizes.0;
+      short = sizes.1;
+      ipv4 = ipv4;
+      error = (g.error packet).0 (icmp-none (packet_refusal packet) s2.0);
+      ttl = leb-true 2 (header_of packet).ttl (none-passes _ TtlOver s3.0);
+    } in
+    let same : Error (error_packet_of packet) ≡ r = cc in
+    subst (Carries bytes) same (known, refl)
+
+carried-passes : (g : Grammars) (bytes : List ℕ) (r : Reading) (b : Bool) → size_refusal bytes ≡ None → IsIpv4 (frame_of bytes).body
+    → cond b (error_reading (frame_of bytes).body) (transport_reading (frame_of bytes).body) ≡ Ok r → Carries bytes r
+carried-passes g bytes r true size ipv4 is = error-passes g bytes r size ipv4 is
+carried-passes g bytes r false size ipv4 is = transport-passes g bytes r size ipv4 is
+
+packet-passes : (g : Grammars) (network : Network) (bytes : List ℕ) (r : Reading) → size_refusal bytes ≡ None → IsIpv4 (frame_of bytes).body → packet_reading network (frame_of bytes) ≡ Ok r → Carries bytes r
+unfolding packet_reading
+packet-passes g network bytes r size ipv4 is =
+    let s1 = unless-passes (virtual_refusal network (frame_of bytes)) _ r is in
+    carried-passes g bytes r ((header_of (frame_of bytes).body).protocol == PROTOCOL) size ipv4 s1.1
 
 vrrp-passes : (g : Grammars) (network : Network) (bytes : List ℕ) (r : Reading) (b : Bool) → size_refusal bytes ≡ None → IsIpv4 (frame_of bytes).body
     → cond b (advert_reading network (frame_of bytes).body) (packet_reading network (frame_of bytes)) ≡ Ok r → Carries bytes r

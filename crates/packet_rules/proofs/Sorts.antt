@@ -43,7 +43,7 @@ abbrev type_and : List ℕ → List ℕ → ℕ → ℕ → List ℕ → List �
 type_and dst src high low rest = ((dst ++ src) ++ (high ∷ low ∷ [])) ++ rest
 
 -- the EtherType behind two hardware addresses
-type-there : (dst src rest : List ℕ) (high low : ℕ) → length dst ≡ 6 → length src ≡ 6 → (frame_of (type_and dst src high low rest)).ethertype ≡ high * 256 + low
+pub type-there : (dst src rest : List ℕ) (high low : ℕ) → length dst ≡ 6 → length src ≡ 6 → (frame_of (type_and dst src high low rest)).ethertype ≡ high * 256 + low
 type-there dst src rest high low long long2 =
     let d = six dst long in
     let s = six src long2 in
@@ -52,7 +52,7 @@ type-there dst src rest high low long long2 =
     ∙ omega arith
 
 -- and the body behind them
-body-there : (dst src rest : List ℕ) (high low : ℕ) → length dst ≡ 6 → length src ≡ 6 → (frame_of (type_and dst src high low rest)).body ≡ rest
+pub body-there : (dst src rest : List ℕ) (high low : ℕ) → length dst ≡ 6 → length src ≡ 6 → (frame_of (type_and dst src high low rest)).body ≡ rest
 body-there dst src rest high low long long2 =
     let d = six dst long in
     let s = six src long2 in
@@ -60,7 +60,7 @@ body-there dst src rest high low long long2 =
     ∙ ap (λ xs. (frame_of (type_and (d.a ∷ d.b ∷ d.c ∷ d.d ∷ d.e ∷ d.f ∷ []) xs high low rest)).body) s.is
 
 -- a header with other addresses has its protocol
-header-nine : (flow : Flow) (header rest more : List ℕ) → 20 ≤ length header → slice_index ((header_with flow header ++ rest) ++ more) 9 ≡ slice_index header 9
+pub header-nine : (flow : Flow) (header rest more : List ℕ) → 20 ≤ length header → slice_index ((header_with flow header ++ rest) ++ more) 9 ≡ slice_index header 9
 header-nine flow [] rest more long = absurd (omega (arith, long))
 header-nine flow (a ∷ []) rest more long = absurd (omega (arith, long))
 header-nine flow (a ∷ b ∷ []) rest more long = absurd (omega (arith, long))
@@ -100,7 +100,7 @@ other-protocol : (a b : ℕ) → a ≡ b → (b ≡ 17) ⊎ (b ≡ 6) → (a ≡
 other-protocol a b same (inl is) = inl (same ∙ is)
 other-protocol a b same (inr is) = inr (same ∙ is)
 
-own-six : (networks : Networks) (t : Translation) → IsWired networks → length (exit_mac networks t).0 ≡ 6
+pub own-six : (networks : Networks) (t : Translation) → IsWired networks → length (exit_mac networks t).0 ≡ 6
 own-six networks (Outward pair) wired = wired.outside_mac
 own-six networks (Inward pair) wired = wired.inside_mac
 own-six networks (Hairpin own other) wired = wired.inside_mac

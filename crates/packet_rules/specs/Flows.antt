@@ -8,6 +8,9 @@ use Rattle.ipv4.specs.declared.packets.Packet.{Packet}
 use Rattle.ipv4.specs.Flow.{flow_of}
 use Rattle.ipv4.specs.Header.{header_of, payload_of}
 use Rattle.ipv4.specs.Segment.{segment_of}
+use Rattle.icmp.specs.Packet.{error_flow, error_packet_of}
+use Rattle.icmp.specs.declared.packets.ErrorFlow.{ErrorFlow}
+use Rattle.icmp.specs.declared.packets.ErrorPacket.{ErrorPacket}
 
 -- the flow of a frame's packet
 unfoldable pub flow_in : List ℕ → Flow
@@ -28,3 +31,14 @@ source_of flow = record { protocol = flow.protocol; address = flow.source; port 
 -- the outside port that a packet goes to
 abbrev pub target_of : Flow → Key
 target_of flow = record { protocol = flow.protocol; port = flow.destination_port }
+
+-- the flow of a frame's error
+unfoldable pub error_flow_in : List ℕ → ErrorFlow
+error_flow_in bytes = error_flow (frame_of bytes).body
+
+-- what the first reading finds out of it
+abbrev pub error_in : List ℕ → ErrorPacket
+error_in bytes = record {
+  flow = error_flow_in bytes;
+  length = (header_of (frame_of bytes).body).total_length;
+}

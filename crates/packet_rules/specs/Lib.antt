@@ -1,5 +1,6 @@
 pub mod Adverts
 pub mod Arping
+pub mod Errors
 pub mod Flows
 pub mod Frames
 pub mod Networks

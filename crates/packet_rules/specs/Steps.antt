@@ -6,6 +6,10 @@ use Rattle.frames.specs.Frame.{Frame, frame_of}
 use Rattle.ipv4.specs.Header.{IsIpv4, header_of, payload_of, ipv4_refusal}
 use Rattle.ipv4.specs.Carried.{IsTransport, transport_refusal as carried_refusal}
 use Rattle.ipv4.specs.Flow.{packet_of as packet_read}
+use Rattle.icmp.specs.declared.errors.TheConstants.{PROTOCOL}
+use Rattle.icmp.specs.declared.faults.IcmpFault.{IcmpFault}
+use Rattle.icmp.specs.declared.faults.IcmpFault.TheVariants.{NotError, BadError}
+use Rattle.icmp.specs.Packet.{IsErrorPacket, error_packet_of, packet_refusal}
 use Rattle.ipv4.specs.declared.faults.Ipv4Fault as fault
 use Rattle.ipv4.specs.declared.faults.Ipv4Fault.{Ipv4Fault}
 use Rattle.arp.specs.Packet.{arp_refusal, packet_of}
@@ -13,10 +17,10 @@ use Rattle.vrrp_packet.specs.Message.{advert_refusal, advert_of}
 use Rattle.packet_rules.specs.declared.reasons.Reason.{Reason}
 use Rattle.packet_rules.specs.declared.reasons.Reason.TheVariants.{ShortFrame, NotMine, BadHeader, BadLength, BadHeaderSum, Fragment, TtlOver, NotUdpTcp, BadTransport, BadArp, BadAdvert, NotUp}
 use Rattle.packet_rules.specs.declared.readings.Reading.{Reading}
-use Rattle.packet_rules.specs.declared.readings.Reading.TheVariants.{Arp, Advert, Packet}
+use Rattle.packet_rules.specs.declared.readings.Reading.TheVariants.{Arp, Advert, Packet, Error}
 use Rattle.packet_rules.specs.declared.networks.Network.{Network}
 use Rattle.frames.specs.declared.ethernet.TheConstants.{LONGEST}
-use Rattle.packet_rules.specs.Flows.{packet_in}
+use Rattle.packet_rules.specs.Flows.{error_in, packet_in}
 use Rattle.packet_rules.specs.Networks.{is_addressed, is_virtual}
 
 -- the reason for a fault of the packet
@@ -28,6 +32,11 @@ reason_of fault.TheVariants.BadHeaderSum = BadHeaderSum
 reason_of fault.TheVariants.Fragment = Fragment
 reason_of fault.TheVariants.NotUdpTcp = NotUdpTcp
 reason_of fault.TheVariants.BadTransport = BadTransport
+
+-- the reason for a fault of an error
+abbrev pub reason_of_icmp : IcmpFault → Reason
+reason_of_icmp NotError = NotUdpTcp
+reason_of_icmp BadError = BadTransport
 
 -- 1. a frame has 14 to 1,514 bytes
 unfoldable pub size_refusal : List ℕ → Option Reason
@@ -81,6 +90,10 @@ virtual_refusal network frame = (if is_virtual network frame.dst then None else 
 unfoldable pub transport_refusal : List ℕ → Option Reason
 transport_refusal packet = option_map reason_of (carried_refusal packet)
 
+-- 6. a packet of ICMP carries an error about such a packet
+unfoldable pub error_refusal : List ℕ → Option Reason
+error_refusal packet = option_map reason_of_icmp (packet_refusal packet)
+
 -- 6. its time to live isn't over
 unfoldable pub ttl_refusal : List ℕ → Option Reason
 ttl_refusal packet = (if nat_le 2 (header_of packet).ttl then None else Some TtlOver)
@@ -95,13 +108,26 @@ abbrev pub and_then : {X Y : Type 0} → Result X Reason → (X → Result Y Rea
 and_then (Ok x) next = next x
 and_then (Err reason) next = Err reason
 
+-- 6. a UDP or TCP packet
+unfoldable pub transport_reading : List ℕ → Result Reading Reason
+transport_reading packet =
+    unless (transport_refusal packet) (
+    unless (ttl_refusal packet) (
+    Ok (Packet (packet_read packet))))
+
+-- 6. an ICMP error
+unfoldable pub error_reading : List ℕ → Result Reading Reason
+error_reading packet =
+    unless (error_refusal packet) (
+    unless (ttl_refusal packet) (
+    Ok (Error (error_packet_of packet))))
+
 -- 5, 6. a packet that isn't VRRP's
 unfoldable pub packet_reading : Network → Frame → Result Reading Reason
 packet_reading network frame =
     unless (virtual_refusal network frame) (
-    unless (transport_refusal frame.body) (
-    unless (ttl_refusal frame.body) (
-    Ok (Packet (packet_read frame.body)))))
+    (if (header_of frame.body).protocol == PROTOCOL then error_reading frame.body
+    else transport_reading frame.body))
 
 -- 4 to 6. an IPv4 packet
 unfoldable pub ipv4_reading : Network → Frame → Result Reading Reason
@@ -133,9 +159,18 @@ pub record IsForwardable (bytes : List ℕ) : Type 0 where
   pub transport : IsTransport (frame_of bytes).body
   pub ttl : 2 ≤ (header_of (frame_of bytes).body).ttl
 
+-- what is known of a frame whose error passes, and what its passing on asks for
+pub record IsPassable (bytes : List ℕ) : Type 0 where
+  pub whole : 14 ≤ length bytes
+  pub short : length bytes ≤ LONGEST
+  pub ipv4 : IsIpv4 (frame_of bytes).body
+  pub error : IsErrorPacket (frame_of bytes).body
+  pub ttl : 2 ≤ (header_of (frame_of bytes).body).ttl
+
 -- what is known of a frame that is read as this: of an ARP packet its sender's six bytes, of an
 -- advertisement its interval
 abbrev pub Carries : List ℕ → Reading → Type 0
 Carries bytes (Arp packet) = length packet.sender_mac.0 ≡ 6
 Carries bytes (Advert advert from) = (1 ≤ advert.interval) × (advert.interval ≤ 4095)
 Carries bytes (Packet packet) = IsForwardable bytes × (packet ≡ packet_in bytes)
+Carries bytes (Error packet) = IsPassable bytes × (packet ≡ error_in bytes)

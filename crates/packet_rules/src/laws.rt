@@ -12,11 +12,13 @@ ghost use Rattle.vrrp_packet.specs.Message.{IsWritable};
 ghost use Rattle.packet_rules.specs.declared.readings.Reading.TheVariants.{Advert};
 ghost use Rattle.packet_rules.specs.Adverts.{own_advert, advert_frame};
 ghost use Rattle.packet_rules.specs.Arping.{answer_frame, request_frame, gratuitous_frame};
+ghost use Rattle.packet_rules.specs.Errors.{is_error_frame, passed_frame};
 ghost use Rattle.packet_rules.specs.Frames.{sent_frame, is_translation};
 ghost use Rattle.packet_rules.specs.Networks.{IsWired};
-ghost use Rattle.packet_rules.specs.Steps.{reading_of, IsForwardable, Carries};
+ghost use Rattle.packet_rules.specs.Steps.{reading_of, IsForwardable, IsPassable, Carries};
 
 use arp::arp_grammar;
+use icmp::error_packet_grammar;
 use ipv4::{ipv4_grammar, transport_grammar};
 use vrrp_packet::{advert_grammar, written_is_read};
 
@@ -34,15 +36,22 @@ pub fn readings_law()
     arp_grammar();
     ipv4_grammar();
     transport_grammar();
+    error_packet_grammar();
     advert_grammar();
 }
 
-/// The frame by which a packet is sent on counts as a translation, and no frame of ARP or VRRP
-/// does.
+/// The frame by which a packet is sent on counts as a translation, and that by which an error is
+/// passed on as an error; no frame of ARP or VRRP does as either.
 pub fn frames_law()
     ensures sent { (networks : NetworksValue) (t : TranslationValue) (next : MacValue)
         (bytes : List ℕ) → IsWired networks → length next.0 ≡ 6 → IsForwardable bytes
         → is_translation (sent_frame networks t next bytes) ≡ true }
+    ensures passed { (networks : NetworksValue) (t : TranslationValue) (next : MacValue)
+        (bytes : List ℕ) → IsWired networks → length next.0 ≡ 6 → IsPassable bytes
+        → is_error_frame (passed_frame networks t next bytes) ≡ true }
+    ensures passed_apart { (networks : NetworksValue) (t : TranslationValue) (next : MacValue)
+        (bytes : List ℕ) → IsWired networks → length next.0 ≡ 6 → IsPassable bytes
+        → is_translation (passed_frame networks t next bytes) ≡ false }
     ensures answer { (network : NetworkValue) (p : ArpValue) (mac : MacValue)
         → length network.own_mac.0 ≡ 6 → length p.sender_mac.0 ≡ 6
         → is_translation (answer_frame network p mac) ≡ false }
@@ -52,6 +61,15 @@ pub fn frames_law()
         → is_translation (gratuitous_frame network) ≡ false }
     ensures advert { (network : NetworkValue) (priority interval : ℕ)
         → is_translation (advert_frame network priority interval) ≡ false }
+    ensures answer_no_error { (network : NetworkValue) (p : ArpValue) (mac : MacValue)
+        → length network.own_mac.0 ≡ 6 → length p.sender_mac.0 ≡ 6
+        → is_error_frame (answer_frame network p mac) ≡ false }
+    ensures request_no_error { (network : NetworkValue) (ip : IpValue)
+        → length network.own_mac.0 ≡ 6 → is_error_frame (request_frame network ip) ≡ false }
+    ensures gratuitous_no_error { (network : NetworkValue)
+        → is_error_frame (gratuitous_frame network) ≡ false }
+    ensures advert_no_error { (network : NetworkValue) (priority interval : ℕ)
+        → is_error_frame (advert_frame network priority interval) ≡ false }
 {}
 
 /// What a router advertises, the other gateway reads at its interface.

@@ -5,6 +5,7 @@
 mod adverts;
 mod appending;
 mod arping;
+mod errors;
 mod flows;
 mod laws;
 mod networks;
@@ -15,6 +16,7 @@ mod translations;
 
 pub use adverts::{append_advert, append_gratuitous};
 pub use arping::{answer_to, append_answer, append_request, is_learnt};
+pub use errors::{append_passed, endpoint_inside, error_direction, key_inside};
 pub use flows::{source_endpoint, target_key};
 pub use laws::{advert_law, frames_law, limits_law, readings_law};
 pub use networks::{Direction, Network, Networks, direction_taken, next_hop_outside};

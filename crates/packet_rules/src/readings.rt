@@ -1,6 +1,7 @@
 //! What a frame that passes the first steps is read as.
 use addresses::Ip;
 use arp::ArpPacket;
+use icmp::ErrorPacket;
 use ipv4::Packet;
 use vrrp_packet::Advert;
 
@@ -14,4 +15,6 @@ pub enum Reading {
     Advert(Advert, Ip),
     /// A UDP or TCP packet to be translated, by what was read of it.
     Packet(Packet),
+    /// An ICMP error about such a packet, by what was read of it (RFC 792).
+    Error(ErrorPacket),
 }

@@ -5,12 +5,14 @@ ghost use Rattle.frames.specs.Frame.{frame_of};
 ghost use Rattle.frames.specs.declared.ethernet.TheConstants.{LONGEST};
 ghost use Rattle.ipv4.specs.Header.{IsIpv4, header_of};
 ghost use Rattle.ipv4.specs.Flow.{packet_of};
-ghost use Rattle.packet_rules.specs.Steps.{reason_of, size_refusal, destination_refusal, header_refusal, virtual_refusal, transport_refusal, ttl_refusal, is_vrrp, is_from_peer, arp_reading, advert_reading, packet_reading, ipv4_reading, body_reading, reading_of, Carries};
+ghost use Rattle.icmp.specs.Packet.{error_packet_of};
+ghost use Rattle.packet_rules.specs.Steps.{reason_of, reason_of_icmp, size_refusal, destination_refusal, header_refusal, virtual_refusal, transport_refusal, error_refusal, ttl_refusal, is_vrrp, is_from_peer, arp_reading, advert_reading, transport_reading, error_reading, packet_reading, ipv4_reading, body_reading, reading_of, Carries};
 
 use crate::laws::readings_law;
 use crate::networks::{Network, is_for_gateway, is_to_virtual};
 use crate::{Reading, Reason};
 use frames::{EthView, EtherType};
+use icmp::{ErrorPacket, IcmpFault};
 use ipv4::{Ipv4Fault, Ipv4View, Packet};
 use vrrp_packet::Advert;
 
@@ -25,6 +27,15 @@ fn reason_for(fault: Ipv4Fault) -> Reason
         Ipv4Fault::Fragment => Reason::Fragment,
         Ipv4Fault::NotUdpTcp => Reason::NotUdpTcp,
         Ipv4Fault::BadTransport => Reason::BadTransport,
+    }
+}
+
+fn reason_for_error(fault: IcmpFault) -> Reason
+    ensures { result ≡ reason_of_icmp fault }
+{
+    match fault {
+        IcmpFault::NotError => Reason::NotUdpTcp,
+        IcmpFault::BadError => Reason::BadTransport,
     }
 }
 
@@ -126,6 +137,17 @@ fn read_transport(view: &Ipv4View<'_>) -> Result<Packet, Reason>
     }
 }
 
+#[tactic(auto, unfolding(crate::specs::Steps::error_refusal))]
+fn read_error(view: &Ipv4View<'_>) -> Result<ErrorPacket, Reason>
+    ensures refusal { result_err result ≡ error_refusal view.now.bytes.now }
+    ensures packet { IfOk result (λ p. p ≡ error_packet_of view.now.bytes.now) }
+{
+    match ErrorPacket::parse(view) {
+        Ok(packet) => Ok(packet),
+        Err(fault) => Err(reason_for_error(fault)),
+    }
+}
+
 #[tactic(auto, unfolding(crate::specs::Steps::ttl_refusal))]
 fn test_ttl(packet: &Ipv4View<'_>) -> Result<(), Reason>
     ensures refusal { result_err result ≡ ttl_refusal packet.now.bytes.now }
@@ -136,6 +158,26 @@ fn test_ttl(packet: &Ipv4View<'_>) -> Result<(), Reason>
     } else {
         Ok(())
     }
+}
+
+/// A UDP or TCP packet.
+#[tactic(auto, unfolding(crate::specs::Steps::transport_reading))]
+fn take_transport(view: &Ipv4View<'_>) -> Result<Reading, Reason>
+    ensures { result ≡ transport_reading view.now.bytes.now }
+{
+    let packet = read_transport(view)?;
+    test_ttl(view)?;
+    Ok(Reading::Packet(packet))
+}
+
+/// A packet of ICMP: an error, or it is refused.
+#[tactic(auto, unfolding(crate::specs::Steps::error_reading))]
+fn take_error(view: &Ipv4View<'_>) -> Result<Reading, Reason>
+    ensures { result ≡ error_reading view.now.bytes.now }
+{
+    let packet = read_error(view)?;
+    test_ttl(view)?;
+    Ok(Reading::Error(packet))
 }
 
 /// A packet that isn't VRRP's.
@@ -149,9 +191,11 @@ fn read_packet(
     ensures reading { result ≡ packet_reading network.now (frame_of frame.now.bytes.now) }
 {
     test_virtual(network, frame)?;
-    let packet = read_transport(view)?;
-    test_ttl(view)?;
-    Ok(Reading::Packet(packet))
+    if view.protocol() == icmp::PROTOCOL {
+        take_error(view)
+    } else {
+        take_transport(view)
+    }
 }
 
 #[tactic(auto, unfolding(crate::specs::Steps::ipv4_reading))]

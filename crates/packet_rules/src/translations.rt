@@ -26,19 +26,19 @@ pub enum Translation {
     Hairpin(Pair, Pair),
 }
 
-fn outside_port(pair: Pair) -> Port
+pub(crate) fn outside_port(pair: Pair) -> Port
     ensures { result ≡ pair.key.port }
 {
     pair.key.port
 }
 
-fn inside_address(pair: Pair) -> Ip
+pub(crate) fn inside_address(pair: Pair) -> Ip
     ensures { result ≡ pair.endpoint.address }
 {
     pair.endpoint.address
 }
 
-fn inside_port(pair: Pair) -> Port
+pub(crate) fn inside_port(pair: Pair) -> Port
     ensures { result ≡ pair.endpoint.port }
 {
     pair.endpoint.port
@@ -126,7 +126,7 @@ fn translate_body(frame: &mut [u8], old: Flow, networks: &Networks, translation:
 
 /// Gives a frame the header of one that is sent on.
 #[tactic(auto, using(crate::proofs::Cut::header_length))]
-fn readdress(frame: &mut [u8], networks: &Networks, translation: &Translation, next_mac: Mac)
+pub(crate) fn readdress(frame: &mut [u8], networks: &Networks, translation: &Translation, next_mac: Mac)
     requires { 14 ≤ length frame.old }
     ensures bytes { frame.new
         ≡ sent_header networks.now translation.now next_mac ++ drop 14 frame.old }

@@ -29,35 +29,39 @@ use Rattle.waiting.specs.Packets.{HeldPacket, asks_again, ended_by, hop_count, l
 use Rattle.waiting.specs.Waits.{ends, is_for_pair}
 use Rattle.packet_rules.specs.declared.networks.Network.{Network}
 use Rattle.packet_rules.specs.declared.readings.Reading.{Reading}
-use Rattle.packet_rules.specs.declared.readings.Reading.TheVariants.{Arp, Advert, Packet}
+use Rattle.packet_rules.specs.declared.readings.Reading.TheVariants.{Arp, Advert, Packet, Error}
 use Rattle.packet_rules.specs.declared.reasons.Reason.{Reason}
 use Rattle.packet_rules.specs.declared.translations.Translation.{Translation}
 use Rattle.packet_rules.specs.declared.translations.Translation.TheVariants.{Outward, Inward, Hairpin}
 use Rattle.packet_rules.specs.Arping.{request_frame}
-use Rattle.packet_rules.specs.Flows.{flow_in, source_of}
-use Rattle.packet_rules.specs.Frames.{is_translation, sent_frame, way_of}
-use Rattle.packet_rules.specs.Steps.{IsForwardable}
+use Rattle.packet_rules.specs.Flows.{flow_in, source_of, error_flow_in}
+use Rattle.packet_rules.specs.Frames.{hop_of, sent_frame, way_of}
+use Rattle.packet_rules.specs.Steps.{IsForwardable, IsPassable}
 use Rattle.packet_rules.specs.Networks.{direction_of}
+use Rattle.packet_rules.specs.Errors.{passed_frame, AreErrorPairs, error_direction}
 use Rattle.interfaces.specs.Stations.{is_active}
 use Rattle.output.specs.Output.{Sent}
 use Rattle.spec_step.specs.declared.plans.Plan.{Plan}
 use Rattle.spec_step.specs.declared.plans.Plan.TheVariants.{Send, Ask, AskAgain, Wait as WaitFor}
-use Rattle.spec_step.specs.Others.{Asking, Cause, Drops, IsCause, IsDue, IsItsWait, IsNew, IsNextHop, IsUnknown, MayGoBy, Sends, Waits, all_noted, firsts, has_come, hops_of, other_frames, packets_asked, request_of, requests, retaken_pairs, targets, waiting_by, within_limit}
-use Rattle.spec_step.specs.Parts.{all_taken, asked_again, by_plan, by_row, by_verdict, carried_all, flags_in, flow_taken, framed, neighbour_asked, released, renewed_behind, request_by, retaken_by, taken_again, waiting, wanted_by, wanted_for}
+use Rattle.spec_step.specs.Others.{Asking, Cause, Drops, IsCause, IsDue, IsItsWait, IsNew, IsNextHop, IsUnknown, MayGoBy, Sends, Waits, all_noted, firsts, has_come, hops_of, other_frames, packets_asked, request_of, requests, retaken_pairs, targets, waiting_by, within_limit, is_other}
+use Rattle.spec_step.specs.Parts.{all_taken, asked_again, by_plan, by_row, by_verdict, carried_all, flags_in, flow_taken, framed, neighbour_asked, released, renewed_behind, request_by, retaken_by, taken_again, waiting, wanted_by, wanted_for, by_error_plan, by_error_verdict, error_taken, keeping}
 use Rattle.spec_step.specs.Shown.{GatewayAndOutput, Shown, id_of, is_up, scene, station_on}
 use Rattle.spec_step.specs.Truly.{AreItsPairs, AreWired, AtHand, Known, known_of, near_on, packets_of}
-use Rattle.spec_step.specs.Verdict.{exit_by, hop_by, plan_of, reading_on, target_pair}
+use Rattle.spec_step.specs.Verdict.{exit_by, hop_by, plan_of, reading_on, target_pair, error_hop, error_plan}
 use Rattle.spec_step.proofs.Asked.{IsAsked, PlanSays, plan-says}
 use Rattle.spec_step.proofs.Freeing.{Comes-of, comes-off, comes-then, filter-all, filter-left, filter-none, shuffled}
 use Rattle.spec_step.proofs.Limits.{IsByWait, KeepsHops, TakesNone, asks-before, asks-left, count-left, count-noted, hops-stay, limit-count, limit-more, limit-same, noted-taken, noted-then}
 use Rattle.spec_step.proofs.Near.{asks-asked}
 use Rattle.spec_step.proofs.Packets.{refusal-leaves}
 use Rattle.spec_step.proofs.Rooting.{RowRoots, in-left, in-right, retaken-join, same-rooted, wish-roots}
-use Rattle.spec_step.proofs.Saying.{reading-synced}
-use Rattle.spec_step.proofs.Sending.{Frames, all_notes, carried-leaves, near-mac, next-six, own-six}
+use Rattle.spec_step.proofs.Saying.{reading-synced, addressed}
+use Rattle.spec_step.proofs.Sending.{Frames, all_notes, carried-leaves, near-mac, next-six, own-six, error-no_other, request-other, sent-no_other}
 use Rattle.spec_step.proofs.Sends.{AreFound, plan-sends}
 use Rattle.spec_step.proofs.Telling.{at_hand}
 use Rattle.spec_step.proofs.Translating.{target-translates}
+use Rattle.spec_step.proofs.Erring.{AreErrorFound, ErrorSays, IsErrorAsked, IsErrorGoing, error-pairs, error-says, error-targets}
+use Rattle.icmp.specs.declared.packets.ErrorFlow.{ErrorFlow}
+use Rattle.icmp.specs.declared.packets.ErrorPacket.{ErrorPacket}
 
 -- the networks at which a gateway stands stay
 abbrev pub NetsStay : Shown → Shown → Type 0
@@ -168,7 +172,7 @@ module _ (k : Known) (P Q : Pair → Type 0) (more : (p : Pair) → P p → Q p)
   targets-more (Hairpin own other) all = (more other all.0, tt)
 
   hop-more : (packet : AtHand) (by : Translation) (exit : Side) (host : Ip) → IsNextHop k P packet by exit host → IsNextHop k Q packet by exit host
-  hop-more packet by exit host a = record { way = a.way; pairs = a.pairs; target = targets-more by a.target; exit_is = a.exit_is; hop = a.hop }
+  hop-more packet by exit host a = record { goes = a.goes; target = targets-more by a.target; exit_is = a.exit_is; hop = a.hop }
 
   wait-more : (packet : AtHand) (w : WaitsFor) → IsItsWait k P packet w → IsItsWait k Q packet w
   wait-more packet (wait.Pair e) is = is
@@ -255,7 +259,7 @@ asks-then h h2 f g a b c x y =
       due = due-append a.shown (known_of c.shown) has x.askings z.askings
           (due-more (known_of c.shown) (MayGoBy a.shown x.notes) has more a.shown a.shown (λ side host t. t) (λ side host t. t) x.askings due1)
           (due-more (known_of c.shown) (MayGoBy b.shown z.notes) has then_has a.shown b.shown near_end again_end z.askings z.due);
-      others = filter-append (λ (f : Sent). not (is_translation f.bytes)) x.frames z.frames
+      others = filter-append (λ (f : Sent). is_other f.bytes) x.frames z.frames
           ∙ ap (λ (fs : List Sent). fs ++ other_frames z.frames) x.others
           ∙ ap (λ (fs : List Sent). requests a.shown x.askings ++ fs) (z.others ∙ requests-same a.shown b.shown x.nets z.askings)
           ∙ sym (map-append (request_of a.shown) x.askings z.askings);
@@ -461,8 +465,11 @@ next-hop : (g : Shown) (side : Side) (bytes : List ℕ) (flow : Flow) (by : Tran
     → direction_of g.networks side flow.source.0 flow.destination.0 ≡ Ok (way_of by) → AreFound g flow by → hop ≡ hop_by g by flow → IsNextHop (known_of g) (MayGoBy g notes) (at_hand side bytes) by (exit_by by) hop
 next-hop g side bytes flow by hop notes read way found hop_is =
     record {
-      way = subst (λ (f : Flow). direction_of g.networks side f.source.0 f.destination.0 ≡ Ok (way_of by)) read.flow_is way;
-      pairs = subst (λ (f : Flow). AreItsPairs f by) read.flow_is (its-pairs g flow by read.synced found);
+      goes = inl (record {
+        passes = read.passes;
+        way = subst (λ (f : Flow). direction_of g.networks side f.source.0 f.destination.0 ≡ Ok (way_of by)) read.flow_is way;
+        pairs = subst (λ (f : Flow). AreItsPairs f by) read.flow_is (its-pairs g flow by read.synced found);
+      });
       target = targets-there g flow by notes read.synced found;
       exit_is = refl;
       hop = ap (λ (h : Ip). h.0) (hop_is ∙ ap (hop_by g by) read.flow_is);
@@ -479,15 +486,15 @@ asked-by g side bytes flow by hop notes read a = (
 abbrev asking_for : Side → List ℕ → Translation → Ip → Cause → Asking
 asking_for side bytes by hop cause = record { packet = at_hand side bytes; by = by; exit = exit_by by; host = hop; cause = cause }
 
-one-other : (x : Sent) → is_translation x.bytes ≡ false → other_frames (x ∷ []) ≡ x ∷ []
+one-other : (x : Sent) → is_other x.bytes ≡ true → other_frames (x ∷ []) ≡ x ∷ []
 one-other x is = rw is refl
 
-behind-other : (x y : Sent) → is_translation x.bytes ≡ true → is_translation y.bytes ≡ false → other_frames (x ∷ y ∷ []) ≡ y ∷ []
+behind-other : (x y : Sent) → is_other x.bytes ≡ false → is_other y.bytes ≡ true → other_frames (x ∷ y ∷ []) ≡ y ∷ []
 behind-other x y is none = rw (is, none) refl
 
 module _ (frames : Frames) (s two : GatewayAndOutput) (side : Side) (bytes : List ℕ) (by : Translation) (hop : Ip) (x : Sent) (notes : List Note) where
   abbrev IsSentFrom : Type 0
-  IsSentFrom = (two.told.frames ≡ s.told.frames ++ x ∷ []) × ((is_translation x.bytes ≡ true) × ((two.told.notes ≡ s.told.notes ++ notes)
+  IsSentFrom = (two.told.frames ≡ s.told.frames ++ x ∷ []) × ((is_other x.bytes ≡ false) × ((two.told.notes ≡ s.told.notes ++ notes)
       × (((p : Pair) → IsTranslated two.shown.ledger.book.entries p → MayGoBy s.shown notes p) × ((two.shown.kept ≡ s.shown.kept) × ((known_of two.shown ≡ known_of s.shown)
       × (SameStations s.shown two.shown × ((AreWired s.shown → AreWired two.shown) × IsNextHop (known_of s.shown) (MayGoBy s.shown notes) (at_hand side bytes) by (exit_by by) hop)))))))
 
@@ -540,7 +547,7 @@ module _ (frames : Frames) (s two : GatewayAndOutput) (side : Side) (bytes : Lis
       at w exit is_exit true asks =
           let e = exit_by by in
           let y : Sent = record { side = e; bytes = request_by two.shown e hop } in
-          let other = frames.request (station_on two.shown e).network hop (own-six two.shown (wired w.0) e) in
+          let other = request-other frames (station_on two.shown e).network hop (own-six two.shown (wired w.0) e) in
           let g2 = neighbour_asked two.shown e hop in
           let net = net-stays s.shown two.shown stations.0 e in
           asks-by hand s (framed (scene g2 two.told) e (request_by two.shown e hop)) (x ∷ y ∷ []) notes (ask ∷ []) [] []
@@ -577,7 +584,7 @@ again-asks frames s side bytes by hop says = λ w. at w (asks_again s.shown.mome
         → IsAsking hand nobody s (let y : GatewayAndOutput = cond b (framed (scene (record s.shown { kept = kept }) s.told) exit (request_by s.shown exit hop)) s in y)
     at w true asks =
         let y : Sent = record { side = exit; bytes = request_by s.shown exit hop } in
-        let other = frames.request (station_on s.shown exit).network hop (own-six s.shown w.0 exit) in
+        let other = request-other frames (station_on s.shown exit).network hop (own-six s.shown w.0 exit) in
         let ask = asking_for side bytes by hop Drops in
         asks-by hand s (framed (scene (record s.shown { kept = kept }) s.told) exit (request_by s.shown exit hop)) (y ∷ []) [] (ask ∷ []) [] []
         refl (sym (append-nil s.told.notes)) roots (record { hop = says.0; cause = (says.1, asks) }, tt) (one-other y other) tt refl
@@ -609,7 +616,7 @@ plan-asks frames s side bytes flow (Send by next) read plan says = λ w.
     let c = carried-leaves mid flow (flags_in bytes) by in
     let notes = q.notes ++ all_notes mid.shown by in
     let planned = plan-sends s.shown side flow by next plan in
-    let is = frames.sent s.shown.networks by next bytes w.0.0 (next-six s.shown flow by next w.0 planned.next_is) read.passes in
+    let is = sent-no_other frame (frames.sent s.shown.networks by next bytes w.0.0 (next-six s.shown flow by next w.0 planned.next_is) read.passes) in
     renewed-asks frames s two side bytes by (hop_by s.shown by flow) x notes (
       c.frames ∙ ap (λ (fs : List Sent). fs ++ x ∷ []) q.frames,
       (
@@ -638,7 +645,7 @@ plan-asks frames s side bytes flow (Ask by hop) read plan says = λ w.
     let asked = asked-by s.shown side bytes flow by hop q.notes read says.0 in
     let new : IsNew (known_of s.shown) (MayGoBy s.shown q.notes) (waiting side bytes s.shown.moment (wait.Hop exit hop)) = record { since = refl; asked = refl; wait = (by, asked) } in
     keeping-asks s one (by_plan s side bytes flow (Ask by hop)) side bytes (wait.Hop exit hop) (x ∷ []) (ask ∷ []) q refl refl refl refl (record { hop = asked.0; cause = asked.1 }, tt)
-    (one-other x (frames.request (station_on s.shown exit).network hop (own-six s.shown w.0 exit))) new refl (λ ws. refl) refl refl ((refl, refl), (refl, refl)) (λ v. v) w
+    (one-other x (request-other frames (station_on s.shown exit).network hop (own-six s.shown w.0 exit))) new refl (λ ws. refl) refl refl ((refl, refl), (refl, refl)) (λ v. v) w
 plan-asks frames s side bytes flow (AskAgain by hop) read plan says = again-asks frames s side bytes by hop (asked-by s.shown side bytes flow by hop [] read says)
 plan-asks frames s side bytes flow (WaitFor e) read plan says =
     let one = wanted_by s e in
@@ -659,10 +666,91 @@ packet-asks frames s side bytes packet is =
     let carries = frames.reads at.network (is_active at) (is_up s.shown) bytes (Packet packet) is in
     flow-asks frames s side bytes packet.flow (record { synced = reading-synced s.shown side bytes (Packet packet) is; passes = carries.0; flow_is = ap (λ (p : PacketRead). p.flow) carries.1 })
 
+-- ---- an error
+
+same-destination : (bytes : List ℕ) → (error_flow_in bytes).destination.0 ≡ (flow_in bytes).destination.0
+unfolding error_flow_in flow_in
+same-destination bytes = refl
+
+-- what an error is read with
+record IsErrorRead (g : Shown) (bytes : List ℕ) (flow : ErrorFlow) : Type 0 where
+  synced : is_synced g.ledger.book.stage ≡ true
+  passes : IsPassable bytes
+  flow_is : flow ≡ error_flow_in bytes
+
+-- what the plan says of an error's next hop
+error-next : (g : Shown) (side : Side) (bytes : List ℕ) (flow : ErrorFlow) (by : Translation) (hop : Ip) (notes : List Note) → IsErrorRead g bytes flow
+    → IsErrorGoing g side flow by → hop ≡ error_hop g by flow → IsNextHop (known_of g) (MayGoBy g notes) (at_hand side bytes) by (exit_by by) hop
+error-next g side bytes flow by hop notes read goes hop_is =
+    record {
+      goes = inr (record {
+        passes = read.passes;
+        way = subst (λ (f : ErrorFlow). error_direction g.networks side f ≡ Ok (way_of by)) read.flow_is goes.way;
+        pairs = subst (λ (f : ErrorFlow). AreErrorPairs f by) read.flow_is (error-pairs g flow by read.synced goes.pairs);
+      });
+      target = error-targets g flow by notes read.synced goes.pairs;
+      exit_is = refl;
+      hop = ap (λ (h : Ip). h.0) (hop_is ∙ ap (error_hop g by) read.flow_is) ∙ ap (hop_of g.networks by) (same-destination bytes);
+    }
+
+error-asked : (g : Shown) (side : Side) (bytes : List ℕ) (flow : ErrorFlow) (by : Translation) (hop : Ip) (notes : List Note) → IsErrorRead g bytes flow → IsErrorAsked g side flow by hop
+    → IsNextHop (known_of g) (MayGoBy g notes) (at_hand side bytes) by (exit_by by) hop × IsUnknown (known_of g) (exit_by by) hop
+error-asked g side bytes flow by hop notes read a = (
+  error-next g side bytes flow by hop notes read a.goes a.hop_is,
+  ap (λ (h : Ip). mac_at h.0 g.moment (near_on (known_of g) (exit_by by))) a.hop_is ∙ near-mac g (exit_by by) (error_hop g by flow).0 ∙ a.unknown,
+)
+
+error-plan-asks : Frames → (s : GatewayAndOutput) (side : Side) (bytes : List ℕ) (flow : ErrorFlow) (plan : Plan) → IsErrorRead s.shown bytes flow → ErrorSays s.shown side flow (Ok plan)
+    → Ask-on (at_hand side bytes ∷ []) nobody s (by_error_plan s side bytes flow plan)
+error-plan-asks frames s side bytes flow (Send by next) read says = λ w.
+    let frame = passed_frame s.shown.networks by next bytes in
+    let two = framed s (exit_by by) frame in
+    let x : Sent = record { side = exit_by by; bytes = frame } in
+    let six = next-six s.shown (addressed flow) by next w.0 says.1 in
+    let is = error-no_other frame (frames.passed_apart s.shown.networks by next bytes w.0.0 six read.passes) (frames.passed s.shown.networks by next bytes w.0.0 six read.passes) in
+    renewed-asks frames s two side bytes by (error_hop s.shown by flow) x [] (
+      refl,
+      (
+        is,
+        (
+          sym (append-nil s.told.notes),
+          (
+            λ p t. inl t,
+            (refl, (refl, (((refl, refl), (refl, refl)), (λ v. v, error-next s.shown side bytes flow by (error_hop s.shown by flow) [] read says.0 refl)))),
+          ),
+        ),
+      ),
+    ) w
+error-plan-asks frames s side bytes flow (Ask by hop) read says = λ w.
+    let q = nothing-quiet s in
+    let exit = exit_by by in
+    let x : Sent = record { side = exit; bytes = request_by s.shown exit hop } in
+    let ask = asking_for side bytes by hop Waits in
+    let asked = error-asked s.shown side bytes flow by hop q.notes read says.0 in
+    let new : IsNew (known_of s.shown) (MayGoBy s.shown q.notes) (waiting side bytes s.shown.moment (wait.Hop exit hop)) = record { since = refl; asked = refl; wait = (by, asked) } in
+    keeping-asks s s (by_error_plan s side bytes flow (Ask by hop)) side bytes (wait.Hop exit hop) (x ∷ []) (ask ∷ []) q refl refl refl refl (record { hop = asked.0; cause = asked.1 }, tt)
+    (one-other x (request-other frames (station_on s.shown exit).network hop (own-six s.shown w.0 exit))) new refl (λ ws. refl) refl refl ((refl, refl), (refl, refl)) (λ v. v) w
+error-plan-asks frames s side bytes flow (AskAgain by hop) read says = again-asks frames s side bytes by hop (error-asked s.shown side bytes flow by hop [] read says)
+error-plan-asks frames s side bytes flow (WaitFor e) read says = absurd says
+
+pub error-asks : Frames → (s : GatewayAndOutput) (side : Side) (bytes : List ℕ) (packet : ErrorPacket) → reading_on s.shown side bytes ≡ Ok (Error packet)
+    → Ask-on (at_hand side bytes ∷ []) nobody s (error_taken s side bytes packet.flow)
+error-asks frames s side bytes packet is = by (error_plan s.shown side packet.flow) (error-says s.shown side packet.flow)
+  where
+    read : IsErrorRead s.shown bytes packet.flow
+    read = let at = station_on s.shown side in
+        let carries = frames.reads at.network (is_active at) (is_up s.shown) bytes (Error packet) is in
+        record { synced = reading-synced s.shown side bytes (Error packet) is; passes = carries.0; flow_is = ap (λ (p : ErrorPacket). p.flow) carries.1 }
+
+    by : (r : Result Plan Reason) → ErrorSays s.shown side packet.flow r → Ask-on (at_hand side bytes ∷ []) nobody s (by_error_verdict s side bytes packet.flow r)
+    by (Ok plan) says = error-plan-asks frames s side bytes packet.flow plan read says
+    by (Err reason) says = nothing-asks (at_hand side bytes ∷ []) s
+
 -- ---- those whose wait is over
 
 retaken-asks : Frames → (s : GatewayAndOutput) (side : Side) (bytes : List ℕ) (r : Result Reading Reason) → reading_on s.shown side bytes ≡ r → Ask-on (at_hand side bytes ∷ []) nobody s (retaken_by s side bytes r)
 retaken-asks frames s side bytes (Ok (Packet packet)) is = packet-asks frames s side bytes packet is
+retaken-asks frames s side bytes (Ok (Error packet)) is = error-asks frames s side bytes packet is
 retaken-asks frames s side bytes (Ok (Arp p)) is = nothing-asks (at_hand side bytes ∷ []) s
 retaken-asks frames s side bytes (Ok (Advert a from)) is = nothing-asks (at_hand side bytes ∷ []) s
 retaken-asks frames s side bytes (Err reason) is = nothing-asks (at_hand side bytes ∷ []) s

@@ -42,13 +42,14 @@ use Rattle.waiting.specs.Packets.{HeldPacket, asks_again, ended_by, hop_count, i
 use Rattle.waiting.specs.Waits.{ends, is_for_pair}
 use Rattle.waiting.proofs.Offered.{length-asked}
 use Rattle.packet_rules.specs.declared.readings.Reading.{Reading}
-use Rattle.packet_rules.specs.declared.readings.Reading.TheVariants.{Arp, Advert, Packet}
+use Rattle.packet_rules.specs.declared.readings.Reading.TheVariants.{Arp, Advert, Packet, Error}
 use Rattle.packet_rules.specs.declared.reasons.Reason.{Reason}
 use Rattle.packet_rules.specs.declared.translations.Translation.{Translation}
 use Rattle.packet_rules.specs.declared.translations.Translation.TheVariants.{Outward, Inward, Hairpin}
 use Rattle.packet_rules.specs.Arping.{answer_to, is_learnable}
 use Rattle.packet_rules.specs.Flows.{source_of}
 use Rattle.packet_rules.specs.Frames.{sent_frame}
+use Rattle.packet_rules.specs.Errors.{passed_frame}
 use Rattle.interfaces.specs.Stations.{Interface, after_arp, is_active, with_plug}
 use Rattle.output.specs.Output.{Output, with_datagram}
 use Rattle.vrrp_states.specs.Table as table
@@ -58,15 +59,16 @@ use Rattle.spec_step.specs.declared.events.Event.TheVariants.{Frame, Datagram as
 use Rattle.spec_step.specs.declared.plans.Plan.{Plan}
 use Rattle.spec_step.specs.declared.plans.Plan.TheVariants.{Send, Ask, AskAgain, Wait as WaitFor}
 use Rattle.spec_step.specs.Machine.{AreBytes, HasBytes}
-use Rattle.spec_step.specs.Parts.{all_framed, all_idle_done, all_taken, answered_by, arp_taken, asked_again, by_plan, by_row, by_verdict, carried_all, carried_by, datagram_in, datagram_read, flags_in, flow_taken, framed, frames_of, handed_in, has_synced, heard_by, heard_unless, idle_done, idle_taken, keeping, link_answered, link_ticked, neighbour_asked, old_dropped, record_done, record_shown, record_told, records_done, released, renewed_behind, request_by, reset, retaken_by, started, taken_again, wait_ended, waiting, wanted_by, wanted_for, with_link, word_taken}
+use Rattle.spec_step.specs.Parts.{all_framed, all_idle_done, all_taken, answered_by, arp_taken, asked_again, by_plan, by_row, by_verdict, carried_all, carried_by, datagram_in, datagram_read, flags_in, flow_taken, framed, frames_of, handed_in, has_synced, heard_by, heard_unless, idle_done, idle_taken, keeping, link_answered, link_ticked, neighbour_asked, old_dropped, record_done, record_shown, record_told, records_done, released, renewed_behind, request_by, reset, retaken_by, started, taken_again, wait_ended, waiting, wanted_by, wanted_for, with_link, word_taken, by_error_plan, by_error_verdict, error_taken}
 use Rattle.spec_step.specs.Rests.{most_notes}
 use Rattle.spec_step.specs.Shown.{GatewayAndOutput, Shown, id_of, is_running, scene, station_on, with_notes, with_station}
 use Rattle.spec_step.specs.Routers.{BothAct, RouterActs}
 use Rattle.spec_step.specs.GivingWay.{GivingWay, left, turn_of}
 use Rattle.spec_step.specs.Steps.{Does, FrameDoes, IsStepOn, ended_on, ticked, word_by, word_refusal}
-use Rattle.spec_step.specs.Verdict.{exit_by, hop_by, plan_of, reading_on}
+use Rattle.spec_step.specs.Verdict.{exit_by, hop_by, plan_of, reading_on, error_hop, error_plan}
 use Rattle.spec_step.proofs.Turning.{back_as, turn-by}
 use Rattle.spec_step.proofs.Packets.{refusal-leaves}
+use Rattle.icmp.specs.declared.packets.ErrorFlow.{ErrorFlow}
 
 -- from one scene to another at most n notes more, and at most k packets more are kept
 record Adds (n k : ℕ) (s s2 : GatewayAndOutput) : Type 0 where
@@ -191,10 +193,32 @@ verdict-adds s side bytes flow (Err reason) =
 flow-adds : (s : GatewayAndOutput) (side : Side) (bytes : List ℕ) (flow : Flow) → Adds 3 1 s (flow_taken s side bytes flow)
 flow-adds s side bytes flow = verdict-adds s side bytes flow (plan_of s.shown side flow)
 
+-- ---- an error
+
+error-plan-adds : (s : GatewayAndOutput) (side : Side) (bytes : List ℕ) (flow : ErrorFlow) (plan : Plan) → Adds 3 1 s (by_error_plan s side bytes flow plan)
+error-plan-adds s side bytes flow (Send by next) =
+    let one = framed s (exit_by by) (passed_frame s.shown.networks by next bytes) in
+    adds-fewer 0 0 3 1 s _ (omega arith) (omega arith)
+    (adds-then 0 0 0 0 s one _ (framed-adds s _ _) (renewed-adds one (exit_by by) (error_hop s.shown by flow)))
+error-plan-adds s side bytes flow (Ask by hop) =
+    adds-fewer 0 1 3 1 s _ (omega arith) (omega arith)
+    (adds-then 0 1 0 0 s _ _ (keeping-adds s side bytes (wait.Hop (exit_by by) hop)) (framed-adds _ _ _))
+error-plan-adds s side bytes flow (AskAgain by hop) = adds-fewer 0 0 3 1 s _ (omega arith) (omega arith) (again-adds s (exit_by by) hop)
+error-plan-adds s side bytes flow (WaitFor e) = adds-fewer 0 0 3 1 s s (omega arith) (omega arith) (adds-none s s refl refl)
+
+-- an error notes nothing, and at most it itself is kept
+error-adds : (s : GatewayAndOutput) (side : Side) (bytes : List ℕ) (flow : ErrorFlow) → Adds 3 1 s (error_taken s side bytes flow)
+error-adds s side bytes flow = at (error_plan s.shown side flow)
+  where
+    at : (r : Result Plan Reason) → Adds 3 1 s (by_error_verdict s side bytes flow r)
+    at (Ok plan) = error-plan-adds s side bytes flow plan
+    at (Err reason) = adds-fewer 0 0 3 1 s s (omega arith) (omega arith) (adds-none s s refl refl)
+
 -- ---- those whose wait is over
 
 retaken-adds : (s : GatewayAndOutput) (side : Side) (bytes : List ℕ) (r : Result Reading Reason) → Adds 3 1 s (retaken_by s side bytes r)
 retaken-adds s side bytes (Ok (Packet packet)) = flow-adds s side bytes packet.flow
+retaken-adds s side bytes (Ok (Error packet)) = error-adds s side bytes packet.flow
 retaken-adds s side bytes (Ok (Arp p)) = adds-fewer 0 0 3 1 s s (omega arith) (omega arith) (adds-none s s refl refl)
 retaken-adds s side bytes (Ok (Advert a from)) = adds-fewer 0 0 3 1 s s (omega arith) (omega arith) (adds-none s s refl refl)
 retaken-adds s side bytes (Err reason) = adds-fewer 0 0 3 1 s s (omega arith) (omega arith) (adds-none s s refl refl)
@@ -481,6 +505,7 @@ does-few s (Frame side bytes) done does has = at (reading_on s.shown side bytes.
         omega (arith, x.0, ap (λ (z : GatewayAndOutput). length z.told.notes) is)
     at (Ok (Advert a from)) is = omega (arith, (router-adds s side _ done is).notes)
     at (Ok (Packet packet)) is = omega (arith, (flow-adds s side bytes.now packet.flow).notes, ap (λ (z : GatewayAndOutput). length z.told.notes) is)
+    at (Ok (Error packet)) is = omega (arith, (error-adds s side bytes.now packet.flow).notes, ap (λ (z : GatewayAndOutput). length z.told.notes) is)
     at (Err reason) is = omega (arith, ap (λ (z : GatewayAndOutput). length z.told.notes) is)
 does-few s (Comes bytes) done does has =
     let x = datagram-within (length s.shown.kept) s bytes.now (reading bytes.now) refl has in

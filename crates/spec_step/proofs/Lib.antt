@@ -5,6 +5,7 @@ mod Asking
 mod Beginning
 mod Counting
 mod Ending
+mod Erring
 mod Freeing
 mod Giving
 mod Hearing

@@ -32,10 +32,9 @@ use Rattle.waiting.specs.Packets.{HeldPacket, asks_again, is_young}
 use Rattle.waiting.specs.Waits.{ends}
 use Rattle.packet_rules.specs.declared.networks.Network.{Network}
 use Rattle.packet_rules.specs.declared.readings.Reading.{Reading}
-use Rattle.packet_rules.specs.declared.readings.Reading.TheVariants.{Arp, Advert, Packet}
+use Rattle.packet_rules.specs.declared.readings.Reading.TheVariants.{Arp, Advert, Packet, Error}
 use Rattle.packet_rules.specs.declared.reasons.Reason.{Reason}
 use Rattle.packet_rules.specs.Arping.{answer_frame, answer_to, is_learnable}
-use Rattle.packet_rules.specs.Frames.{is_translation}
 use Rattle.interfaces.specs.Stations.{IsRouterStep, IsWired, Interface, after_arp, is_active, with_neighbour}
 use Rattle.output.specs.Output.{Sent, Output, with_datagram}
 use Rattle.vrrp_states.specs.declared.Action.{Action}
@@ -47,21 +46,21 @@ use Rattle.spec_step.specs.declared.events.Event.TheVariants.{Frame, Datagram as
 use Rattle.spec_step.specs.declared.turns.Turn.{Turn}
 use Rattle.spec_step.specs.declared.turns.Turn.TheVariants.{Leaves, Returns, Stays}
 use Rattle.spec_step.specs.GivingWay.{GivingWay, TakesTurn, left, turn_of}
-use Rattle.spec_step.specs.Others.{AreOfBoth, TurnOwes, AreOthers, Asking, FrameOwes, IsDue, IsNew, MayGoBy, Owes, all_noted, answers_by, firsts, free_by, frees_as, frees_for, frees_heard, frees_read, frees_unless, hops_of, is_freed, is_old, other_frames, packet_as, packet_in, packets_asked, requests, retaken_pairs, sent_on, waiting_by, within_limit}
-use Rattle.spec_step.specs.Parts.{acted, all_framed, all_idle_done, answered_by, arp_taken, datagram_in, datagram_read, datagram_taken, flow_taken, framed, frames_of, handed_in, has_synced, heard_by, heard_unless, idle_done, idle_taken, link_answered, link_ticked, old_dropped, record_done, record_shown, record_told, records_done, released, reset, side_plugged, started, wait_ended, with_link, word_taken}
+use Rattle.spec_step.specs.Others.{AreOfBoth, TurnOwes, AreOthers, Asking, FrameOwes, IsDue, IsNew, MayGoBy, Owes, all_noted, answers_by, firsts, free_by, frees_as, frees_for, frees_heard, frees_read, frees_unless, hops_of, is_freed, is_old, other_frames, packet_as, packet_in, packets_asked, requests, retaken_pairs, sent_on, waiting_by, within_limit, is_other}
+use Rattle.spec_step.specs.Parts.{acted, all_framed, all_idle_done, answered_by, arp_taken, datagram_in, datagram_read, datagram_taken, flow_taken, framed, frames_of, handed_in, has_synced, heard_by, heard_unless, idle_done, idle_taken, link_answered, link_ticked, old_dropped, record_done, record_shown, record_told, records_done, released, reset, side_plugged, started, wait_ended, with_link, word_taken, error_taken}
 use Rattle.spec_step.specs.Shown.{GatewayAndOutput, Shown, id_of, is_running, is_up, scene, station_on, with_notes, with_station}
 use Rattle.spec_step.specs.Routers.{BothAct, RouterActs}
 use Rattle.spec_step.specs.Settled.{AreIdle}
 use Rattle.spec_step.specs.Steps.{Does, FrameDoes, IsStepOn, clock_after, ended_on, stopped, ticked, word_by, word_refusal}
 use Rattle.spec_step.specs.Truly.{AtHand, Known, known_of, packets_of}
 use Rattle.spec_step.specs.Verdict.{reading_on}
-use Rattle.spec_step.proofs.Asking.{Ask-on, Asks, IsFit, IsQuiet, NearStays, NetsStay, Waiting, all-apart, asking-then, due-more, kept-here, net-stays, new-more, nobody, nothing-asks, one-apart, packet-asks, pairs-ask, quiet-asks, quiet-by, released-asks, requests-same}
+use Rattle.spec_step.proofs.Asking.{Ask-on, Asks, IsFit, IsQuiet, NearStays, NetsStay, Waiting, all-apart, asking-then, due-more, kept-here, net-stays, new-more, nobody, nothing-asks, one-apart, packet-asks, pairs-ask, quiet-asks, quiet-by, released-asks, requests-same, error-asks}
 use Rattle.spec_step.proofs.Freeing.{Comes-of, filter-same}
 use Rattle.spec_step.proofs.Limits.{count-left}
 use Rattle.spec_step.proofs.Lines.{acts-shown, both-stopped, line-quiet}
 use Rattle.spec_step.proofs.Near.{asks-learnt}
 use Rattle.spec_step.proofs.Rooting.{Rooted, alone-rooted, restart-rooted, taken-roots}
-use Rattle.spec_step.proofs.Sending.{Frames, own-six}
+use Rattle.spec_step.proofs.Sending.{Frames, own-six, answer-other}
 use Rattle.spec_step.proofs.Telling.{at_hand}
 use Rattle.spec_step.proofs.Turning.{back_as}
 use Rattle.spec_step.proofs.Truths.{AllOther, action-frames, after-wired, routed-wired, wired-on}
@@ -82,7 +81,7 @@ pub record Gives (own : List Sent) (s s2 : GatewayAndOutput) : Type 0 where
 gives-then : (f h : List Sent) (a b c : GatewayAndOutput) → Gives f a b → Gives h b c → Gives (f ++ h) a c
 gives-then f h a b c x y = record {
   frames_are = y.frames_are ∙ ap (λ (fs : List Sent). fs ++ h) x.frames_are ∙ append_assoc a.told.frames f h;
-  apart = filter-append (λ (z : Sent). not (is_translation z.bytes)) f h ∙ ap (λ (fs : List Sent). fs ++ other_frames h) x.apart ∙ ap (λ (fs : List Sent). f ++ fs) y.apart;
+  apart = filter-append (λ (z : Sent). is_other z.bytes) f h ∙ ap (λ (fs : List Sent). fs ++ other_frames h) x.apart ∙ ap (λ (fs : List Sent). f ++ fs) y.apart;
   notes = y.notes ∙ x.notes;
   entries = y.entries ∙ x.entries;
   kept = y.kept ∙ x.kept;
@@ -105,7 +104,7 @@ gives-nothing s s2 told ledger kept moment near nets fit = record {
   fit = fit;
 }
 
-gives-one : (s : GatewayAndOutput) (side : Side) (bytes : List ℕ) → is_translation bytes ≡ false → IsFit s.shown → Gives (let x : Sent = record { side = side; bytes = bytes } in x ∷ []) s (framed s side bytes)
+gives-one : (s : GatewayAndOutput) (side : Side) (bytes : List ℕ) → is_other bytes ≡ true → IsFit s.shown → Gives (let x : Sent = record { side = side; bytes = bytes } in x ∷ []) s (framed s side bytes)
 gives-one s side bytes none w = record { frames_are = refl; notes = refl; entries = refl; apart = rw none refl; kept = refl; moment = refl; near = λ t host a. sides t host a; nets = (refl, refl); fit = w }
   where
     sides : NearStays s.shown.moment s.shown (framed s side bytes).shown
@@ -143,7 +142,7 @@ others-then owes hand over own a b c owed x y = record {
   owed = owed;
   askings = y.askings;
   due = due-more (known_of c.shown) (MayGoBy b.shown y.notes) (MayGoBy a.shown y.notes) may a.shown b.shown near (λ side host t. subst (λ (ws : List HeldPacket). asks_again (known_of c.shown).moment (wait.Hop side host) ws ≡ true) x.kept t) y.askings y.due;
-  others = filter-append (λ (z : Sent). not (is_translation z.bytes)) own y.frames
+  others = filter-append (λ (z : Sent). is_other z.bytes) own y.frames
       ∙ ap (λ (fs : List Sent). fs ++ other_frames y.frames) x.apart
       ∙ ap (λ (fs : List Sent). own ++ fs) (y.others ∙ requests-same a.shown b.shown x.nets y.askings);
   came = y.came;
@@ -201,7 +200,7 @@ answered-gives : Frames → (s : GatewayAndOutput) (station : Interface) (side :
     → Gives (sent_on side (answers_by station p o)) s (answered_by s side p o)
 answered-gives frames s station side p (Some mac) six same w =
     subst (λ (n : Network). Gives (sent_on side (answer_frame n p mac ∷ [])) s (answered_by s side p (Some mac))) same
-    (gives-one s side (answer_frame (station_on s.shown side).network p mac) (frames.answer (station_on s.shown side).network p mac (own-six s.shown w.0 side) six) w)
+    (gives-one s side (answer_frame (station_on s.shown side).network p mac) (answer-other frames (station_on s.shown side).network p mac (own-six s.shown w.0 side) six) w)
 answered-gives frames s station side p None six same w = gives-here s w
 
 arp-others : Frames → (s : GatewayAndOutput) (side : Side) (p : ArpPacket) → length p.sender_mac.0 ≡ 6 → IsFit s.shown
@@ -373,6 +372,10 @@ frame-others frames s side bytes (Ok (Packet packet)) s2 read w does =
     subst (λ (x : GatewayAndOutput). Sends-others (FrameOwes s.shown side (Ok (Packet packet))) (at_hand side bytes ∷ []) (frees_as s.shown side (Ok (Packet packet))) s x) (sym does)
     (others-then (FrameOwes s.shown side (Ok (Packet packet))) (at_hand side bytes ∷ []) (frees_as s.shown side (Ok (Packet packet))) [] s s (flow_taken s side bytes packet.flow) refl
     (gives-here s w) (packet-asks frames s side bytes packet read w).asks)
+frame-others frames s side bytes (Ok (Error packet)) s2 read w does =
+    subst (λ (x : GatewayAndOutput). Sends-others (FrameOwes s.shown side (Ok (Error packet))) (at_hand side bytes ∷ []) (frees_as s.shown side (Ok (Error packet))) s x) (sym does)
+    (others-then (FrameOwes s.shown side (Ok (Error packet))) (at_hand side bytes ∷ []) (frees_as s.shown side (Ok (Error packet))) [] s s (error_taken s side bytes packet.flow) refl
+    (gives-here s w) (error-asks frames s side bytes packet read w).asks)
 frame-others frames s side bytes (Err reason) s2 read w does =
     subst (λ (x : GatewayAndOutput). Sends-others (FrameOwes s.shown side (Err reason)) [] (frees_as s.shown side (Err reason)) s x) (sym does)
     (others-then (FrameOwes s.shown side (Err reason)) [] (frees_as s.shown side (Err reason)) [] s s s refl

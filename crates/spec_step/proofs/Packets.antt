@@ -42,7 +42,7 @@ use Rattle.packet_rules.specs.declared.networks.Direction.{Direction}
 use Rattle.packet_rules.specs.declared.networks.Direction.TheVariants as way
 use Rattle.packet_rules.specs.declared.networks.Network.{Network}
 use Rattle.packet_rules.specs.declared.readings.Reading.{Reading}
-use Rattle.packet_rules.specs.declared.readings.Reading.TheVariants.{Arp, Advert, Packet}
+use Rattle.packet_rules.specs.declared.readings.Reading.TheVariants.{Arp, Advert, Packet, Error}
 use Rattle.packet_rules.specs.declared.reasons.Reason.{Reason}
 use Rattle.packet_rules.specs.declared.reasons.Reason.TheVariants.{ShortFrame, NotMine, BadHeader, BadLength, BadHeaderSum, Fragment, TtlOver, NotUdpTcp, BadTransport, BadArp, BadAdvert, NotUp, NoBinding, NoPort, CannotWait, BadDatagram, OldWord, HostLimit}
 use Rattle.packet_rules.specs.declared.translations.Translation.{Translation}
@@ -50,14 +50,16 @@ use Rattle.packet_rules.specs.declared.translations.Translation.TheVariants.{Out
 use Rattle.packet_rules.specs.Flows.{flow_in, source_of}
 use Rattle.packet_rules.specs.Networks.{direction_of}
 use Rattle.packet_rules.specs.Steps.{Carries, IsForwardable, reading_of, and_then}
+use Rattle.packet_rules.specs.Errors.{passed_frame}
 use Rattle.interfaces.specs.Stations.{is_active}
 use Rattle.spec_step.specs.declared.plans.Plan.{Plan}
 use Rattle.spec_step.specs.declared.plans.Plan.TheVariants.{Send, Ask, AskAgain, Wait as WaitFor}
 use Rattle.spec_step.specs.Machine.{AreBytes}
-use Rattle.spec_step.specs.Parts.{all_taken, asked_again, by_plan, by_refusal, by_verdict, carried, carried_all, carried_by, flags_in, flow_taken, framed, keeping, neighbour_asked, released, remote, renewed_behind, request_by, retaken_by, taken_again, wanted_by, wanted_for}
+use Rattle.spec_step.specs.Parts.{all_taken, asked_again, by_plan, by_refusal, by_verdict, carried, carried_all, carried_by, flags_in, flow_taken, framed, keeping, neighbour_asked, released, remote, renewed_behind, request_by, retaken_by, taken_again, wanted_by, wanted_for, by_error_plan, by_error_verdict, error_taken}
 use Rattle.spec_step.specs.Shown.{GatewayAndOutput, Shown, is_up, scene, station_on}
-use Rattle.spec_step.specs.Verdict.{exit_by, hop_by, look_for, plan_by, plan_from, plan_of, plan_on, plan_to, reading_on, target_pair}
+use Rattle.spec_step.specs.Verdict.{exit_by, hop_by, look_for, plan_by, plan_from, plan_of, plan_on, plan_to, reading_on, target_pair, error_hop, error_plan}
 use Rattle.spec_step.proofs.Passing.{Going, given, going-then, going-unseen, nothing, row-goes}
+use Rattle.icmp.specs.declared.packets.ErrorFlow.{ErrorFlow}
 
 -- ---- the endpoint of a packet's source
 
@@ -281,6 +283,26 @@ module _ (letters : List Letter) (words : List ℕ) where
   pub flow-goes : (s : GatewayAndOutput) (side : Side) (bytes : List ℕ) (flow : Flow) → AreBytes bytes → IsWellFormedEndpoint (source_of flow) → Going letters words s (flow_taken s side bytes flow)
   flow-goes s side bytes flow are formed = verdict-goes s side bytes flow (plan_of s.shown side flow) are formed (plan-fits s.shown side flow formed)
 
+  -- ---- an error
+
+  error-plan-goes : (s : GatewayAndOutput) (side : Side) (bytes : List ℕ) (flow : ErrorFlow) (plan : Plan) → AreBytes bytes → Going letters words s (by_error_plan s side bytes flow plan)
+  error-plan-goes s side bytes flow (Send by next) are =
+      let one = framed s (exit_by by) (passed_frame s.shown.networks by next bytes) in
+      going-then letters words s one _ (framed-goes s _ _) (renewed-goes one (exit_by by) (error_hop s.shown by flow))
+  error-plan-goes s side bytes flow (Ask by hop) are =
+      let what = wait.Hop (exit_by by) hop in
+      let one = keeping s side bytes what in
+      going-then letters words s one _ (keeping-goes s side bytes what are) (framed-goes one _ _)
+  error-plan-goes s side bytes flow (AskAgain by hop) are = again-goes s (exit_by by) hop
+  error-plan-goes s side bytes flow (WaitFor e) are = here s
+
+  pub error-goes : (s : GatewayAndOutput) (side : Side) (bytes : List ℕ) (flow : ErrorFlow) → AreBytes bytes → Going letters words s (error_taken s side bytes flow)
+  error-goes s side bytes flow are = at (error_plan s.shown side flow)
+    where
+      at : (r : Result Plan Reason) → Going letters words s (by_error_verdict s side bytes flow r)
+      at (Ok plan) = error-plan-goes s side bytes flow plan are
+      at (Err reason) = here s
+
   -- ---- those whose wait is over
 
   pub read-formed : Reads → (g : Shown) (side : Side) (bytes : List ℕ) (packet : PacketRead) → AreBytes bytes → reading_on g side bytes ≡ Ok (Packet packet) → IsWellFormedEndpoint (source_of packet.flow)
@@ -291,6 +313,7 @@ module _ (letters : List Letter) (words : List ℕ) where
 
   retaken-goes : Reads → (s : GatewayAndOutput) (side : Side) (bytes : List ℕ) (r : Result Reading Reason) → reading_on s.shown side bytes ≡ r → AreBytes bytes → Going letters words s (retaken_by s side bytes r)
   retaken-goes reads s side bytes (Ok (Packet packet)) read are = flow-goes s side bytes packet.flow are (read-formed reads s.shown side bytes packet are read)
+  retaken-goes reads s side bytes (Ok (Error packet)) read are = error-goes s side bytes packet.flow are
   retaken-goes reads s side bytes (Ok (Arp p)) read are = here s
   retaken-goes reads s side bytes (Ok (Advert a from)) read are = here s
   retaken-goes reads s side bytes (Err reason) read are = here s

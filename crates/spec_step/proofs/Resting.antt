@@ -29,21 +29,23 @@ use Rattle.waiting.specs.declared.waits.WaitsFor.TheVariants as wait
 use Rattle.waiting.specs.Packets.{HeldPacket, asks_again, ended_by, left_by, with_asked}
 use Rattle.waiting.proofs.Offered.{all-asked, all-room}
 use Rattle.packet_rules.specs.declared.readings.Reading.{Reading}
-use Rattle.packet_rules.specs.declared.readings.Reading.TheVariants.{Arp, Advert, Packet}
+use Rattle.packet_rules.specs.declared.readings.Reading.TheVariants.{Arp, Advert, Packet, Error}
 use Rattle.packet_rules.specs.declared.reasons.Reason.{Reason}
 use Rattle.packet_rules.specs.declared.translations.Translation.{Translation}
 use Rattle.packet_rules.specs.declared.translations.Translation.TheVariants.{Outward, Inward, Hairpin}
 use Rattle.packet_rules.specs.Flows.{source_of}
+use Rattle.packet_rules.specs.Errors.{passed_frame}
 use Rattle.arp.specs.Neighbours.{asks_at}
 use Rattle.spec_step.specs.declared.plans.Plan.{Plan}
 use Rattle.spec_step.specs.declared.plans.Plan.TheVariants.{Send, Ask, AskAgain, Wait as WaitFor}
 use Rattle.spec_step.specs.Machine.{AreBytes, KeepsBytes}
-use Rattle.spec_step.specs.Parts.{all_taken, asked_again, by_plan, by_verdict, carried, carried_all, carried_by, flags_in, flow_taken, framed, keeping, neighbour_asked, released, remote, renewed_behind, request_by, retaken_by, taken_again, wanted_by, wanted_for}
+use Rattle.spec_step.specs.Parts.{all_taken, asked_again, by_plan, by_verdict, carried, carried_all, carried_by, flags_in, flow_taken, framed, keeping, neighbour_asked, released, remote, renewed_behind, request_by, retaken_by, taken_again, wanted_by, wanted_for, by_error_plan, by_error_verdict, error_taken}
 use Rattle.spec_step.specs.Rests.{AreBy}
 use Rattle.spec_step.specs.Shown.{GatewayAndOutput, id_of, scene, station_on, with_notes}
-use Rattle.spec_step.specs.Verdict.{exit_by, hop_by, plan_of, reading_on}
+use Rattle.spec_step.specs.Verdict.{exit_by, hop_by, plan_of, reading_on, error_hop, error_plan}
 use Rattle.spec_step.proofs.Packets.{PlanFits, Reads, kept-filter, kept-more, plan-fits, read-formed, refusal-leaves}
 use Rattle.spec_step.proofs.Passing.{IsSound}
+use Rattle.icmp.specs.declared.packets.ErrorFlow.{ErrorFlow}
 
 -- what is noted from one scene to another, at one moment, and that whatever trace the ledger accounted for before, it does
 -- so with these notes
@@ -198,10 +200,31 @@ verdict-rests s side bytes flow (Err reason) are formed fits =
 pub flow-rests : (s : GatewayAndOutput) (side : Side) (bytes : List ℕ) (flow : Flow) → AreBytes bytes → IsWellFormedEndpoint (source_of flow) → Resting s (flow_taken s side bytes flow)
 flow-rests s side bytes flow are formed = verdict-rests s side bytes flow (plan_of s.shown side flow) are formed (plan-fits s.shown side flow formed)
 
+-- ---- an error
+
+error-plan-rests : (s : GatewayAndOutput) (side : Side) (bytes : List ℕ) (flow : ErrorFlow) (plan : Plan) → AreBytes bytes → Resting s (by_error_plan s side bytes flow plan)
+error-plan-rests s side bytes flow (Send by next) are =
+    let one = framed s (exit_by by) (passed_frame s.shown.networks by next bytes) in
+    resting-then s one _ (framed-rests s _ _) (renewed-rests one (exit_by by) (error_hop s.shown by flow))
+error-plan-rests s side bytes flow (Ask by hop) are =
+    let what = wait.Hop (exit_by by) hop in
+    let one = keeping s side bytes what in
+    resting-then s one _ (keeping-rests s side bytes what are) (framed-rests one _ _)
+error-plan-rests s side bytes flow (AskAgain by hop) are = again-rests s (exit_by by) hop
+error-plan-rests s side bytes flow (WaitFor e) are = resting-nothing s
+
+pub error-rests : (s : GatewayAndOutput) (side : Side) (bytes : List ℕ) (flow : ErrorFlow) → AreBytes bytes → Resting s (error_taken s side bytes flow)
+error-rests s side bytes flow are = at (error_plan s.shown side flow)
+  where
+    at : (r : Result Plan Reason) → Resting s (by_error_verdict s side bytes flow r)
+    at (Ok plan) = error-plan-rests s side bytes flow plan are
+    at (Err reason) = resting-nothing s
+
 -- ---- those whose wait is over
 
 retaken-rests : Reads → (s : GatewayAndOutput) (side : Side) (bytes : List ℕ) (r : Result Reading Reason) → reading_on s.shown side bytes ≡ r → AreBytes bytes → Resting s (retaken_by s side bytes r)
 retaken-rests reads s side bytes (Ok (Packet packet)) read are = flow-rests s side bytes packet.flow are (read-formed [] [] reads s.shown side bytes packet are read)
+retaken-rests reads s side bytes (Ok (Error packet)) read are = error-rests s side bytes packet.flow are
 retaken-rests reads s side bytes (Ok (Arp p)) read are = resting-nothing s
 retaken-rests reads s side bytes (Ok (Advert a from)) read are = resting-nothing s
 retaken-rests reads s side bytes (Err reason) read are = resting-nothing s

@@ -1,5 +1,5 @@
 -- One packet, and those whose wait is over: what is told of them is true, and what that rests on holds again.
-use Rattle.std.proofs.Common.{◌≡◌, ℕ, Bool, true, false, not, ◌&&◌, List, [], ◌∷◌, ◌++◌, Option, Some, None, Result, Ok, Err, refl, sym, ap, subst, ◌∙◌, cond, IsPermutation}
+use Rattle.std.proofs.Common.{◌≡◌, ℕ, Bool, true, false, not, ◌&&◌, List, [], ◌∷◌, ◌++◌, Option, Some, None, Result, Ok, Err, refl, sym, ap, subst, ◌∙◌, cond, IsPermutation, length}
 use Rattle.std.specs.List.{AllByRecursion}
 use Rattle.addresses.specs.declared.ethernet.Mac.{Mac}
 use Rattle.addresses.specs.declared.internet.Ip.{Ip}
@@ -19,14 +19,15 @@ use Rattle.waiting.specs.declared.waits.WaitsFor.TheVariants as wait
 use Rattle.waiting.specs.Packets.{HeldPacket, asks_again, ended_by, left_by, with_asked}
 use Rattle.waiting.proofs.Offered.{all-asked, all-room, map-asked}
 use Rattle.packet_rules.specs.declared.readings.Reading.{Reading}
-use Rattle.packet_rules.specs.declared.readings.Reading.TheVariants.{Arp, Advert, Packet}
+use Rattle.packet_rules.specs.declared.readings.Reading.TheVariants.{Arp, Advert, Packet, Error}
 use Rattle.packet_rules.specs.declared.reasons.Reason.{Reason}
 use Rattle.packet_rules.specs.declared.translations.Translation.{Translation}
 use Rattle.packet_rules.specs.declared.translations.Translation.TheVariants.{Outward, Inward, Hairpin}
 use Rattle.packet_rules.specs.Arping.{request_frame}
 use Rattle.packet_rules.specs.Flows.{flow_in, source_of}
 use Rattle.packet_rules.specs.Frames.{is_translation, sent_frame}
-use Rattle.packet_rules.specs.Steps.{IsForwardable, unless, up_refusal}
+use Rattle.packet_rules.specs.Steps.{IsForwardable, unless, up_refusal, IsPassable}
+use Rattle.packet_rules.specs.Errors.{passed_frame}
 use Rattle.interfaces.specs.Stations.{is_active}
 use Rattle.output.specs.Output.{Sent}
 use Rattle.arp.specs.Neighbours.{Neighbours, asks_at}
@@ -34,18 +35,21 @@ use Rattle.arp.proofs.Offered.{asked-six, forgetful-asked}
 use Rattle.spec_step.specs.declared.plans.Plan.{Plan}
 use Rattle.spec_step.specs.declared.plans.Plan.TheVariants.{Send, Ask, AskAgain, Wait as WaitFor}
 use Rattle.spec_step.specs.Machine.{AreBytes}
-use Rattle.spec_step.specs.Parts.{all_taken, asked_again, by_plan, by_refusal, by_row, by_verdict, carried_all, flags_in, flow_taken, framed, keeping, neighbour_asked, released, renewed_behind, request_by, retaken_by, taken_again, wanted_by, wanted_for}
+use Rattle.spec_step.specs.Parts.{all_taken, asked_again, by_plan, by_refusal, by_row, by_verdict, carried_all, flags_in, flow_taken, framed, keeping, neighbour_asked, released, renewed_behind, request_by, retaken_by, taken_again, wanted_by, wanted_for, by_error_plan, by_error_verdict, error_taken}
 use Rattle.spec_step.specs.Shown.{GatewayAndOutput, Shown, id_of, is_up, scene, station_on}
 use Rattle.spec_step.specs.Truly.{AreWired, AtHand, IsSentBy, Known, Tells, known_of, packets_of}
-use Rattle.spec_step.specs.Verdict.{exit_by, hop_by, plan_of, reading_on}
+use Rattle.spec_step.specs.Verdict.{exit_by, hop_by, plan_of, reading_on, error_hop, error_plan}
 use Rattle.spec_step.proofs.Packets.{PlanFits, kept-filter, kept-more, plan-fits, refusal-leaves, source-formed}
 use Rattle.spec_step.proofs.Passing.{IsSound}
 use Rattle.spec_step.proofs.Sending.{AllTranslate, Frames, carried-leaves, found-translate, is-sent, next-six, own-six, sending-tells}
 use Rattle.spec_step.proofs.Sends.{plan-sends}
 use Rattle.spec_step.proofs.Takings.{IsUseless, keeping-tells, wanted-for-known, wish-useless}
 use Rattle.spec_step.proofs.Telling.{at_hand, framed-tells, split-kept, tells-nothing, tells-quietly, tells-then}
+use Rattle.spec_step.proofs.Erring.{ErrorSays, error-says}
 use Rattle.std.proofs.lemmas.List.Sorted.{IsPermutation-sym, IsPermutation-trans, IsPermutation-refl}
 use Rattle.std.proofs.lemmas.List.{append-nil}
+use Rattle.icmp.specs.declared.packets.ErrorFlow.{ErrorFlow}
+use Rattle.icmp.specs.declared.packets.ErrorPacket.{ErrorPacket}
 
 -- what is told from one scene to another is true, and what that rests on holds afterwards
 pub record Says (hand : List AtHand) (s s2 : GatewayAndOutput) : Type 0 where
@@ -238,6 +242,10 @@ sent-says frames s side bytes by next read plan =
     (saying-then [] (at_hand side bytes ∷ []) s one two first (sending-says frames s one side bytes by next read plan refl is.book w))
     (renewed-says frames two (exit_by by) (hop_by s.shown by flow)) is w
 
+-- the addresses of an error itself
+abbrev pub addressed : ErrorFlow → Flow
+addressed flow = record flow.inside { source = flow.source; destination = flow.destination }
+
 -- ---- any plan, and none
 
 plan-says : Frames → (s : GatewayAndOutput) (side : Side) (bytes : List ℕ) (flow : Flow) (plan : Plan) → IsRead s bytes flow → plan_of s.shown side flow ≡ Ok plan → PlanFits (Ok plan)
@@ -301,8 +309,44 @@ packet-says frames s side bytes packet is are =
     let carries = frames.reads at.network (is_active at) (is_up s.shown) bytes (Packet packet) is in
     flow-says frames s side bytes packet.flow (record { are = are; synced = reading-synced s.shown side bytes (Packet packet) is; passes = carries.0; flow_is = ap (λ (p : PacketRead). p.flow) carries.1 })
 
+-- an error
+error-plan-says : Frames → (s : GatewayAndOutput) (side : Side) (bytes : List ℕ) (flow : ErrorFlow) (plan : Plan) → IsPassable bytes → AreBytes bytes → ErrorSays s.shown side flow (Ok plan)
+    → Saying (at_hand side bytes ∷ []) s (by_error_plan s side bytes flow plan)
+error-plan-says frames s side bytes flow (Send by next) passes are says =
+    let hand = at_hand side bytes ∷ [] in
+    let frame = passed_frame s.shown.networks by next bytes in
+    let one = framed s (exit_by by) frame in
+    let six : AreWired s.shown → length next.0 ≡ 6 = λ w. next-six s.shown (addressed flow) by next w says.1 in
+    saying-then hand [] s s (by_error_plan s side bytes flow (Send by next)) (saying-nothing s hand)
+    (saying-then [] [] s one (by_error_plan s side bytes flow (Send by next))
+    (framed-says s (exit_by by) frame (λ w. frames.passed_apart s.shown.networks by next bytes w.0 (six w) passes))
+    (renewed-says frames one (exit_by by) (error_hop s.shown by flow)))
+error-plan-says frames s side bytes flow (Ask by hop) passes are says =
+    let hand = at_hand side bytes ∷ [] in
+    let what = wait.Hop (exit_by by) hop in
+    let one = keeping s side bytes what in
+    let network = (station_on s.shown (exit_by by)).network in
+    λ is w. saying-then hand [] s one (framed one (exit_by by) (request_frame network hop)) (keeping-says s side bytes what are)
+    (framed-says one (exit_by by) (request_frame network hop) (λ x. frames.request network hop (own-six s.shown w (exit_by by)))) is w
+error-plan-says frames s side bytes flow (AskAgain by hop) passes are says =
+    let hand = at_hand side bytes ∷ [] in
+    saying-then hand [] s s (asked_again s (exit_by by) hop) (saying-nothing s hand) (again-says frames s (exit_by by) hop)
+error-plan-says frames s side bytes flow (WaitFor e) passes are says = absurd says
+
+pub error-packet-says : Frames → (s : GatewayAndOutput) (side : Side) (bytes : List ℕ) (packet : ErrorPacket) → reading_on s.shown side bytes ≡ Ok (Error packet) → AreBytes bytes
+    → Saying (at_hand side bytes ∷ []) s (error_taken s side bytes packet.flow)
+error-packet-says frames s side bytes packet is are = by (error_plan s.shown side packet.flow) (error-says s.shown side packet.flow)
+  where
+    passes : IsPassable bytes
+    passes = let at = station_on s.shown side in (frames.reads at.network (is_active at) (is_up s.shown) bytes (Error packet) is).0
+
+    by : (r : Result Plan Reason) → ErrorSays s.shown side packet.flow r → Saying (at_hand side bytes ∷ []) s (by_error_verdict s side bytes packet.flow r)
+    by (Ok plan) says = error-plan-says frames s side bytes packet.flow plan passes are says
+    by (Err reason) says = saying-nothing s (at_hand side bytes ∷ [])
+
 retaken-says : Frames → (s : GatewayAndOutput) (side : Side) (bytes : List ℕ) (r : Result Reading Reason) → reading_on s.shown side bytes ≡ r → AreBytes bytes → Saying (at_hand side bytes ∷ []) s (retaken_by s side bytes r)
 retaken-says frames s side bytes (Ok (Packet packet)) is are = packet-says frames s side bytes packet is are
+retaken-says frames s side bytes (Ok (Error packet)) is are = error-packet-says frames s side bytes packet is are
 retaken-says frames s side bytes (Ok (Arp p)) is are = saying-nothing s (at_hand side bytes ∷ [])
 retaken-says frames s side bytes (Ok (Advert a from)) is are = saying-nothing s (at_hand side bytes ∷ [])
 retaken-says frames s side bytes (Err reason) is are = saying-nothing s (at_hand side bytes ∷ [])

@@ -1,5 +1,5 @@
 -- A packet that is sent on is told of truly.
-use Rattle.std.proofs.Common.{◌≡◌, ℕ, true, false, Some, List, [], ◌∷◌, ◌++◌, length, IsPermutation, refl, sym, ap, subst, ◌∙◌, append_assoc}
+use Rattle.std.proofs.Common.{◌≡◌, ℕ, true, false, Some, List, [], ◌∷◌, ◌++◌, length, IsPermutation, refl, sym, ap, subst, ◌∙◌, append_assoc, Bool, not, ◌&&◌}
 use Rattle.std.proofs.lemmas.List.{append-nil}
 use Rattle.std.proofs.lemmas.Grind.{flat_map-append}
 use Rattle.std.proofs.lemmas.List.Sorted.{IsPermutation-refl}
@@ -27,7 +27,8 @@ use Rattle.packet_rules.specs.Arping.{answer_frame, gratuitous_frame, request_fr
 use Rattle.packet_rules.specs.Flows.{flow_in, source_of}
 use Rattle.packet_rules.specs.Frames.{hop_of, is_translation, pairs_of, sent_frame}
 use Rattle.packet_rules.specs.Networks.{IsWired}
-use Rattle.packet_rules.specs.Steps.{IsForwardable}
+use Rattle.packet_rules.specs.Steps.{IsForwardable, IsPassable}
+use Rattle.packet_rules.specs.Errors.{is_error_frame, passed_frame}
 use Rattle.output.specs.Output.{Sent}
 use Rattle.spec_step.specs.Parts.{carried_all, framed, wanted_for}
 use Rattle.spec_step.specs.Shown.{GatewayAndOutput, Shown, id_of, station_on}
@@ -37,6 +38,7 @@ use Rattle.spec_step.proofs.Packets.{Reads}
 use Rattle.spec_step.proofs.Sends.{AreFound, IsOwn, IsPlanned}
 use Rattle.spec_step.proofs.Telling.{at_hand}
 use Rattle.spec_step.proofs.Translating.{Translates, carry-note, target-translates, wish-owns, wish-still}
+use Rattle.spec_step.specs.Others.{is_other}
 
 -- what is known of frames: what they are read as, and which of those that are sent are translations
 pub record Frames : Type 0 where
@@ -46,6 +48,46 @@ pub record Frames : Type 0 where
   pub request : (network : Network) (ip : Ip) → length network.own_mac.0 ≡ 6 → is_translation (request_frame network ip) ≡ false
   pub gratuitous : (network : Network) → is_translation (gratuitous_frame network) ≡ false
   pub advert : (network : Network) (priority interval : ℕ) → is_translation (advert_frame network priority interval) ≡ false
+  pub passed : (networks : Networks) (t : Translation) (next : Mac) (bytes : List ℕ) → IsWired networks → length next.0 ≡ 6 → IsPassable bytes → is_error_frame (passed_frame networks t next bytes) ≡ true
+  pub passed_apart : (networks : Networks) (t : Translation) (next : Mac) (bytes : List ℕ) → IsWired networks → length next.0 ≡ 6 → IsPassable bytes → is_translation (passed_frame networks t next bytes) ≡ false
+  pub answer_no_error : (network : Network) (p : ArpPacket) (mac : Mac) → length network.own_mac.0 ≡ 6 → length p.sender_mac.0 ≡ 6 → is_error_frame (answer_frame network p mac) ≡ false
+  pub request_no_error : (network : Network) (ip : Ip) → length network.own_mac.0 ≡ 6 → is_error_frame (request_frame network ip) ≡ false
+  pub gratuitous_no_error : (network : Network) → is_error_frame (gratuitous_frame network) ≡ false
+  pub advert_no_error : (network : Network) (priority interval : ℕ) → is_error_frame (advert_frame network priority interval) ≡ false
+
+-- ---- frames of another sort
+
+pub other-by : (bytes : List ℕ) → is_translation bytes ≡ false → is_error_frame bytes ≡ false → is_other bytes ≡ true
+unfolding is_other
+other-by bytes a b = rw (a, b) refl
+
+pub other-none : (bytes : List ℕ) → is_other bytes ≡ true → is_translation bytes ≡ false
+unfolding is_other
+other-none bytes is = at (is_translation bytes) is
+  where
+    at : (b : Bool) → (not b && not (is_error_frame bytes)) ≡ true → b ≡ false
+    at true is = absurd (cc)
+    at false is = refl
+
+pub sent-no_other : (bytes : List ℕ) → is_translation bytes ≡ true → is_other bytes ≡ false
+unfolding is_other
+sent-no_other bytes is = rw is refl
+
+pub error-no_other : (bytes : List ℕ) → is_translation bytes ≡ false → is_error_frame bytes ≡ true → is_other bytes ≡ false
+unfolding is_other
+error-no_other bytes a b = rw (a, b) refl
+
+pub request-other : Frames → (network : Network) (ip : Ip) → length network.own_mac.0 ≡ 6 → is_other (request_frame network ip) ≡ true
+request-other frames network ip own = other-by _ (frames.request network ip own) (frames.request_no_error network ip own)
+
+pub advert-other : Frames → (network : Network) (priority interval : ℕ) → is_other (advert_frame network priority interval) ≡ true
+advert-other frames network priority interval = other-by _ (frames.advert network priority interval) (frames.advert_no_error network priority interval)
+
+pub gratuitous-other : Frames → (network : Network) → is_other (gratuitous_frame network) ≡ true
+gratuitous-other frames network = other-by _ (frames.gratuitous network) (frames.gratuitous_no_error network)
+
+pub answer-other : Frames → (network : Network) (p : ArpPacket) (mac : Mac) → length network.own_mac.0 ≡ 6 → length p.sender_mac.0 ≡ 6 → is_other (answer_frame network p mac) ≡ true
+answer-other frames network p mac own six = other-by _ (frames.answer network p mac own six) (frames.answer_no_error network p mac own six)
 
 pub near-is : (g : Shown) (side : Side) → near_on (known_of g) side ≡ unasked (station_on g side).neighbours
 near-is g Inside = refl

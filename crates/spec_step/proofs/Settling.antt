@@ -33,7 +33,7 @@ use Rattle.waiting.specs.declared.waits.WaitsFor.TheVariants as wait
 use Rattle.waiting.specs.Packets.{IsKept, HeldPacket, ended_by, has_place, left_by, asks_again, with_asked}
 use Rattle.waiting.proofs.Offered.{kept-asked, kept-filter, kept-push}
 use Rattle.packet_rules.specs.declared.readings.Reading.{Reading}
-use Rattle.packet_rules.specs.declared.readings.Reading.TheVariants.{Arp, Advert, Packet}
+use Rattle.packet_rules.specs.declared.readings.Reading.TheVariants.{Arp, Advert, Packet, Error}
 use Rattle.packet_rules.specs.declared.reasons.Reason.{Reason}
 use Rattle.packet_rules.specs.declared.reasons.Reason.TheVariants.{NotUp, OldWord}
 use Rattle.packet_rules.specs.declared.translations.Translation.{Translation}
@@ -41,6 +41,7 @@ use Rattle.packet_rules.specs.declared.translations.Translation.TheVariants.{Out
 use Rattle.packet_rules.specs.Arping.{answer_to, is_learnable}
 use Rattle.packet_rules.specs.Flows.{source_of}
 use Rattle.packet_rules.specs.Frames.{sent_frame}
+use Rattle.packet_rules.specs.Errors.{passed_frame}
 use Rattle.interfaces.specs.Stations as stations
 use Rattle.interfaces.specs.Stations.{Interface, after_arp, is_active, with_neighbour, with_plug}
 use Rattle.output.specs.Output.{with_datagram}
@@ -53,16 +54,18 @@ use Rattle.spec_step.specs.declared.plans.Plan.{Plan}
 use Rattle.spec_step.specs.declared.plans.Plan.TheVariants.{Send, Ask, AskAgain, Wait as WaitFor}
 use Rattle.spec_step.specs.Founding.{begun, founded}
 use Rattle.spec_step.specs.GivingWay.{GivingWay, left, turn_of}
-use Rattle.spec_step.specs.Parts.{all_idle_done, all_taken, answered_by, arp_taken, asked_again, by_plan, by_row, by_verdict, carried_all, datagram_in, datagram_read, flags_in, flow_taken, framed, handed_in, has_synced, heard_by, heard_unless, idle_done, idle_taken, keeping, link_answered, link_ticked, neighbour_asked, old_dropped, record_done, record_shown, record_told, records_done, released, renewed_behind, request_by, reset, retaken_by, routers_started, side_plugged, taken_again, wait_ended, waiting, wanted_by, wanted_for, with_link, with_routers}
+use Rattle.spec_step.specs.Parts.{all_idle_done, all_taken, answered_by, arp_taken, asked_again, by_plan, by_row, by_verdict, carried_all, datagram_in, datagram_read, flags_in, flow_taken, framed, handed_in, has_synced, heard_by, heard_unless, idle_done, idle_taken, keeping, link_answered, link_ticked, neighbour_asked, old_dropped, record_done, record_shown, record_told, records_done, released, renewed_behind, request_by, reset, retaken_by, routers_started, side_plugged, taken_again, wait_ended, waiting, wanted_by, wanted_for, with_link, with_routers, by_error_plan, by_error_verdict, error_taken}
 use Rattle.spec_step.specs.Settled.{AreIdle, HaveBegun, IsSettled}
 use Rattle.spec_step.specs.Shown.{GatewayAndOutput, Shown, is_running, is_up, scene, station_on, with_station}
 use Rattle.spec_step.specs.Routers.{BothAct, RouterActs}
 use Rattle.spec_step.specs.Steps.{Does, FrameDoes, IsStepOn, ended_on, stopped, ticked, word_by, word_refusal}
-use Rattle.spec_step.specs.Verdict.{exit_by, hop_by, plan_of, reading_on}
+use Rattle.spec_step.specs.Verdict.{exit_by, hop_by, plan_of, reading_on, error_hop, error_plan}
 use Rattle.spec_step.proofs.Lines.{acts-shown, both-shown, both-stopped, line-idles, line-stays, started-begun}
 use Rattle.spec_step.proofs.Packets.{refusal-leaves}
 use Rattle.spec_step.proofs.Asked.{PlanSays, plan-says}
+use Rattle.spec_step.proofs.Erring.{ErrorSays, error-says}
 use Rattle.spec_step.proofs.Turning.{back_as, turn-by}
+use Rattle.icmp.specs.declared.packets.ErrorFlow.{ErrorFlow}
 
 -- what the parts of a step keep
 pub record IsCalm (g : Shown) : Type 0 where
@@ -159,10 +162,28 @@ flow-calms s side bytes flow = at (plan_of s.shown side flow) (plan-says s.shown
     at (Ok plan) says = plan-calms s side bytes flow plan says
     at (Err reason) says = refusal-leaves (λ x. Calming s x) s flow reason (nothing-calms s) (wanted-calms s (source_of flow))
 
+-- ---- an error
+
+error-plan-calms : (s : GatewayAndOutput) (side : Side) (bytes : List ℕ) (flow : ErrorFlow) (plan : Plan) → ErrorSays s.shown side flow (Ok plan) → Calming s (by_error_plan s side bytes flow plan)
+error-plan-calms s side bytes flow (Send by next) says =
+    let one = framed s (exit_by by) (passed_frame s.shown.networks by next bytes) in
+    calming-then s one (by_error_plan s side bytes flow (Send by next)) (nothing-calms s) (renewed-calms one (exit_by by) (error_hop s.shown by flow))
+error-plan-calms s side bytes flow (Ask by hop) says = keeping-calms s side bytes (wait.Hop (exit_by by) hop) says.1
+error-plan-calms s side bytes flow (AskAgain by hop) says = again-calms s (exit_by by) hop
+error-plan-calms s side bytes flow (WaitFor e) says = nothing-calms s
+
+error-calms : (s : GatewayAndOutput) (side : Side) (bytes : List ℕ) (flow : ErrorFlow) → Calming s (error_taken s side bytes flow)
+error-calms s side bytes flow = at (error_plan s.shown side flow) (error-says s.shown side flow)
+  where
+    at : (r : Result Plan Reason) → ErrorSays s.shown side flow r → Calming s (by_error_verdict s side bytes flow r)
+    at (Ok plan) says = error-plan-calms s side bytes flow plan says
+    at (Err reason) says = nothing-calms s
+
 -- ---- those whose wait is over
 
 retaken-calms : (s : GatewayAndOutput) (side : Side) (bytes : List ℕ) (r : Result Reading Reason) → Calming s (retaken_by s side bytes r)
 retaken-calms s side bytes (Ok (Packet packet)) = flow-calms s side bytes packet.flow
+retaken-calms s side bytes (Ok (Error packet)) = error-calms s side bytes packet.flow
 retaken-calms s side bytes (Ok (Arp p)) = nothing-calms s
 retaken-calms s side bytes (Ok (Advert a from)) = nothing-calms s
 retaken-calms s side bytes (Err reason) = nothing-calms s
@@ -421,6 +442,7 @@ frame-calms : (s : GatewayAndOutput) (side : Side) (bytes : List ℕ) (r : Resul
 frame-calms s side bytes (Ok (Arp p)) s2 does = subst (λ (x : GatewayAndOutput). Calming s x) (sym does) (arp-calms s side p)
 frame-calms s side bytes (Ok (Advert a from)) s2 does = router-calms s side (table.Heard a.priority a.interval from.0) s2 (λ no. absurd (cc)) (λ no. absurd (cc)) does
 frame-calms s side bytes (Ok (Packet packet)) s2 does = subst (λ (x : GatewayAndOutput). Calming s x) (sym does) (flow-calms s side bytes packet.flow)
+frame-calms s side bytes (Ok (Error packet)) s2 does = subst (λ (x : GatewayAndOutput). Calming s x) (sym does) (error-calms s side bytes packet.flow)
 frame-calms s side bytes (Err reason) s2 does = subst (λ (x : GatewayAndOutput). Calming s x) (sym does) (nothing-calms s)
 
 does-calms : (s : GatewayAndOutput) (event : Event) (done : GatewayAndOutput) → Does s event done → Calming s done

@@ -26,11 +26,10 @@ use Rattle.spec_binding.proofs.Offered.{alone-keeps, idle-keeps, restart-keeps, 
 use Rattle.waiting.specs.declared.waits.Ended.TheVariants.{AllPairs, One}
 use Rattle.waiting.specs.declared.waits.WaitsFor.TheVariants as wait
 use Rattle.packet_rules.specs.declared.readings.Reading.{Reading}
-use Rattle.packet_rules.specs.declared.readings.Reading.TheVariants.{Arp, Advert, Packet}
+use Rattle.packet_rules.specs.declared.readings.Reading.TheVariants.{Arp, Advert, Packet, Error}
 use Rattle.packet_rules.specs.declared.reasons.Reason.{Reason}
 use Rattle.packet_rules.specs.declared.reasons.Reason.TheVariants.{NotUp, OldWord}
 use Rattle.packet_rules.specs.Arping.{answer_frame, answer_to, is_learnable}
-use Rattle.packet_rules.specs.Frames.{is_translation}
 use Rattle.interfaces.specs.Stations.{IsWired, Interface, after_arp, is_active, with_neighbour}
 use Rattle.output.specs.Output.{Output, with_datagram}
 use Rattle.vrrp_states.specs.declared.Action.{Action}
@@ -40,7 +39,7 @@ use Rattle.vrrp_states.specs.Table.{Event as RouterEvent, Router}
 use Rattle.spec_step.specs.declared.events.Event.{Event}
 use Rattle.spec_step.specs.declared.events.Event.TheVariants.{Frame, Datagram as Comes, Tick, Stop, PeerOff, Side as SideIs}
 use Rattle.spec_step.specs.Machine.{AreBytes, HasBytes}
-use Rattle.spec_step.specs.Parts.{acted, all_framed, all_idle_done, answered_by, arp_taken, datagram_in, datagram_read, flow_taken, framed, frames_of, handed_in, has_synced, heard_by, heard_unless, idle_done, idle_taken, link_answered, link_ticked, old_dropped, record_done, record_shown, record_told, records_done, released, reset, started, wait_ended, with_link, word_taken, side_plugged}
+use Rattle.spec_step.specs.Parts.{acted, all_framed, all_idle_done, answered_by, arp_taken, datagram_in, datagram_read, flow_taken, framed, frames_of, handed_in, has_synced, heard_by, heard_unless, idle_done, idle_taken, link_answered, link_ticked, old_dropped, record_done, record_shown, record_told, records_done, released, reset, started, wait_ended, with_link, word_taken, side_plugged, error_taken}
 use Rattle.spec_step.specs.Shown.{GatewayAndOutput, Shown, id_of, is_running, scene, station_on, with_notes, with_station}
 use Rattle.spec_step.specs.Routers.{BothAct, RouterActs}
 use Rattle.spec_step.specs.GivingWay.{GivingWay, left, turn_of}
@@ -50,10 +49,11 @@ use Rattle.spec_step.specs.Verdict.{reading_on}
 use Rattle.spec_step.proofs.Turning.{back_as, turn-by}
 use Rattle.spec_step.proofs.Packets.{kept-filter}
 use Rattle.spec_step.proofs.Passing.{IsSound}
-use Rattle.spec_step.proofs.Saying.{Saying, Speaks, framed-says, packet-says, released-says, row-says, saying-nothing, saying-then, speaks-then}
-use Rattle.spec_step.proofs.Sending.{Frames, own-six}
+use Rattle.spec_step.proofs.Saying.{Saying, Speaks, framed-says, packet-says, released-says, row-says, saying-nothing, saying-then, speaks-then, error-packet-says}
+use Rattle.spec_step.proofs.Sending.{Frames, own-six, advert-other, gratuitous-other, other-none}
 use Rattle.spec_step.proofs.Telling.{at_hand, old-tells, tells-quietly, tells-then}
 use Rattle.spec_step.proofs.Unused.{idle-useless, restart-useless, retaken-useless, taken-useless}
+use Rattle.spec_step.specs.Others.{is_other}
 
 -- a part that leaves what decides where packets go
 pub speaks-of : (h : List AtHand) (s s2 : GatewayAndOutput) → Saying h s s2 → Speaks h s s2
@@ -117,17 +117,17 @@ arp-speaks frames s side p six =
 -- ---- routers
 
 abbrev pub AllOther : List (List ℕ) → Type 0
-AllOther fs = AllByRecursion (λ f. is_translation f ≡ false) fs
+AllOther fs = AllByRecursion (λ f. is_other f ≡ true) fs
 
 all-framed-says : (s : GatewayAndOutput) (side : Side) (fs : List (List ℕ)) → AllOther fs → Saying [] s (all_framed s side fs)
 all-framed-says s side [] all = saying-nothing s []
 all-framed-says s side (f ∷ fs) all =
-    saying-then [] [] s (framed s side f) (all_framed s side (f ∷ fs)) (framed-says s side f (λ w. all.0)) (all-framed-says (framed s side f) side fs all.1)
+    saying-then [] [] s (framed s side f) (all_framed s side (f ∷ fs)) (framed-says s side f (λ w. other-none f all.0)) (all-framed-says (framed s side f) side fs all.1)
 
 pub action-frames : Frames → (station : Interface) (action : Action) → AllOther (frames_of station action)
 action-frames frames station Nothing = tt
-action-frames frames station (Advertise priority) = (frames.advert station.network priority station.interval, tt)
-action-frames frames station (AdvertiseAndArp priority) = (frames.advert station.network priority station.interval, (frames.gratuitous station.network, tt))
+action-frames frames station (Advertise priority) = (advert-other frames station.network priority station.interval, tt)
+action-frames frames station (AdvertiseAndArp priority) = (advert-other frames station.network priority station.interval, (gratuitous-other frames station.network, tt))
 
 pub routed-wired : (station : Interface) (router : Router) → IsWired station → IsWired (record station { router = router })
 routed-wired station router w = record { own = w.own; known = w.known }
@@ -162,6 +162,9 @@ frame-speaks frames s side bytes (Ok (Advert a from)) s2 read are does =
 frame-speaks frames s side bytes (Ok (Packet packet)) s2 read are does =
     let hand = at_hand side bytes ∷ [] in
     subst (λ (x : GatewayAndOutput). Speaks hand s x) (sym does) (speaks-of hand s (flow_taken s side bytes packet.flow) (packet-says frames s side bytes packet read are))
+frame-speaks frames s side bytes (Ok (Error packet)) s2 read are does =
+    let hand = at_hand side bytes ∷ [] in
+    subst (λ (x : GatewayAndOutput). Speaks hand s x) (sym does) (speaks-of hand s (error_taken s side bytes packet.flow) (error-packet-says frames s side bytes packet read are))
 frame-speaks frames s side bytes (Err reason) s2 read are does =
     let hand = at_hand side bytes ∷ [] in
     subst (λ (x : GatewayAndOutput). Speaks hand s x) (sym does) (speaks-of hand s s (saying-nothing s hand))

@@ -5,6 +5,7 @@ pub mod Routers
 pub mod GivingWay
 pub mod Steps
 pub mod Truly
+pub mod PassedOn
 pub mod Others
 pub mod Machine
 pub mod Rests

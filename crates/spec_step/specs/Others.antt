@@ -1,4 +1,4 @@
--- The other frames of a step, whose packet wasn't translated: an answer to an ARP request, the frames of the routers' actions,
+-- The other frames of a step, which are neither of a packet that was translated nor of an error that was passed on: an answer to an ARP request, the frames of the routers' actions,
 -- and requests for next hops.
 use Rattle.std.specs.Prelude.{◌≡◌, ◌⊎◌, ℕ, zero, suc, ◌-◌, Bool, true, false, not, ◌&&◌, ◌||◌, Option, Some, None, Result, Ok, Err, List, [], ◌∷◌, ◌++◌, map, if◌then◌else◌}
 use Rattle.std.specs.List.{AllByRecursion, filter, flat_map}
@@ -29,14 +29,17 @@ use Rattle.waiting.specs.declared.waits.WaitsFor.TheVariants as wait
 use Rattle.waiting.specs.Packets.{HeldPacket, asks_again, hop_count, is_young, with_asked, without_first_hop}
 use Rattle.waiting.specs.Waits.{ends, is_for_pair}
 use Rattle.packet_rules.specs.declared.readings.Reading.{Reading}
-use Rattle.packet_rules.specs.declared.readings.Reading.TheVariants.{Arp, Advert, Packet}
+use Rattle.packet_rules.specs.declared.readings.Reading.TheVariants.{Arp, Advert, Packet, Error}
+use Rattle.packet_rules.specs.declared.networks.Networks.{Networks}
 use Rattle.packet_rules.specs.declared.reasons.Reason.{Reason}
 use Rattle.packet_rules.specs.declared.translations.Translation.{Translation}
 use Rattle.packet_rules.specs.declared.translations.Translation.TheVariants.{Outward, Inward, Hairpin}
 use Rattle.packet_rules.specs.Arping.{answer_frame, answer_to, is_learnable}
-use Rattle.packet_rules.specs.Flows.{flow_in, source_of}
+use Rattle.packet_rules.specs.Errors.{AreErrorPairs, error_direction, is_error_frame}
+use Rattle.packet_rules.specs.Flows.{flow_in, source_of, error_flow_in}
 use Rattle.packet_rules.specs.Frames.{hop_of, is_translation, way_of}
 use Rattle.packet_rules.specs.Networks.{direction_of}
+use Rattle.packet_rules.specs.Steps.{IsForwardable, IsPassable}
 use Rattle.interfaces.specs.Stations.{IsRouterStep, Interface, is_active}
 use Rattle.output.specs.Output.{Sent}
 use Rattle.vrrp_states.specs.declared.Action.{Action}
@@ -53,8 +56,12 @@ use Rattle.spec_step.specs.Steps.{clock_after, word_refusal}
 use Rattle.spec_step.specs.Truly.{AreItsPairs, AtHand, Known, known_of, near_on, packets_of}
 use Rattle.spec_step.specs.Verdict.{exit_by, reading_on}
 
+-- neither of a translation nor of an error
+unfoldable pub is_other : List ℕ → Bool
+is_other bytes = not (is_translation bytes) && not (is_error_frame bytes)
+
 abbrev pub other_frames : List Sent → List Sent
-other_frames frames = filter (λ f. not (is_translation f.bytes)) frames
+other_frames frames = filter (λ f. is_other f.bytes) frames
 
 abbrev pub sent_on : Side → List (List ℕ) → List Sent
 sent_on side frames = map (λ bytes. record { side = side; bytes = bytes }) frames
@@ -97,6 +104,7 @@ abbrev pub FrameOwes : Shown → Side → Result Reading Reason → List Sent �
 FrameOwes g side (Ok (Arp p)) own = own ≡ sent_on side (answers (station_on g side) p)
 FrameOwes g side (Ok (Advert a from)) own = AreOfAction g side (table.Heard a.priority a.interval from.0) g.moment own
 FrameOwes g side (Ok (Packet packet)) own = own ≡ []
+FrameOwes g side (Ok (Error packet)) own = own ≡ []
 FrameOwes g side (Err reason) own = own ≡ []
 
 abbrev pub Owes : Shown → Event → List Sent → Type 0
@@ -114,6 +122,7 @@ abbrev pub frees_as : Shown → Side → Result Reading Reason → HeldPacket �
 frees_as g side (Ok (Arp p)) w = is_learnable (station_on g side).network p && ends (One (wait.Hop side p.sender_ip)) w.wait
 frees_as g side (Ok (Advert a from)) w = false
 frees_as g side (Ok (Packet packet)) w = false
+frees_as g side (Ok (Error packet)) w = false
 frees_as g side (Err reason) w = false
 
 -- a record: those that wait for the pair of the endpoint that it answers
@@ -168,6 +177,7 @@ abbrev pub packet_as : Side → List ℕ → Result Reading Reason → List AtHa
 packet_as side bytes (Ok (Arp p)) = []
 packet_as side bytes (Ok (Advert a from)) = []
 packet_as side bytes (Ok (Packet packet)) = record { side = side; bytes = bytes } ∷ []
+packet_as side bytes (Ok (Error packet)) = record { side = side; bytes = bytes } ∷ []
 packet_as side bytes (Err reason) = []
 
 abbrev pub packet_in : Shown → Event → List AtHand
@@ -200,13 +210,24 @@ targets (Outward pair) = []
 targets (Inward pair) = pair ∷ []
 targets (Hairpin own other) = other ∷ []
 
--- The host is the next hop of a packet, at the side at which it leaves: it goes the way that the rules say, by its pairs, and
--- it may go by that of the port that it goes to.
+-- a UDP or TCP packet goes the way that the rules say, by its pairs
+pub record IsPacketBy (networks : Networks) (packet : AtHand) (by : Translation) : Type 0 where
+  pub passes : IsForwardable packet.bytes
+  pub way : let flow = flow_in packet.bytes in
+      direction_of networks packet.side flow.source.0 flow.destination.0 ≡ Ok (way_of by)
+  pub pairs : AreItsPairs (flow_in packet.bytes) by
+
+-- and so does an ICMP error, by its own
+pub record IsErrorBy (networks : Networks) (packet : AtHand) (by : Translation) : Type 0 where
+  pub passes : IsPassable packet.bytes
+  pub way : error_direction networks packet.side (error_flow_in packet.bytes) ≡ Ok (way_of by)
+  pub pairs : AreErrorPairs (error_flow_in packet.bytes) by
+
+-- The host is the next hop of a packet or an error, at the side at which it leaves: it goes the way that the rules say, by its
+-- pairs, and it may go by that of the port that it goes to.
 pub record IsNextHop (k : Known) (may : Pair → Type 0) (packet : AtHand) (by : Translation) (exit : Side) (host : Ip)
     : Type 0 where
-  pub way : let flow = flow_in packet.bytes in
-      direction_of k.networks packet.side flow.source.0 flow.destination.0 ≡ Ok (way_of by)
-  pub pairs : AreItsPairs (flow_in packet.bytes) by
+  pub goes : IsPacketBy k.networks packet by ⊎ IsErrorBy k.networks packet by
   pub target : AllByRecursion may (targets by)
   pub exit_is : exit ≡ exit_by by
   pub hop : host.0 ≡ hop_of k.networks by (flow_in packet.bytes).destination.0

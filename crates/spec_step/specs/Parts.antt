@@ -13,6 +13,7 @@ use Rattle.nat_types.specs.declared.records.Record.{Record}
 use Rattle.arp.specs.declared.packets.ArpPacket.{ArpPacket}
 use Rattle.arp.specs.Neighbours.{asked_at, asks_at}
 use Rattle.frames.specs.Frame.{frame_of}
+use Rattle.icmp.specs.declared.packets.ErrorFlow.{ErrorFlow}
 use Rattle.ipv4.specs.declared.flows.Flow.{Flow}
 use Rattle.ipv4.specs.Header.{payload_of}
 use Rattle.ipv4.specs.Segment.{segment_of}
@@ -37,13 +38,14 @@ use Rattle.waiting.specs.declared.waits.WaitsFor.{WaitsFor}
 use Rattle.waiting.specs.declared.waits.WaitsFor.TheVariants as wait
 use Rattle.waiting.specs.Packets.{HeldPacket, asks_again, ended_by, is_young, left_by, with_asked, with_room}
 use Rattle.packet_rules.specs.declared.readings.Reading.{Reading}
-use Rattle.packet_rules.specs.declared.readings.Reading.TheVariants.{Arp, Advert, Packet}
+use Rattle.packet_rules.specs.declared.readings.Reading.TheVariants.{Arp, Advert, Packet, Error}
 use Rattle.packet_rules.specs.declared.reasons.Reason.{Reason}
 use Rattle.packet_rules.specs.declared.reasons.Reason.TheVariants.{ShortFrame, NotMine, BadHeader, BadLength, BadHeaderSum, Fragment, TtlOver, NotUdpTcp, BadTransport, BadArp, BadAdvert, NotUp, NoBinding, NoPort, CannotWait, BadDatagram, OldWord, HostLimit}
 use Rattle.packet_rules.specs.declared.translations.Translation.{Translation}
 use Rattle.packet_rules.specs.declared.translations.Translation.TheVariants.{Outward, Inward, Hairpin}
 use Rattle.packet_rules.specs.Adverts.{advert_frame}
 use Rattle.packet_rules.specs.Arping.{answer_frame, answer_to, gratuitous_frame, is_learnable, request_frame}
+use Rattle.packet_rules.specs.Errors.{passed_frame}
 use Rattle.packet_rules.specs.Flows.{source_of}
 use Rattle.packet_rules.specs.Frames.{sent_frame}
 use Rattle.interfaces.specs.Stations.{Interface, after_arp, is_active, with_plug}
@@ -56,7 +58,7 @@ use Rattle.output.specs.Output.{Output, with_datagram, with_frame}
 use Rattle.spec_step.specs.declared.plans.Plan.{Plan}
 use Rattle.spec_step.specs.declared.plans.Plan.TheVariants.{Send, Ask, AskAgain, Wait as WaitFor}
 use Rattle.spec_step.specs.Shown.{GatewayAndOutput, Shown, id_of, is_running, scene, serves, station_on, with_notes, with_station}
-use Rattle.spec_step.specs.Verdict.{exit_by, hop_by, plan_of, reading_on}
+use Rattle.spec_step.specs.Verdict.{error_hop, error_plan, exit_by, hop_by, plan_of, reading_on}
 
 -- ---- rows of the binding protocol
 
@@ -190,9 +192,32 @@ by_verdict s side bytes flow (Err reason) = by_refusal s flow reason
 abbrev pub flow_taken : GatewayAndOutput → Side → List ℕ → Flow → GatewayAndOutput
 flow_taken s side bytes flow = by_verdict s side bytes flow (plan_of s.shown side flow)
 
+-- An error's plan is done: a frame, a request, or a packet more that waits. No pair is made, used, renewed or ended, nothing is noted,
+-- and nothing is pushed.
+abbrev pub by_error_plan : GatewayAndOutput → Side → List ℕ → ErrorFlow → Plan → GatewayAndOutput
+by_error_plan s side bytes flow (Send by next) =
+    renewed_behind
+    (framed s (exit_by by) (passed_frame s.shown.networks by next bytes))
+    (exit_by by) (error_hop s.shown by flow)
+by_error_plan s side bytes flow (Ask by hop) =
+    framed
+    (keeping s side bytes (wait.Hop (exit_by by) hop))
+    (exit_by by) (request_by s.shown (exit_by by) hop)
+by_error_plan s side bytes flow (AskAgain by hop) = asked_again s (exit_by by) hop
+-- no error waits for a pair
+by_error_plan s side bytes flow (WaitFor endpoint) = s
+
+abbrev pub by_error_verdict : GatewayAndOutput → Side → List ℕ → ErrorFlow → Result Plan Reason → GatewayAndOutput
+by_error_verdict s side bytes flow (Ok plan) = by_error_plan s side bytes flow plan
+by_error_verdict s side bytes flow (Err reason) = s
+
+abbrev pub error_taken : GatewayAndOutput → Side → List ℕ → ErrorFlow → GatewayAndOutput
+error_taken s side bytes flow = by_error_verdict s side bytes flow (error_plan s.shown side flow)
+
 -- a kept packet is read again from the first step on
 abbrev pub retaken_by : GatewayAndOutput → Side → List ℕ → Result Reading Reason → GatewayAndOutput
 retaken_by s side bytes (Ok (Packet packet)) = flow_taken s side bytes packet.flow
+retaken_by s side bytes (Ok (Error packet)) = error_taken s side bytes packet.flow
 retaken_by s side bytes (Ok (Arp p)) = s
 retaken_by s side bytes (Ok (Advert a from)) = s
 retaken_by s side bytes (Err reason) = s

@@ -7,7 +7,7 @@ use Rattle.link.specs.Link.{taking}
 use Rattle.link.specs.Reading.{reading}
 use Rattle.spec_binding.specs.Books.{is_synced}
 use Rattle.packet_rules.specs.declared.readings.Reading.{Reading}
-use Rattle.packet_rules.specs.declared.readings.Reading.TheVariants.{Arp, Advert, Packet}
+use Rattle.packet_rules.specs.declared.readings.Reading.TheVariants.{Arp, Advert, Packet, Error}
 use Rattle.packet_rules.specs.declared.reasons.Reason.{Reason}
 use Rattle.packet_rules.specs.declared.reasons.Reason.TheVariants.{NotUp, BadDatagram, OldWord}
 use Rattle.vrrp_states.specs.Table as table
@@ -16,7 +16,7 @@ use Rattle.spec_step.specs.declared.events.Event.TheVariants.{Frame, Datagram as
 use Rattle.spec_step.specs.declared.events.Outcome.{Outcome}
 use Rattle.spec_step.specs.declared.events.Outcome.TheVariants.{Done, Dropped}
 use Rattle.spec_step.specs.GivingWay.{GivingWay}
-use Rattle.spec_step.specs.Parts.{arp_taken, datagram_taken, flow_taken, idle_taken, link_answered, link_ticked, old_dropped, side_plugged, word_taken}
+use Rattle.spec_step.specs.Parts.{arp_taken, datagram_taken, error_taken, flow_taken, idle_taken, link_answered, link_ticked, old_dropped, side_plugged, word_taken}
 use Rattle.spec_step.specs.Routers.{BothAct, RouterActs}
 use Rattle.spec_step.specs.Shown.{GatewayAndOutput, Shown, scene}
 use Rattle.spec_step.specs.Verdict.{reading_on, verdict}
@@ -34,6 +34,7 @@ abbrev pub FrameDoes : GatewayAndOutput → Side → List ℕ → Result Reading
 FrameDoes s side bytes (Ok (Arp p)) s2 = s2 ≡ arp_taken s side p
 FrameDoes s side bytes (Ok (Advert a from)) s2 = RouterActs s side (table.Heard a.priority a.interval from.0) s2
 FrameDoes s side bytes (Ok (Packet packet)) s2 = s2 ≡ flow_taken s side bytes packet.flow
+FrameDoes s side bytes (Ok (Error packet)) s2 = s2 ≡ error_taken s side bytes packet.flow
 FrameDoes s side bytes (Err reason) s2 = s2 ≡ s
 
 abbrev pub ticked : GatewayAndOutput → ℕ → GatewayAndOutput

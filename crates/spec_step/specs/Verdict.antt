@@ -9,7 +9,8 @@ use Rattle.nat_types.specs.declared.pairs.Pair.{Pair}
 use Rattle.arp.specs.Neighbours.{mac_at}
 use Rattle.ipv4.specs.declared.flows.Flow.{Flow}
 use Rattle.bindings.specs.declared.entries.Entry.{Entry}
-use Rattle.bindings.specs.Entries.{slot_of}
+use Rattle.icmp.specs.declared.packets.ErrorFlow.{ErrorFlow}
+use Rattle.bindings.specs.Entries.{entry_of, slot_of}
 use Rattle.spec_binding.specs.declared.changes.Want as want
 use Rattle.spec_binding.specs.declared.changes.Want.{Want}
 use Rattle.spec_binding.specs.Rows.{is_full, new_pair, wish_of}
@@ -18,11 +19,12 @@ use Rattle.waiting.specs.Packets.{has_place}
 use Rattle.packet_rules.specs.declared.networks.Direction.{Direction}
 use Rattle.packet_rules.specs.declared.networks.Direction.TheVariants as way
 use Rattle.packet_rules.specs.declared.readings.Reading.{Reading}
-use Rattle.packet_rules.specs.declared.readings.Reading.TheVariants.{Arp, Advert, Packet}
+use Rattle.packet_rules.specs.declared.readings.Reading.TheVariants.{Arp, Advert, Packet, Error}
 use Rattle.packet_rules.specs.declared.reasons.Reason.{Reason}
 use Rattle.packet_rules.specs.declared.reasons.Reason.TheVariants.{NoBinding, NoPort, CannotWait, HostLimit}
 use Rattle.packet_rules.specs.declared.translations.Translation.{Translation}
 use Rattle.packet_rules.specs.declared.translations.Translation.TheVariants.{Outward, Inward, Hairpin}
+use Rattle.packet_rules.specs.Errors.{endpoint_about, error_direction, key_about}
 use Rattle.packet_rules.specs.Flows.{source_of, target_of}
 use Rattle.packet_rules.specs.Frames.{hop_of, way_of}
 use Rattle.packet_rules.specs.Networks.{direction_of, exit_of}
@@ -38,20 +40,30 @@ use Rattle.spec_step.specs.Shown.{Shown, is_up, station_on}
 abbrev pub exit_by : Translation → Side
 exit_by by = exit_of (way_of by)
 
--- the next hop of a packet, and its hardware address where it is known
+-- the next hop of what goes to an address, and its hardware address where it is known
+abbrev pub hop_to : Shown → Translation → Ip → Ip
+hop_to g by to = record { 0 = hop_of g.networks by to.0 }
+
+abbrev pub next_to : Shown → Translation → Ip → Option Mac
+next_to g by to = mac_at (hop_to g by to).0 g.moment (station_on g (exit_by by)).neighbours
+
+-- those of a packet
 abbrev pub hop_by : Shown → Translation → Flow → Ip
-hop_by g by flow = record { 0 = hop_of g.networks by flow.destination.0 }
+hop_by g by flow = hop_to g by flow.destination
 
 abbrev pub next_by : Shown → Translation → Flow → Option Mac
-next_by g by flow = mac_at (hop_by g by flow).0 g.moment (station_on g (exit_by by)).neighbours
+next_by g by flow = next_to g by flow.destination
 
 -- a packet whose pairs are known goes on, or waits for its next hop where no other packet does
 abbrev pub plan_to : Shown → Translation → Ip → Option Mac → Result Plan Reason
 plan_to g by hop (Some next) = Ok (Send by next)
 plan_to g by hop None = (if has_place g.kept (wait.TheVariants.Hop (exit_by by) hop) then Ok (Ask by hop) else Ok (AskAgain by hop))
 
+abbrev pub plan_via : Shown → Translation → Ip → Result Plan Reason
+plan_via g by to = plan_to g by (hop_to g by to) (next_to g by to)
+
 abbrev pub plan_by : Shown → Flow → Translation → Result Plan Reason
-plan_by g flow by = plan_to g by (hop_by g by flow) (next_by g by flow)
+plan_by g flow by = plan_via g by flow.destination
 
 -- a packet of the inside, by what its endpoint's pair is: it is translated so, waits for an answer, or is refused
 abbrev pub plan_from : Shown → Flow → (Pair → Translation) → Want → Result Plan Reason
@@ -96,6 +108,34 @@ abbrev pub reading_on : Shown → Side → List ℕ → Result Reading Reason
 reading_on g side bytes =
     let s = station_on g side in reading_of s.network (is_active s) (is_up g) bytes
 
+-- ---- an ICMP error about a translated packet
+
+-- The pair by which the packet inside went out, and the one by which it came in: where there is none, or a Doomed one, the
+-- error is dropped as one without a pair; where it doesn't translate yet or any more, as one that can't wait.
+abbrev pub pair_out : Shown → ErrorFlow → Result Pair Reason
+pair_out g flow = pair_at (slot_of g.ledger.book.entries (key_about flow))
+
+abbrev pub pair_in_of : Shown → ErrorFlow → Result Pair Reason
+pair_in_of g flow = pair_at (entry_of g.ledger.book.entries (endpoint_about flow))
+
+-- the next hop of an error
+abbrev pub error_hop : Shown → Translation → ErrorFlow → Ip
+error_hop g by flow = hop_to g by flow.destination
+
+-- an error whose pairs are known goes on, or waits for its next hop as any packet does
+abbrev pub error_by : Shown → ErrorFlow → Translation → Result Plan Reason
+error_by g flow by = plan_via g by flow.destination
+
+-- an error by its way; of a hairpin the pair of the source port inside is looked at first. No port is chosen.
+abbrev pub error_on : Shown → ErrorFlow → Direction → Result Plan Reason
+error_on g flow way.Outward = and_then (pair_in_of g flow) (λ p. error_by g flow (Outward p))
+error_on g flow way.Inward = and_then (pair_out g flow) (λ p. error_by g flow (Inward p))
+error_on g flow way.Hairpin =
+    and_then (pair_out g flow) (λ other. and_then (pair_in_of g flow) (λ own. error_by g flow (Hairpin own other)))
+
+abbrev pub error_plan : Shown → Side → ErrorFlow → Result Plan Reason
+error_plan g side flow = and_then (error_direction g.networks side flow) (error_on g flow)
+
 -- ---- the outcome of a frame
 
 abbrev pub outcome_by : Result Plan Reason → Outcome
@@ -109,6 +149,7 @@ abbrev pub outcome_read : Shown → Side → Result Reading Reason → Outcome
 outcome_read g side (Ok (Arp p)) = Done
 outcome_read g side (Ok (Advert a from)) = Done
 outcome_read g side (Ok (Packet packet)) = outcome_by (plan_of g side packet.flow)
+outcome_read g side (Ok (Error packet)) = outcome_by (error_plan g side packet.flow)
 outcome_read g side (Err reason) = Dropped reason
 
 abbrev pub verdict : Shown → Side → List ℕ → Outcome

@@ -1,0 +1,27 @@
+use Rattle.std.proofs.Common.{◌≡◌, Result, Ok, ap, sym, ◌∙◌}
+use Rattle.nat_types.specs.declared.gateways.Side.{Side}
+use Rattle.waiting.specs.declared.waits.WaitsFor.TheVariants.{Hop}
+use Rattle.waiting.specs.Packets.{HeldPacket, has_place}
+use Rattle.packet_rules.specs.declared.reasons.Reason.{Reason}
+use Rattle.packet_rules.specs.Networks.{exit_of}
+use Rattle.spec_step.specs.declared.plans.Plan.{Plan}
+use Rattle.spec_step.specs.declared.plans.Plan.TheVariants.{Send, Ask, Wait as WaitFor}
+use Rattle.spec_step.specs.Verdict.{exit_by}
+use Rattle.forwarder.specs.Forwarder.{scene_on, shown_of}
+use Rattle.forwarder.proofs.Planning.{error-plan-holds}
+use Rattle.forwarder.proofs.Taking.{error-taken-as}
+use Rattle.forwarder.proofs.forwarders.Forwarder.take_error.Goals as goal
+
+pub ask_for_error-requires-clause-place : goal.ask_for_error-requires-clause-place
+ask_for_error-requires-clause-place c =
+    let made : c.plan_error.result ≡ Ok (Ask c.in-Ok-Ask.by c.in-Ok-Ask.hop) = c.in-Ok-Ask.is ∙ ap (λ (p : Plan). let r : Result Plan Reason = Ok p in r) c.in-Ok-Ask.field-0-is in
+    let holds = error-plan-holds (shown_of c.args.self.now) c.args.side c.args.packet.flow (Ok (Ask c.in-Ok-Ask.by c.in-Ok-Ask.hop)) (sym made ∙ c.plan_error.ensures) in
+    let exit : c.exit.result ≡ exit_by c.in-Ok-Ask.by = c.exit.ensures ∙ ap exit_of c.direction.ensures in
+    ap (λ (w : HeldPacket). has_place c.args.self.now.kept w.wait) c.in_ok-copy.ensures
+    ∙ ap (λ (s : Side). has_place c.args.self.now.kept (Hop s c.in-Ok-Ask.hop)) exit
+    ∙ holds
+
+pub returns-in-Ok-Send-clause-scene : goal.returns-in-Ok-Send-clause-scene
+returns-in-Ok-Send-clause-scene c =
+    let made : c.plan_error.result ≡ Ok (Send c.in-Ok-Send.by c.in-Ok-Send.next) = c.in-Ok-Send.is ∙ ap (λ (p : Plan). let r : Result Plan Reason = Ok p in r) c.in-Ok-Send.field-0-is in
+    c.pass.ensures.scene c.args.side ∙ error-taken-as (scene_on c.args.self.now c.args.page.now) c.args.side c.args.bytes.now c.args.packet.flow (Ok (Send c.in-Ok-Send.by c.in-Ok-Send.next)) (sym made ∙ c.plan_error.ensures)

@@ -1,0 +1,218 @@
+//! ICMP errors about translated packets (RFC 5508, section 4): what one is to do, and what it does.
+ghost use Rattle.std.specs.Prelude.{◌≡◌, ◌≤◌, ◌+◌, true, IfOk, OnErr, OnOk};
+ghost use Rattle.waiting.specs.declared.waits.WaitsFor.TheVariants.{Hop};
+ghost use Rattle.nat_types.specs.declared.gateways.Side.{Side as OnSide};
+ghost use Rattle.waiting.specs.Packets.{has_place};
+ghost use Rattle.packet_rules.specs.Errors.{passed_frame};
+ghost use Rattle.packet_rules.specs.Flows.{error_in};
+ghost use Rattle.packet_rules.specs.Steps.{IsPassable};
+ghost use Rattle.spec_step.specs.Parts.{by_error_plan, error_taken, framed};
+ghost use Rattle.spec_step.specs.declared.plans.Plan.TheVariants.{Ask, Send};
+ghost use Rattle.spec_step.specs.Verdict.{error_on, error_plan, exit_by, outcome_by, pair_in_of, pair_out};
+ghost use Rattle.forwarder.specs.Forwarder.{scene_on, shown_of};
+ghost use Rattle.forwarder.specs.Room.{HasRoomFor, Spends, frames_alone};
+
+use crate::Forwarder;
+use crate::outgoing::PassedFrame;
+use crate::plans::pair_of;
+use addresses::{Ip, Mac};
+use icmp::{ErrorFlow, ErrorPacket};
+use nat_types::{NoMemory, Pair, Side};
+use output::OutputBuffer;
+use packet_rules::{Direction, Reason, Translation};
+use packet_rules::{endpoint_inside, error_direction, key_inside, limits_law};
+use spec_step::{Outcome, Plan};
+use std::alloc::Global;
+use waiting::{HeldPacket, WaitsFor};
+
+impl Forwarder {
+    /// What an error is to do, or why it is dropped; nothing changes.
+    fn plan_error(&self, side: Side, flow: ErrorFlow) -> Result<Plan, Reason>
+        ensures { result ≡ error_plan (shown_of self.now) side flow }
+    {
+        match error_direction(&self.networks, side, flow) {
+            Ok(way) => self.plan_error_on(flow, way),
+            Err(reason) => Err(reason),
+        }
+    }
+
+    fn plan_error_on(&self, flow: ErrorFlow, way: Direction) -> Result<Plan, Reason>
+        ensures { result ≡ error_on (shown_of self.now) flow way }
+    {
+        match way {
+            Direction::Outward => match self.pair_in(flow) {
+                Ok(pair) => self.plan_to(flow.destination, Translation::Outward(pair)),
+                Err(reason) => Err(reason),
+            },
+            Direction::Inward => match self.pair_out(flow) {
+                Ok(pair) => self.plan_to(flow.destination, Translation::Inward(pair)),
+                Err(reason) => Err(reason),
+            },
+            Direction::Hairpin => match self.pair_out(flow) {
+                Ok(other) => match self.pair_in(flow) {
+                    Ok(own) => self.plan_to(flow.destination, Translation::Hairpin(own, other)),
+                    Err(reason) => Err(reason),
+                },
+                Err(reason) => Err(reason),
+            },
+        }
+    }
+
+    /// The pair by which the packet inside went out.
+    fn pair_out(&self, flow: ErrorFlow) -> Result<Pair, Reason>
+        ensures { result ≡ pair_out (shown_of self.now) flow }
+    {
+        pair_of(self.core.table().pair_of_port(key_inside(flow)))
+    }
+
+    /// The pair by which the packet inside came in.
+    fn pair_in(&self, flow: ErrorFlow) -> Result<Pair, Reason>
+        ensures { result ≡ pair_in_of (shown_of self.now) flow }
+    {
+        pair_of(self.core.table().port_of(endpoint_inside(flow)))
+    }
+
+    /// The frame by which an error is passed on.
+    fn pass_frame(
+        &self,
+        page: &mut OutputBuffer,
+        by: &Translation,
+        next: Mac,
+        bytes: &[u8],
+        packet: &ErrorPacket,
+    )
+        requires passable { IsPassable bytes.now }
+        requires read { packet.now ≡ error_in bytes.now }
+        requires frames { 1 ≤ page.old.room.frames }
+        ensures scene { scene_on self.now page.new
+            ≡ framed (scene_on self.now page.old) (exit_by by.now)
+            (passed_frame self.now.networks by.now next bytes.now) }
+        ensures room { page.old.room
+            ≡ record page.new.room { frames = page.new.room.frames + 1 } }
+    {
+        limits_law();
+        let frame = PassedFrame {
+            networks: &self.networks,
+            by,
+            next,
+            bytes,
+            packet,
+        };
+        page.make_frame(by.direction().exit(), &frame);
+    }
+
+    /// An error goes on at once. It needs room for two frames: its own, and a request behind it.
+    fn pass(
+        &mut self,
+        page: &mut OutputBuffer,
+        bytes: &[u8],
+        packet: ErrorPacket,
+        by: Translation,
+        next: Mac,
+    )
+        requires passable { IsPassable bytes.now }
+        requires read { packet ≡ error_in bytes.now }
+        requires room { HasRoomFor (frames_alone 2) self.old page.old }
+        ensures scene { (side : OnSide) → scene_on self.new page.new
+            ≡ by_error_plan (scene_on self.old page.old) side bytes.now packet.flow
+            (Send by next) }
+        ensures link { self.new.link ≡ self.old.link }
+        ensures spends { Spends (frames_alone 2) self.old page.old self.new page.new }
+    {
+        self.pass_frame(page, &by, next, bytes, &packet);
+        let hop = by.next_hop(&self.networks, packet.flow.destination);
+        self.ask_behind(page, by.direction().exit(), hop);
+    }
+
+    /// An error waits for its next hop, which is asked for.
+    fn ask_for_error(
+        &mut self,
+        page: &mut OutputBuffer,
+        flow: ErrorFlow,
+        by: Translation,
+        hop: Ip,
+        copy: HeldPacket,
+    )
+        requires place { has_place self.old.kept copy.wait ≡ true }
+        requires since { copy.since ≡ self.old.moment }
+        requires asked { copy.asked ≡ self.old.moment }
+        requires wait { copy.wait ≡ Hop (exit_by by) hop }
+        requires room { HasRoomFor (frames_alone 2) self.old page.old }
+        ensures scene { scene_on self.new page.new
+            ≡ by_error_plan (scene_on self.old page.old) copy.side copy.bytes flow (Ask by hop) }
+        ensures link { self.new.link ≡ self.old.link }
+        ensures spends { Spends (frames_alone 2) self.old page.old self.new page.new }
+    {
+        self.kept.keep(copy);
+        self.send_request(page, by.direction().exit(), hop);
+    }
+
+    /// Takes an error: it goes on, waits for its next hop, or is dropped. One that has to wait is
+    /// copied. An `Err` stands for a refused copy; nothing has changed then.
+    pub fn take_error(
+        &mut self,
+        alloc: Global,
+        page: &mut OutputBuffer,
+        side: Side,
+        bytes: &[u8],
+        packet: ErrorPacket,
+    ) -> Result<Outcome, NoMemory>
+        requires passable { IsPassable bytes.now }
+        requires read { packet ≡ error_in bytes.now }
+        requires room { HasRoomFor (frames_alone 2) self.old page.old }
+        ensures outcome { IfOk result (λ o. o
+            ≡ outcome_by (error_plan (shown_of self.old) side packet.flow)) }
+        ensures scene { OnOk result (scene_on self.new page.new
+            ≡ error_taken (scene_on self.old page.old) side bytes.now packet.flow) }
+        ensures err { OnErr result (scene_on self.new page.new ≡ scene_on self.old page.old) }
+        ensures link { self.new.link ≡ self.old.link }
+        ensures spends { Spends (frames_alone 2) self.old page.old self.new page.new }
+    {
+        match self.plan_error(side, packet.flow) {
+            Ok(Plan::Send { by, next }) => {
+                self.pass(page, bytes, packet, by, next);
+                Ok(Outcome::Sent)
+            }
+            Ok(Plan::Ask { by, hop }) => {
+                let wait = WaitsFor::Hop(by.direction().exit(), hop);
+                let copy = HeldPacket::copy_of(alloc, side, bytes, self.moment, wait)?;
+                self.ask_for_error(page, packet.flow, by, hop, copy);
+                Ok(Outcome::Waiting)
+            }
+            Ok(Plan::AskAgain { by, hop }) => {
+                self.ask_again(page, by, hop);
+                Ok(Outcome::Dropped(Reason::CannotWait))
+            }
+            Ok(Plan::Wait(_)) => unreachable!(),
+            Err(reason) => Ok(Outcome::Dropped(reason)),
+        }
+    }
+
+    /// Takes a kept error, which was read again.
+    pub(crate) fn take_error_again(
+        &mut self,
+        page: &mut OutputBuffer,
+        reading: ErrorPacket,
+        packet: HeldPacket,
+    )
+        requires passable { IsPassable packet.bytes }
+        requires read { reading ≡ error_in packet.bytes }
+        requires room { HasRoomFor (frames_alone 2) self.old page.old }
+        ensures scene { scene_on self.new page.new
+            ≡ error_taken (scene_on self.old page.old) packet.side packet.bytes reading.flow }
+        ensures link { self.new.link ≡ self.old.link }
+        ensures spends { Spends (frames_alone 2) self.old page.old self.new page.new }
+    {
+        match self.plan_error(packet.side, reading.flow) {
+            Ok(Plan::Send { by, next }) => self.pass(page, &packet.bytes, reading, by, next),
+            Ok(Plan::Ask { by, hop }) => {
+                let wait = WaitsFor::Hop(by.direction().exit(), hop);
+                let copy = packet.again(self.moment, wait);
+                self.ask_for_error(page, reading.flow, by, hop, copy);
+            }
+            Ok(Plan::AskAgain { by, hop }) => self.ask_again(page, by, hop),
+            Ok(Plan::Wait(_)) => unreachable!(),
+            Err(_) => {}
+        }
+    }
+}
