@@ -1,7 +1,8 @@
-//! A gateway to which datagrams come that the other gateway never sent: does what the lines of the
-//! files that its words name say, and prints what comes of each.
+//! A gateway to which datagrams come that the other gateway never sent, and frames that were cut or
+//! changed: does what the lines of the files that its words name say, and prints what comes of each.
 #![tactic(auto)]
 
+mod changing;
 mod letters;
 mod stations;
 mod telling;
@@ -58,6 +59,8 @@ fn read_settings(rt: &HostRuntime, name: &str) -> Result<Settings> {
 /// - `letter ..`: a datagram comes, in words (`letters::spelled`)
 /// - `bytes HEX`, `again`: a datagram of these bytes comes; the last datagram comes once more
 /// - `cuts HEX`: a datagram comes cut at every length
+/// - `frame-cuts SIDE HEX`, `frame-changes SIDE HEX`: a frame comes cut at every length; with every byte changed to every
+///   other value
 /// - `table`: how the gateway stands
 fn act<O: Write>(rt: &HostRuntime, desk: &mut Desk, line: &str, output: &mut O) -> Result<()> {
     let words = line.split(' ').collect::<Vec<&str>>(rt.alloc())?;
@@ -89,6 +92,8 @@ fn happen<O: Write>(
         ["bytes", bytes] => station.bytes(bytes, output),
         ["again"] => station.again(output),
         ["cuts", bytes] => station.cuts(bytes, output),
+        ["frame-cuts", side, bytes] => station.frame_cuts(side, bytes, output),
+        ["frame-changes", side, bytes] => station.frame_changes(side, bytes, output),
         ["table"] => station.table(output),
         _ => bail!("no line of the cases: {line}"),
     }

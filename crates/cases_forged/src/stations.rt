@@ -2,7 +2,7 @@
 
 use crate::letters::spelled;
 use crate::telling::{tell, tell_owned};
-use crate::words;
+use crate::{changing, words};
 use anyhow::{Result, bail};
 use gateway::{Event, Gateway, Hashers, Out, Outcome, Reason};
 use nat_types::GatewayId;
@@ -102,6 +102,42 @@ impl Station {
         let all = bytes.len();
         writeln!(output, "  dropped 16: {dropped} of {all}")?;
         Ok(())
+    }
+
+    /// A frame comes in cut at every length.
+    pub(crate) fn frame_cuts<O: Write>(
+        &mut self,
+        side: &str,
+        text: &str,
+        output: &mut O,
+    ) -> Result<()> {
+        let side = words::side(side)?;
+        let frame = hex::decode(self.alloc, text)?;
+        changing::cut(
+            &mut self.gateway,
+            side,
+            frame.as_slice(),
+            &mut self.out,
+            output,
+        )
+    }
+
+    /// A frame comes in with every byte changed to every other value.
+    pub(crate) fn frame_changes<O: Write>(
+        &mut self,
+        side: &str,
+        text: &str,
+        output: &mut O,
+    ) -> Result<()> {
+        let side = words::side(side)?;
+        let mut frame = hex::decode(self.alloc, text)?;
+        changing::change(
+            &mut self.gateway,
+            side,
+            frame.as_mut_slice(),
+            &mut self.out,
+            output,
+        )
     }
 
     /// How far it is, what it knows of the other, its pairs, and the runs of ports that it owns.
