@@ -44,7 +44,7 @@ use Rattle.output.specs.Output.{Sent}
 use Rattle.spec_step.specs.declared.plans.Plan.{Plan}
 use Rattle.spec_step.specs.declared.plans.Plan.TheVariants.{Send, Ask, AskAgain, Wait as WaitFor}
 use Rattle.spec_step.specs.Others.{Asking, Cause, Drops, IsCause, IsDue, IsItsWait, IsNew, IsNextHop, IsUnknown, MayGoBy, Sends, Waits, all_noted, firsts, has_come, hops_of, other_frames, packets_asked, request_of, requests, retaken_pairs, targets, waiting_by, within_limit, is_other}
-use Rattle.spec_step.specs.Parts.{all_taken, asked_again, by_plan, by_row, by_verdict, carried_all, flags_in, flow_taken, framed, neighbour_asked, released, renewed_behind, request_by, retaken_by, taken_again, waiting, wanted_by, wanted_for, by_error_plan, by_error_verdict, error_taken, keeping}
+use Rattle.spec_step.specs.Parts.{all_taken, asked_again, by_plan, by_row, by_verdict, carried_all, flags_in, flow_taken, framed, neighbour_asked, released, renewed_behind, request_by, retaken_by, taken_again, waiting, wanted_by, wanted_for, by_error_plan, by_error_verdict, error_taken}
 use Rattle.spec_step.specs.Shown.{GatewayAndOutput, Shown, id_of, is_up, scene, station_on}
 use Rattle.spec_step.specs.Truly.{AreItsPairs, AreWired, AtHand, Known, known_of, near_on, packets_of}
 use Rattle.spec_step.specs.Verdict.{exit_by, hop_by, plan_of, reading_on, target_pair, error_hop, error_plan}
@@ -59,7 +59,7 @@ use Rattle.spec_step.proofs.Sending.{Frames, all_notes, carried-leaves, near-mac
 use Rattle.spec_step.proofs.Sends.{AreFound, plan-sends}
 use Rattle.spec_step.proofs.Telling.{at_hand}
 use Rattle.spec_step.proofs.Translating.{target-translates}
-use Rattle.spec_step.proofs.Erring.{AreErrorFound, ErrorSays, IsErrorAsked, IsErrorGoing, error-pairs, error-says, error-targets}
+use Rattle.spec_step.proofs.Erring.{ErrorSays, IsErrorAsked, IsErrorGoing, error-pairs, error-says, error-targets}
 use Rattle.icmp.specs.declared.packets.ErrorFlow.{ErrorFlow}
 use Rattle.icmp.specs.declared.packets.ErrorPacket.{ErrorPacket}
 

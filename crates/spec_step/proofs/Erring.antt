@@ -1,7 +1,7 @@
 -- What a plan says of an error: of one that is sent its way, its pairs, and that its next hop is known; of one that asks for its
 -- next hop the same, and that no hardware address is known for that host; of one that waits for it, that it has a place. No
 -- error waits for a pair.
-use Rattle.std.proofs.Common.{◌≡◌, ⊥, Bool, true, false, cond, Option, Some, None, Result, Ok, Err, List, refl, sym, ap, subst, ◌∙◌, inl}
+use Rattle.std.proofs.Common.{◌≡◌, Bool, true, false, cond, Option, Some, None, Result, Ok, Err, List, refl, sym, ap, ◌∙◌, inl}
 use Rattle.std.specs.List.{AllByRecursion}
 use Rattle.addresses.specs.declared.ethernet.Mac.{Mac}
 use Rattle.addresses.specs.declared.internet.Ip.{Ip}
