@@ -21,6 +21,12 @@ ask_for_error-requires-clause-place c =
     ∙ ap (λ (s : Side). has_place c.args.self.now.kept (Hop s c.in-Ok-Ask.hop)) exit
     ∙ holds
 
+-- no error waits for a pair
+pub unreachable-requires : goal.unreachable-requires
+unreachable-requires c =
+    let made : c.plan_error.result ≡ Ok (WaitFor c.in-Ok-Wait.field-0-0) = c.in-Ok-Wait.is ∙ ap (λ (p : Plan). let r : Result Plan Reason = Ok p in r) c.in-Ok-Wait.field-0-is in
+    error-plan-holds (shown_of c.args.self.now) c.args.side c.args.packet.flow (Ok (WaitFor c.in-Ok-Wait.field-0-0)) (sym made ∙ c.plan_error.ensures)
+
 pub returns-in-Ok-Send-clause-scene : goal.returns-in-Ok-Send-clause-scene
 returns-in-Ok-Send-clause-scene c =
     let made : c.plan_error.result ≡ Ok (Send c.in-Ok-Send.by c.in-Ok-Send.next) = c.in-Ok-Send.is ∙ ap (λ (p : Plan). let r : Result Plan Reason = Ok p in r) c.in-Ok-Send.field-0-is in
