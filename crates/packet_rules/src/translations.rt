@@ -126,7 +126,12 @@ fn translate_body(frame: &mut [u8], old: Flow, networks: &Networks, translation:
 
 /// Gives a frame the header of one that is sent on.
 #[tactic(auto, using(crate::proofs::Cut::header_length))]
-pub(crate) fn readdress(frame: &mut [u8], networks: &Networks, translation: &Translation, next_mac: Mac)
+pub(crate) fn readdress(
+    frame: &mut [u8],
+    networks: &Networks,
+    translation: &Translation,
+    next_mac: Mac,
+)
     requires { 14 ≤ length frame.old }
     ensures bytes { frame.new
         ≡ sent_header networks.now translation.now next_mac ++ drop 14 frame.old }
