@@ -16,7 +16,6 @@ use Rattle.arp.proofs.Offered.{asked-six, forgetful-asked}
 use Rattle.ipv4.specs.declared.flows.Flow.{Flow}
 use Rattle.ipv4.specs.declared.packets.Packet.{Packet as PacketRead}
 use Rattle.bindings.specs.declared.entries.Entry.{Entry}
-use Rattle.spec_pair.specs.Box.{In}
 use Rattle.spec_binding.specs.declared.changes.Transition.{Transition}
 use Rattle.spec_binding.specs.Books.{Book, is_synced}
 use Rattle.spec_binding.specs.Rows.{is_full, noted_by, wish_of}
@@ -43,23 +42,24 @@ use Rattle.interfaces.specs.Stations.{is_active}
 use Rattle.output.specs.Output.{Sent}
 use Rattle.spec_step.specs.declared.plans.Plan.{Plan}
 use Rattle.spec_step.specs.declared.plans.Plan.TheVariants.{Send, Ask, AskAgain, Wait as WaitFor}
-use Rattle.spec_step.specs.Others.{Asking, Cause, Drops, IsCause, IsDue, IsItsWait, IsNew, IsNextHop, IsUnknown, MayGoBy, Sends, Waits, all_noted, firsts, has_come, hops_of, other_frames, packets_asked, request_of, requests, retaken_pairs, targets, waiting_by, within_limit, is_other}
-use Rattle.spec_step.specs.Parts.{all_taken, asked_again, by_plan, by_row, by_verdict, carried_all, flags_in, flow_taken, framed, neighbour_asked, released, renewed_behind, request_by, retaken_by, taken_again, waiting, wanted_by, wanted_for, by_error_plan, by_error_verdict, error_taken, keeping}
+use Rattle.spec_step.specs.Others.{Asking, Cause, Drops, IsCause, IsDue, IsItsWait, IsNew, IsNextHop, IsUnknown, MayGoBy, Sends, Waits, all_noted, firsts, has_come, hops_of, other_frames, packets_asked, request_of, requests, targets, waiting_by, within_limit, is_other}
+use Rattle.spec_step.specs.Parts.{all_taken, asked_again, by_plan, by_row, by_verdict, carried_all, flags_in, flow_taken, framed, neighbour_asked, released, renewed_behind, request_by, retaken_by, taken_again, waiting, wanted_by, wanted_for, by_error_plan, by_error_verdict, error_taken}
 use Rattle.spec_step.specs.Shown.{GatewayAndOutput, Shown, id_of, is_up, scene, station_on}
 use Rattle.spec_step.specs.Truly.{AreItsPairs, AreWired, AtHand, Known, known_of, near_on, packets_of}
 use Rattle.spec_step.specs.Verdict.{exit_by, hop_by, plan_of, reading_on, target_pair, error_hop, error_plan}
 use Rattle.spec_step.proofs.Asked.{IsAsked, PlanSays, plan-says}
-use Rattle.spec_step.proofs.Freeing.{Comes-of, comes-off, comes-then, filter-all, filter-left, filter-none, shuffled}
+use Rattle.spec_step.proofs.Freeing.{Comes-of, comes-off, comes-then, filter-all, filter-left, filter-none}
+use Rattle.spec_step.proofs.FrameKinds.{error-no_other, sent-no_other}
 use Rattle.spec_step.proofs.Limits.{IsByWait, KeepsHops, TakesNone, asks-before, asks-left, count-left, count-noted, hops-stay, limit-count, limit-more, limit-same, noted-taken, noted-then}
 use Rattle.spec_step.proofs.Near.{asks-asked}
 use Rattle.spec_step.proofs.Packets.{refusal-leaves}
-use Rattle.spec_step.proofs.Rooting.{RowRoots, in-left, in-right, retaken-join, same-rooted, wish-roots}
+use Rattle.spec_step.proofs.Rooting.{RowRoots, has-more, has-then, same-rooted, wish-roots}
 use Rattle.spec_step.proofs.Saying.{reading-synced, addressed}
-use Rattle.spec_step.proofs.Sending.{Frames, all_notes, carried-leaves, near-mac, next-six, own-six, error-no_other, request-other, sent-no_other}
+use Rattle.spec_step.proofs.Sending.{Frames, all_notes, carried-leaves, near-mac, next-six, own-six, request-other}
 use Rattle.spec_step.proofs.Sends.{AreFound, plan-sends}
-use Rattle.spec_step.proofs.Telling.{at_hand}
+use Rattle.spec_step.proofs.Telling.{at_hand, shuffled}
 use Rattle.spec_step.proofs.Translating.{target-translates}
-use Rattle.spec_step.proofs.Erring.{AreErrorFound, ErrorSays, IsErrorAsked, IsErrorGoing, error-pairs, error-says, error-targets}
+use Rattle.spec_step.proofs.Erring.{ErrorSays, IsErrorAsked, IsErrorGoing, error-pairs, error-says, error-targets}
 use Rattle.icmp.specs.declared.packets.ErrorFlow.{ErrorFlow}
 use Rattle.icmp.specs.declared.packets.ErrorPacket.{ErrorPacket}
 
@@ -155,15 +155,6 @@ firsts-join now qs bs =
     ap (map (waiting_by now)) (filter-append first qs bs) ∙ map-append (waiting_by now) (filter first qs) (filter first bs)
 
 -- ---- the pairs that a gateway has
-
-has-more : (g : Shown) (ns ms : List Note) (p : Pair) → MayGoBy g ns p → MayGoBy g (ns ++ ms) p
-has-more g ns ms p (inl t) = inl t
-has-more g ns ms p (inr i) = inr (subst (λ (ps : List Pair). In p ps) (sym (retaken-join ns ms)) (in-left p (retaken_pairs ns) (retaken_pairs ms) i))
-
--- one that it has after a part, with what that part notes
-has-then : (g g2 : Shown) (ns ms : List Note) → ((p : Pair) → IsTranslated g2.ledger.book.entries p → MayGoBy g ns p) → (p : Pair) → MayGoBy g2 ms p → MayGoBy g (ns ++ ms) p
-has-then g g2 ns ms roots p (inl t) = has-more g ns ms p (roots p t)
-has-then g g2 ns ms roots p (inr i) = inr (subst (λ (ps : List Pair). In p ps) (sym (retaken-join ns ms)) (in-right p (retaken_pairs ns) (retaken_pairs ms) i))
 
 module _ (k : Known) (P Q : Pair → Type 0) (more : (p : Pair) → P p → Q p) where
   targets-more : (by : Translation) → AllByRecursion P (targets by) → AllByRecursion Q (targets by)

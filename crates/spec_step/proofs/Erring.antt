@@ -1,7 +1,7 @@
 -- What a plan says of an error: of one that is sent its way, its pairs, and that its next hop is known; of one that asks for its
 -- next hop the same, and that no hardware address is known for that host; of one that waits for it, that it has a place. No
 -- error waits for a pair.
-use Rattle.std.proofs.Common.{◌≡◌, ⊥, Bool, true, false, cond, Option, Some, None, Result, Ok, Err, List, refl, sym, ap, subst, ◌∙◌, inl}
+use Rattle.std.proofs.Common.{◌≡◌, Bool, true, false, cond, Option, Some, None, Result, Ok, Err, List, [], refl, sym, ap, ◌∙◌, inl}
 use Rattle.std.specs.List.{AllByRecursion}
 use Rattle.addresses.specs.declared.ethernet.Mac.{Mac}
 use Rattle.addresses.specs.declared.internet.Ip.{Ip}
@@ -14,9 +14,10 @@ use Rattle.nat_types.specs.declared.pairs.Pair.{Pair}
 use Rattle.icmp.specs.declared.packets.ErrorFlow.{ErrorFlow}
 use Rattle.ipv4.specs.declared.flows.Flow.{Flow}
 use Rattle.bindings.specs.declared.entries.Entry.{Entry}
-use Rattle.bindings.specs.Entries.{entry_of}
-use Rattle.bindings.proofs.Offered.{entry-serves}
-use Rattle.spec_binding.specs.Books.{is_synced}
+use Rattle.bindings.specs.Entries.{HasDistinctKeys, entry_of, serves, slot_of, translates}
+use Rattle.bindings.proofs.Offered.{entry-serves, found-slot}
+use Rattle.spec_binding.specs.Books.{IsBook, is_synced}
+use Rattle.spec_binding.specs.Uses.{IsTranslated}
 use Rattle.waiting.specs.declared.waits.WaitsFor.TheVariants as wait
 use Rattle.waiting.specs.Packets.{has_place}
 use Rattle.packet_rules.specs.declared.networks.Direction.{Direction}
@@ -25,7 +26,7 @@ use Rattle.packet_rules.specs.declared.reasons.Reason.{Reason}
 use Rattle.packet_rules.specs.declared.translations.Translation.{Translation}
 use Rattle.packet_rules.specs.declared.translations.Translation.TheVariants.{Outward, Inward, Hairpin}
 use Rattle.packet_rules.specs.Errors.{AreErrorPairs, endpoint_about, error_direction}
-use Rattle.packet_rules.specs.Frames.{way_of}
+use Rattle.packet_rules.specs.Frames.{pairs_of, way_of}
 use Rattle.packet_rules.specs.Steps.{and_then}
 use Rattle.spec_step.specs.declared.plans.Plan.{Plan}
 use Rattle.spec_step.specs.declared.plans.Plan.TheVariants.{Send, Ask, AskAgain, Wait as WaitFor}
@@ -141,3 +142,33 @@ pub error-targets : (g : Shown) (flow : ErrorFlow) (by : Translation) (notes : L
 error-targets g flow (Outward p) notes synced found = tt
 error-targets g flow (Inward p) notes synced found = (out-may g flow p notes synced found, tt)
 error-targets g flow (Hairpin own other) notes synced found = (out-may g flow other notes synced found.1, tt)
+
+-- and so does that of the destination inside
+in-there : (es : List Entry) (e : Endpoint) (p : Pair) → HasDistinctKeys es → pair_at (entry_of es e) ≡ Ok p → IsTranslated es p
+in-there es e p keys is = at (entry_of es e) refl is
+  where
+    made : (x : Entry) → entry_of es e ≡ Some x → x.pair ≡ p → translates x.state ≡ true → IsTranslated es p
+    made x there same live = record {
+      entry = x;
+      found = ap (λ (q : Pair). slot_of es q.key) (sym same) ∙ found-slot (serves e) es x keys there;
+      pair = same;
+      translates = live;
+    }
+
+    state-of : (x : Entry) → entry_of es e ≡ Some x → (s : EntryState) → x.state ≡ s → pair_in s x.pair ≡ Ok p → IsTranslated es p
+    state-of x there state.Pending st is = absurd (cc)
+    state-of x there state.Doomed st is = absurd (cc)
+    state-of x there state.Live st is = let same : x.pair ≡ p = cc in made x there same (ap translates st)
+    state-of x there state.Closing st is = absurd (cc)
+    state-of x there state.Held st is = let same : x.pair ≡ p = cc in made x there same (ap translates st)
+
+    at : (o : Option Entry) → entry_of es e ≡ o → pair_at o ≡ Ok p → IsTranslated es p
+    at None there is = absurd (cc)
+    at (Some x) there is = state-of x there x.state refl is
+
+-- packets may go by all of them
+pub error-may : (g : Shown) (flow : ErrorFlow) (by : Translation) → IsBook g.ledger.book → is_synced g.ledger.book.stage ≡ true → AreErrorFound g flow by → AllByRecursion (MayGoBy g []) (pairs_of by)
+error-may g flow (Outward p) book synced found = (inl (in-there g.ledger.book.entries (endpoint_about flow) p book.keys found), tt)
+error-may g flow (Inward p) book synced found = (out-may g flow p [] synced found, tt)
+error-may g flow (Hairpin own other) book synced found =
+    (inl (in-there g.ledger.book.entries (endpoint_about flow) own book.keys found.0), (out-may g flow other [] synced found.1, tt))

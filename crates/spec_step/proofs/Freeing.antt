@@ -5,7 +5,7 @@ use Rattle.std.proofs.lemmas.List.Elements.{filter-append}
 use Rattle.std.proofs.lemmas.List.Sorted.{IsPermutation-append_comm, IsPermutation-append_left, IsPermutation-append_right, IsPermutation-filter_both, IsPermutation-map, IsPermutation-trans}
 use Rattle.waiting.specs.Packets.{HeldPacket}
 use Rattle.spec_step.specs.Truly.{AtHand, packets_of}
-use Rattle.spec_step.proofs.Telling.{at_hand, swap-front}
+use Rattle.spec_step.proofs.Telling.{at_hand, shuffled}
 
 -- ---- filters
 
@@ -65,11 +65,6 @@ filter-either f g xs =
     second false false = refl
 
 -- ---- the same elements
-
-pub shuffled : {X : Type 0} (a b c d : List X) → IsPermutation ((a ++ b) ++ (c ++ d)) ((a ++ c) ++ (b ++ d))
-shuffled a b c d =
-    subst (λ xs. IsPermutation xs ((a ++ c) ++ (b ++ d))) (sym (append_assoc a b (c ++ d)))
-    (subst (λ ys. IsPermutation (a ++ (b ++ (c ++ d))) ys) (sym (append_assoc a c (b ++ d))) (IsPermutation-append_right a _ _ (swap-front b c d)))
 
 -- the middle part goes to the end
 moved : {X : Type 0} (l z g h y : List X) → IsPermutation (((l ++ z) ++ g) ++ (h ++ y)) ((l ++ g) ++ (h ++ (y ++ z)))

@@ -6,7 +6,7 @@ use Rattle.addresses.specs.declared.transport.Port.{Port}
 use Rattle.nat_types.specs.Same.{same_key}
 use Rattle.nat_types.specs.declared.gateways.GatewayId.{GatewayId}
 use Rattle.nat_types.specs.declared.notes.NoteKind.{NoteKind}
-use Rattle.nat_types.specs.declared.notes.NoteKind.TheVariants.{Retaken}
+use Rattle.nat_types.specs.declared.notes.NoteKind.TheVariants.{Released, Retaken}
 use Rattle.nat_types.specs.declared.notes.Note.{Note}
 use Rattle.nat_types.specs.declared.pairs.Endpoint.{Endpoint}
 use Rattle.nat_types.specs.declared.pairs.EntryState.{EntryState}
@@ -31,10 +31,11 @@ use Rattle.spec_binding.specs.declared.changes.PortRequest.{PortRequest}
 use Rattle.spec_binding.specs.declared.changes.Want.TheVariants as want
 use Rattle.spec_binding.specs.Books.{Book, empty_book, is_lone, is_promised, is_synced, load_of}
 use Rattle.spec_binding.specs.Resets.{back_in, begun_anew, put_alone, restart_notes, restarted, retaken}
-use Rattle.spec_binding.specs.Rows.{accept_row, accepted_row, after, answering, ask_row, asked_row, ending, gives_way, grant_row, install_row, is_at_limit, is_theirs, known_wish, left_row, load_taken, load_what, may_want, new_pair, new_wish, no_row, none_row, noted_by, numbers_of, port_for, proposal, proposed_row, quiet, refuse_row, refused_row, row, row_of, stayed_row, synced_row, taken_book, taken_what, unsynced_after, unsynced_what, wish, wish_by, wish_of, yes_row}
+use Rattle.spec_binding.specs.Rows.{accept_row, accepted_row, after, answering, ask_row, asked_row, asking, ending, gives_way, grant_row, idle_row, install_row, is_at_limit, is_theirs, known_wish, left_row, load_taken, load_what, may_want, new_pair, new_wish, no_row, none_row, noted_by, numbers_of, port_for, proposal, proposed_row, quiet, refuse_row, refused_row, release_row, released_row, row, row_of, stayed_row, synced_row, taken_book, taken_what, unsynced_after, unsynced_what, wish, wish_by, wish_of, yes_row}
 use Rattle.spec_binding.specs.Uses.{IsTranslated}
 use Rattle.spec_binding.proofs.Offered.{gained-is, was-there, at-key, chosen-says}
-use Rattle.spec_step.specs.Others.{retaken_in, retaken_pairs}
+use Rattle.spec_step.specs.Others.{MayGoBy, retaken_in, retaken_pairs}
+use Rattle.spec_step.specs.Shown.{Shown}
 
 -- each pair of the table then translated before, or is one of these
 abbrev pub Rooted : List Entry → List Entry → List Pair → Type 0
@@ -51,6 +52,16 @@ in-right x (z ∷ zs) ys is = inr (in-right x zs ys is)
 
 pub retaken-join : (ns ms : List Note) → retaken_pairs (ns ++ ms) ≡ retaken_pairs ns ++ retaken_pairs ms
 retaken-join ns ms = flat_map-append (λ (n : Note). retaken_in n.what) ns ms
+
+-- a pair by which packets may go may do so with more notes
+pub has-more : (g : Shown) (ns ms : List Note) (p : Pair) → MayGoBy g ns p → MayGoBy g (ns ++ ms) p
+has-more g ns ms p (inl t) = inl t
+has-more g ns ms p (inr i) = inr (subst (λ (ps : List Pair). In p ps) (sym (retaken-join ns ms)) (in-left p (retaken_pairs ns) (retaken_pairs ms) i))
+
+-- one by which they may after a part, with what that part notes
+pub has-then : (g g2 : Shown) (ns ms : List Note) → ((p : Pair) → IsTranslated g2.ledger.book.entries p → MayGoBy g ns p) → (p : Pair) → MayGoBy g2 ms p → MayGoBy g (ns ++ ms) p
+has-then g g2 ns ms roots p (inl t) = has-more g ns ms p (roots p t)
+has-then g g2 ns ms roots p (inr i) = inr (subst (λ (ps : List Pair). In p ps) (sym (retaken-join ns ms)) (in-right p (retaken_pairs ns) (retaken_pairs ms) i))
 
 pub same-rooted : (es es2 : List Entry) (ps : List Pair) → es2 ≡ es → Rooted es es2 ps
 same-rooted es es2 ps same = λ p t. inl (subst (λ (xs : List Entry). IsTranslated xs p) same t)
@@ -263,6 +274,32 @@ synced-roots b rests (rec.Owner first last) = quiet-roots b
 
 row-roots : (b : Book) (rests : Bool) (r : Record) → RowRoots b (row_of b rests r)
 row-roots b rests r = either-roots b (is_promised b) quiet (synced_row b rests r) (λ t. quiet-roots b) (λ t. synced-roots b rests r)
+
+-- ---- an idle pair
+
+release-roots : (b : Book) (lone ask : Bool) (k : Key) (o : Option Entry) → slot_of b.entries k ≡ o → RowRoots b (release_row lone ask o)
+release-roots b lone ask k None is = quiet-roots b
+release-roots b lone ask k (Some x) is = at x.state lone ask
+  where
+    dropped : RowRoots b (row (Drop x.pair.key) None (Some (Released x.pair)))
+    dropped = λ i now. drop-rooted b.entries x.pair.key []
+
+    closed : RowRoots b (asking x.pair)
+    closed = λ i now. turn-rooted b.entries x state.Closing [] (at-key b.entries k x is) (λ h. absurd (cc))
+
+    at : (s : EntryState) (lone ask : Bool) → RowRoots b (released_row lone ask x.pair s)
+    at state.Pending lone ask = quiet-roots b
+    at state.Doomed lone ask = quiet-roots b
+    at state.Live true ask = dropped
+    at state.Live false true = closed
+    at state.Live false false = quiet-roots b
+    at state.Closing lone ask = quiet-roots b
+    at state.Held true ask = dropped
+    at state.Held false ask = quiet-roots b
+
+pub idle-roots : (b : Book) (ask : Bool) (k : Key) → RowRoots b (idle_row b ask k)
+idle-roots b ask k =
+    either-roots b (is_synced b.stage) (release_row (is_lone b.stage) ask (slot_of b.entries k)) quiet (λ t. release-roots b (is_lone b.stage) ask k (slot_of b.entries k) refl) (λ t. quiet-roots b)
 
 -- ---- records at a gateway that isn't synced
 

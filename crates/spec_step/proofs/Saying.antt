@@ -1,5 +1,5 @@
--- One packet, and those whose wait is over: what is told of them is true, and what that rests on holds again.
-use Rattle.std.proofs.Common.{◌≡◌, ℕ, Bool, true, false, not, ◌&&◌, List, [], ◌∷◌, ◌++◌, Option, Some, None, Result, Ok, Err, refl, sym, ap, subst, ◌∙◌, cond, IsPermutation, length}
+-- One packet or error, and those whose wait is over: what is told of them is true, and what that rests on holds again.
+use Rattle.std.proofs.Common.{◌≡◌, ℕ, Bool, true, false, not, ◌&&◌, List, [], ◌∷◌, ◌++◌, Option, Some, None, Result, Ok, Err, refl, sym, ap, subst, ◌∙◌, cond, IsPermutation, length, inl}
 use Rattle.std.specs.List.{AllByRecursion}
 use Rattle.addresses.specs.declared.ethernet.Mac.{Mac}
 use Rattle.addresses.specs.declared.internet.Ip.{Ip}
@@ -24,8 +24,8 @@ use Rattle.packet_rules.specs.declared.reasons.Reason.{Reason}
 use Rattle.packet_rules.specs.declared.translations.Translation.{Translation}
 use Rattle.packet_rules.specs.declared.translations.Translation.TheVariants.{Outward, Inward, Hairpin}
 use Rattle.packet_rules.specs.Arping.{request_frame}
-use Rattle.packet_rules.specs.Flows.{flow_in, source_of}
-use Rattle.packet_rules.specs.Frames.{is_translation, sent_frame}
+use Rattle.packet_rules.specs.Flows.{error_flow_in, flow_in, source_of}
+use Rattle.packet_rules.specs.Frames.{sent_frame}
 use Rattle.packet_rules.specs.Steps.{IsForwardable, unless, up_refusal, IsPassable}
 use Rattle.packet_rules.specs.Errors.{passed_frame}
 use Rattle.interfaces.specs.Stations.{is_active}
@@ -35,17 +35,20 @@ use Rattle.arp.proofs.Offered.{asked-six, forgetful-asked}
 use Rattle.spec_step.specs.declared.plans.Plan.{Plan}
 use Rattle.spec_step.specs.declared.plans.Plan.TheVariants.{Send, Ask, AskAgain, Wait as WaitFor}
 use Rattle.spec_step.specs.Machine.{AreBytes}
+use Rattle.spec_step.specs.Others.{is_other}
 use Rattle.spec_step.specs.Parts.{all_taken, asked_again, by_plan, by_refusal, by_row, by_verdict, carried_all, flags_in, flow_taken, framed, keeping, neighbour_asked, released, renewed_behind, request_by, retaken_by, taken_again, wanted_by, wanted_for, by_error_plan, by_error_verdict, error_taken}
 use Rattle.spec_step.specs.Shown.{GatewayAndOutput, Shown, id_of, is_up, scene, station_on}
-use Rattle.spec_step.specs.Truly.{AreWired, AtHand, IsSentBy, Known, Tells, known_of, packets_of}
-use Rattle.spec_step.specs.Verdict.{exit_by, hop_by, plan_of, reading_on, error_hop, error_plan}
+use Rattle.spec_step.specs.Truly.{AreWired, AtHand, IsSentBy, Known, known_of, packets_of}
+use Rattle.spec_step.specs.Verdict.{error_hop, error_plan, exit_by, hop_by, next_to, plan_of, reading_on}
 use Rattle.spec_step.proofs.Packets.{PlanFits, kept-filter, kept-more, plan-fits, refusal-leaves, source-formed}
 use Rattle.spec_step.proofs.Passing.{IsSound}
-use Rattle.spec_step.proofs.Sending.{AllTranslate, Frames, carried-leaves, found-translate, is-sent, next-six, own-six, sending-tells}
+use Rattle.spec_step.proofs.Sending.{AllTranslate, Frames, carried-leaves, found-translate, is-sent, next-six, own-six, request-other, sending-tells}
 use Rattle.spec_step.proofs.Sends.{plan-sends}
 use Rattle.spec_step.proofs.Takings.{IsUseless, keeping-tells, wanted-for-known, wish-useless}
-use Rattle.spec_step.proofs.Telling.{at_hand, framed-tells, split-kept, tells-nothing, tells-quietly, tells-then}
-use Rattle.spec_step.proofs.Erring.{ErrorSays, error-says}
+use Rattle.spec_step.proofs.Telling.{Told, at_hand, framed-tells, split-kept, tells-nothing, tells-quietly, tells-then, tells-unseen}
+use Rattle.spec_step.proofs.Erring.{ErrorSays, IsErrorGoing, error-says}
+use Rattle.spec_step.proofs.Passed.{is-passed, passed-tells}
+use Rattle.spec_step.proofs.Rooting.{RowRoots, wish-roots}
 use Rattle.std.proofs.lemmas.List.Sorted.{IsPermutation-sym, IsPermutation-trans, IsPermutation-refl}
 use Rattle.std.proofs.lemmas.List.{append-nil}
 use Rattle.icmp.specs.declared.packets.ErrorFlow.{ErrorFlow}
@@ -53,7 +56,7 @@ use Rattle.icmp.specs.declared.packets.ErrorPacket.{ErrorPacket}
 
 -- what is told from one scene to another is true, and what that rests on holds afterwards
 pub record Says (hand : List AtHand) (s s2 : GatewayAndOutput) : Type 0 where
-  pub tells : Tells hand s s2
+  pub tells : Told hand s s2
   pub sound : IsSound s2.shown
   pub wired : AreWired s2.shown
 
@@ -84,10 +87,10 @@ pub saying-nothing : (s : GatewayAndOutput) (hand : List AtHand) → Saying hand
 saying-nothing s hand = λ is w. (record { tells = tells-nothing s hand; sound = is; wired = w }, refl)
 
 -- a row that uses no pair
-pub row-says : (s : GatewayAndOutput) (row : Transition) → IsUseless row → (IsBook s.shown.ledger.book → IsBook (after s.shown.ledger.book row)) → Saying [] s (by_row s row)
-row-says s row useless keeps = λ is w. (
+pub row-says : (s : GatewayAndOutput) (row : Transition) → IsUseless row → RowRoots s.shown.ledger.book row → (IsBook s.shown.ledger.book → IsBook (after s.shown.ledger.book row)) → Saying [] s (by_row s row)
+row-says s row useless roots keeps = λ is w. (
   record {
-    tells = tells-quietly s (by_row s row) (noted_by (id_of s.shown) s.shown.moment row.what) refl refl (useless (id_of s.shown) s.shown.moment) refl;
+    tells = tells-quietly s (by_row s row) (noted_by (id_of s.shown) s.shown.moment row.what) refl refl (useless (id_of s.shown) s.shown.moment) refl (roots (id_of s.shown) s.shown.moment);
     sound = record { book = keeps is.book; kept = is.kept };
     wired = w;
   },
@@ -98,15 +101,15 @@ pub wanted-says : (s : GatewayAndOutput) (e : Endpoint) → IsWellFormedEndpoint
 wanted-says s e formed =
     let b = s.shown.ledger.book in
     let full = is_full s.shown.link in
-    row-says s (wish_of b full e).row (wish-useless b full e) (λ is. wish-keeps b full e is formed)
+    row-says s (wish_of b full e).row (wish-useless b full e) (wish-roots b full e) (λ is. wish-keeps b full e is formed)
 
 wanted-for-says : (s : GatewayAndOutput) (flow : Flow) (by : Translation) → IsWellFormedEndpoint (source_of flow) → Saying [] s (wanted_for s flow by)
 wanted-for-says s flow (Outward p) formed = wanted-says s (source_of flow) formed
 wanted-for-says s flow (Inward p) formed = saying-nothing s []
 wanted-for-says s flow (Hairpin own other) formed = wanted-says s (source_of flow) formed
 
--- a frame of another sort
-pub framed-says : (s : GatewayAndOutput) (side : Side) (bytes : List ℕ) → (AreWired s.shown → is_translation bytes ≡ false) → Saying [] s (framed s side bytes)
+-- a frame of another kind
+pub framed-says : (s : GatewayAndOutput) (side : Side) (bytes : List ℕ) → (AreWired s.shown → is_other bytes ≡ true) → Saying [] s (framed s side bytes)
 framed-says s side bytes none = λ is w. (
   record { tells = framed-tells s side bytes (none w); sound = record { book = is.book; kept = is.kept }; wired = w },
   refl,
@@ -149,11 +152,11 @@ renewed-says frames s exit hop = at exit (asks_at hop.0 s.shown.moment (station_
     -- the neighbours alone are others
     asked : (side : Side) → Saying [] s (scene (neighbour_asked s.shown side hop) s.told)
     asked Inside = λ is w. (
-      record { tells = tells-quietly s _ [] refl (sym (append-nil s.told.notes)) refl refl; sound = record { book = is.book; kept = is.kept }; wired = wired Inside w },
+      record { tells = tells-unseen s _ refl refl refl refl; sound = record { book = is.book; kept = is.kept }; wired = wired Inside w },
       known Inside,
     )
     asked Outside = λ is w. (
-      record { tells = tells-quietly s _ [] refl (sym (append-nil s.told.notes)) refl refl; sound = record { book = is.book; kept = is.kept }; wired = wired Outside w },
+      record { tells = tells-unseen s _ refl refl refl refl; sound = record { book = is.book; kept = is.kept }; wired = wired Outside w },
       known Outside,
     )
 
@@ -161,7 +164,7 @@ renewed-says frames s exit hop = at exit (asks_at hop.0 s.shown.moment (station_
     at side true =
         let mid = scene (neighbour_asked s.shown side hop) s.told in
         λ is w. saying-then [] [] s mid (framed mid side (request_by s.shown side hop)) (asked side)
-        (framed-says mid side (request_by s.shown side hop) (λ x. frames.request (station_on s.shown side).network hop (own-six s.shown w side))) is w
+        (framed-says mid side (request_by s.shown side hop) (λ x. request-other frames (station_on s.shown side).network hop (own-six s.shown w side))) is w
     at side false = saying-nothing s []
 
 again-says : Frames → (s : GatewayAndOutput) (exit : Side) (hop : Ip) → Saying [] s (asked_again s exit hop)
@@ -180,16 +183,22 @@ again-says frames s exit hop = at (asks_again s.shown.moment (wait.Hop exit hop)
     asked = λ is w. (
       record {
         tells = record {
-          frames = [];
-          frames_are = sym (append-nil s.told.frames);
-          notes = [];
-          notes_are = sym (append-nil s.told.notes);
-          done = [];
-          translated = refl;
-          used = refl;
-          each = tt;
-          dropped = [];
-          once = subst (λ (ps : List AtHand). IsPermutation (packets_of s.shown.kept) ps) (sym same) (IsPermutation-refl (packets_of s.shown.kept));
+          all = record {
+            frames = [];
+            frames_are = sym (append-nil s.told.frames);
+            notes = [];
+            notes_are = sym (append-nil s.told.notes);
+            done = [];
+            translated = refl;
+            used = refl;
+            each = tt;
+            passed = [];
+            errors = refl;
+            each_error = tt;
+            dropped = [];
+            once = subst (λ (ps : List AtHand). IsPermutation (packets_of s.shown.kept) ps) (sym same) (IsPermutation-refl (packets_of s.shown.kept));
+          };
+          roots = λ p t. inl t;
         };
         sound = record { book = is.book; kept = all-asked (λ (x : HeldPacket). AreBytes x.bytes) (λ x n are. are) s.shown.moment (wait.Hop exit hop) s.shown.kept is.kept };
         wired = w;
@@ -199,7 +208,7 @@ again-says frames s exit hop = at (asks_again s.shown.moment (wait.Hop exit hop)
 
     at : (b : Bool) → Saying [] s (let x : GatewayAndOutput = cond b (framed mid exit (request_by s.shown exit hop)) s in x)
     at true = λ is w. saying-then [] [] s mid (framed mid exit (request_by s.shown exit hop)) asked
-        (framed-says mid exit (request_by s.shown exit hop) (λ x. frames.request (station_on s.shown exit).network hop (own-six s.shown w exit))) is w
+        (framed-says mid exit (request_by s.shown exit hop) (λ x. request-other frames (station_on s.shown exit).network hop (own-six s.shown w exit))) is w
     at false = saying-nothing s []
 
 -- ---- a packet that is sent on
@@ -262,7 +271,7 @@ plan-says frames s side bytes flow (Ask by hop) read plan fits =
     let network = (station_on s.shown (exit_by by)).network in
     let first = saying-then [] hand s one two (wanted-for-says s flow by (read-from s bytes flow read)) (keeping-says one side bytes (wait.Hop (exit_by by) hop) read.are) in
     λ is w. saying-then hand [] s two (framed two (exit_by by) (request_frame network hop)) first
-    (framed-says two (exit_by by) (request_frame network hop) (λ x. frames.request network hop (own-six s.shown w (exit_by by)))) is w
+    (framed-says two (exit_by by) (request_frame network hop) (λ x. request-other frames network hop (own-six s.shown w (exit_by by)))) is w
 plan-says frames s side bytes flow (AskAgain by hop) read plan fits =
     let hand = at_hand side bytes ∷ [] in
     saying-then hand [] s s (asked_again s (exit_by by) hop) (saying-nothing s hand) (again-says frames s (exit_by by) hop)
@@ -309,40 +318,69 @@ packet-says frames s side bytes packet is are =
     let carries = frames.reads at.network (is_active at) (is_up s.shown) bytes (Packet packet) is in
     flow-says frames s side bytes packet.flow (record { are = are; synced = reading-synced s.shown side bytes (Packet packet) is; passes = carries.0; flow_is = ap (λ (p : PacketRead). p.flow) carries.1 })
 
--- an error
-error-plan-says : Frames → (s : GatewayAndOutput) (side : Side) (bytes : List ℕ) (flow : ErrorFlow) (plan : Plan) → IsPassable bytes → AreBytes bytes → ErrorSays s.shown side flow (Ok plan)
-    → Saying (at_hand side bytes ∷ []) s (by_error_plan s side bytes flow plan)
-error-plan-says frames s side bytes flow (Send by next) passes are says =
+-- ---- an error
+
+-- what an error is read with
+record IsErrorRead (s : GatewayAndOutput) (bytes : List ℕ) (flow : ErrorFlow) : Type 0 where
+  are : AreBytes bytes
+  synced : is_synced s.shown.ledger.book.stage ≡ true
+  passes : IsPassable bytes
+  flow_is : flow ≡ error_flow_in bytes
+
+-- it is passed on
+passed-says : Frames → (s : GatewayAndOutput) (side : Side) (bytes : List ℕ) (by : Translation) (next : Mac) → IsErrorRead s bytes (error_flow_in bytes) → IsErrorGoing s.shown side (error_flow_in bytes) by
+    → next_to s.shown by (error_flow_in bytes).destination ≡ Some next → Saying (at_hand side bytes ∷ []) s (framed s (exit_by by) (passed_frame s.shown.networks by next bytes))
+passed-says frames s side bytes by next read goes next_is = λ is w. (
+  record {
+    tells = passed-tells s side bytes by next
+        (is-passed s.shown side bytes by next read.passes is.book read.synced goes next_is)
+        (frames.passed_apart s.shown.networks by next bytes w.0 (six w) read.passes)
+        (frames.passed s.shown.networks by next bytes w.0 (six w) read.passes);
+    sound = record { book = is.book; kept = is.kept };
+    wired = w;
+  },
+  refl,
+)
+  where
+    six : AreWired s.shown → length next.0 ≡ 6
+    six w = next-six s.shown (addressed (error_flow_in bytes)) by next w next_is
+
+error-plan-says : Frames → (s : GatewayAndOutput) (side : Side) (bytes : List ℕ) (plan : Plan) → IsErrorRead s bytes (error_flow_in bytes) → ErrorSays s.shown side (error_flow_in bytes) (Ok plan)
+    → Saying (at_hand side bytes ∷ []) s (by_error_plan s side bytes (error_flow_in bytes) plan)
+error-plan-says frames s side bytes (Send by next) read says =
     let hand = at_hand side bytes ∷ [] in
-    let frame = passed_frame s.shown.networks by next bytes in
-    let one = framed s (exit_by by) frame in
-    let six : AreWired s.shown → length next.0 ≡ 6 = λ w. next-six s.shown (addressed flow) by next w says.1 in
-    saying-then hand [] s s (by_error_plan s side bytes flow (Send by next)) (saying-nothing s hand)
-    (saying-then [] [] s one (by_error_plan s side bytes flow (Send by next))
-    (framed-says s (exit_by by) frame (λ w. frames.passed_apart s.shown.networks by next bytes w.0 (six w) passes))
-    (renewed-says frames one (exit_by by) (error_hop s.shown by flow)))
-error-plan-says frames s side bytes flow (Ask by hop) passes are says =
+    let one = framed s (exit_by by) (passed_frame s.shown.networks by next bytes) in
+    saying-then hand [] s one (by_error_plan s side bytes (error_flow_in bytes) (Send by next)) (passed-says frames s side bytes by next read says.0 says.1)
+    (renewed-says frames one (exit_by by) (error_hop s.shown by (error_flow_in bytes)))
+error-plan-says frames s side bytes (Ask by hop) read says =
     let hand = at_hand side bytes ∷ [] in
     let what = wait.Hop (exit_by by) hop in
     let one = keeping s side bytes what in
     let network = (station_on s.shown (exit_by by)).network in
-    λ is w. saying-then hand [] s one (framed one (exit_by by) (request_frame network hop)) (keeping-says s side bytes what are)
-    (framed-says one (exit_by by) (request_frame network hop) (λ x. frames.request network hop (own-six s.shown w (exit_by by)))) is w
-error-plan-says frames s side bytes flow (AskAgain by hop) passes are says =
+    λ is w. saying-then hand [] s one (framed one (exit_by by) (request_frame network hop)) (keeping-says s side bytes what read.are)
+    (framed-says one (exit_by by) (request_frame network hop) (λ x. request-other frames network hop (own-six s.shown w (exit_by by)))) is w
+error-plan-says frames s side bytes (AskAgain by hop) read says =
     let hand = at_hand side bytes ∷ [] in
     saying-then hand [] s s (asked_again s (exit_by by) hop) (saying-nothing s hand) (again-says frames s (exit_by by) hop)
-error-plan-says frames s side bytes flow (WaitFor e) passes are says = absurd says
+error-plan-says frames s side bytes (WaitFor e) read says = absurd says
+
+error-says-of : Frames → (s : GatewayAndOutput) (side : Side) (bytes : List ℕ) (flow : ErrorFlow) → IsErrorRead s bytes flow → Saying (at_hand side bytes ∷ []) s (error_taken s side bytes flow)
+error-says-of frames s side bytes flow read =
+    subst (λ (f : ErrorFlow). Saying (at_hand side bytes ∷ []) s (error_taken s side bytes f)) (sym read.flow_is)
+    (at (error_plan s.shown side (error_flow_in bytes)) (error-says s.shown side (error_flow_in bytes)))
+  where
+    at : (r : Result Plan Reason) → ErrorSays s.shown side (error_flow_in bytes) r → Saying (at_hand side bytes ∷ []) s (by_error_verdict s side bytes (error_flow_in bytes) r)
+    at (Ok plan) says = error-plan-says frames s side bytes plan (record { are = read.are; synced = read.synced; passes = read.passes; flow_is = refl }) says
+    at (Err reason) says = saying-nothing s (at_hand side bytes ∷ [])
 
 pub error-packet-says : Frames → (s : GatewayAndOutput) (side : Side) (bytes : List ℕ) (packet : ErrorPacket) → reading_on s.shown side bytes ≡ Ok (Error packet) → AreBytes bytes
     → Saying (at_hand side bytes ∷ []) s (error_taken s side bytes packet.flow)
-error-packet-says frames s side bytes packet is are = by (error_plan s.shown side packet.flow) (error-says s.shown side packet.flow)
-  where
-    passes : IsPassable bytes
-    passes = let at = station_on s.shown side in (frames.reads at.network (is_active at) (is_up s.shown) bytes (Error packet) is).0
+error-packet-says frames s side bytes packet is are =
+    let at = station_on s.shown side in
+    let carries = frames.reads at.network (is_active at) (is_up s.shown) bytes (Error packet) is in
+    error-says-of frames s side bytes packet.flow (record { are = are; synced = reading-synced s.shown side bytes (Error packet) is; passes = carries.0; flow_is = ap (λ (p : ErrorPacket). p.flow) carries.1 })
 
-    by : (r : Result Plan Reason) → ErrorSays s.shown side packet.flow r → Saying (at_hand side bytes ∷ []) s (by_error_verdict s side bytes packet.flow r)
-    by (Ok plan) says = error-plan-says frames s side bytes packet.flow plan passes are says
-    by (Err reason) says = saying-nothing s (at_hand side bytes ∷ [])
+-- ---- a frame that is read again
 
 retaken-says : Frames → (s : GatewayAndOutput) (side : Side) (bytes : List ℕ) (r : Result Reading Reason) → reading_on s.shown side bytes ≡ r → AreBytes bytes → Saying (at_hand side bytes ∷ []) s (retaken_by s side bytes r)
 retaken-says frames s side bytes (Ok (Packet packet)) is are = packet-says frames s side bytes packet is are
@@ -364,18 +402,24 @@ module _ (frames : Frames) (s : GatewayAndOutput) (ended : Ended) where
   start = scene (record s.shown { kept = left_by ended s.shown.kept }) s.told
 
   -- from the packets off the list to the list that they were on
-  on-list : Tells (packets_of (ended_by ended s.shown.kept)) start (released s ended) → Tells [] s (released s ended)
+  on-list : Told (packets_of (ended_by ended s.shown.kept)) start (released s ended) → Told [] s (released s ended)
   on-list x = record {
-    frames = x.frames;
-    frames_are = x.frames_are;
-    notes = x.notes;
-    notes_are = x.notes_are;
-    done = x.done;
-    translated = x.translated;
-    used = x.used;
-    each = x.each;
-    dropped = x.dropped;
-    once = IsPermutation-trans _ _ _ (IsPermutation-sym _ _ (split-kept ended s.shown.kept)) x.once;
+    all = record {
+      frames = x.all.frames;
+      frames_are = x.all.frames_are;
+      notes = x.all.notes;
+      notes_are = x.all.notes_are;
+      done = x.all.done;
+      translated = x.all.translated;
+      used = x.all.used;
+      each = x.all.each;
+      passed = x.all.passed;
+      errors = x.all.errors;
+      each_error = x.all.each_error;
+      dropped = x.all.dropped;
+      once = IsPermutation-trans _ _ _ (IsPermutation-sym _ _ (split-kept ended s.shown.kept)) x.all.once;
+    };
+    roots = x.roots;
   }
 
   released-by : AllByRecursion (λ (w : HeldPacket). AreBytes w.bytes) s.shown.kept → Saying (packets_of (ended_by ended s.shown.kept)) start (released s ended)

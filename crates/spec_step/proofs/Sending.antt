@@ -1,5 +1,5 @@
 -- A packet that is sent on is told of truly.
-use Rattle.std.proofs.Common.{◌≡◌, ℕ, true, false, Some, List, [], ◌∷◌, ◌++◌, length, IsPermutation, refl, sym, ap, subst, ◌∙◌, append_assoc, Bool, not, ◌&&◌}
+use Rattle.std.proofs.Common.{◌≡◌, ℕ, true, false, Some, List, [], ◌∷◌, ◌++◌, length, IsPermutation, refl, sym, ap, subst, ◌∙◌, append_assoc}
 use Rattle.std.proofs.lemmas.List.{append-nil}
 use Rattle.std.proofs.lemmas.Grind.{flat_map-append}
 use Rattle.std.proofs.lemmas.List.Sorted.{IsPermutation-refl}
@@ -30,15 +30,17 @@ use Rattle.packet_rules.specs.Networks.{IsWired}
 use Rattle.packet_rules.specs.Steps.{IsForwardable, IsPassable}
 use Rattle.packet_rules.specs.Errors.{is_error_frame, passed_frame}
 use Rattle.output.specs.Output.{Sent}
+use Rattle.spec_step.specs.Others.{is_other, retaken_pairs}
 use Rattle.spec_step.specs.Parts.{carried_all, framed, wanted_for}
 use Rattle.spec_step.specs.Shown.{GatewayAndOutput, Shown, id_of, station_on}
-use Rattle.spec_step.specs.Truly.{AreItsPairs, AreWired, IsSentBy, Known, Sending, Tells, known_of, near_on, packets_of, unasked, used_in, used_pairs}
+use Rattle.spec_step.specs.Truly.{AreItsPairs, AreWired, IsSentBy, Known, Sending, known_of, near_on, packets_of, unasked, used_in, used_pairs}
 use Rattle.spec_step.specs.Verdict.{exit_by, hop_by, next_by}
+use Rattle.spec_step.proofs.FrameKinds.{other-by, sent-no_error}
 use Rattle.spec_step.proofs.Packets.{Reads}
+use Rattle.spec_step.proofs.Rooting.{same-rooted}
 use Rattle.spec_step.proofs.Sends.{AreFound, IsOwn, IsPlanned}
-use Rattle.spec_step.proofs.Telling.{at_hand}
+use Rattle.spec_step.proofs.Telling.{Told, at_hand}
 use Rattle.spec_step.proofs.Translating.{Translates, carry-note, target-translates, wish-owns, wish-still}
-use Rattle.spec_step.specs.Others.{is_other}
 
 -- what is known of frames: what they are read as, and which of those that are sent are translations
 pub record Frames : Type 0 where
@@ -55,27 +57,7 @@ pub record Frames : Type 0 where
   pub gratuitous_no_error : (network : Network) → is_error_frame (gratuitous_frame network) ≡ false
   pub advert_no_error : (network : Network) (priority interval : ℕ) → is_error_frame (advert_frame network priority interval) ≡ false
 
--- ---- frames of another sort
-
-pub other-by : (bytes : List ℕ) → is_translation bytes ≡ false → is_error_frame bytes ≡ false → is_other bytes ≡ true
-unfolding is_other
-other-by bytes a b = rw (a, b) refl
-
-pub other-none : (bytes : List ℕ) → is_other bytes ≡ true → is_translation bytes ≡ false
-unfolding is_other
-other-none bytes is = at (is_translation bytes) is
-  where
-    at : (b : Bool) → (not b && not (is_error_frame bytes)) ≡ true → b ≡ false
-    at true is = absurd (cc)
-    at false is = refl
-
-pub sent-no_other : (bytes : List ℕ) → is_translation bytes ≡ true → is_other bytes ≡ false
-unfolding is_other
-sent-no_other bytes is = rw is refl
-
-pub error-no_other : (bytes : List ℕ) → is_translation bytes ≡ false → is_error_frame bytes ≡ true → is_other bytes ≡ false
-unfolding is_other
-error-no_other bytes a b = rw (a, b) refl
+-- ---- frames of another kind
 
 pub request-other : Frames → (network : Network) (ip : Ip) → length network.own_mac.0 ≡ 6 → is_other (request_frame network ip) ≡ true
 request-other frames network ip own = other-by _ (frames.request network ip own) (frames.request_no_error network ip own)
@@ -192,20 +174,28 @@ next-six g flow by next wired is = near-six (hop_by g by flow).0 g.moment (stati
 -- the frame of a packet, and the notes of its pairs
 pub sending-tells : (s : GatewayAndOutput) (side : Side) (bytes : List ℕ) (flow : Flow) (flags : TcpFlags) (by : Translation) (frame : List ℕ)
     → IsSentBy (known_of s.shown) (at_hand side bytes) by (let x : Sent = record { side = exit_by by; bytes = frame } in x) → is_translation frame ≡ true → AllTranslate s.shown.ledger.book by
-    → Tells (at_hand side bytes ∷ []) s (carried_all (framed s (exit_by by) frame) flow flags by)
+    → Told (at_hand side bytes ∷ []) s (carried_all (framed s (exit_by by) frame) flow flags by)
 sending-tells s side bytes flow flags by frame sent is all =
+    let two = carried_all (framed s (exit_by by) frame) flow flags by in
     let c = carried-leaves (framed s (exit_by by) frame) flow flags by in
     let x : Sent = record { side = exit_by by; bytes = frame } in
     let d : Sending = record { packet = at_hand side bytes; by = by; sent = x } in
+    let none = sent-no_error frame is in
     record {
-      frames = x ∷ [];
-      frames_are = c.frames;
-      notes = all_notes s.shown by;
-      notes_are = c.notes;
-      done = d ∷ [];
-      translated = rw is refl;
-      used = all-used s.shown by all ∙ sym (append-nil (pairs_of by));
-      each = (subst (λ (k : Known). IsSentBy k (at_hand side bytes) by x) (sym c.known) sent, tt);
-      dropped = [];
-      once = subst (λ (ws : List HeldPacket). IsPermutation (at_hand side bytes ∷ packets_of s.shown.kept) (at_hand side bytes ∷ packets_of ws)) (sym c.kept) (IsPermutation-refl (at_hand side bytes ∷ packets_of s.shown.kept));
+      all = record {
+        frames = x ∷ [];
+        frames_are = c.frames;
+        notes = all_notes s.shown by;
+        notes_are = c.notes;
+        done = d ∷ [];
+        translated = rw is refl;
+        used = all-used s.shown by all ∙ sym (append-nil (pairs_of by));
+        each = (subst (λ (k : Known). IsSentBy k (at_hand side bytes) by x) (sym c.known) sent, tt);
+        passed = [];
+        errors = rw none refl;
+        each_error = tt;
+        dropped = [];
+        once = subst (λ (ws : List HeldPacket). IsPermutation (at_hand side bytes ∷ packets_of s.shown.kept) (at_hand side bytes ∷ packets_of ws)) (sym c.kept) (IsPermutation-refl (at_hand side bytes ∷ packets_of s.shown.kept));
+      };
+      roots = same-rooted s.shown.ledger.book.entries two.shown.ledger.book.entries (retaken_pairs (all_notes s.shown by)) (ap (λ (b : Book). b.entries) c.book);
     }

@@ -1,5 +1,5 @@
--- A wish for a port uses no pair, and a packet that is kept is told of truly.
-use Rattle.std.proofs.Common.{◌≡◌, ℕ, Bool, true, false, cond, List, [], ◌∷◌, Option, Some, None, IsPermutation, refl, sym, subst, nat_lt, ◌++◌}
+-- A wish for a port uses no pair, and a packet that is kept is told of.
+use Rattle.std.proofs.Common.{◌≡◌, ℕ, Bool, true, false, cond, List, [], ◌∷◌, Option, Some, None, IsPermutation, refl, sym, subst, nat_lt, ◌++◌, inl}
 use Rattle.std.proofs.lemmas.List.{append-nil, map-append}
 use Rattle.std.proofs.lemmas.List.Sorted.{IsPermutation-append_comm, IsPermutation-append_right, IsPermutation-cons, IsPermutation-refl, IsPermutation-trans}
 use Rattle.addresses.specs.declared.transport.Port.{Port}
@@ -29,8 +29,8 @@ use Rattle.packet_rules.specs.declared.translations.Translation.{Translation}
 use Rattle.packet_rules.specs.declared.translations.Translation.TheVariants.{Outward, Inward, Hairpin}
 use Rattle.spec_step.specs.Parts.{keeping, waiting, wanted_for}
 use Rattle.spec_step.specs.Shown.{GatewayAndOutput}
-use Rattle.spec_step.specs.Truly.{Tells, known_of, packets_of, used_pairs}
-use Rattle.spec_step.proofs.Telling.{at_hand, swap-front}
+use Rattle.spec_step.specs.Truly.{known_of, packets_of, used_pairs}
+use Rattle.spec_step.proofs.Telling.{Told, at_hand, swap-front}
 
 -- ---- what decides where packets go
 
@@ -104,22 +104,28 @@ room-made (wait.Hop exit host) kept = let m = at (nat_lt (hop_count kept) 64) (f
     at false first = first
 
 -- a packet is kept
-pub keeping-tells : (s : GatewayAndOutput) (side : Side) (bytes : List ℕ) (w : WaitsFor) → Tells (at_hand side bytes ∷ []) s (keeping s side bytes w)
+pub keeping-tells : (s : GatewayAndOutput) (side : Side) (bytes : List ℕ) (w : WaitsFor) → Told (at_hand side bytes ∷ []) s (keeping s side bytes w)
 keeping-tells s side bytes w =
     let view = λ (x : HeldPacket). at_hand x.side x.bytes in
     let made = room-made w s.shown.kept in
     record {
-      frames = [];
-      frames_are = sym (append-nil s.told.frames);
-      notes = [];
-      notes_are = sym (append-nil s.told.notes);
-      done = [];
-      translated = refl;
-      used = refl;
-      each = tt;
-      dropped = packets_of made.lost;
-      once = subst (λ ps. IsPermutation (at_hand side bytes ∷ packets_of s.shown.kept) (packets_of made.lost ++ ps)) (sym (map-append view (with_room w s.shown.kept) (waiting side bytes s.shown.moment w ∷ [])))
-          (IsPermutation-trans _ _ _ (IsPermutation-cons (at_hand side bytes) _ _ made.are)
-          (IsPermutation-trans _ _ _ (swap-front (at_hand side bytes ∷ []) (packets_of made.lost) (packets_of (with_room w s.shown.kept)))
-          (IsPermutation-append_right (packets_of made.lost) _ _ (IsPermutation-append_comm (at_hand side bytes ∷ []) (packets_of (with_room w s.shown.kept))))));
+      all = record {
+        frames = [];
+        frames_are = sym (append-nil s.told.frames);
+        notes = [];
+        notes_are = sym (append-nil s.told.notes);
+        done = [];
+        translated = refl;
+        used = refl;
+        each = tt;
+        passed = [];
+        errors = refl;
+        each_error = tt;
+        dropped = packets_of made.lost;
+        once = subst (λ ps. IsPermutation (at_hand side bytes ∷ packets_of s.shown.kept) (packets_of made.lost ++ ps)) (sym (map-append view (with_room w s.shown.kept) (waiting side bytes s.shown.moment w ∷ [])))
+            (IsPermutation-trans _ _ _ (IsPermutation-cons (at_hand side bytes) _ _ made.are)
+            (IsPermutation-trans _ _ _ (swap-front (at_hand side bytes ∷ []) (packets_of made.lost) (packets_of (with_room w s.shown.kept)))
+            (IsPermutation-append_right (packets_of made.lost) _ _ (IsPermutation-append_comm (at_hand side bytes ∷ []) (packets_of (with_room w s.shown.kept))))));
+      };
+      roots = λ p t. inl t;
     }

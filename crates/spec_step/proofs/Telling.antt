@@ -1,24 +1,44 @@
--- What is told truly: nothing, one part behind the other, frames of other sorts, and packets whose wait is over.
-use Rattle.std.proofs.Common.{◌≡◌, ℕ, false, not, List, [], ◌∷◌, ◌++◌, map, filter, flat_map, IsPermutation, refl, sym, ap, ◌∙◌, subst, append_assoc}
+-- What is told of a part: nothing, one part behind the other, frames of another kind, and packets whose wait is over.
+use Rattle.std.proofs.Common.{◌≡◌, inl, ℕ, true, not, List, [], ◌∷◌, ◌++◌, map, filter, flat_map, IsPermutation, refl, sym, ap, ◌∙◌, subst, append_assoc}
+use Rattle.std.specs.List.{AllByRecursion}
 use Rattle.std.proofs.lemmas.List.{map-append, append-nil}
 use Rattle.std.proofs.lemmas.List.Elements.{filter-append}
 use Rattle.std.proofs.lemmas.Grind.{flat_map-append}
 use Rattle.std.proofs.lemmas.List.Sorted.{IsPermutation-refl, IsPermutation-sym, IsPermutation-trans, IsPermutation-append_comm, IsPermutation-append_left, IsPermutation-append_right, IsPermutation-map, IsPermutation-filter_both}
 use Rattle.nat_types.specs.declared.gateways.Side.{Side}
 use Rattle.nat_types.specs.declared.notes.Note.{Note}
+use Rattle.nat_types.specs.declared.pairs.Pair.{Pair}
+use Rattle.spec_binding.specs.Uses.{IsTranslated}
 use Rattle.waiting.specs.declared.waits.Ended.{Ended}
 use Rattle.waiting.specs.Packets.{HeldPacket, ended_by, is_young, left_by}
 use Rattle.waiting.specs.Waits.{ends}
+use Rattle.packet_rules.specs.Errors.{is_error_frame}
 use Rattle.packet_rules.specs.Frames.{is_translation, pairs_of}
 use Rattle.output.specs.Output.{Sent}
+use Rattle.spec_step.specs.Others.{MayGoBy, is_other}
 use Rattle.spec_step.specs.Parts.{framed, old_dropped}
+use Rattle.spec_step.specs.PassedOn.{ArePassedOn, IsPassedOn, TellsAll, error_frames}
 use Rattle.spec_step.specs.Shown.{GatewayAndOutput}
 use Rattle.spec_step.specs.Truly.{AreSent, AtHand, Known, Sending, Tells, known_of, packets_of, translated_frames, used_in, used_pairs}
+use Rattle.spec_step.proofs.FrameKinds.{other-none}
+use Rattle.spec_step.proofs.Rooting.{has-more, has-then, same-rooted}
+
+-- what is told of a part, and where the pairs come from by which the gateway translates after it
+pub record Told (hand : List AtHand) (s s2 : GatewayAndOutput) : Type 0 where
+  pub all : TellsAll hand s s2
+  pub roots : (p : Pair) → IsTranslated s2.shown.ledger.book.entries p → MayGoBy s.shown all.notes p
+
+-- ---- the same elements
 
 pub swap-front : {X : Type 0} (a b c : List X) → IsPermutation (a ++ (b ++ c)) (b ++ (a ++ c))
 swap-front a b c =
     let base = IsPermutation-append_left c (a ++ b) (b ++ a) (IsPermutation-append_comm a b) in
     subst (λ xs. IsPermutation xs (b ++ (a ++ c))) (append_assoc a b c) (subst (λ ys. IsPermutation ((a ++ b) ++ c) ys) (append_assoc b a c) base)
+
+pub shuffled : {X : Type 0} (a b c d : List X) → IsPermutation ((a ++ b) ++ (c ++ d)) ((a ++ c) ++ (b ++ d))
+shuffled a b c d =
+    subst (λ xs. IsPermutation xs ((a ++ c) ++ (b ++ d))) (sym (append_assoc a b (c ++ d)))
+    (subst (λ ys. IsPermutation (a ++ (b ++ (c ++ d))) ys) (sym (append_assoc a c (b ++ d))) (IsPermutation-append_right a _ _ (swap-front b c d)))
 
 -- what is done, dropped and kept of two hands
 joined : {X : Type 0} (m d kb h ka m2 d2 kc h2 : List X) → IsPermutation (m ++ (d ++ kb)) (h ++ ka) → IsPermutation (m2 ++ (d2 ++ kc)) (h2 ++ kb)
@@ -35,77 +55,166 @@ joined m d kb h ka m2 d2 kc h2 one two =
     let all = IsPermutation-trans _ _ _ s1 (IsPermutation-trans _ _ _ s2 (IsPermutation-trans _ _ _ s3 (IsPermutation-trans _ _ _ s4 (IsPermutation-trans _ _ _ s5 s6)))) in
     subst (λ xs. IsPermutation xs ((h ++ h2) ++ ka)) (sym start) (subst (λ ys. IsPermutation (m ++ (m2 ++ (d ++ (d2 ++ kc)))) ys) end all)
 
+-- the same, where some are passed on
+all-joined : {X : Type 0} (m e d kb h ka m2 e2 d2 kc h2 : List X) → IsPermutation (m ++ (e ++ (d ++ kb))) (h ++ ka) → IsPermutation (m2 ++ (e2 ++ (d2 ++ kc))) (h2 ++ kb)
+    → IsPermutation ((m ++ m2) ++ ((e ++ e2) ++ ((d ++ d2) ++ kc))) ((h ++ h2) ++ ka)
+all-joined m e d kb h ka m2 e2 d2 kc h2 one two =
+    let first = subst (λ xs. IsPermutation xs (h ++ ka)) (sym (append_assoc m e (d ++ kb))) one in
+    let second = subst (λ xs. IsPermutation xs (h2 ++ kb)) (sym (append_assoc m2 e2 (d2 ++ kc))) two in
+    let both = joined (m ++ e) d kb h ka (m2 ++ e2) d2 kc h2 first second in
+    let mixed = IsPermutation-append_left ((d ++ d2) ++ kc) _ _ (shuffled m m2 e e2) in
+    subst (λ xs. IsPermutation xs ((h ++ h2) ++ ka)) (append_assoc (m ++ m2) (e ++ e2) ((d ++ d2) ++ kc)) (IsPermutation-trans _ _ _ mixed both)
+
+-- ---- lists of what is sent
+
 each-append : (k : Known) (ds es : List Sending) → AreSent k ds → AreSent k es → AreSent k (ds ++ es)
 each-append k [] es x y = y
 each-append k (d ∷ ds) es x y = (x.0, each-append k ds es x.1 y)
 
+module _ (P Q : Pair → Type 0) (more : (p : Pair) → P p → Q p) where
+  pairs-more : (ps : List Pair) → AllByRecursion P ps → AllByRecursion Q ps
+  pairs-more [] all = tt
+  pairs-more (p ∷ ps) all = (more p all.0, pairs-more ps all.1)
+
+  passed-more : (k : Known) (ds : List Sending) → ArePassedOn k P ds → ArePassedOn k Q ds
+  passed-more k [] all = tt
+  passed-more k (d ∷ ds) all =
+      let x = all.0 in
+      let one : IsPassedOn k Q d.packet d.by d.sent = record { goes = x.goes; translate = pairs-more (pairs_of d.by) x.translate; side = x.side; next = x.next; hop = x.hop; bytes_are = x.bytes_are } in
+      (one, passed-more k ds all.1)
+
+passed-append : (k : Known) (P : Pair → Type 0) (ds es : List Sending) → ArePassedOn k P ds → ArePassedOn k P es → ArePassedOn k P (ds ++ es)
+passed-append k P [] es x y = y
+passed-append k P (d ∷ ds) es x y = (x.0, passed-append k P ds es x.1 y)
+
+-- ---- parts
+
 -- packets are dropped
-pub tells-nothing : (s : GatewayAndOutput) (hand : List AtHand) → Tells hand s s
+pub tells-nothing : (s : GatewayAndOutput) (hand : List AtHand) → Told hand s s
 tells-nothing s hand = record {
-  frames = [];
-  frames_are = sym (append-nil s.told.frames);
-  notes = [];
-  notes_are = sym (append-nil s.told.notes);
-  done = [];
-  translated = refl;
-  used = refl;
-  each = tt;
-  dropped = hand;
-  once = IsPermutation-refl (hand ++ packets_of s.shown.kept);
+  all = record {
+    frames = [];
+    frames_are = sym (append-nil s.told.frames);
+    notes = [];
+    notes_are = sym (append-nil s.told.notes);
+    done = [];
+    translated = refl;
+    used = refl;
+    each = tt;
+    passed = [];
+    errors = refl;
+    each_error = tt;
+    dropped = hand;
+    once = IsPermutation-refl (hand ++ packets_of s.shown.kept);
+  };
+  roots = λ p t. inl t;
 }
 
--- two parts join
-pub tells-then : (h h2 : List AtHand) (a b c : GatewayAndOutput) → known_of c.shown ≡ known_of b.shown → Tells h a b → Tells h2 b c → Tells (h ++ h2) a c
-tells-then h h2 a b c same x y =
-    let first = map (λ (t : Sending). t.packet) x.done in
-    let second = map (λ (t : Sending). t.packet) y.done in
-    let ka = packets_of a.shown.kept in let kb = packets_of b.shown.kept in let kc = packets_of c.shown.kept in
-    record {
-      frames = x.frames ++ y.frames;
-      frames_are = y.frames_are ∙ ap (λ fs. fs ++ y.frames) x.frames_are ∙ append_assoc a.told.frames x.frames y.frames;
-      notes = x.notes ++ y.notes;
-      notes_are = y.notes_are ∙ ap (λ ns. ns ++ y.notes) x.notes_are ∙ append_assoc a.told.notes x.notes y.notes;
-      done = x.done ++ y.done;
-      translated = filter-append (λ (f : Sent). is_translation f.bytes) x.frames y.frames ∙ ap (λ fs. fs ++ translated_frames y.frames) x.translated ∙ ap (λ fs. map (λ (t : Sending). t.sent) x.done ++ fs) y.translated ∙ sym (map-append (λ (t : Sending). t.sent) x.done y.done);
-      used = flat_map-append (λ (n : Note). used_in n.what) x.notes y.notes ∙ ap (λ ps. ps ++ used_pairs y.notes) x.used ∙ ap (λ ps. flat_map (λ (t : Sending). pairs_of t.by) x.done ++ ps) y.used ∙ sym (flat_map-append (λ (t : Sending). pairs_of t.by) x.done y.done);
-      each = each-append (known_of c.shown) x.done y.done (subst (λ k. AreSent k x.done) (sym same) x.each) y.each;
-      dropped = x.dropped ++ y.dropped;
-      once = IsPermutation-sym _ _ (subst (λ ps. IsPermutation (ps ++ ((x.dropped ++ y.dropped) ++ kc)) ((h ++ h2) ++ ka)) (sym (map-append (λ (t : Sending). t.packet) x.done y.done))
-          (joined first x.dropped kb h ka second y.dropped kc h2 (IsPermutation-sym _ _ x.once) (IsPermutation-sym _ _ y.once)));
-    }
+-- what two parts tell
+module _ (h h2 : List AtHand) (a b c : GatewayAndOutput) (same : known_of c.shown ≡ known_of b.shown) (x : Told h a b) (y : Told h2 b c) where
+  abbrev both-notes : List Note
+  both-notes = x.all.notes ++ y.all.notes
+
+  both-errors : error_frames (x.all.frames ++ y.all.frames) ≡ map (λ (t : Sending). t.sent) (x.all.passed ++ y.all.passed)
+  both-errors =
+      filter-append (λ (f : Sent). is_error_frame f.bytes) x.all.frames y.all.frames
+      ∙ ap (λ fs. fs ++ error_frames y.all.frames) x.all.errors
+      ∙ ap (λ fs. map (λ (t : Sending). t.sent) x.all.passed ++ fs) y.all.errors
+      ∙ sym (map-append (λ (t : Sending). t.sent) x.all.passed y.all.passed)
+
+  both-passed : ArePassedOn (known_of c.shown) (MayGoBy a.shown both-notes) (x.all.passed ++ y.all.passed)
+  both-passed =
+      let k = known_of c.shown in
+      let may = MayGoBy a.shown both-notes in
+      let first = subst (λ (n : Known). ArePassedOn n (MayGoBy a.shown x.all.notes) x.all.passed) (sym same) x.all.each_error in
+      passed-append k may x.all.passed y.all.passed
+      (passed-more (MayGoBy a.shown x.all.notes) may (has-more a.shown x.all.notes y.all.notes) k x.all.passed first)
+      (passed-more (MayGoBy b.shown y.all.notes) may (has-then a.shown b.shown x.all.notes y.all.notes x.roots) k y.all.passed y.all.each_error)
+
+  both-once : IsPermutation ((h ++ h2) ++ packets_of a.shown.kept)
+      (map (λ (t : Sending). t.packet) (x.all.done ++ y.all.done) ++ (map (λ (t : Sending). t.packet) (x.all.passed ++ y.all.passed) ++ ((x.all.dropped ++ y.all.dropped) ++ packets_of c.shown.kept)))
+  both-once =
+      let view = λ (t : Sending). t.packet in
+      let ka = packets_of a.shown.kept in let kb = packets_of b.shown.kept in let kc = packets_of c.shown.kept in
+      let rest = (x.all.dropped ++ y.all.dropped) ++ kc in
+      let all = all-joined (map view x.all.done) (map view x.all.passed) x.all.dropped kb h ka (map view y.all.done) (map view y.all.passed) y.all.dropped kc h2
+      (IsPermutation-sym _ _ x.all.once) (IsPermutation-sym _ _ y.all.once) in
+      let sent = subst (λ ps. IsPermutation (ps ++ ((map view x.all.passed ++ map view y.all.passed) ++ rest)) ((h ++ h2) ++ ka)) (sym (map-append view x.all.done y.all.done)) all in
+      IsPermutation-sym _ _ (subst (λ ps. IsPermutation (map view (x.all.done ++ y.all.done) ++ (ps ++ rest)) ((h ++ h2) ++ ka)) (sym (map-append view x.all.passed y.all.passed)) sent)
+
+  -- one behind the other
+  pub tells-then : Told (h ++ h2) a c
+  tells-then = record {
+    all = record {
+      frames = x.all.frames ++ y.all.frames;
+      frames_are = y.all.frames_are ∙ ap (λ fs. fs ++ y.all.frames) x.all.frames_are ∙ append_assoc a.told.frames x.all.frames y.all.frames;
+      notes = both-notes;
+      notes_are = y.all.notes_are ∙ ap (λ ns. ns ++ y.all.notes) x.all.notes_are ∙ append_assoc a.told.notes x.all.notes y.all.notes;
+      done = x.all.done ++ y.all.done;
+      translated = filter-append (λ (f : Sent). is_translation f.bytes) x.all.frames y.all.frames ∙ ap (λ fs. fs ++ translated_frames y.all.frames) x.all.translated ∙ ap (λ fs. map (λ (t : Sending). t.sent) x.all.done ++ fs) y.all.translated ∙ sym (map-append (λ (t : Sending). t.sent) x.all.done y.all.done);
+      used = flat_map-append (λ (n : Note). used_in n.what) x.all.notes y.all.notes ∙ ap (λ ps. ps ++ used_pairs y.all.notes) x.all.used ∙ ap (λ ps. flat_map (λ (t : Sending). pairs_of t.by) x.all.done ++ ps) y.all.used ∙ sym (flat_map-append (λ (t : Sending). pairs_of t.by) x.all.done y.all.done);
+      each = each-append (known_of c.shown) x.all.done y.all.done (subst (λ k. AreSent k x.all.done) (sym same) x.all.each) y.all.each;
+      passed = x.all.passed ++ y.all.passed;
+      errors = both-errors;
+      each_error = both-passed;
+      dropped = x.all.dropped ++ y.all.dropped;
+      once = both-once;
+    };
+    roots = λ p t. has-then a.shown b.shown x.all.notes y.all.notes x.roots p (y.roots p t);
+  }
 
 -- a part of which nothing is told, and that leaves the packets that wait
-pub tells-quietly : (s s2 : GatewayAndOutput) (notes : List Note) → s2.told.frames ≡ s.told.frames → s2.told.notes ≡ s.told.notes ++ notes → used_pairs notes ≡ [] → s2.shown.kept ≡ s.shown.kept → Tells [] s s2
-tells-quietly s s2 notes frames noted none kept = record {
-  frames = [];
-  frames_are = frames ∙ sym (append-nil s.told.frames);
-  notes = notes;
-  notes_are = noted;
-  done = [];
-  translated = refl;
-  used = none;
-  each = tt;
-  dropped = [];
-  once = subst (λ (ws : List HeldPacket). IsPermutation (packets_of s.shown.kept) (packets_of ws)) (sym kept) (IsPermutation-refl (packets_of s.shown.kept));
+pub tells-quietly : (s s2 : GatewayAndOutput) (notes : List Note) → s2.told.frames ≡ s.told.frames → s2.told.notes ≡ s.told.notes ++ notes → used_pairs notes ≡ [] → s2.shown.kept ≡ s.shown.kept
+    → ((p : Pair) → IsTranslated s2.shown.ledger.book.entries p → MayGoBy s.shown notes p) → Told [] s s2
+tells-quietly s s2 notes frames noted none kept roots = record {
+  all = record {
+    frames = [];
+    frames_are = frames ∙ sym (append-nil s.told.frames);
+    notes = notes;
+    notes_are = noted;
+    done = [];
+    translated = refl;
+    used = none;
+    each = tt;
+    passed = [];
+    errors = refl;
+    each_error = tt;
+    dropped = [];
+    once = subst (λ (ws : List HeldPacket). IsPermutation (packets_of s.shown.kept) (packets_of ws)) (sym kept) (IsPermutation-refl (packets_of s.shown.kept));
+  };
+  roots = roots;
 }
 
--- a frame of another sort
-pub framed-tells : (s : GatewayAndOutput) (side : Side) (bytes : List ℕ) → is_translation bytes ≡ false → Tells [] s (framed s side bytes)
-framed-tells s side bytes none = record {
-  frames = record { side = side; bytes = bytes } ∷ [];
-  frames_are = refl;
-  notes = [];
-  notes_are = sym (append-nil s.told.notes);
-  done = [];
-  translated = rw none refl;
-  used = refl;
-  each = tt;
-  dropped = [];
-  once = IsPermutation-refl (packets_of s.shown.kept);
-}
+-- and that notes nothing and leaves the table
+pub tells-unseen : (s s2 : GatewayAndOutput) → s2.told.frames ≡ s.told.frames → s2.told.notes ≡ s.told.notes → s2.shown.ledger.book.entries ≡ s.shown.ledger.book.entries → s2.shown.kept ≡ s.shown.kept → Told [] s s2
+tells-unseen s s2 frames notes entries kept =
+    tells-quietly s s2 [] frames (notes ∙ sym (append-nil s.told.notes)) refl kept (same-rooted s.shown.ledger.book.entries s2.shown.ledger.book.entries [] entries)
+
+-- a frame of another kind
+pub framed-tells : (s : GatewayAndOutput) (side : Side) (bytes : List ℕ) → is_other bytes ≡ true → Told [] s (framed s side bytes)
+framed-tells s side bytes other =
+    let none = other-none bytes other in
+    record {
+      all = record {
+        frames = record { side = side; bytes = bytes } ∷ [];
+        frames_are = refl;
+        notes = [];
+        notes_are = sym (append-nil s.told.notes);
+        done = [];
+        translated = rw none.0 refl;
+        used = refl;
+        each = tt;
+        passed = [];
+        errors = rw none.1 refl;
+        each_error = tt;
+        dropped = [];
+        once = IsPermutation-refl (packets_of s.shown.kept);
+      };
+      roots = λ p t. inl t;
+    }
 
 -- old packets are dropped
-pub old-tells : (s : GatewayAndOutput) → Tells [] s (old_dropped s)
+pub old-tells : (s : GatewayAndOutput) → Told [] s (old_dropped s)
 old-tells s =
     let moment = s.shown.moment in
     let kept = s.shown.kept in
@@ -115,16 +224,22 @@ old-tells s =
     let both = IsPermutation-map view _ _ (IsPermutation-filter_both (is_young moment) (λ w. not (is_young moment w)) (λ w. refl) kept) in
     let parts : IsPermutation (packets_of kept) (packets_of young ++ packets_of old) = subst (λ ps. IsPermutation (packets_of kept) ps) (map-append view young old) both in
     record {
-      frames = [];
-      frames_are = sym (append-nil s.told.frames);
-      notes = [];
-      notes_are = sym (append-nil s.told.notes);
-      done = [];
-      translated = refl;
-      used = refl;
-      each = tt;
-      dropped = packets_of old;
-      once = IsPermutation-trans _ _ _ parts (IsPermutation-append_comm (packets_of young) (packets_of old));
+      all = record {
+        frames = [];
+        frames_are = sym (append-nil s.told.frames);
+        notes = [];
+        notes_are = sym (append-nil s.told.notes);
+        done = [];
+        translated = refl;
+        used = refl;
+        each = tt;
+        passed = [];
+        errors = refl;
+        each_error = tt;
+        dropped = packets_of old;
+        once = IsPermutation-trans _ _ _ parts (IsPermutation-append_comm (packets_of young) (packets_of old));
+      };
+      roots = λ p t. inl t;
     }
 
 abbrev pub at_hand : Side → List ℕ → AtHand
@@ -137,3 +252,20 @@ split-kept ended kept =
     let over = λ (w : HeldPacket). ends ended w.wait in
     let both = IsPermutation-map view _ _ (IsPermutation-filter_both over (λ w. not (over w)) (λ w. refl) kept) in
     IsPermutation-sym _ _ (subst (λ ps. IsPermutation (packets_of kept) ps) (map-append view (ended_by ended kept) (left_by ended kept)) both)
+
+-- what was told is true of the translated frames alone: the packets of errors are among those that were dropped
+pub truly-of : (hand : List AtHand) (s s2 : GatewayAndOutput) → TellsAll hand s s2 → Tells hand s s2
+truly-of hand s s2 x =
+    let view = λ (t : Sending). t.packet in
+    record {
+      frames = x.frames;
+      frames_are = x.frames_are;
+      notes = x.notes;
+      notes_are = x.notes_are;
+      done = x.done;
+      translated = x.translated;
+      used = x.used;
+      each = x.each;
+      dropped = map view x.passed ++ x.dropped;
+      once = subst (λ ps. IsPermutation (hand ++ packets_of s.shown.kept) (map view x.done ++ ps)) (sym (append_assoc (map view x.passed) x.dropped (packets_of s2.shown.kept))) x.once;
+    }

@@ -1,7 +1,6 @@
 -- What each part of a step tells is true: interfaces, datagrams, the operator's word, ticks; and so what a whole step tells.
 use Rattle.std.proofs.Common.{◌≡◌, ℕ, Bool, true, false, cond, not, ◌&&◌, List, [], ◌∷◌, ◌++◌, length, Option, Some, None, Result, Ok, Err, refl, sym, ap, subst}
 use Rattle.std.specs.List.{AllByRecursion}
-use Rattle.std.proofs.lemmas.List.{append-nil}
 use Rattle.addresses.specs.declared.ethernet.Mac.{Mac}
 use Rattle.nat_types.specs.declared.gateways.Side.{Side}
 use Rattle.nat_types.specs.declared.gateways.Side.TheVariants.{Inside, Outside}
@@ -44,14 +43,16 @@ use Rattle.spec_step.specs.Shown.{GatewayAndOutput, Shown, id_of, is_running, sc
 use Rattle.spec_step.specs.Routers.{BothAct, RouterActs}
 use Rattle.spec_step.specs.GivingWay.{GivingWay, left, turn_of}
 use Rattle.spec_step.specs.Steps.{Does, FrameDoes, IsStepOn, ended_on, stopped, ticked, word_by, word_refusal}
-use Rattle.spec_step.specs.Truly.{AreWired, AtHand, Known, Tells, hand_of, known_of, unasked}
+use Rattle.spec_step.specs.PassedOn.{TellsAll}
+use Rattle.spec_step.specs.Truly.{AreWired, AtHand, Known, hand_of, known_of, unasked}
 use Rattle.spec_step.specs.Verdict.{reading_on}
 use Rattle.spec_step.proofs.Turning.{back_as, turn-by}
 use Rattle.spec_step.proofs.Packets.{kept-filter}
 use Rattle.spec_step.proofs.Passing.{IsSound}
 use Rattle.spec_step.proofs.Saying.{Saying, Speaks, framed-says, packet-says, released-says, row-says, saying-nothing, saying-then, speaks-then, error-packet-says}
-use Rattle.spec_step.proofs.Sending.{Frames, own-six, advert-other, gratuitous-other, other-none}
-use Rattle.spec_step.proofs.Telling.{at_hand, old-tells, tells-quietly, tells-then}
+use Rattle.spec_step.proofs.Rooting.{alone-rooted, idle-roots, restart-rooted, taken-roots}
+use Rattle.spec_step.proofs.Sending.{Frames, advert-other, answer-other, gratuitous-other, own-six}
+use Rattle.spec_step.proofs.Telling.{Told, at_hand, old-tells, tells-quietly, tells-then, tells-unseen}
 use Rattle.spec_step.proofs.Unused.{idle-useless, restart-useless, retaken-useless, taken-useless}
 use Rattle.spec_step.specs.Others.{is_other}
 
@@ -61,17 +62,14 @@ speaks-of h s s2 x = λ is w. (x is w).0
 
 -- ---- interfaces
 
-same-notes : (told : Output) → told.notes ≡ told.notes ++ []
-same-notes told = sym (append-nil told.notes)
-
 station-speaks : (s : GatewayAndOutput) (side : Side) (station : Interface) → (AreWired s.shown → IsWired station) → Speaks [] s (scene (with_station s.shown side station) s.told)
 station-speaks s Inside station wired = λ is w. record {
-  tells = tells-quietly s (scene (with_station s.shown Inside station) s.told) [] refl (same-notes s.told) refl refl;
+  tells = tells-unseen s (scene (with_station s.shown Inside station) s.told) refl refl refl refl;
   sound = record { book = is.book; kept = is.kept };
   wired = (w.0, (wired w, w.1.1));
 }
 station-speaks s Outside station wired = λ is w. record {
-  tells = tells-quietly s (scene (with_station s.shown Outside station) s.told) [] refl (same-notes s.told) refl refl;
+  tells = tells-unseen s (scene (with_station s.shown Outside station) s.told) refl refl refl refl;
   sound = record { book = is.book; kept = is.kept };
   wired = (w.0, (w.1.0, wired w));
 }
@@ -96,7 +94,7 @@ after-wired station p now six w = at (is_learnable station.network p)
 
 answered-says : Frames → (s : GatewayAndOutput) (side : Side) (p : ArpPacket) (o : Option Mac) → length p.sender_mac.0 ≡ 6 → Saying [] s (answered_by s side p o)
 answered-says frames s side p (Some mac) six =
-    framed-says s side (answer_frame (station_on s.shown side).network p mac) (λ w. frames.answer (station_on s.shown side).network p mac (own-six s.shown w side) six)
+    framed-says s side (answer_frame (station_on s.shown side).network p mac) (λ w. answer-other frames (station_on s.shown side).network p mac (own-six s.shown w side) six)
 answered-says frames s side p None six = saying-nothing s []
 
 arp-speaks : Frames → (s : GatewayAndOutput) (side : Side) (p : ArpPacket) → length p.sender_mac.0 ≡ 6 → Speaks [] s (arp_taken s side p)
@@ -122,7 +120,7 @@ AllOther fs = AllByRecursion (λ f. is_other f ≡ true) fs
 all-framed-says : (s : GatewayAndOutput) (side : Side) (fs : List (List ℕ)) → AllOther fs → Saying [] s (all_framed s side fs)
 all-framed-says s side [] all = saying-nothing s []
 all-framed-says s side (f ∷ fs) all =
-    saying-then [] [] s (framed s side f) (all_framed s side (f ∷ fs)) (framed-says s side f (λ w. other-none f all.0)) (all-framed-says (framed s side f) side fs all.1)
+    saying-then [] [] s (framed s side f) (all_framed s side (f ∷ fs)) (framed-says s side f (λ w. all.0)) (all-framed-says (framed s side f) side fs all.1)
 
 pub action-frames : Frames → (station : Interface) (action : Action) → AllOther (frames_of station action)
 action-frames frames station Nothing = tt
@@ -174,7 +172,7 @@ frame-speaks frames s side bytes (Err reason) s2 read are does =
 routed-says : (now : ℕ) (g : Shown) (told : Output) (b : Bool) → Saying [] (scene g told) (scene (let x : Shown = cond b (record g { inside = started g.inside now; outside = started g.outside now }) g in x) told)
 routed-says now g told true = λ is w. (
   record {
-    tells = tells-quietly (scene g told) (scene (record g { inside = started g.inside now; outside = started g.outside now }) told) [] refl (same-notes told) refl refl;
+    tells = tells-unseen (scene g told) (scene (record g { inside = started g.inside now; outside = started g.outside now }) told) refl refl refl refl;
     sound = record { book = is.book; kept = is.kept };
     wired = (w.0, (record { own = w.1.0.own; known = w.1.0.known }, record { own = w.1.1.own; known = w.1.1.known }));
   },
@@ -196,7 +194,7 @@ record-says frames s r formed =
     let s3 = scene (record_shown g r) told in
     let first : Saying [] s s2 = λ is w. (
       record {
-        tells = tells-quietly s s2 (noted_by (id_of g) g.moment (taken_what b rests r)) refl refl (taken-useless b rests r (id_of g) g.moment) refl;
+        tells = tells-quietly s s2 (noted_by (id_of g) g.moment (taken_what b rests r)) refl refl (taken-useless b rests r (id_of g) g.moment) refl (taken-roots b rests r (id_of g) g.moment);
         sound = record { book = taken-keeps b rests r is.book formed; kept = is.kept };
         wired = w;
       },
@@ -214,7 +212,7 @@ records-say frames s (r ∷ rs) all = saying-then [] [] s (record_done s r) (rec
 
 link-says : (s : GatewayAndOutput) (e : Link) → Saying [] s (with_link s e)
 link-says s e = λ is w. (
-  record { tells = tells-quietly s (with_link s e) [] refl (same-notes s.told) refl refl; sound = record { book = is.book; kept = is.kept }; wired = w },
+  record { tells = tells-unseen s (with_link s e) refl refl refl refl; sound = record { book = is.book; kept = is.kept }; wired = w },
   refl,
 )
 
@@ -225,7 +223,7 @@ reset-says frames s =
     let mid = scene (record g { ledger = restarted_ledger g.ledger; link = restart_link b g.link }) (with_notes s.told notes) in
     let first : Saying [] s mid = λ is w. (
       record {
-        tells = tells-quietly s mid notes refl refl (restart-useless b g.moment) refl;
+        tells = tells-quietly s mid notes refl refl (restart-useless b g.moment) refl (restart-rooted b g.moment is.book.keys);
         sound = record { book = restart-keeps b is.book; kept = is.kept };
         wired = w;
       },
@@ -262,7 +260,7 @@ taken-says frames s n synced =
     let mid = scene (record g { ledger = alone_ledger g.moment g.ledger; link = closed_at g.link n }) (with_notes s.told notes) in
     let first : Saying [] s mid = λ is w. (
       record {
-        tells = tells-quietly s mid notes refl refl (retaken-useless (id_of g) g.moment (back_in b.entries)) refl;
+        tells = tells-quietly s mid notes refl refl (retaken-useless (id_of g) g.moment (back_in b.entries)) refl (alone-rooted b (id_of g) g.moment is.book.keys);
         sound = record { book = alone-keeps b is.book synced; kept = is.kept };
         wired = w;
       },
@@ -284,7 +282,7 @@ idle-says : (s : GatewayAndOutput) (k : Key) → Saying [] s (idle_done s k)
 idle-says s k =
     let b = s.shown.ledger.book in
     let ask = may_ask s.shown.moment s.shown.link in
-    row-says s (idle_row b ask k) (idle-useless b ask k) (λ is. idle-keeps b ask k is)
+    row-says s (idle_row b ask k) (idle-useless b ask k) (idle-roots b ask k) (λ is. idle-keeps b ask k is)
 
 all-idle-say : (s : GatewayAndOutput) (ks : List Key) → Saying [] s (all_idle_done s ks)
 all-idle-say s [] = saying-nothing s []
@@ -298,13 +296,13 @@ old-says s = λ is w. (
 
 stopped-says : (s : GatewayAndOutput) → Saying [] s (stopped s)
 stopped-says s = λ is w. (
-  record { tells = tells-quietly s (stopped s) [] refl (same-notes s.told) refl refl; sound = record { book = is.book; kept = is.kept }; wired = w },
+  record { tells = tells-unseen s (stopped s) refl refl refl refl; sound = record { book = is.book; kept = is.kept }; wired = w },
   refl,
 )
 
 ticked-speaks : (s : GatewayAndOutput) (now : ℕ) → Speaks [] s (ticked s now)
 ticked-speaks s now = λ is w. record {
-  tells = tells-quietly s (ticked s now) [] refl (same-notes s.told) refl refl;
+  tells = tells-unseen s (ticked s now) refl refl refl refl;
   sound = record { book = is.book; kept = is.kept };
   wired = w;
 }
@@ -318,32 +316,32 @@ turn-says frames s s2 takes =
   where
     left-says : (middle : GatewayAndOutput) → Saying [] middle (left middle)
     left-says middle = λ is w. (
-      record { tells = tells-quietly middle (left middle) [] refl (same-notes middle.told) refl refl; sound = record { book = is.book; kept = is.kept }; wired = w },
+      record { tells = tells-unseen middle (left middle) refl refl refl refl; sound = record { book = is.book; kept = is.kept }; wired = w },
       refl,
     )
 
     back : (starts : Bool) → Saying [] s (scene (back_as starts s.shown) s.told)
     back true = λ is w. (
       record {
-        tells = tells-quietly s (scene (back_as true s.shown) s.told) [] refl (same-notes s.told) refl refl;
+        tells = tells-unseen s (scene (back_as true s.shown) s.told) refl refl refl refl;
         sound = record { book = is.book; kept = is.kept };
         wired = (w.0, (record { own = w.1.0.own; known = w.1.0.known }, record { own = w.1.1.own; known = w.1.1.known }));
       },
       refl,
     )
     back false = λ is w. (
-      record { tells = tells-quietly s (scene (back_as false s.shown) s.told) [] refl (same-notes s.told) refl refl; sound = record { book = is.book; kept = is.kept }; wired = w },
+      record { tells = tells-unseen s (scene (back_as false s.shown) s.told) refl refl refl refl; sound = record { book = is.book; kept = is.kept }; wired = w },
       refl,
     )
 
 -- a side's cable
 plugged-says : (s : GatewayAndOutput) (side : Side) (up : Bool) → Saying [] s (side_plugged s side up)
 plugged-says s Inside up = λ is w. (
-  record { tells = tells-quietly s (side_plugged s Inside up) [] refl (same-notes s.told) refl refl; sound = record { book = is.book; kept = is.kept }; wired = (w.0, (record { own = w.1.0.own; known = w.1.0.known }, w.1.1)) },
+  record { tells = tells-unseen s (side_plugged s Inside up) refl refl refl refl; sound = record { book = is.book; kept = is.kept }; wired = (w.0, (record { own = w.1.0.own; known = w.1.0.known }, w.1.1)) },
   refl,
 )
 plugged-says s Outside up = λ is w. (
-  record { tells = tells-quietly s (side_plugged s Outside up) [] refl (same-notes s.told) refl refl; sound = record { book = is.book; kept = is.kept }; wired = (w.0, (w.1.0, record { own = w.1.1.own; known = w.1.1.known })) },
+  record { tells = tells-unseen s (side_plugged s Outside up) refl refl refl refl; sound = record { book = is.book; kept = is.kept }; wired = (w.0, (w.1.0, record { own = w.1.1.own; known = w.1.1.known })) },
   refl,
 )
 
@@ -374,24 +372,24 @@ does-speak frames s (SideIs side up) done does has =
 
 -- ---- the datagram at the end
 
-answered-tells : (s : GatewayAndOutput) → Tells [] s (link_answered s)
+answered-tells : (s : GatewayAndOutput) → Told [] s (link_answered s)
 answered-tells s = at (handed_in s.shown).link.due
   where
-    at : (b : Bool) → Tells [] s (let g = handed_in s.shown in scene (record g { link = sent_on_answer g.link }) (let t : Output = cond b (with_datagram s.told (datagram_in g)) s.told in t))
-    at true = tells-quietly s _ [] refl (same-notes s.told) refl refl
-    at false = tells-quietly s _ [] refl (same-notes s.told) refl refl
+    at : (b : Bool) → Told [] s (let g = handed_in s.shown in scene (record g { link = sent_on_answer g.link }) (let t : Output = cond b (with_datagram s.told (datagram_in g)) s.told in t))
+    at true = tells-unseen s _ refl refl refl refl
+    at false = tells-unseen s _ refl refl refl refl
 
-ticked-tells : (s : GatewayAndOutput) → Tells [] s (link_ticked s) × ((known_of (link_ticked s).shown ≡ known_of s.shown) × (AreWired s.shown → AreWired (link_ticked s).shown))
+ticked-tells : (s : GatewayAndOutput) → Told [] s (link_ticked s) × ((known_of (link_ticked s).shown ≡ known_of s.shown) × (AreWired s.shown → AreWired (link_ticked s).shown))
 ticked-tells s = at (is_due_on_tick (handed_in s.shown).link s.shown.moment)
   where
-    at : (b : Bool) → (let x : GatewayAndOutput = (let g = handed_in s.shown in cond b (scene (record g { link = sent_on_tick g.link g.moment }) (with_datagram s.told (datagram_in g))) (scene g s.told)) in Tells [] s x × ((known_of x.shown ≡ known_of s.shown) × (AreWired s.shown → AreWired x.shown)))
-    at true = (tells-quietly s _ [] refl (same-notes s.told) refl refl, (refl, λ w. w))
-    at false = (tells-quietly s _ [] refl (same-notes s.told) refl refl, (refl, λ w. w))
+    at : (b : Bool) → (let x : GatewayAndOutput = (let g = handed_in s.shown in cond b (scene (record g { link = sent_on_tick g.link g.moment }) (with_datagram s.told (datagram_in g))) (scene g s.told)) in Told [] s x × ((known_of x.shown ≡ known_of s.shown) × (AreWired s.shown → AreWired x.shown)))
+    at true = (tells-unseen s _ refl refl refl refl, (refl, λ w. w))
+    at false = (tells-unseen s _ refl refl refl refl, (refl, λ w. w))
 
-answered-ends : (h : List AtHand) (s done : GatewayAndOutput) → Tells h s done → AreWired done.shown → Tells (h ++ []) s (link_answered done) × AreWired (link_answered done).shown
+answered-ends : (h : List AtHand) (s done : GatewayAndOutput) → Told h s done → AreWired done.shown → Told (h ++ []) s (link_answered done) × AreWired (link_answered done).shown
 answered-ends h s done x w = (tells-then h [] s done (link_answered done) refl x (answered-tells done), w)
 
-end-tells : (s : GatewayAndOutput) (event : Event) (done : GatewayAndOutput) → Tells (hand_of event) s done → AreWired done.shown → Tells (hand_of event) s (ended_on event done) × AreWired (ended_on event done).shown
+end-tells : (s : GatewayAndOutput) (event : Event) (done : GatewayAndOutput) → Told (hand_of event) s done → AreWired done.shown → Told (hand_of event) s (ended_on event done) × AreWired (ended_on event done).shown
 end-tells s (Frame side bytes) done x w = answered-ends (at_hand side bytes.now ∷ []) s done x w
 end-tells s (Comes bytes) done x w = answered-ends [] s done x w
 end-tells s (Tick now) done x w =
@@ -402,7 +400,8 @@ end-tells s (PeerOff n) done x w = answered-ends [] s done x w
 end-tells s (SideIs side up) done x w = (x, w)
 
 -- a whole step
-pub step-tells : Frames → (s : GatewayAndOutput) (event : Event) (s2 : GatewayAndOutput) → IsStepOn s event s2 → HasBytes event → IsSound s.shown → AreWired s.shown → Tells (hand_of event) s s2 × AreWired s2.shown
+pub step-tells : Frames → (s : GatewayAndOutput) (event : Event) (s2 : GatewayAndOutput) → IsStepOn s event s2 → HasBytes event → IsSound s.shown → AreWired s.shown → TellsAll (hand_of event) s s2 × AreWired s2.shown
 step-tells frames s event s2 step has is w =
     let said = does-speak frames s event step.done step.does has is w in
-    subst (λ (x : GatewayAndOutput). Tells (hand_of event) s x × AreWired x.shown) (sym step.sends) (end-tells s event step.done said.tells said.wired)
+    let end = end-tells s event step.done said.tells said.wired in
+    subst (λ (x : GatewayAndOutput). TellsAll (hand_of event) s x × AreWired x.shown) (sym step.sends) (end.0.all, end.1)

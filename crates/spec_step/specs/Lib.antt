@@ -5,8 +5,8 @@ pub mod Routers
 pub mod GivingWay
 pub mod Steps
 pub mod Truly
-pub mod PassedOn
 pub mod Others
+pub mod PassedOn
 pub mod Machine
 pub mod Rests
 pub mod Settled

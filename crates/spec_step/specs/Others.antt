@@ -1,5 +1,5 @@
--- The other frames of a step, which are neither of a packet that was translated nor of an error that was passed on: an answer to an ARP request, the frames of the routers' actions,
--- and requests for next hops.
+-- The other frames of a step, which are neither of a packet that was translated nor of an error that was passed on: an answer
+-- to an ARP request, the frames of the routers' actions, and requests for next hops.
 use Rattle.std.specs.Prelude.{◌≡◌, ◌⊎◌, ℕ, zero, suc, ◌-◌, Bool, true, false, not, ◌&&◌, ◌||◌, Option, Some, None, Result, Ok, Err, List, [], ◌∷◌, ◌++◌, map, if◌then◌else◌}
 use Rattle.std.specs.List.{AllByRecursion, filter, flat_map}
 use Rattle.std.specs.List.Sorted.{IsPermutation}
@@ -56,7 +56,7 @@ use Rattle.spec_step.specs.Steps.{clock_after, word_refusal}
 use Rattle.spec_step.specs.Truly.{AreItsPairs, AtHand, Known, known_of, near_on, packets_of}
 use Rattle.spec_step.specs.Verdict.{exit_by, reading_on}
 
--- neither of a translation nor of an error
+-- a frame is of neither
 unfoldable pub is_other : List ℕ → Bool
 is_other bytes = not (is_translation bytes) && not (is_error_frame bytes)
 

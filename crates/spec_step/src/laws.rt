@@ -1,14 +1,17 @@
 //! What holds of a step of a gateway. Each law is the contract of a function that does nothing.
 
-ghost use Rattle.std.specs.Prelude.{◌≡◌, ◌≤◌, ◌+◌, ◌∷◌, ◌++◌, ℕ, true, false, [], List, length, reverse};
+ghost use Rattle.std.specs.Prelude.{◌≡◌, ◌≤◌, ◌<◌, ◌+◌, ◌^◌, ◌∷◌, ◌++◌, ℕ, true, false, [], List, length, reverse};
 ghost use Rattle.nat_types.specs.declared.gateways.GatewayId.{GatewayId};
+ghost use Rattle.nat_types.specs.declared.gateways.Side.{Side};
 ghost use Rattle.nat_types.specs.declared.notes.NoteKind.TheVariants.{Booted, Crashed};
 ghost use Rattle.nat_types.specs.declared.notes.Note.{Note};
 ghost use Rattle.nat_types.specs.declared.pairs.Key.{Key};
 ghost use Rattle.nat_types.specs.declared.records.Record.{Record};
 ghost use Rattle.nat_types.specs.Same.{same};
 ghost use Rattle.settings.specs.declared.whole.Settings.{Settings};
+ghost use Rattle.icmp.specs.declared.packets.ErrorFlow.{ErrorFlow};
 ghost use Rattle.link.specs.Hearing.{peer_serves};
+ghost use Rattle.output.specs.Output.{Sent};
 ghost use Rattle.spec_trace.specs.Past.{Idle};
 ghost use Rattle.spec_pair.specs.Talk.{note};
 ghost use Rattle.waiting.specs.Packets.{hop_count};
@@ -20,7 +23,8 @@ ghost use Rattle.spec_step.specs.Founding.{HasRanges, begun, bounds_of, founded,
 ghost use Rattle.spec_step.specs.Machine.{Goes, HasBytes, HasPushed, IsAlone, IsStanding, KeepsBytes};
 ghost use Rattle.spec_step.specs.Machine.{letters_in, words_in};
 ghost use Rattle.spec_step.specs.Others.{AreOthers};
-ghost use Rattle.spec_step.specs.Parts.{all_idle_done};
+ghost use Rattle.spec_step.specs.Parts.{all_idle_done, error_taken};
+ghost use Rattle.spec_step.specs.PassedOn.{HidesAllInside, LeavesPairs, TellsAll};
 ghost use Rattle.spec_step.specs.Rests.{AccountsOn, Rests, most_notes};
 ghost use Rattle.spec_step.specs.Settled.{AreIdle, HaveBegun, IsSettled};
 ghost use Rattle.spec_step.specs.Shown.{GatewayAndOutput, Shown, has_side_out, id_of, is_up, scene};
@@ -29,6 +33,7 @@ ghost use Rattle.spec_step.specs.Steps.{Does, IsStepOn};
 ghost use Rattle.spec_step.specs.Truly.{AreWired, Tells, hand_of};
 
 use packet_rules::{frames_law, readings_law};
+use rewrite::hides_inside;
 
 /// A step is a step of the pair machine: it reads the letters and the words that the event hands in,
 /// makes just the notes and sends just the letters that were told more.
@@ -69,6 +74,40 @@ pub fn steps_tell()
     readings_law();
     frames_law();
 }
+
+/// A step passes errors on: beside the translated frames its error frames are, one for one and in
+/// order, errors at hand that were passed on, each another packet and none of those that were
+/// translated, on the way that the rules say for it, to its next hop, by pairs by which the gateway
+/// translated before or that a Retaken note of the step names.
+pub fn steps_pass_on()
+    ensures { (s : GatewayAndOutput) (event : Event) (s2 : GatewayAndOutput) → IsStepOn s event s2
+        → HasBytes event → IsBook s.shown.ledger.book → KeepsBytes s.shown → AreWired s.shown
+        → TellsAll (hand_of event) s s2 }
+{
+    readings_law();
+    frames_law();
+}
+
+/// Of the inside nothing is left in an error that a step sends at the outside: it comes from the
+/// outside virtual address, and the packet inside went to that address.
+pub fn errors_hide()
+    ensures { (s : GatewayAndOutput) (event : Event) (s2 : GatewayAndOutput) (frames : List Sent)
+        → IsStepOn s event s2
+        → HasBytes event → IsBook s.shown.ledger.book → KeepsBytes s.shown → AreWired s.shown
+        → s2.shown.networks.outside.interface.virtual_ip.0 < 2 ^ 32
+        → s2.told.frames ≡ s.told.frames ++ frames
+        → HidesAllInside s2.shown.networks.outside.interface.virtual_ip.0 frames }
+{
+    readings_law();
+    frames_law();
+    hides_inside();
+}
+
+/// An error is no use of its pairs: it makes, renews and ends none, it is neither noted nor pushed.
+pub fn errors_leave_pairs()
+    ensures { (s : GatewayAndOutput) (side : Side) (bytes : List ℕ) (flow : ErrorFlow)
+        → LeavesPairs s (error_taken s side bytes flow) }
+{}
 
 /// All other frames of a step are, in their order: an answer to the ARP request that came in, or the
 /// frames of the routers' actions; then requests for next hops. It says of which packet each is, and

@@ -8,9 +8,9 @@ mod turns;
 
 pub use events::{Event, Outcome};
 pub use laws::{
-    beginnings, beginnings_account, beginnings_settle, gives_way, idle_at_once, never_alone,
-    other_frames, others_account, parts_stand, steps_account, steps_go, steps_keep, steps_note,
-    steps_settle, steps_tell,
+    beginnings, beginnings_account, beginnings_settle, errors_hide, errors_leave_pairs, gives_way,
+    idle_at_once, never_alone, other_frames, others_account, parts_stand, steps_account, steps_go,
+    steps_keep, steps_note, steps_pass_on, steps_settle, steps_tell,
 };
 pub use plans::Plan;
 pub use turns::Turn;

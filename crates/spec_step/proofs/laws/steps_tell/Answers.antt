@@ -1,9 +1,12 @@
+use Rattle.spec_step.proofs.Telling.{truly-of}
 use Rattle.spec_step.proofs.Truths.{step-tells}
+use Rattle.spec_step.specs.Truly.{hand_of}
 use Rattle.spec_step.proofs.laws.steps_tell.Goals as goal
 
 pub returns-clause-truly : goal.returns-clause-truly
 returns-clause-truly c = λ s event s2 step has book kept wired.
     let f = c.frames_law.ensures in
+    truly-of (hand_of event) s s2
     (step-tells (record { reads = c.readings_law.ensures; sent = f.sent; answer = f.answer; request = f.request; gratuitous = f.gratuitous; advert = f.advert; passed = f.passed; passed_apart = f.passed_apart; answer_no_error = f.answer_no_error; request_no_error = f.request_no_error; gratuitous_no_error = f.gratuitous_no_error; advert_no_error = f.advert_no_error })
     s event s2 step has (record { book = book; kept = kept }) wired).0
 

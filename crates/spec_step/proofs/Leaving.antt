@@ -1,0 +1,53 @@
+-- An error leaves the pairs as they are.
+use Rattle.std.proofs.Common.{ℕ, Bool, true, false, cond, List, Result, Ok, Err, refl, ◌∙◌}
+use Rattle.addresses.specs.declared.internet.Ip.{Ip}
+use Rattle.nat_types.specs.declared.gateways.Side.{Side}
+use Rattle.nat_types.specs.declared.gateways.Side.TheVariants.{Inside, Outside}
+use Rattle.arp.specs.Neighbours.{asks_at}
+use Rattle.icmp.specs.declared.packets.ErrorFlow.{ErrorFlow}
+use Rattle.waiting.specs.declared.waits.WaitsFor.TheVariants as wait
+use Rattle.waiting.specs.Packets.{asks_again, with_asked}
+use Rattle.packet_rules.specs.declared.reasons.Reason.{Reason}
+use Rattle.packet_rules.specs.Errors.{passed_frame}
+use Rattle.spec_step.specs.declared.plans.Plan.{Plan}
+use Rattle.spec_step.specs.declared.plans.Plan.TheVariants.{Send, Ask, AskAgain, Wait as WaitFor}
+use Rattle.spec_step.specs.Parts.{asked_again, by_error_plan, by_error_verdict, error_taken, framed, neighbour_asked, renewed_behind, request_by}
+use Rattle.spec_step.specs.PassedOn.{LeavesPairs}
+use Rattle.spec_step.specs.Shown.{GatewayAndOutput, scene, station_on}
+use Rattle.spec_step.specs.Verdict.{error_hop, error_plan, exit_by}
+
+here : (s : GatewayAndOutput) → LeavesPairs s s
+here s = record { ledger = refl; link = refl; notes = refl; datagrams = refl }
+
+joined : (a b c : GatewayAndOutput) → LeavesPairs a b → LeavesPairs b c → LeavesPairs a c
+joined a b c x y = record { ledger = y.ledger ∙ x.ledger; link = y.link ∙ x.link; notes = y.notes ∙ x.notes; datagrams = y.datagrams ∙ x.datagrams }
+
+renewed-leaves : (s : GatewayAndOutput) (exit : Side) (hop : Ip) → LeavesPairs s (renewed_behind s exit hop)
+renewed-leaves s exit hop = at exit (asks_at hop.0 s.shown.moment (station_on s.shown exit).neighbours)
+  where
+    at : (side : Side) (b : Bool) → LeavesPairs s (let x : GatewayAndOutput = cond b (framed (scene (neighbour_asked s.shown side hop) s.told) side (request_by s.shown side hop)) s in x)
+    at Inside true = record { ledger = refl; link = refl; notes = refl; datagrams = refl }
+    at Outside true = record { ledger = refl; link = refl; notes = refl; datagrams = refl }
+    at side false = here s
+
+again-leaves : (s : GatewayAndOutput) (exit : Side) (hop : Ip) → LeavesPairs s (asked_again s exit hop)
+again-leaves s exit hop = at (asks_again s.shown.moment (wait.Hop exit hop) s.shown.kept)
+  where
+    at : (b : Bool) → LeavesPairs s (let x : GatewayAndOutput = cond b (framed (scene (record s.shown { kept = with_asked s.shown.moment (wait.Hop exit hop) s.shown.kept }) s.told) exit (request_by s.shown exit hop)) s in x)
+    at true = record { ledger = refl; link = refl; notes = refl; datagrams = refl }
+    at false = here s
+
+plan-leaves : (s : GatewayAndOutput) (side : Side) (bytes : List ℕ) (flow : ErrorFlow) (plan : Plan) → LeavesPairs s (by_error_plan s side bytes flow plan)
+plan-leaves s side bytes flow (Send by next) =
+    let one = framed s (exit_by by) (passed_frame s.shown.networks by next bytes) in
+    joined s one _ (record { ledger = refl; link = refl; notes = refl; datagrams = refl }) (renewed-leaves one (exit_by by) (error_hop s.shown by flow))
+plan-leaves s side bytes flow (Ask by hop) = record { ledger = refl; link = refl; notes = refl; datagrams = refl }
+plan-leaves s side bytes flow (AskAgain by hop) = again-leaves s (exit_by by) hop
+plan-leaves s side bytes flow (WaitFor e) = here s
+
+pub error-leaves : (s : GatewayAndOutput) (side : Side) (bytes : List ℕ) (flow : ErrorFlow) → LeavesPairs s (error_taken s side bytes flow)
+error-leaves s side bytes flow = at (error_plan s.shown side flow)
+  where
+    at : (r : Result Plan Reason) → LeavesPairs s (by_error_verdict s side bytes flow r)
+    at (Ok plan) = plan-leaves s side bytes flow plan
+    at (Err reason) = here s
