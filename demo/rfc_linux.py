@@ -8,6 +8,7 @@ from flows import Loop
 from namespaces import Namespace
 from packets import virtual_mac
 from pair import ROUTER, SETTINGS, SIDES, Surroundings
+from rfc_errors import OF_ERRORS
 from rfc_hosts import by_hosts
 from rfc_packets import AT_A_BOX
 from scene import show
@@ -54,7 +55,7 @@ def at_linux(report, page):
         current = Kernel(stack)
         bench = Wired(0, current)
         bench.name = "linux"
-        for probe in AT_A_BOX:
+        for probe in (*AT_A_BOX, *OF_ERRORS):
             probe(bench, report)
         by_hosts(current, bench, report)
     heads = ["requirement", "at", "expected", "seen", "verdict"]
