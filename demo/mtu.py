@@ -121,10 +121,9 @@ class Path:
         lines, taken = self.upload()
         mtu, segment, unanswered = map(int, lines.last("path") or (0, 0, 0))
         _, checksum, seconds = lines.last("end") or (0, "", "")
-        errors = self.errors.take()
         told, told_mtu = self.hosts.told(UDP_PLACE, LONG)
         fits = self.hosts.datagram(FITTING, NEVER_CUT)
-        return Seen(taken, checksum, seconds, mtu, segment, unanswered, errors, told, told_mtu, fits)
+        return Seen(taken, checksum, seconds, mtu, segment, unanswered, self.errors.take(), told, told_mtu, fits)
 
 
 def where_told(seen, size):
