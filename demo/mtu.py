@@ -17,8 +17,9 @@ from scene import Probe, scene, show
 PORT = 8082
 # An upload that isn't over in so many seconds stands still; at full width it takes a part of one.
 PATIENCE = 8
-# A connection begins with so many segments, of which none is answered where none comes through.
-FIRST_WINDOW = 10
+# A connection begins with a window of ten segments. The answer to the request's head allows one more, and a probe for what
+# is lost (RFC 8985) may send another.
+FIRST_WINDOW = 12
 WIDE = 1500
 # A datagram that is too long for the path, and one that is just as long as it takes.
 LONG, FITTING = 1400, NARROW - 28
