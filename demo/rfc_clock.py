@@ -170,8 +170,8 @@ def no_uses(fresh, report):
 # What is told of a pair's packet: its requirement, who tells, how the pair is made, the steps before, how, and the time of
 # rest after it, at whose end the pair's own rest is over.
 ERRORS = (
-    ("5508 REQ-6", "a router's error, UDP", UDP, (), (UDP_REST - TICK,), told_in, TICK),
-    ("5508 REQ-6", "a router's error, TCP", TCP, OPENED, (LONG - TICK,), told_in_tcp, TICK),
+    ("5508 REQ-6", "a router's error about UDP", UDP, (), (UDP_REST - TICK,), told_in, TICK),
+    ("5508 REQ-6", "a router's error about TCP", TCP, OPENED, (LONG - TICK,), told_in_tcp, TICK),
     ("5508 REQ-6", "a host's error", UDP, (), (UDP_REST - TICK,), told_out, TICK),
     ("5508 REQ-6", "a host's error to itself", UDP, (), (UDP_REST - TICK,), told_across, TICK),
     ("7857 6.1 a", "a host's error to a stranger", TCP, OPENED[:1], (1000, knocked, 1000), told_stranger, SHORT - 1000),

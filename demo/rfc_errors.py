@@ -64,7 +64,8 @@ def say(bench, station, target, said, about):
 
 def note_wanted(bench, report, requirement, what, found, wanted):
     right = wanted.is_met_by(found)
-    report.note(bench, requirement, what, "comes out so" if right else "comes out otherwise" if found else "nothing", right)
+    seen = "comes out so" if right else "comes out otherwise" if found else "nothing"
+    report.note(bench, requirement, what, seen, right)
 
 
 def errors_in(bench, report):
@@ -147,14 +148,15 @@ def errors_broken(bench, report):
     broken = bench.ask(REMOTES[1], ipv4(REMOTES[1].address, bench.virtual, ICMP, message), mark, patient=False)
     report.note(bench, "5508 REQ-3", "an error with a wrong checksum doesn't come in", yes(broken), not broken)
     found = bench.icmp(REMOTES[1], bench.virtual, *CLOSED, spoilt(about, 10))
-    report.note(bench, "5508 REQ-3", "nor one about a packet with a wrong header checksum", yes(found), not found)
+    report.note(bench, "5508 REQ-3", "an error about a packet with a wrong header checksum doesn't", yes(found), not found)
     found = say(bench, REMOTES[1], bench.virtual, CLOSED, spoilt(about, 26))
     came = arrived(found, CLOSED.kind, HOSTS[0])
-    report.note(bench, "5508 REQ-3", "one about a packet with a wrong UDP checksum does", yes(came), came)
+    report.note(bench, "5508 REQ-3", "an error about a packet with a wrong UDP checksum does", yes(came), came)
     about = packet_bytes(bench.udp(OWN, PLACES[0], PLAIN._replace(options=NO_WORDS)))
     found = say(bench, REMOTES[1], bench.virtual, CLOSED, about)
     wanted = Wanted(CLOSED, REMOTES[1].address, HOSTS[0], (OWN.place, PLACES[0]))
-    note_wanted(bench, report, "5508 REQ-3", "and one about a packet with options, its ports behind them", found, wanted)
+    what = "an error about a packet with options does, its ports behind them"
+    note_wanted(bench, report, "5508 REQ-3", what, found, wanted)
 
 
 OF_ERRORS = (errors_after, errors_in, errors_out, errors_across, errors_of_nobody, errors_broken)

@@ -142,8 +142,8 @@ def at_full_width(hosts, bench, report):
     text, _ = hosts.told(CLOSED, 1)
     report.note(bench, "4787 REQ-12 b", "a host is told of a closed UDP port", text, text == "Connection refused")
     found = [hosts.hop(ttl) for ttl in (1, 2, 3)]
-    report.note(bench, "5508 REQ-10", "a traceroute's first line is the pair's", told(found[:1]), found[0] is not None)
-    report.note(bench, "4787 REQ-12 b", "its next ones are the router's and the server's", told(found[1:]),
+    report.note(bench, "5508 REQ-10", "a traceroute has a line of the pair", told(found[:1]), found[0] is not None)
+    report.note(bench, "4787 REQ-12 b", "a traceroute has lines of the router and the server", told(found[1:]),
                 found[1:] == [ROUTER, SERVER])
     found = hosts.datagram(3000)
     report.note(bench, "4787 REQ-14", "a host's datagram of 3,000 bytes comes", yes(found), found)

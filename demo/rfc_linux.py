@@ -16,8 +16,9 @@ from scene import show
 RULES = ("add table ip nat; add chain ip nat out { type nat hook postrouting priority 100; };"
          "add rule ip nat out oifname outside masquerade")
 # What this NAT meets, of which the pair meets a part, and what it doesn't and the pair does.
-MEETS = ("4787 REQ-12 b", "4787 REQ-14", "5382 REQ-2", "5382 REQ-9", "5508 REQ-1", "5508 REQ-4", "5508 REQ-5", "5508 REQ-10")
-DOES_NOT = ("4787 REQ-8", "4787 REQ-9", "5382 REQ-3", "5382 REQ-4 a", "5382 REQ-8", "5508 REQ-7")
+MEETS = ("4787 REQ-12 b", "4787 REQ-14", "5382 REQ-2", "5382 REQ-9", "5508 REQ-1", "5508 REQ-4", "5508 REQ-10")
+DOES_NOT = ("4787 REQ-8", "4787 REQ-9", "5382 REQ-3", "5382 REQ-4 a", "5382 REQ-8", "5508 REQ-3", "5508 REQ-5",
+            "5508 REQ-7")
 
 
 class Kernel:
