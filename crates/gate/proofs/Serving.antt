@@ -7,7 +7,7 @@ use Rattle.spec_step.specs.Shown.{Shown}
 use Rattle.sockets.specs.Letters.{Polled}
 use Rattle.rounds.specs.Rounds.{AreRounds, Box, IsRound, Reads, box}
 use Rattle.gate.specs.Boots.{HasStarted}
-use Rattle.gate.specs.Served.{AreHeld, HasRounds, HasServed, any_reading}
+use Rattle.gate.specs.Served.{AreHeld, HasRounds, HasRun, HasServed, any_reading}
 
 -- a round by one clock is one by any
 any_round : {C : Type 0} (track : Bool) (reads : Reads C) (b : Box) (c : C) (b2 : Box) (c2 : C) → IsRound track reads b c b2 c2 → IsRound track any_reading b tt b2 tt
@@ -35,14 +35,12 @@ has_rounds track reads n g answers c g2 answers2 left c2 h =
     record { left_out = left; had = any_rounds track reads n (box g answers 0) c (box g2 answers2 left) c2 h }
 
 -- a start, rounds, and the end
-pub all_served : {T E : Type 0} (r : Result T E) (id : GatewayId) (rounds : ℕ) (found track : Bool) (before between after : Option (List ℕ))
-    (settings : Settings) (start last : Shown) (heard answers : List Polled)
-    → AreHeld settings → HasStarted settings id found before between start → heard ≡ []
+pub has_run : {T E : Type 0} (r : Result T E) (settings : Settings) (id : GatewayId) (rounds : ℕ) (found track : Bool)
+    (before between after : Option (List ℕ)) (start last : Shown) (heard answers : List Polled)
+    → HasStarted settings id found before between start → heard ≡ []
     → HasRounds rounds track start heard last answers → OnOk r (Appends between after (codes "end\n"))
-    → OnOk r (HasServed id rounds found track before after)
-all_served (Ok x) id rounds found track before between after settings start last heard answers held started none had ended = record {
-  settings = settings;
-  held = held;
+    → OnOk r (HasRun settings id rounds found track before after)
+has_run (Ok x) settings id rounds found track before between after start last heard answers started none had ended = record {
   start = start;
   between = between;
   started = started;
@@ -51,4 +49,13 @@ all_served (Ok x) id rounds found track before between after settings start last
   rounds_had = subst (λ (from : List Polled). HasRounds rounds track start from last answers) none had;
   ended = ended;
 }
-all_served (Err e) id rounds found track before between after settings start last heard answers held started none had ended = tt
+has_run (Err e) settings id rounds found track before between after start last heard answers started none had ended = tt
+
+-- with the settings of a text
+pub has_served : {T E : Type 0} (r : Result T E) (settings : Settings) (id : GatewayId) (rounds : ℕ) (found track : Bool)
+    (before after : Option (List ℕ))
+    → AreHeld settings → OnOk r (HasRun settings id rounds found track before after)
+    → OnOk r (HasServed id rounds found track before after)
+has_served (Ok x) settings id rounds found track before after held run =
+    record { settings = settings; held = held; run = run }
+has_served (Err e) settings id rounds found track before after held run = tt

@@ -26,12 +26,9 @@ pub record HasRounds (rounds : ℕ) (track : Bool) (g : Shown) (answers : List P
   pub left_out : ℕ
   pub had : AreRounds track any_reading rounds (box g answers 0) tt (box g2 answers2 left_out) tt
 
--- With the settings of some text the gateway of this id starts, in some boot, whose line is printed; it has its rounds,
--- with a wire that hasn't answered before; and `end` is printed. There are such settings, boot, answers and events left
--- out: nothing says which.
-pub record HasServed (id : GatewayId) (rounds : ℕ) (found track : Bool) (before after : Option (List ℕ)) : Type 0 where
-  pub settings : Settings
-  pub held : AreHeld settings
+-- With these settings the gateway of this id starts, in some boot, whose line is printed; it has its rounds, with a wire
+-- that hasn't answered before; and `end` is printed. There are such a boot, answers and events left out: nothing says which.
+pub record HasRun (settings : Settings) (id : GatewayId) (rounds : ℕ) (found track : Bool) (before after : Option (List ℕ)) : Type 0 where
   pub start : Shown
   pub between : Option (List ℕ)
   pub started : HasStarted settings id found before between start
@@ -39,3 +36,9 @@ pub record HasServed (id : GatewayId) (rounds : ℕ) (found track : Bool) (befor
   pub answers : List Polled
   pub rounds_had : HasRounds rounds track start [] last answers
   pub ended : Appends between after (codes "end\n")
+
+-- some text's settings were run so. There are such settings: nothing says which.
+pub record HasServed (id : GatewayId) (rounds : ℕ) (found track : Bool) (before after : Option (List ℕ)) : Type 0 where
+  pub settings : Settings
+  pub held : AreHeld settings
+  pub run : HasRun settings id rounds found track before after

@@ -1,11 +1,11 @@
 //! What is done at a box: its boot file and its rounds.
-ghost use Rattle.std.specs.Prelude.{◌≡◌, ◌⊎◌, ◌<◌, ◌↔◌, IfErr, IfOk, IsTrue, Ok, OnOk, codes};
+ghost use Rattle.std.specs.Prelude.{◌≡◌, ◌⊎◌, ◌<◌, ◌↔◌, [], IfErr, IfOk, IsTrue, Ok, OnOk, codes};
 ghost use Rattle.std.specs.Io.KnownBytes.{Appends};
 ghost use Rattle.nat_types.specs.declared.gateways.GatewayId.TheVariants.{Zero};
 ghost use Rattle.boot_store.specs.Crash.{Decides, Keeps, Rises, Since};
 ghost use Rattle.gate.specs.Boots.{HasBoot, HasStarted, IsStart, boot_line};
 ghost use Rattle.gate.specs.Faults.{IsOfNoWay, IsOfRun};
-ghost use Rattle.gate.specs.Served.{AreHeld, HasRounds, HasServed};
+ghost use Rattle.gate.specs.Served.{AreHeld, HasRounds, HasRun, HasServed};
 ghost use Rattle.gate.specs.Starts.{Refuses};
 
 use crate::refusals::BoxFault;
@@ -13,13 +13,13 @@ use crate::saying::control_path;
 use crate::ways::{WayTexts, ways_of};
 use boot_file::{Lockable, Uncached};
 use boot_store::{Disk, next_boot};
-use control::Control;
+use control::{Control, ControlPath};
 use faults::text_of;
 use gateway::{Gateway, Hashers};
 use nat_types::{GatewayId, NoMemory};
 use rounds::{Stopwatch, serve};
 use settings::Settings;
-use sockets::{Sockets, Wire, ports_of};
+use sockets::{Sockets, Ways, Wire, ports_of};
 use std::alloc::Global;
 use std::fs::Files;
 use std::io::Write;
@@ -98,12 +98,80 @@ where
     let settings = settings_at(rt, start.settings)?;
     let ways = ways_of(start.ways)?;
     ways.inherit()?;
-    let path = control_path(rt.alloc(), &settings, start.id)?;
+    locked(rt, start, &settings, &ways, output, errors)
+}
+
+/// Opens and locks the boot file, for as long as the gateway runs. The control socket's path is made before.
+fn locked<R: Files + Net + Clock + RandomSource + AllocGlobal, O: Write, E: Write>(
+    rt: &R,
+    start: &Start<'_>,
+    settings: &Settings,
+    ways: &Ways,
+    output: &mut O,
+    errors: &mut E,
+) -> Result<(), BoxFault>
+where
+    R::File: Uncached + Lockable,
+    requires found { IsTrue start.now.found → start.now.id ≡ Zero }
+    ensures ok { OnOk result (HasRun settings.now start.now.id start.now.rounds start.now.found
+        start.now.track (O.contents output.old) (O.contents output.new)) }
+    ensures err { IfErr result IsOfNoWay }
+{
+    let path = control_path(rt.alloc(), settings, start.id)?;
     let mut disk = boot_file::open(rt, settings.gateway(start.id).boot_file.as_str())?;
-    let control = Control::open(rt, &path)?;
-    let ports = ports_of(&settings, start.id);
-    let mut wire = Sockets::open(rt, rt.alloc(), &ways, ports, control)?;
-    let mut gateway = started(rt, &mut disk, &settings, start.id, start.found, output)?;
+    connected(rt, start, settings, ways, &path, &mut disk, output, errors)
+}
+
+/// Opens the control socket, and the sockets that the ways need.
+fn connected<
+    R: Files + Net + Clock + RandomSource + AllocGlobal,
+    D: Disk,
+    O: Write,
+    E: Write,
+>(
+    rt: &R,
+    start: &Start<'_>,
+    settings: &Settings,
+    ways: &Ways,
+    path: &ControlPath,
+    disk: &mut D,
+    output: &mut O,
+    errors: &mut E,
+) -> Result<(), BoxFault>
+    requires found { IsTrue start.now.found → start.now.id ≡ Zero }
+    ensures ok { OnOk result (HasRun settings.now start.now.id start.now.rounds start.now.found
+        start.now.track (O.contents output.old) (O.contents output.new)) }
+    ensures err { IfErr result IsOfNoWay }
+{
+    let control = Control::open(rt, path)?;
+    let ports = ports_of(settings, start.id);
+    let wire = Sockets::open(rt, rt.alloc(), ways, ports, control)?;
+    run(rt, start, settings, disk, wire, output, errors)
+}
+
+/// Starts the gateway and runs its rounds, on a wire that wasn't asked yet.
+fn run<
+    R: Clock + RandomSource + AllocGlobal,
+    D: Disk,
+    W: Wire + Drop,
+    O: Write,
+    E: Write,
+>(
+    rt: &R,
+    start: &Start<'_>,
+    settings: &Settings,
+    disk: &mut D,
+    mut wire: W,
+    output: &mut O,
+    errors: &mut E,
+) -> Result<(), BoxFault>
+    requires found { IsTrue start.now.found → start.now.id ≡ Zero }
+    requires unasked { W.answers wire ≡ [] }
+    ensures ok { OnOk result (HasRun settings.now start.now.id start.now.rounds start.now.found
+        start.now.track (O.contents output.old) (O.contents output.new)) }
+    ensures err { IfErr result IsOfNoWay }
+{
+    let mut gateway = started(rt, disk, settings, start.id, start.found, output)?;
     let ended = rounds_of(rt, &mut gateway, &mut wire, start, output, errors);
     gateway.end();
     ended
