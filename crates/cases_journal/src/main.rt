@@ -6,7 +6,7 @@ mod pages;
 mod words;
 
 use anyhow::{Result, bail};
-use journal::{Cause, Origin, Tally, Unhindered, filter_of, tell, tell_loss, tell_turn};
+use journal::{Cause, Origin, Tally, Unhindered, filter_of, tell, tell_end, tell_loss, tell_turn};
 use log::Log;
 use log::filter::FilteredLog;
 use pages::{Page, Paper};
@@ -58,6 +58,7 @@ fn lose(station: &mut Station<'_>, moment: u64, origin: Origin, cause: Cause, co
 /// - `turn MOMENT`: the clock stands there
 /// - `lose MOMENT ORIGIN CAUSE COUNT`: nothing comes of so many events
 /// - `tell MOMENT ENTRY..`: a change
+/// - `end MOMENT`: the box ends there
 /// - `flush`: what was left out is told
 /// - `paper room`, `paper none`, `paper fails`: there is room for lines from now on; there is none; writing fails
 fn act(station: &mut Station<'_>, paper: &Cell<Paper>, words: &[&str]) -> Result<()> {
@@ -71,6 +72,7 @@ fn act(station: &mut Station<'_>, paper: &Cell<Paper>, words: &[&str]) -> Result
         ["tell", moment, entry @ ..] => {
             tell(&station.log, moment.parse::<u64>()?, entry_of(entry)?);
         }
+        ["end", moment] => tell_end(&station.log, &station.tally, moment.parse::<u64>()?),
         ["flush"] => station.log.flush(),
         ["paper", kind] => paper.set(pages::paper_of(kind)?),
         _ => bail!("no line of the cases"),

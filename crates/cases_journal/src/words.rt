@@ -88,6 +88,7 @@ pub(crate) fn entry_of(words: &[&str]) -> Result<Entry> {
         ["back"] => Ok(Entry::Back),
         ["synced"] => Ok(Entry::Synced),
         ["unsynced"] => Ok(Entry::Unsynced),
+        ["stopped"] => Ok(Entry::Stopped),
         ["boot", boot] => Ok(Entry::Boot(boot.parse::<u64>()?)),
         ["peer-boot", boot] => Ok(Entry::PeerBoot(boot.parse::<u64>()?)),
         ["peer-heard"] => Ok(Entry::PeerHeard),

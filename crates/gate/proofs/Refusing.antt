@@ -20,6 +20,7 @@ run_of_no_way fault.Damaged is = tt
 run_of_no_way fault.BootsUsedUp is = tt
 run_of_no_way fault.FoundTwice is = tt
 run_of_no_way fault.InUse is = tt
+run_of_no_way (fault.NoFilter part) is = tt
 
 -- and what ends with one
 pub ends_of_no_way : {T : Type 0} (result : Result T BoxFault) → IfErr result IsOfRun → IfErr result IsOfNoWay
@@ -39,6 +40,7 @@ of_no_way texts ways fault.Damaged written is = record { ways = ways; written = 
 of_no_way texts ways fault.BootsUsedUp written is = record { ways = ways; written = written }
 of_no_way texts ways fault.FoundTwice written is = record { ways = ways; written = written }
 of_no_way texts ways fault.InUse written is = record { ways = ways; written = written }
+of_no_way texts ways (fault.NoFilter part) written is = record { ways = ways; written = written }
 
 -- and so does what ends with one
 pub ends_refused : {T : Type 0} (texts : WayTexts) (ways : Ways) (result : Result T BoxFault)

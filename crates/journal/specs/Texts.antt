@@ -50,6 +50,7 @@ words_of entry.Back = codes "back"
 words_of entry.Synced = codes "synced"
 words_of entry.Unsynced = codes "unsynced"
 words_of (entry.Boot boot) = codes "boot " ++ decimal boot
+words_of entry.Stopped = codes "stopped"
 words_of (entry.PeerBoot boot) = codes "peer boot " ++ decimal boot
 words_of entry.PeerHeard = codes "peer heard"
 words_of entry.PeerSilent = codes "peer silent"

@@ -33,6 +33,8 @@ pub enum Entry {
     Unsynced,
     /// The number of its own start.
     Boot(u64),
+    /// It was told to end, or has had all its rounds: both its routers are stopped.
+    Stopped,
     /// The known boot of the other box, or 0.
     PeerBoot(u64),
     /// The other box is heard again.

@@ -24,4 +24,4 @@ pub use origins::Origin;
 pub use outlets::{Outlet, StandardError};
 pub use sink::Unhindered;
 pub use tally::Tally;
-pub use telling::{tell, tell_loss, tell_turn};
+pub use telling::{tell, tell_end, tell_loss, tell_turn};

@@ -57,6 +57,7 @@ pub(crate) fn event_name(entry: &Entry) -> &str
         Entry::Synced => "synced",
         Entry::Unsynced => "unsynced",
         Entry::Boot(_) => "boot",
+        Entry::Stopped => "stopped",
         Entry::PeerBoot(_) => "peer-boot",
         Entry::PeerHeard => "peer-heard",
         Entry::PeerSilent => "peer-silent",

@@ -31,6 +31,7 @@ impl Display for Note {
             Entry::Back => f.write_str("back"),
             Entry::Synced => f.write_str("synced"),
             Entry::Unsynced => f.write_str("unsynced"),
+            Entry::Stopped => f.write_str("stopped"),
             Entry::PeerHeard => f.write_str("peer heard"),
             Entry::PeerSilent => f.write_str("peer silent"),
             Entry::Fails(_) => f.write_str("fails"),

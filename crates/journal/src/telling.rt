@@ -35,10 +35,22 @@ pub fn tell_turn<L: Log>(log: &L, tally: &mut Tally, moment: u64)
     ensures { tally.new ≡ turned moment tally.old }
 {
     if let Some(ended) = tally.turn(moment) {
-        for origin in ORIGINS {
-            tell_others(log, moment, origin, &ended);
-        }
+        tell_all_others(log, moment, &ended);
         log.flush();
+    }
+}
+
+/// Writes at a box's end what is owed of the second that hasn't ended, and how many lines were left out, if there is
+/// room.
+pub fn tell_end<L: Log>(log: &L, tally: &Tally, moment: u64) {
+    tell_all_others(log, moment, tally);
+    log.flush();
+}
+
+/// Writes how many others there were of a second, for each origin and cause where there were any.
+fn tell_all_others<L: Log>(log: &L, moment: u64, ended: &Tally) {
+    for origin in ORIGINS {
+        tell_others(log, moment, origin, ended);
     }
 }
 
