@@ -1,2 +1,1 @@
 mod Accounts
-mod Visits

@@ -1,9 +1,5 @@
--- The keys and values of a record.
-use Rattle.std.specs.Prelude.{ℕ, List, [], ◌∷◌, ◌++◌, codes, decimal}
-use Rattle.log.specs.Kv.{Pair}
-use Rattle.packet_rules.specs.Reasons.{number_of}
-use Rattle.journal.specs.Texts.{reason_name, role_name}
-use Rattle.journal.specs.declared.causes.Cause.{Cause}
+-- What a record's key `event` says.
+use Rattle.std.specs.Prelude.{ℕ, List, codes}
 use Rattle.journal.specs.declared.causes.Cause.TheVariants as cause
 use Rattle.journal.specs.declared.entries.Entry.{Entry}
 use Rattle.journal.specs.declared.entries.Entry.TheVariants as entry
@@ -26,21 +22,3 @@ event_name entry.PeerHeard = codes "peer-heard"
 event_name entry.PeerSilent = codes "peer-silent"
 event_name (entry.Fails origin) = codes "fails"
 event_name (entry.Works origin) = codes "works"
-
--- why nothing came of an event, by number and name; want of memory is the event's name
-abbrev pub cause_pairs : Cause → List Pair
-cause_pairs (cause.Dropped reason) = (codes "number", decimal (number_of reason)) ∷ (codes "reason", reason_name reason) ∷ []
-cause_pairs cause.NoMemory = []
-
--- what else it says
-abbrev pub more_of : Entry → List Pair
-more_of (entry.First origin why) = cause_pairs why
-more_of (entry.Others origin why number) = cause_pairs why ++ (codes "more", decimal number) ∷ []
-more_of (entry.Role side state) = (codes "role", role_name state) ∷ []
-more_of (entry.Boot boot) = (codes "boot", decimal boot) ∷ []
-more_of (entry.PeerBoot boot) = (codes "boot", decimal boot) ∷ []
-more_of other = []
-
--- all of a record's, the moment first
-abbrev pub pairs_of : ℕ → Entry → List Pair
-pairs_of moment told = (codes "at", decimal moment) ∷ (codes "event", event_name told) ∷ more_of told

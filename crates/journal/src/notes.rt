@@ -1,7 +1,5 @@
 //! A record's text, and its keys and values.
 ghost use Rattle.std.specs.Prelude.{Some, OnOk, decimal};
-ghost use Rattle.std.specs.List.{FoldsTo};
-ghost use Rattle.journal.specs.Pairs.{cause_pairs, more_of, pairs_of};
 ghost use Rattle.journal.specs.Texts.{cause_text, role_name, text_of};
 
 use crate::Cause;
@@ -65,38 +63,25 @@ impl Display for Role {
 }
 
 impl Source for Note {
-    ghost pairs = { λ n. Some (pairs_of n.moment n.entry) };
-
     fn visit<V: VisitSource>(&self, visitor: &mut V) -> Result<(), Error> {
         visit_number(visitor, "at", self.moment)?;
         visit_word(visitor, "event", event_name(&self.entry))?;
-        visit_more(visitor, &self.entry)
-    }
-}
-
-/// What a record says besides its moment and the name of what happened.
-fn visit_more<V: VisitSource>(visitor: &mut V, entry: &Entry) -> Result<(), Error>
-    ensures { OnOk result
-        (FoldsTo V.visit_pair_gives visitor.old (more_of entry.now) visitor.new) }
-{
-    match entry {
-        Entry::First(_, cause) => visit_cause(visitor, cause),
-        Entry::Others(_, cause, number) => {
-            visit_cause(visitor, cause)?;
-            visit_number(visitor, "more", *number)
+        match &self.entry {
+            Entry::First(_, cause) => visit_cause(visitor, cause),
+            Entry::Others(_, cause, number) => {
+                visit_cause(visitor, cause)?;
+                visit_number(visitor, "more", *number)
+            }
+            Entry::Role(_, role) => visit_word(visitor, "role", role_name(role)),
+            Entry::Boot(boot) => visit_number(visitor, "boot", *boot),
+            Entry::PeerBoot(boot) => visit_number(visitor, "boot", *boot),
+            _ => Ok(()),
         }
-        Entry::Role(_, role) => visit_word(visitor, "role", role_name(role)),
-        Entry::Boot(boot) => visit_number(visitor, "boot", *boot),
-        Entry::PeerBoot(boot) => visit_number(visitor, "boot", *boot),
-        _ => Ok(()),
     }
 }
 
 /// A reason, by number and name.
-fn visit_cause<V: VisitSource>(visitor: &mut V, cause: &Cause) -> Result<(), Error>
-    ensures { OnOk result
-        (FoldsTo V.visit_pair_gives visitor.old (cause_pairs cause.now) visitor.new) }
-{
+fn visit_cause<V: VisitSource>(visitor: &mut V, cause: &Cause) -> Result<(), Error> {
     match cause {
         Cause::Dropped(reason) => {
             visit_number(visitor, "number", u64::from(reason.number()))?;

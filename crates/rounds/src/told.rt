@@ -24,7 +24,7 @@ pub struct InputEnd<'a, R> {
 impl<'a, R: Input> InputEnd<'a, R> {
     /// It is watched, or tells nothing.
     pub fn new(rt: &'a R, is_watched: bool) -> InputEnd<'a, R>
-        ensures { ⟦<InputEnd<R> as Told>⟧.tells result → IsTrue is_watched }
+        ensures { ⟦<InputEnd<'a, R> as Told>⟧.tells result → IsTrue is_watched }
     {
         InputEnd { rt, is_watched }
     }
