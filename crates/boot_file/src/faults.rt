@@ -10,7 +10,7 @@ pub enum FileFault {
     /// Something of that name is there already.
     #[error("the file is there already")]
     Exists,
-    /// It can't be written or synced. A part of it may be there.
+    /// It can't be written or synced.
     #[error("the file can't be written")]
     NotWritten,
     /// Another process has it open.

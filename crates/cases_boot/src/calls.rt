@@ -5,11 +5,13 @@ use boot_store::{BootFault, init, next_boot};
 use cases_words::Given;
 use hex::FromHex;
 use std::fs;
+use std::os::unix::fs::PermissionsExt;
 
 /// What the call that the next word names answers.
 pub fn answer(rt: &HostRuntime, given: &mut Given) -> Result<String> {
     match given.word()? {
         "init" => made(rt, given.word()?),
+        "mode" => mode(rt, given.word()?),
         "found" => started(rt, given.word()?, true),
         "start" => started(rt, given.word()?, false),
         "write" => written(rt, given.word()?, given.word()?),
@@ -25,6 +27,12 @@ fn made(rt: &HostRuntime, path: &str) -> Result<String> {
         Ok(()) => shown(rt, path, "made"),
         Err(fault) => bail!("{fault}"),
     }
+}
+
+/// Who may do what with a file, in octal digits.
+fn mode(rt: &HostRuntime, path: &str) -> Result<String> {
+    let mode = fs::metadata(rt, path)?.permissions().mode();
+    Ok(format!(in rt.alloc(); "mode {:o}", mode & 0o777)?)
 }
 
 /// The bytes that a file has, behind an answer.

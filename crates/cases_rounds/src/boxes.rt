@@ -1,7 +1,7 @@
 //! The two boxes, whose links lead to each other.
 
 use crate::memory::{Letter, Outage};
-use crate::stations::Station;
+use crate::stations::{Orders, Station};
 use anyhow::{Context, Result, bail};
 use nat_types::{GatewayId, Side};
 use settings::Settings;
@@ -119,17 +119,47 @@ impl Boxes {
         track: bool,
         output: &mut O,
     ) -> Result<()> {
-        match id_named(id)? {
-            GatewayId::Zero => {
-                let letters = run_on(&mut self.zero, rounds, pace, track, output)?;
-                pass_on(letters, &mut self.one)
-            }
-            GatewayId::One => {
-                let letters = run_on(&mut self.one, rounds, pace, track, output)?;
-                pass_on(letters, &mut self.zero)
-            }
+        let station = self.station(id)?;
+        let lines = station.run(rounds, pace, track);
+        let letters = told_by(station, lines, output)?;
+        self.pass_on(id, letters)
+    }
+
+    /// A box runs to its end; what it sends on the link comes to the other.
+    pub(crate) fn serve<O: Write>(
+        &mut self,
+        id: &str,
+        orders: Orders,
+        output: &mut O,
+    ) -> Result<()> {
+        let station = self.station(id)?;
+        let lines = station.serve(orders)?;
+        let letters = told_by(station, lines, output)?;
+        self.pass_on(id, letters)
+    }
+
+    /// The datagrams of a box come to the other, if that is there.
+    fn pass_on(&mut self, from: &str, letters: Vec<Letter>) -> Result<()> {
+        let other = match id_named(from)? {
+            GatewayId::Zero => self.one.as_mut(),
+            GatewayId::One => self.zero.as_mut(),
+        };
+        match other {
+            Some(station) => station.wire.add(letters),
+            None => Ok(()),
         }
     }
+}
+
+/// Prints what a box has sent and the lines that it wrote. The answer is what it sent on the link.
+fn told_by<O: Write>(
+    station: &mut Station,
+    lines: Vec<u8>,
+    output: &mut O,
+) -> Result<Vec<Letter>> {
+    station.wire.show(output)?;
+    output.write_all(lines.as_slice())?;
+    station.wire.sent_on_link()
 }
 
 /// Lets a box go, if it is there.
@@ -147,27 +177,4 @@ fn bring_to(station: &mut Option<Station>, place: Place, text: &str, count: u32)
         station.bring(place, text)?;
     }
     Ok(())
-}
-
-/// A box that is there runs so many rounds. The answer is what it sent on the link.
-fn run_on<O: Write>(
-    station: &mut Option<Station>,
-    rounds: u32,
-    pace: u64,
-    track: bool,
-    output: &mut O,
-) -> Result<Vec<Letter>> {
-    let station = station.as_mut().context("the box isn't there")?;
-    let written = station.run(rounds, pace, track)?;
-    station.wire.show(output)?;
-    output.write_all(written.as_slice())?;
-    station.wire.sent_on_link()
-}
-
-/// The datagrams come to a box, if it is there.
-fn pass_on(letters: Vec<Letter>, station: &mut Option<Station>) -> Result<()> {
-    match station {
-        Some(station) => station.wire.add(letters),
-        None => Ok(()),
-    }
 }

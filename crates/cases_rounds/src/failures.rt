@@ -1,11 +1,12 @@
 //! Rounds of which something fails: a call of the wire, or to write.
 
-use crate::stations::Station;
+use crate::stations::{Orders, Station};
 use anyhow::Result;
 use nat_types::{GatewayId, Side};
 use settings::Settings;
 use sockets::Place;
 use std::alloc::Global;
+use std::cell::RefCell;
 use std::io::{self, ErrorKind, Write};
 
 /// A packet of a new pair, from 192.168.1.10:5000 to 198.51.100.7:53.
@@ -21,7 +22,8 @@ const SHORT: &str = "00";
 
 /// Rounds of gateway 0 as it is founded, once both its sides are Active and three frames have come.
 ///
-/// - `errors`, `output`: what they write there is refused
+/// - `errors`: there is no room for their lines
+/// - `output`: what they write there is refused
 /// - a number: the call of the wire with that number fails
 pub(crate) fn run<O: Write>(
     alloc: Global,
@@ -46,16 +48,23 @@ fn fail<O: Write>(station: &mut Station, what: &str, output: &mut O) -> Result<(
 
 /// A first round, after which both sides are Active. Then three frames come.
 fn make_ready(station: &mut Station) -> Result<()> {
-    station.run(1, 360, true)?;
+    let _lines = station.run(1, 360, true);
     station.bring(Place::Side(Side::Inside), OUT)?;
     station.bring(Place::Side(Side::Outside), BACK)?;
     station.bring(Place::Side(Side::Inside), SHORT)
 }
 
-/// Four rounds, 360 centiseconds apart, over a wire of which a call fails. A send that fails is a
-/// datagram less; where to receive fails, what is there comes later.
+/// Four rounds, 360 centiseconds apart, and the end.
+const ORDERS: Orders = Orders {
+    rounds: Some(4),
+    pace: 360,
+    told: None,
+};
+
+/// They are run over a wire of which a call fails. A send that fails is a datagram less; where to receive fails, what is
+/// there comes later.
 fn run_failing<O: Write>(station: &mut Station, number: u64, output: &mut O) -> Result<()> {
-    let written = station.run_failing(number, 4, 360)?;
+    let written = station.serve_failing(number, ORDERS)?;
     station.wire.count(output)?;
     output.write_all(written.as_slice())?;
     Ok(())
@@ -77,19 +86,21 @@ impl Write for Shut {
 
 /// The same rounds, where no line for the operator can be written. It is left out.
 fn run_untold<O: Write>(station: &mut Station, output: &mut O) -> Result<()> {
+    let lines = RefCell::new(Vec::new(station.wire.alloc));
     let mut written = Vec::new(station.wire.alloc);
-    station.run_into(4, 360, true, &mut written, &mut Shut)?;
+    station.serve_into(ORDERS, &lines, true, &mut written)?;
     station.wire.count(output)?;
+    output.write_all(lines.into_inner().as_slice())?;
     output.write_all(written.as_slice())?;
     Ok(())
 }
 
 /// The same rounds, where `end` can't be written. All else is done before.
 fn run_endless<O: Write>(station: &mut Station, output: &mut O) -> Result<()> {
-    let mut errors = Vec::new(station.wire.alloc);
-    let ended = station.run_into(4, 360, true, &mut Shut, &mut errors);
+    let lines = RefCell::new(Vec::new(station.wire.alloc));
+    let ended = station.serve_into(ORDERS, &lines, false, &mut Shut);
     station.wire.count(output)?;
-    output.write_all(errors.as_slice())?;
+    output.write_all(lines.into_inner().as_slice())?;
     if ended.is_err() {
         writeln!(output, "  no end")?;
     }

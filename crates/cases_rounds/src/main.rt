@@ -5,11 +5,13 @@
 mod boxes;
 mod failures;
 mod memory;
+mod pages;
 mod stations;
 
 use anyhow::{Result, bail};
 use boxes::Boxes;
 use settings::Settings;
+use stations::Orders;
 use std::alloc::Global;
 use std::fs;
 use std::io::{self, BufWriter, Write};
@@ -22,8 +24,10 @@ use std::io::{self, BufWriter, Write};
 /// - `I fails PLACE N M`: a place of box I fails in the rounds N to M of the next line of rounds
 /// - `I rounds N M`, `I rounds N M untracked`: box I runs N rounds, at each of which M centiseconds more have passed; it
 ///   tracks the carriers of its interfaces, or doesn't
-/// - `fail N`: rounds of a box founded anew, the call N of whose wire fails
-/// - `fail errors`, `fail output`: the same rounds, where what they write there is refused
+/// - `I serves N M`, `I serves - M`, with `told K` behind: box I has N such rounds, or any number of them, until it is told,
+///   as it is after K; then it ends
+/// - `fail N`: a box founded anew runs to its end, and the call N of its wire fails
+/// - `fail errors`, `fail output`: the same, where there is no room for its lines, or its output is refused
 fn act<O: Write>(
     alloc: Global,
     settings: &Settings,
@@ -66,8 +70,29 @@ fn happen<O: Write>(
                 output,
             )
         }
+        ["serves", count, pace, told @ ..] => {
+            boxes.serve(id, orders_of(count, pace, told)?, output)
+        }
         _ => bail!("no line of the cases"),
     }
+}
+
+/// How a box is run to its end.
+fn orders_of(count: &str, pace: &str, told: &[&str]) -> Result<Orders> {
+    let rounds = match count {
+        "-" => None,
+        number => Some(number.parse::<u32>()?),
+    };
+    let told = match told {
+        [] => None,
+        ["told", number] => Some(number.parse::<u32>()?),
+        _ => bail!("no line of the cases"),
+    };
+    Ok(Orders {
+        rounds,
+        pace: pace.parse::<u64>()?,
+        told,
+    })
 }
 
 /// What comes of a line: it is empty, begins with `#`, or is one of `act`.

@@ -1,13 +1,17 @@
 //! A box whose wire lies in memory.
 
 use crate::memory::{Letter, Memory, Steps};
+use crate::pages::{Page, Patience};
 use anyhow::{Result, bail};
 use gateway::{Gateway, Hashers};
+use journal::{Format, Unhindered};
+use log::Log;
 use nat_types::GatewayId;
-use rounds::serve;
+use rounds::{run_rounds, serve};
 use settings::Settings;
 use sockets::{Failing, Place, Wire};
 use std::alloc::Global;
+use std::cell::RefCell;
 use std::io::{self, Write};
 
 /// A gateway with its wire and its clock. It is let go by `end` alone.
@@ -56,62 +60,117 @@ impl Station {
         Ok(())
     }
 
-    /// Runs so many rounds, at each of which so many centiseconds more have passed. What is written
-    /// is the lines for the operator, and then the output.
-    pub(crate) fn run(&mut self, rounds: u32, pace: u64, track: bool) -> Result<Vec<u8>> {
-        let mut written = Vec::new(self.wire.alloc);
+    /// Runs so many rounds, at each of which so many centiseconds more have passed. What is answered are the lines for
+    /// the operator.
+    pub(crate) fn run(&mut self, rounds: u32, pace: u64, track: bool) -> Vec<u8> {
+        let lines = RefCell::new(Vec::new(self.wire.alloc));
+        self.clock.pace = pace;
+        self.wire.begin();
+        run_on(self, rounds, track, &lines);
+        self.wire.outages.clear();
+        lines.into_inner()
+    }
+
+    /// Runs the box to its end. What is answered are the lines for the operator, and then the output.
+    pub(crate) fn serve(&mut self, orders: Orders) -> Result<Vec<u8>> {
+        let lines = RefCell::new(Vec::new(self.wire.alloc));
         let mut output = Vec::new(self.wire.alloc);
-        self.run_into(rounds, pace, track, &mut output, &mut written)?;
+        self.serve_into(orders, &lines, false, &mut output)?;
+        let mut written = lines.into_inner();
         written.write_all(output.as_slice())?;
         Ok(written)
     }
 
-    /// Runs rounds with writers for the output and for the operator's lines.
-    pub(crate) fn run_into<O: Write, E: Write>(
+    /// The same with a writer for the output, and lines for the operator, which may have no room.
+    pub(crate) fn serve_into<O: Write>(
         &mut self,
-        rounds: u32,
-        pace: u64,
-        track: bool,
+        orders: Orders,
+        lines: &RefCell<Vec<u8>>,
+        is_shut: bool,
         output: &mut O,
-        errors: &mut E,
     ) -> io::Result<()> {
-        self.clock.pace = pace;
+        self.clock.pace = orders.pace;
         self.wire.begin();
-        let ended = served(
+        let log = Unhindered::new(Page { lines, is_shut }, Format::Text);
+        served(
             self.wire.alloc,
             &mut self.gateway,
             &mut self.wire,
             &mut self.clock,
-            rounds,
-            track,
+            orders,
             output,
-            errors,
-        );
-        self.wire.outages.clear();
-        ended
+            &log,
+        )
     }
 
-    /// Runs rounds over a wire whose call with that number fails; writes as `run` does.
-    pub(crate) fn run_failing(&mut self, number: u64, rounds: u32, pace: u64) -> Result<Vec<u8>> {
+    /// The same over a wire whose call with that number fails; answers as `serve` does.
+    pub(crate) fn serve_failing(&mut self, number: u64, orders: Orders) -> Result<Vec<u8>> {
         let alloc = self.wire.alloc;
-        let mut written = Vec::new(alloc);
+        let lines = RefCell::new(Vec::new(alloc));
         let mut output = Vec::new(alloc);
-        self.clock.pace = pace;
+        self.clock.pace = orders.pace;
         self.wire.begin();
-        let mut wire = Failing::new(&mut self.wire, number);
-        served(
-            alloc,
-            &mut self.gateway,
-            &mut wire,
-            &mut self.clock,
-            rounds,
-            true,
-            &mut output,
-            &mut written,
-        )?;
+        serve_failing(self, number, orders, &lines, &mut output)?;
+        let mut written = lines.into_inner();
         written.write_all(output.as_slice())?;
         Ok(written)
     }
+}
+
+/// How a box is run to its end.
+#[derive(Clone, Copy, Debug, PartialEq, Eq)]
+pub(crate) struct Orders {
+    /// How many rounds it has at most.
+    pub(crate) rounds: Option<u32>,
+    /// How many centiseconds pass from one to the next.
+    pub(crate) pace: u64,
+    /// After how many rounds it is told to end.
+    pub(crate) told: Option<u32>,
+}
+
+/// So many rounds of a box.
+fn run_on(station: &mut Station, rounds: u32, track: bool, lines: &RefCell<Vec<u8>>) {
+    let page = Page {
+        lines,
+        is_shut: false,
+    };
+    let log = Unhindered::new(page, Format::Text);
+    run_rounds(
+        station.wire.alloc,
+        &mut station.gateway,
+        &mut station.wire,
+        &mut station.clock,
+        &Patience::new(None),
+        Some(rounds),
+        track,
+        &log,
+    );
+}
+
+/// A box is run to its end over a wire whose call with that number fails.
+fn serve_failing(
+    station: &mut Station,
+    number: u64,
+    orders: Orders,
+    lines: &RefCell<Vec<u8>>,
+    output: &mut Vec<u8>,
+) -> io::Result<()> {
+    let page = Page {
+        lines,
+        is_shut: false,
+    };
+    let log = Unhindered::new(page, Format::Text);
+    let alloc = station.wire.alloc;
+    let mut wire = Failing::new(&mut station.wire, number);
+    served(
+        alloc,
+        &mut station.gateway,
+        &mut wire,
+        &mut station.clock,
+        orders,
+        output,
+        &log,
+    )
 }
 
 /// A gateway as it begins. It says nothing of the gateway, so that what a caller has to show stays
@@ -130,17 +189,18 @@ fn begun(
     Ok(Gateway::new(alloc, settings, id, boot, found, hashers)?)
 }
 
-/// So many rounds. It says nothing of the gateway either.
-fn served<W: Wire, O: Write, E: Write>(
+/// A box is run to its end. It says nothing of the gateway either.
+fn served<W: Wire, O: Write, L: Log>(
     alloc: Global,
     gateway: &mut Gateway,
     wire: &mut W,
     clock: &mut Steps,
-    rounds: u32,
-    track: bool,
+    orders: Orders,
     output: &mut O,
-    errors: &mut E,
+    log: &L,
 ) -> io::Result<()> {
-    serve(alloc, gateway, wire, clock, rounds, track, output, errors)?;
+    let until = Patience::new(orders.told);
+    let rounds = orders.rounds;
+    serve(alloc, gateway, wire, clock, &until, rounds, true, output, log)?;
     Ok(())
 }

@@ -10,4 +10,4 @@ mod words;
 pub use callers::Control;
 pub use paths::{ControlPath, LONGEST_PATH, PathFault};
 pub use saying::{NoSocket, say};
-pub use words::{LONGEST_WORD, Word, spelled_side, spelled_word, word_of};
+pub use words::{LONGEST_WORD, Word, spelled_side, spelled_stop, spelled_word, word_of};

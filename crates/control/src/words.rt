@@ -14,6 +14,8 @@ pub const LONGEST_WORD: usize = 10;
 pub enum Word {
     /// The operator says that this boot of the other gateway is off.
     PeerOff(u64),
+    /// It is to end.
+    Stop,
     /// The cable of a side is in or out.
     Side {
         side: Side,
@@ -30,6 +32,13 @@ pub fn spelled_word(boot: u64) -> [u8; 10]
     let mut word = [b'N', b'O', 0, 0, 0, 0, 0, 0, 0, 0];
     BigEndian::write_u64(&mut word[2..], boot);
     word
+}
+
+/// The word that a box is to end: `NE`.
+pub fn spelled_stop() -> [u8; 2]
+    ensures { word_of result ≡ Some said.Stop }
+{
+    [b'N', b'E']
 }
 
 /// The word of a side: `NS`, then 0 for the inside or 1 for the outside, 1 for up or 0 for down, and 1 where its
@@ -52,6 +61,7 @@ pub fn word_of(bytes: &[u8]) -> Option<Word>
         [b'N', b'O', boot @ ..] if boot.len() == 8 => {
             Some(Word::PeerOff(BigEndian::read_u64(boot)))
         }
+        [b'N', b'E'] => Some(Word::Stop),
         [b'N', b'S', side, up, carrier] => Some(Word::Side {
             side: side_of(*side)?,
             up: truth_of(*up)?,

@@ -1,4 +1,5 @@
 -- The faults of a box, as those of its parts are told.
+use Rattle.std.specs.Prelude.{◌≡◌}
 use Rattle.boot_file.specs.declared.faults.FileFault.{FileFault}
 use Rattle.boot_file.specs.declared.faults.FileFault.TheVariants as file
 use Rattle.boot_store.specs.declared.faults.BootFault.{BootFault}
@@ -33,6 +34,12 @@ of_boot boot.FoundTwice = fault.FoundTwice
 abbrev pub IsOfRun : BoxFault → Type 0
 IsOfRun (fault.Run why) = Unit {0}
 IsOfRun other = ⊥
+
+-- it is of a filter, or of memory
+abbrev pub IsOfFilter : BoxFault → Type 0
+IsOfFilter (fault.NoFilter part) = Unit {0}
+IsOfFilter (fault.Run why) = why ≡ NoMemory
+IsOfFilter other = ⊥
 
 -- it is of no way, nor of a way's descriptor
 abbrev pub IsOfNoWay : BoxFault → Type 0

@@ -7,5 +7,5 @@ mod saying;
 mod ways;
 
 pub use running::{Start, gate, init};
-pub use saying::{peer_off, side};
+pub use saying::{peer_off, side, stop};
 pub use ways::WayTexts;

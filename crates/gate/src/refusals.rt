@@ -1,17 +1,20 @@
 //! Why a box ends without its work done.
 ghost use Rattle.std.specs.Prelude.{◌≡◌};
+ghost use Rattle.gate.specs.Faults.{IsOfFilter};
 
 use boot_file::FileFault;
 use boot_store::BootFault;
 use control::{NoSocket, PathFault};
 use faults::Fault;
+use journal::FilterFault;
 use nat_types::{NoMemory, Side};
 use settings_file::SettingFault;
 use sockets::{NoDescriptor, SocketFault};
+use std::alloc::Global;
 use std::io::{self, Write};
 use thiserror::Error;
 
-/// Why a box doesn't run, or ended before its last round.
+/// Why a box doesn't run, or couldn't say that it has ended.
 #[derive(Debug, Drop, Error)]
 pub(crate) enum BoxFault {
     /// The settings can't be had, output isn't written, or memory is refused.
@@ -47,9 +50,25 @@ pub(crate) enum BoxFault {
     /// Another process runs on the boot file.
     #[error("boot 5 InUse")]
     InUse,
+    /// This part of what is to choose the lines is no directive.
+    #[error("log 1 NoFilter {0}")]
+    NoFilter(String),
 }
 
 impl BoxFault {
+    /// Of what is no filter, or for which memory is refused.
+    pub(crate) fn of_filter(alloc: Global, fault: FilterFault<'_>) -> BoxFault
+        ensures { IsOfFilter result }
+    {
+        match fault {
+            FilterFault::NoFilter(part) => match String::from_str(alloc, part) {
+                Ok(part) => BoxFault::NoFilter(part),
+                Err(_) => BoxFault::Run(Fault::NoMemory),
+            },
+            FilterFault::NoMemory => BoxFault::Run(Fault::NoMemory),
+        }
+    }
+
     /// Tells of the fault on a line behind `natpair: `, and gives its exit status. Where even that
     /// can't be written, the status alone tells.
     pub(crate) fn tell<E: Write>(&self, errors: &mut E) -> u8

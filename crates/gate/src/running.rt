@@ -1,11 +1,11 @@
 //! What is done at a box: its boot file and its rounds.
-ghost use Rattle.std.specs.Prelude.{◌≡◌, ◌⊎◌, ◌<◌, ◌↔◌, IfErr, IfOk, IsTrue, Ok, OnOk, codes};
+ghost use Rattle.std.specs.Prelude.{◌≡◌, ◌⊎◌, ◌<◌, ◌↔◌, [], IfErr, IfOk, IsTrue, Ok, OnOk, codes};
 ghost use Rattle.std.specs.Io.KnownBytes.{Appends};
 ghost use Rattle.nat_types.specs.declared.gateways.GatewayId.TheVariants.{Zero};
 ghost use Rattle.boot_store.specs.Crash.{Decides, Keeps, Rises, Since};
 ghost use Rattle.gate.specs.Boots.{HasBoot, HasStarted, IsStart, boot_line};
-ghost use Rattle.gate.specs.Faults.{IsOfNoWay, IsOfRun};
-ghost use Rattle.gate.specs.Served.{AreHeld, HasRounds, HasServed};
+ghost use Rattle.gate.specs.Faults.{IsOfFilter, IsOfNoWay, IsOfRun};
+ghost use Rattle.gate.specs.Served.{AreHeld, HasRounds, HasRun, HasServed};
 ghost use Rattle.gate.specs.Starts.{Refuses};
 
 use crate::refusals::BoxFault;
@@ -13,19 +13,22 @@ use crate::saying::control_path;
 use crate::ways::{WayTexts, ways_of};
 use boot_file::{Lockable, Uncached};
 use boot_store::{Disk, next_boot};
-use control::Control;
+use control::{Control, ControlPath};
 use faults::text_of;
 use gateway::{Gateway, Hashers};
+use journal::{Entry, Format, StandardError, Unhindered, environment, filter_of, tell};
+use log::Log;
+use log::filter::FilteredLog;
 use nat_types::{GatewayId, NoMemory};
-use rounds::{Stopwatch, serve};
+use rounds::{InputEnd, Stopwatch, serve};
 use settings::Settings;
-use sockets::{Sockets, Wire, ports_of};
+use sockets::{Sockets, Ways, Wire, ports_of};
 use std::alloc::Global;
 use std::fs::Files;
 use std::io::Write;
 use std::net::Net;
 use std::random::RandomSource;
-use std::rt::Clock;
+use std::rt::{Clock, Env};
 
 /// Makes the boot file of a box. The answer is the exit status: 0, or 1 for a fault, which is told
 /// on `errors`.
@@ -47,19 +50,31 @@ pub struct Start<'a> {
     pub settings: &'a str,
     /// Which gateway it is.
     pub id: GatewayId,
-    /// How many rounds it has.
-    pub rounds: u32,
+    /// How many rounds it has at most; or it runs until it is told to end.
+    pub rounds: Option<u32>,
     /// Whether it founds the pair.
     pub found: bool,
     /// How its places are reached.
     pub ways: WayTexts<'a>,
     /// Whether what the carriers of its interfaces tell counts.
     pub track: bool,
+    /// Whether the end of its standard input tells it to end.
+    pub until_eof: bool,
+    /// Which records it writes, as a filter's text; else the environment says so, or they are those of level info and
+    /// above.
+    pub log: Option<&'a str>,
+    /// How it writes them.
+    pub format: Format,
 }
 
-/// Runs one gateway; only gateway 0 founds a pair. The boot number is printed first. The answer is the exit status: 0,
-/// or 1 for a fault, which is told on `errors`.
-pub fn gate<R: Files + Net + Clock + RandomSource + AllocGlobal, O: Write, E: Write>(
+/// Runs one gateway until it is told to end, or has had its rounds; only gateway 0 founds a pair. The boot number is
+/// printed first. The answer is the exit status: 0, or 1 for a fault, which is told on `errors`. Its records go to the
+/// standard error of `rt`, and wait for nobody.
+pub fn gate<
+    R: Files + Net + Clock + RandomSource + Eprint + Env + Input + AllocGlobal,
+    O: Write,
+    E: Write,
+>(
     rt: &R,
     start: &Start<'_>,
     output: &mut O,
@@ -70,70 +85,176 @@ where
     requires found { IsTrue start.now.found → start.now.id ≡ Zero }
     ensures status { (result ≡ 0) ⊎ (result ≡ 1) }
     ensures served { result ≡ 0 → HasServed start.now.id start.now.rounds start.now.found
-        start.now.track (O.contents output.old) (O.contents output.new) }
+        start.now.track start.now.until_eof (O.contents output.old) (O.contents output.new) }
 {
-    match served(rt, start, output, errors) {
+    match served(rt, start, output) {
         Ok(()) => 0,
         Err(fault) => fault.tell(errors),
     }
 }
 
 /// Faults are found in this order: the settings' file, the settings, the ways, their descriptors, the control socket's
-/// path, the boot file and its lock, the control socket, the sockets, the seed of the table's hashers, the boot number.
-/// So a start that is refused for one of the others takes no number, and one on a box that runs already touches none of
-/// its sockets.
-fn served<R: Files + Net + Clock + RandomSource + AllocGlobal, O: Write, E: Write>(
+/// path, the boot file and its lock, the control socket, the sockets, the filter of the records, the seed of the table's
+/// hashers, the boot number. So a start that is refused for one of the others takes no number, and one on a box that runs
+/// already touches none of its sockets.
+fn served<R: Files + Net + Clock + RandomSource + Eprint + Env + Input + AllocGlobal, O: Write>(
     rt: &R,
     start: &Start<'_>,
     output: &mut O,
-    errors: &mut E,
 ) -> Result<(), BoxFault>
 where
     R::File: Uncached + Lockable,
     requires found { IsTrue start.now.found → start.now.id ≡ Zero }
     ensures ok { OnOk result (HasServed start.now.id start.now.rounds start.now.found
-        start.now.track (O.contents output.old) (O.contents output.new)) }
+        start.now.track start.now.until_eof (O.contents output.old) (O.contents output.new)) }
     ensures err { IfErr result (Refuses start.now.ways) }
 {
     let settings = settings_at(rt, start.settings)?;
     let ways = ways_of(start.ways)?;
     ways.inherit()?;
-    let path = control_path(rt.alloc(), &settings, start.id)?;
+    locked(rt, start, &settings, &ways, output)
+}
+
+/// Opens and locks the boot file, for as long as the gateway runs. The control socket's path is made before.
+fn locked<R: Files + Net + Clock + RandomSource + Eprint + Env + Input + AllocGlobal, O: Write>(
+    rt: &R,
+    start: &Start<'_>,
+    settings: &Settings,
+    ways: &Ways,
+    output: &mut O,
+) -> Result<(), BoxFault>
+where
+    R::File: Uncached + Lockable,
+    requires found { IsTrue start.now.found → start.now.id ≡ Zero }
+    ensures ok { OnOk result (HasRun settings.now start.now.id start.now.rounds start.now.found
+        start.now.track start.now.until_eof (O.contents output.old) (O.contents output.new)) }
+    ensures err { IfErr result IsOfNoWay }
+{
+    let path = control_path(rt.alloc(), settings, start.id)?;
     let mut disk = boot_file::open(rt, settings.gateway(start.id).boot_file.as_str())?;
-    let control = Control::open(rt, &path)?;
-    let ports = ports_of(&settings, start.id);
-    let mut wire = Sockets::open(rt, rt.alloc(), &ways, ports, control)?;
-    let mut gateway = started(rt, &mut disk, &settings, start.id, start.found, output)?;
-    let ended = rounds_of(rt, &mut gateway, &mut wire, start, output, errors);
+    connected(rt, start, settings, ways, &path, &mut disk, output)
+}
+
+/// Opens the control socket, and the sockets that the ways need.
+fn connected<
+    R: Files + Net + Clock + RandomSource + Eprint + Env + Input + AllocGlobal,
+    D: Disk,
+    O: Write,
+>(
+    rt: &R,
+    start: &Start<'_>,
+    settings: &Settings,
+    ways: &Ways,
+    path: &ControlPath,
+    disk: &mut D,
+    output: &mut O,
+) -> Result<(), BoxFault>
+    requires found { IsTrue start.now.found → start.now.id ≡ Zero }
+    ensures ok { OnOk result (HasRun settings.now start.now.id start.now.rounds start.now.found
+        start.now.track start.now.until_eof (O.contents output.old) (O.contents output.new)) }
+    ensures err { IfErr result IsOfNoWay }
+{
+    let control = Control::open(rt, path)?;
+    let ports = ports_of(settings, start.id);
+    let wire = Sockets::open(rt, rt.alloc(), ways, ports, control)?;
+    let log = log_of(rt, start.log, start.format)?;
+    run(rt, start, settings, disk, wire, output, &log)
+}
+
+/// The box's records, on the standard error.
+fn log_of<'a, R: Eprint + Env + AllocGlobal>(
+    rt: &'a R,
+    option: Option<&str>,
+    format: Format,
+) -> Result<FilteredLog<Unhindered<StandardError<&'a R>>>, BoxFault>
+    ensures err { IfErr result IsOfFilter }
+    ensures no_way { IfErr result IsOfNoWay }
+{
+    let said = match option {
+        Some(_) => Ok(None),
+        None => environment(rt),
+    };
+    match said {
+        Ok(said) => filtered(rt, option, said.as_ref(), format),
+        Err(fault) => Err(BoxFault::of_filter(rt.alloc(), fault)),
+    }
+}
+
+/// The same by the option's filter, or else by the environment's.
+fn filtered<'a, R: Eprint + AllocGlobal>(
+    rt: &'a R,
+    option: Option<&str>,
+    environment: Option<&String>,
+    format: Format,
+) -> Result<FilteredLog<Unhindered<StandardError<&'a R>>>, BoxFault>
+    ensures err { IfErr result IsOfFilter }
+    ensures no_way { IfErr result IsOfNoWay }
+{
+    let environment = environment.map(|text| text.as_str());
+    match filter_of(rt.alloc(), option, environment) {
+        Ok(filter) => {
+            let sink = Unhindered::new(StandardError::new(rt), format);
+            Ok(FilteredLog::new(sink, filter))
+        }
+        Err(fault) => Err(BoxFault::of_filter(rt.alloc(), fault)),
+    }
+}
+
+/// Starts the gateway and runs its rounds, on a wire that wasn't asked yet.
+fn run<
+    R: Clock + RandomSource + Input + AllocGlobal,
+    D: Disk,
+    W: Wire + Drop,
+    O: Write,
+    L: Log,
+>(
+    rt: &R,
+    start: &Start<'_>,
+    settings: &Settings,
+    disk: &mut D,
+    mut wire: W,
+    output: &mut O,
+    log: &L,
+) -> Result<(), BoxFault>
+    requires found { IsTrue start.now.found → start.now.id ≡ Zero }
+    requires unasked { W.answers wire ≡ [] }
+    ensures ok { OnOk result (HasRun settings.now start.now.id start.now.rounds start.now.found
+        start.now.track start.now.until_eof (O.contents output.old) (O.contents output.new)) }
+    ensures err { IfErr result IsOfNoWay }
+{
+    let mut gateway = started(rt, disk, settings, start.id, start.found, output, log)?;
+    let ended = rounds_of(rt, &mut gateway, &mut wire, start, output, log);
     gateway.end();
     ended
 }
 
-/// Runs a gateway for so many rounds. After an Err they have been run too, and `end` isn't written.
-fn rounds_of<R: Clock + AllocGlobal, W: Wire, O: Write, E: Write>(
+/// Runs a gateway until it is told to end, or has had its rounds. After an Err it was run too, and `end` isn't written.
+fn rounds_of<R: Clock + Input + AllocGlobal, W: Wire, O: Write, L: Log>(
     rt: &R,
     gateway: &mut Gateway,
     wire: &mut W,
     start: &Start<'_>,
     output: &mut O,
-    errors: &mut E,
+    log: &L,
 ) -> Result<(), BoxFault>
-    ensures rounds { HasRounds start.now.rounds start.now.track gateway.old (W.answers wire.old)
-        gateway.new (W.answers wire.new) }
+    ensures rounds { HasRounds start.now.rounds start.now.track start.now.until_eof
+        gateway.old (W.answers wire.old) gateway.new (W.answers wire.new) }
     ensures ended { OnOk result
         (Appends (O.contents output.old) (O.contents output.new) (codes "end\n")) }
     ensures err { IfErr result IsOfRun }
 {
     let mut clock = Stopwatch::start(rt);
+    let until = InputEnd::new(rt, start.until_eof);
     serve(
         rt.alloc(),
         gateway,
         wire,
         &mut clock,
+        &until,
         start.rounds,
         start.track,
         output,
-        errors,
+        log,
     )?;
     Ok(())
 }
@@ -149,15 +270,16 @@ fn drawn<R: RandomSource>(rt: &R) -> Result<Hashers, BoxFault>
     }
 }
 
-/// A gateway in the next boot of its disk, whose number is printed before anything is sent. Its
+/// A gateway in the next boot of its disk, whose number is printed before anything is sent, and is the first record. Its
 /// seed is drawn first, so that a start without one takes no number.
-fn started<R: RandomSource + AllocGlobal, D: Disk, O: Write>(
+fn started<R: RandomSource + AllocGlobal, D: Disk, O: Write, L: Log>(
     rt: &R,
     disk: &mut D,
     settings: &Settings,
     id: GatewayId,
     found: bool,
     output: &mut O,
+    log: &L,
 ) -> Result<Gateway, BoxFault>
     requires found { IsTrue found → id ≡ Zero }
     ensures start { IfOk result (HasStarted settings.now id found
@@ -167,7 +289,10 @@ fn started<R: RandomSource + AllocGlobal, D: Disk, O: Write>(
     let hashers = drawn(rt)?;
     let (boot, gateway) = booted(rt.alloc(), disk, settings, id, found, hashers)?;
     match announced(output, boot) {
-        Ok(()) => Ok(gateway),
+        Ok(()) => {
+            tell(log, 0, Entry::Boot(boot));
+            Ok(gateway)
+        }
         Err(fault) => {
             gateway.end();
             Err(fault)

@@ -5,7 +5,7 @@ ghost use Rattle.settings.specs.Parts.{gateway_of};
 
 use crate::refusals::BoxFault;
 use crate::running::settings_at;
-use control::{ControlPath, PathFault, say, spelled_side, spelled_word};
+use control::{ControlPath, PathFault, say, spelled_side, spelled_stop, spelled_word};
 use nat_types::{GatewayId, Side};
 use settings::Settings;
 use std::alloc::Global;
@@ -25,6 +25,22 @@ pub fn peer_off<R: Files + Net + AllocGlobal, E: Write>(
     ensures status { (result ≡ 0) ⊎ (result ≡ 1) }
 {
     match said(rt, settings, id, &spelled_word(boot)) {
+        Ok(()) => 0,
+        Err(fault) => fault.tell(errors),
+    }
+}
+
+/// Tells a running box to end. The answer is the exit status: 0 once the box has heard it, or 1 for a fault, which is told
+/// on `errors`. The box ends with its next tick.
+pub fn stop<R: Files + Net + AllocGlobal, E: Write>(
+    rt: &R,
+    settings: &str,
+    id: GatewayId,
+    errors: &mut E,
+) -> u8
+    ensures status { (result ≡ 0) ⊎ (result ≡ 1) }
+{
+    match said(rt, settings, id, &spelled_stop()) {
         Ok(()) => 0,
         Err(fault) => fault.tell(errors),
     }

@@ -1,12 +1,12 @@
 -- What is taken, one part after another.
-use Rattle.std.proofs.Common.{◌≡◌, ◌∙◌, ◌+◌, ◌<◌, ◌++◌, ℕ, Bool, true, false, not, List, [], ◌∷◌, take, Option, Some, None, Ok, refl, sym, ap, subst, inl, inr, add-one, length-append}
+use Rattle.std.proofs.Common.{◌≡◌, ◌∙◌, ◌+◌, ◌<◌, ◌⊎◌, ◌++◌, ℕ, Bool, true, false, not, List, [], ◌∷◌, take, Option, Some, None, Ok, refl, sym, ap, subst, inl, inr, add-one, arith, length-append}
 use Rattle.std.proofs.lemmas.List.{append-nil, append_assoc}
 use Rattle.std.proofs.lemmas.List.Folds.{list_any-append}
 use Rattle.sockets.specs.Letters.{Polled, ReceivedDatagram, answer_of, came, failed, is_nothing, letters_of, nothing}
 use Rattle.sockets.specs.declared.places.Place.{Place}
 use Rattle.sockets.specs.declared.wire.WireFault.{WireFault}
 use Rattle.spec_step.specs.declared.events.Event.{Event}
-use Rattle.rounds.specs.Rounds.{AreRounds, Box, Brings, IsRound, Reads, State, TakesAny, TakesAll, TakesNew}
+use Rattle.rounds.specs.Rounds.{AreAllRounds, AreRounds, Box, Brings, IsRound, Reads, State, TakesAny, TakesAll, TakesNew, ends_by}
 use Rattle.rounds.specs.Polls.{Asks, HasAsked, HasPolled}
 
 -- ---- what an answer brings
@@ -14,7 +14,8 @@ use Rattle.rounds.specs.Polls.{Asks, HasAsked, HasPolled}
 -- a letter came, so many bytes of a receiver's room, and was taken
 pub one_came : (track : Bool) (b b2 : Box) (place : Place) (count : ℕ) (room : List ℕ) (found : Option (Place × ℕ)) (event : Option Event)
     → found ≡ Some (place, count) → b2.answers ≡ b.answers ++ answer_of {E = WireFault} (Ok found) room ∷ []
-    → Brings track (record { place = place; bytes = take count room }) event → TakesAny b.state event b2.state → Asks track b true b2
+    → Brings track (record { place = place; bytes = take count room }) event
+    → TakesAny (ends_by b.state place (take count room)) event b2.state → Asks track b true b2
 one_came track b b2 place count room found event is new brings takes = record {
   answer = came (record { place = place; bytes = take count room });
   is_more = refl;
@@ -115,7 +116,30 @@ polled_most track n most a b had is = record {
   taken = had.taken;
 }
 
+-- ---- rounds
+
 -- one round more
 pub one_round_more : {C : Type 0} (track : Bool) (reads : Reads C) (n : ℕ) (a b c : Box) (x y z : C)
     → AreRounds track reads n a x b y → IsRound track reads b y c z → AreRounds track reads (n + 1) a x c z
 one_round_more track reads n a b c x y z before last = rw add-one (b, (y, (before, last)))
+
+-- the box is to end, as was told at its control socket or otherwise
+pub all_told : {C : Type 0} (track : Bool) (reads : Reads C) (n most : ℕ) (otherwise : Type 0) (a b : Box) (x y : C)
+    → AreRounds track reads n a x b y → n < most → (b.state.ending ≡ true) ⊎ otherwise
+    → AreAllRounds track reads most otherwise a x b y
+all_told track reads n most otherwise a b x y had below why = record {
+  count = n;
+  within = omega (arith, below);
+  rounds = had;
+  over = by why;
+}
+  where
+    by : (b.state.ending ≡ true) ⊎ otherwise → (b.state.ending ≡ true) ⊎ (otherwise ⊎ (n ≡ most))
+    by (inl said) = inl said
+    by (inr told) = inr (inl told)
+
+-- it has had the most
+pub all_had : {C : Type 0} (track : Bool) (reads : Reads C) (n most : ℕ) (otherwise : Type 0) (a b : Box) (x y : C)
+    → AreRounds track reads n a x b y → n ≡ most → AreAllRounds track reads most otherwise a x b y
+all_had track reads n most otherwise a b x y had is =
+    record { count = n; within = omega (arith, is); rounds = had; over = inr (inr is) }

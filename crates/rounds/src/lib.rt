@@ -8,11 +8,13 @@ mod letters;
 mod logs;
 mod outages;
 mod rounds;
+mod told;
 mod views;
 
 pub use clocks::{Clockwork, Stopwatch};
 pub use left::LeftOut;
-pub use letters::event_of;
+pub use letters::{event_of, is_end};
 pub use outages::PATIENCE;
-pub use rounds::{MOST, WAIT, serve};
+pub use rounds::{MOST, WAIT, run_rounds, serve};
+pub use told::{InputEnd, Told};
 pub use views::{View, view_of};

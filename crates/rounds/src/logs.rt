@@ -1,117 +1,95 @@
-//! The lines that a box writes for its operator.
+//! What a box tells its operator of a step.
 
 use crate::View;
 use gateway::{Event, Outcome};
+use journal::{Cause, Entry, Origin, Role, Tally, tell, tell_loss};
+use log::Log;
 use nat_types::{NoMemory, Side};
-use std::io::{self, Write};
 
-/// Writes a line where an event was dropped, or was left out for want of memory, and one for each
-/// change that an operator watches for. Each begins with `log` and the gateway's moment.
-///
-/// # Errors
-///
-/// Those of writing; the lines that are left aren't written then.
-pub(crate) fn tell<E: Write>(
-    errors: &mut E,
+/// Counts an event that was dropped, or left out for want of memory, and tells of the first of its second; and tells of
+/// each change that an operator watches for.
+pub(crate) fn tell_step<L: Log>(
+    log: &L,
+    tally: &mut Tally,
     event: &Event<'_>,
     outcome: Result<Outcome, NoMemory>,
     before: &View,
     after: &View,
-) -> io::Result<()> {
-    tell_outcome(errors, after.moment, event, outcome)?;
-    tell_away(errors, before, after)?;
+) {
+    if let Some(cause) = cause_of(outcome) {
+        tell_loss(log, tally, after.moment, origin_of(event), cause);
+    }
+    let has_stopped = matches!(event, Event::Stop) && outcome.is_ok();
+    tell_away(log, before, after);
     for side in [Side::Inside, Side::Outside] {
-        tell_router(errors, side, before, after)?;
-    }
-    tell_synced(errors, before, after)?;
-    tell_peer(errors, before, after)
-}
-
-fn tell_outcome<E: Write>(
-    errors: &mut E,
-    moment: u64,
-    event: &Event<'_>,
-    outcome: Result<Outcome, NoMemory>,
-) -> io::Result<()> {
-    let name = name_of(event);
-    match outcome {
-        Ok(Outcome::Dropped(reason)) => {
-            let number = reason.number();
-            writeln!(errors, "log {moment} {name} dropped {number} {reason:?}")
+        let role = role_of(after, side, has_stopped);
+        if role != role_of(before, side, false) {
+            tell(log, after.moment, Entry::Role(side, role));
         }
-        Ok(_) => Ok(()),
-        Err(NoMemory) => writeln!(errors, "log {moment} {name} left out NoMemory"),
+    }
+    tell_synced(log, before, after);
+    tell_peer(log, before, after);
+    if has_stopped {
+        tell(log, after.moment, Entry::Stopped);
     }
 }
 
-/// Where an event came from.
-fn name_of(event: &Event<'_>) -> &'static str {
+/// Why nothing came of an event, if nothing did.
+fn cause_of(outcome: Result<Outcome, NoMemory>) -> Option<Cause> {
+    match outcome {
+        Ok(Outcome::Dropped(reason)) => Some(Cause::Dropped(reason)),
+        Ok(_) => None,
+        Err(NoMemory) => Some(Cause::NoMemory),
+    }
+}
+
+/// Where an event came from: the box itself, of its clock and of its operator's words.
+fn origin_of(event: &Event<'_>) -> Origin {
     match event {
-        Event::Frame(Side::Inside, _) => "inside",
-        Event::Frame(Side::Outside, _) => "outside",
-        Event::Datagram(_) => "link",
-        Event::Tick(_) => "tick",
-        Event::Stop => "stop",
-        Event::PeerOff(_) => "peer-off",
-        Event::Side(..) => "side",
+        Event::Frame(side, _) => Origin::of(*side),
+        Event::Datagram(_) => Origin::Link,
+        Event::Tick(_) | Event::Stop | Event::PeerOff(_) | Event::Side(..) => Origin::Own,
     }
 }
 
-fn tell_away<E: Write>(errors: &mut E, before: &View, after: &View) -> io::Result<()> {
-    let moment = after.moment;
+fn tell_away<L: Log>(log: &L, before: &View, after: &View) {
     match (before.away, after.away) {
-        (false, true) => writeln!(errors, "log {moment} away"),
-        (true, false) => writeln!(errors, "log {moment} back"),
-        _ => Ok(()),
+        (false, true) => tell(log, after.moment, Entry::Away),
+        (true, false) => tell(log, after.moment, Entry::Back),
+        _ => {}
     }
 }
 
-fn tell_router<E: Write>(
-    errors: &mut E,
-    side: Side,
-    before: &View,
-    after: &View,
-) -> io::Result<()> {
-    let state = state_of(after, side);
-    if state == state_of(before, side) {
-        return Ok(());
-    }
-    let moment = after.moment;
-    writeln!(errors, "log {moment} {side} {state}")
-}
-
-/// The state of a side's router. It is started as soon as the table is loaded, and stopped while the
-/// gateway is away.
-fn state_of(view: &View, side: Side) -> &'static str {
+/// The state of a side's router. It is started as soon as the table is loaded, and stopped while the gateway is away,
+/// and at its end.
+fn role_of(view: &View, side: Side, has_stopped: bool) -> Role {
     let active = match side {
         Side::Inside => view.inside,
         Side::Outside => view.outside,
     };
-    match (view.synced && !view.away, active) {
-        (_, true) => "Active",
-        (true, false) => "Backup",
-        (false, false) => "Initialize",
+    let started = view.synced && !view.away && !has_stopped;
+    match (started, active) {
+        (_, true) => Role::Active,
+        (true, false) => Role::Backup,
+        (false, false) => Role::Initialize,
     }
 }
 
-fn tell_synced<E: Write>(errors: &mut E, before: &View, after: &View) -> io::Result<()> {
-    let moment = after.moment;
+fn tell_synced<L: Log>(log: &L, before: &View, after: &View) {
     match (before.synced, after.synced) {
-        (false, true) => writeln!(errors, "log {moment} synced"),
-        (true, false) => writeln!(errors, "log {moment} unsynced"),
-        _ => Ok(()),
+        (false, true) => tell(log, after.moment, Entry::Synced),
+        (true, false) => tell(log, after.moment, Entry::Unsynced),
+        _ => {}
     }
 }
 
-fn tell_peer<E: Write>(errors: &mut E, before: &View, after: &View) -> io::Result<()> {
-    let moment = after.moment;
+fn tell_peer<L: Log>(log: &L, before: &View, after: &View) {
     if before.peer != after.peer {
-        let boot = after.peer;
-        writeln!(errors, "log {moment} peer boot {boot}")?;
+        tell(log, after.moment, Entry::PeerBoot(after.peer));
     }
     match (before.heard, after.heard) {
-        (false, true) => writeln!(errors, "log {moment} peer heard"),
-        (true, false) => writeln!(errors, "log {moment} peer silent"),
-        _ => Ok(()),
+        (false, true) => tell(log, after.moment, Entry::PeerHeard),
+        (true, false) => tell(log, after.moment, Entry::PeerSilent),
+        _ => {}
     }
 }

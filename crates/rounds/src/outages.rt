@@ -2,12 +2,13 @@
 ghost use Rattle.std.specs.Prelude.{◌≡◌};
 ghost use Rattle.rounds.specs.Outages.{looked, is_turn};
 
+use journal::{Entry, Origin, tell};
+use log::Log;
 use nat_types::Side;
 use sockets::{Place, Wire};
-use std::io::{self, Write};
 
-/// How long a place has failed, or has worked, when it is told, in centiseconds. So of frames that fail now and then no
-/// line is written.
+/// How long a place has failed, or has worked, when it is told, in centiseconds. So of frames that fail now and then
+/// nothing is told.
 pub const PATIENCE: u64 = 100;
 
 /// What was told of a place.
@@ -65,36 +66,25 @@ impl Outages {
         }
     }
 
-    /// Writes a line for each place that has failed for a while, or works again for as long.
-    ///
-    /// # Errors
-    ///
-    /// Those of writing; the lines that are left aren't written then.
-    pub(crate) fn tell<W: Wire, E: Write>(
-        &mut self,
-        wire: &W,
-        moment: u64,
-        errors: &mut E,
-    ) -> io::Result<()> {
+    /// Tells of each place that has failed for a while, or works again for as long.
+    pub(crate) fn tell<W: Wire, L: Log>(&mut self, wire: &W, moment: u64, log: &L) {
         let inside = wire.is_failing(Place::Side(Side::Inside));
-        tell_place(&mut self.inside, "inside", inside, moment, errors)?;
+        tell_place(&mut self.inside, Origin::Inside, inside, moment, log);
         let outside = wire.is_failing(Place::Side(Side::Outside));
-        tell_place(&mut self.outside, "outside", outside, moment, errors)?;
+        tell_place(&mut self.outside, Origin::Outside, outside, moment, log);
         let link = wire.is_failing(Place::Link);
-        tell_place(&mut self.link, "link", link, moment, errors)
+        tell_place(&mut self.link, Origin::Link, link, moment, log);
     }
 }
 
-fn tell_place<E: Write>(
-    mark: &mut Mark,
-    name: &str,
-    fails: bool,
-    moment: u64,
-    errors: &mut E,
-) -> io::Result<()> {
+fn tell_place<L: Log>(mark: &mut Mark, origin: Origin, fails: bool, moment: u64, log: &L) {
     if !mark.look(fails, moment) {
-        return Ok(());
+        return;
     }
-    let does = if fails { "fails" } else { "works" };
-    writeln!(errors, "log {moment} {name} {does}")
+    let entry = if fails {
+        Entry::Fails(origin)
+    } else {
+        Entry::Works(origin)
+    };
+    tell(log, moment, entry);
 }

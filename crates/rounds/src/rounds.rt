@@ -1,17 +1,19 @@
 //! The rounds of a box.
-ghost use Rattle.std.specs.Prelude.{◌≡◌, OnOk, codes};
+ghost use Rattle.std.specs.Prelude.{◌≡◌, ◌⊎◌, ◌||◌, Bool, true, false, OnOk, codes};
 ghost use Rattle.std.specs.Io.KnownBytes.{Appends};
-ghost use Rattle.rounds.specs.Letters.{event_of};
-ghost use Rattle.rounds.specs.Rounds.{AreRounds, IsRound, RunsTo, Takes, TakesAny, box, state};
+ghost use Rattle.rounds.specs.Letters.{event_of, is_end};
+ghost use Rattle.rounds.specs.Rounds.{AreAllRounds, IsRound, IsRun, RunsTo, Takes, TakesAny, box, most_rounds, state};
 ghost use Rattle.rounds.specs.Polls.{Asks, HasPolled};
 
-use crate::Clockwork;
 use crate::left::LeftOut;
-use crate::letters::event_of;
-use crate::logs::tell;
+use crate::letters::{event_of, is_end};
+use crate::logs::tell_step;
 use crate::outages::Outages;
 use crate::views::{View, view_of};
+use crate::{Clockwork, Told};
 use gateway::{Event, Gateway, Out};
+use journal::{Tally, tell_end, tell_turn};
+use log::Log;
 use sockets::{LONGEST, Place, Wire};
 use std::alloc::Global;
 use std::io::{self, Write};
@@ -24,111 +26,194 @@ pub const MOST: usize = 256;
 /// How long a round waits for its first datagram, in milliseconds.
 pub const WAIT: u64 = 10;
 
-/// What the gateway has told in its last step, how it stood then, what was told of the places, and how many events
-/// were left out.
+/// What the gateway has told in its last step, how it stood then, what was told of the places and of this second's
+/// drops, how many events were left out, and whether the box is to end.
 #[derive(Drop)]
 struct Desk {
     out: Out,
     view: View,
     outages: Outages,
+    tally: Tally,
     left: LeftOut,
+    ending: bool,
 }
 
-/// Runs a box for so many rounds, writes `end`, and is done. A round hands in what comes by the
-/// wire, and then one tick; what the gateway tells is sent at once. On `errors` stands a line for
-/// each event that is dropped, and for each change that an operator watches for. What carriers tell of the sides
-/// counts where they are tracked.
+/// Runs a box until it is told to end, or has had so many rounds; stops its gateway, writes `end`, and is done. It is
+/// told by the word at its control socket, or by `until`. A round hands in what comes by the wire, and then one tick;
+/// what the gateway tells is sent at once, what it tells when it is stopped too. To `log` goes a record of each event
+/// that is dropped, as `journal` sums them up, and of each change that an operator watches for. What carriers tell of
+/// the sides counts where they are tracked.
 ///
 /// A send that fails is a lost datagram; where to receive fails, nothing was received. An event for
-/// which memory is refused changes nothing: a frame or a datagram is lost then, and what a tick was
-/// to do the next one does. A line that can't be written on `errors` is left out.
+/// which memory is refused changes nothing: a frame or a datagram is lost then, what a tick was
+/// to do the next one does, and a gateway that was to stop ends without a word. Where `log` doesn't wait, nothing but the
+/// wire is waited for.
 ///
 /// # Errors
 ///
-/// Those of writing `end`. All rounds have been run then too.
-pub fn serve<W: Wire, C: Clockwork, O: Write, E: Write>(
+/// Those of writing `end`. The whole run has been had then too.
+pub fn serve<W: Wire, C: Clockwork, T: Told, O: Write, L: Log>(
     alloc: Global,
     gateway: &mut Gateway,
     wire: &mut W,
     clock: &mut C,
-    rounds: u32,
+    until: &T,
+    rounds: Option<u32>,
     track: bool,
     output: &mut O,
-    errors: &mut E,
+    log: &L,
 ) -> io::Result<LeftOut>
-    ensures rounds { RunsTo track C.reads rounds
-        (box gateway.old (W.answers wire.old) 0) clock.old
-        (box gateway.new (W.answers wire.new)) clock.new result }
+    ensures rounds { RunsTo track C.reads (most_rounds rounds) (T.tells until.now)
+        (box gateway.old (W.answers wire.old) 0 false) clock.old
+        gateway.new (W.answers wire.new) clock.new result }
     ensures ended { OnOk result
         (Appends (O.contents output.old) (O.contents output.new) (codes "end\n")) }
 {
-    let left = run(alloc, gateway, wire, clock, rounds, track, errors);
+    let left = run(alloc, gateway, wire, clock, until, rounds, track, log);
     output.write_all(b"end\n")?;
     output.flush()?;
     Ok(left)
 }
 
-/// Runs so many rounds, and says how many events were left out.
-fn run<W: Wire, C: Clockwork, E: Write>(
+/// The rounds of `serve` alone: the gateway isn't stopped and can go on. It says how many events were left out.
+pub fn run_rounds<W: Wire, C: Clockwork, T: Told, L: Log>(
     alloc: Global,
     gateway: &mut Gateway,
     wire: &mut W,
     clock: &mut C,
-    rounds: u32,
+    until: &T,
+    rounds: Option<u32>,
     track: bool,
-    errors: &mut E,
+    log: &L,
 ) -> LeftOut
-    ensures { AreRounds track C.reads rounds
-        (box gateway.old (W.answers wire.old) 0) clock.old
-        (box gateway.new (W.answers wire.new) result) clock.new }
+    ensures { (ending : Bool) × AreAllRounds track C.reads (most_rounds rounds) (T.tells until.now)
+        (box gateway.old (W.answers wire.old) 0 false) clock.old
+        (box gateway.new (W.answers wire.new) result ending) clock.new }
 {
-    let mut desk = Desk {
-        out: Out::new(alloc),
-        view: view_of(gateway),
-        outages: Outages::none(),
-        left: LeftOut::none(),
-    };
-    let mut room = [0; LONGEST];
-    for _ in 0..rounds {
-        round(gateway, wire, clock, track, &mut room, &mut desk, errors);
-    }
+    let mut desk = desk_of(alloc, gateway);
+    all_rounds(gateway, wire, clock, until, rounds, track, &mut desk, log);
+    tell_end(log, &desk.tally, gateway.moment());
     desk.left
 }
 
-/// Hands in what comes, and then the clock's moment; and tells which places fail.
-fn round<W: Wire, C: Clockwork, E: Write>(
+/// Runs the rounds, stops the gateway, and says how many events were left out.
+fn run<W: Wire, C: Clockwork, T: Told, L: Log>(
+    alloc: Global,
+    gateway: &mut Gateway,
+    wire: &mut W,
+    clock: &mut C,
+    until: &T,
+    rounds: Option<u32>,
+    track: bool,
+    log: &L,
+) -> LeftOut
+    ensures { IsRun track C.reads (most_rounds rounds) (T.tells until.now)
+        (box gateway.old (W.answers wire.old) 0 false) clock.old
+        gateway.new (W.answers wire.new) result clock.new }
+{
+    let mut desk = desk_of(alloc, gateway);
+    all_rounds(gateway, wire, clock, until, rounds, track, &mut desk, log);
+    hand_in(gateway, Event::Stop, wire, &mut desk, log);
+    tell_end(log, &desk.tally, gateway.moment());
+    desk.left
+}
+
+/// Nothing was told or left out yet.
+fn desk_of(alloc: Global, gateway: &Gateway) -> Desk
+    ensures left { result.left ≡ 0 }
+    ensures ending { result.ending ≡ false }
+{
+    Desk {
+        out: Out::new(alloc),
+        view: view_of(gateway),
+        outages: Outages::none(),
+        tally: Tally::new(gateway.moment()),
+        left: LeftOut::none(),
+        ending: false,
+    }
+}
+
+/// Runs rounds until the box is to end, or has had so many.
+fn all_rounds<W: Wire, C: Clockwork, T: Told, L: Log>(
+    gateway: &mut Gateway,
+    wire: &mut W,
+    clock: &mut C,
+    until: &T,
+    rounds: Option<u32>,
+    track: bool,
+    desk: &mut Desk,
+    log: &L,
+)
+    ensures { AreAllRounds track C.reads (most_rounds rounds) (T.tells until.now)
+        (box gateway.old (W.answers wire.old) desk.old.left desk.old.ending) clock.old
+        (box gateway.new (W.answers wire.new) desk.new.left desk.new.ending) clock.new }
+{
+    let mut room = [0; LONGEST];
+    let most = most_of(rounds);
+    for _ in 0..most {
+        if is_over(desk, until) {
+            return;
+        }
+        round(gateway, wire, clock, track, &mut room, desk, log);
+    }
+}
+
+/// How many rounds there are at most.
+fn most_of(rounds: Option<u32>) -> u64
+    ensures { result ≡ most_rounds rounds }
+{
+    match rounds {
+        Some(count) => u64::from(count),
+        None => u64::MAX,
+    }
+}
+
+/// Whether the box is to end.
+fn is_over<T: Told>(desk: &Desk, until: &T) -> bool
+    ensures goes_on { result ≡ false → desk.now.ending ≡ false }
+    ensures ends { result ≡ true → (desk.now.ending ≡ true) ⊎ T.tells until.now }
+{
+    desk.ending || until.is_told()
+}
+
+/// Hands in what comes, and then the clock's moment; and tells which places fail, and what a second that has ended owes.
+fn round<W: Wire, C: Clockwork, L: Log>(
     gateway: &mut Gateway,
     wire: &mut W,
     clock: &mut C,
     track: bool,
     room: &mut [u8; LONGEST],
     desk: &mut Desk,
-    errors: &mut E,
+    log: &L,
 )
-    ensures { IsRound track C.reads (box gateway.old (W.answers wire.old) desk.old.left) clock.old
-        (box gateway.new (W.answers wire.new) desk.new.left) clock.new }
+    requires { desk.old.ending ≡ false }
+    ensures { IsRound track C.reads
+        (box gateway.old (W.answers wire.old) desk.old.left desk.old.ending) clock.old
+        (box gateway.new (W.answers wire.new) desk.new.left desk.new.ending) clock.new }
 {
-    take_what_comes(gateway, wire, track, room, desk, errors);
+    take_what_comes(gateway, wire, track, room, desk, log);
     let tick = Event::Tick(clock.moment());
-    hand_in(gateway, tick, wire, desk, errors);
-    let _left_out = desk.outages.tell(wire, gateway.moment(), errors);
+    hand_in(gateway, tick, wire, desk, log);
+    desk.outages.tell(wire, gateway.moment(), log);
+    tell_turn(log, &mut desk.tally, gateway.moment());
 }
 
 /// Waits for a datagram, and hands in what is there.
-fn take_what_comes<W: Wire, E: Write>(
+fn take_what_comes<W: Wire, L: Log>(
     gateway: &mut Gateway,
     wire: &mut W,
     track: bool,
     room: &mut [u8; LONGEST],
     desk: &mut Desk,
-    errors: &mut E,
+    log: &L,
 )
-    ensures { HasPolled track 256 (box gateway.old (W.answers wire.old) desk.old.left)
-        (box gateway.new (W.answers wire.new) desk.new.left) }
+    ensures { HasPolled track 256
+        (box gateway.old (W.answers wire.old) desk.old.left desk.old.ending)
+        (box gateway.new (W.answers wire.new) desk.new.left desk.new.ending) }
 {
     let mut limit = Duration::from_millis(WAIT);
     for _ in 0..MOST {
-        if !take_next(gateway, wire, limit, track, room, desk, errors) {
+        if !take_next(gateway, wire, limit, track, room, desk, log) {
             return;
         }
         limit = Duration::ZERO;
@@ -136,21 +221,21 @@ fn take_what_comes<W: Wire, E: Write>(
 }
 
 /// Hands in the next datagram, and says whether there may be more. Where one is lost, there may.
-fn take_next<W: Wire, E: Write>(
+fn take_next<W: Wire, L: Log>(
     gateway: &mut Gateway,
     wire: &mut W,
     limit: Duration,
     track: bool,
     room: &mut [u8; LONGEST],
     desk: &mut Desk,
-    errors: &mut E,
+    log: &L,
 ) -> bool
-    ensures { Asks track (box gateway.old (W.answers wire.old) desk.old.left) result
-        (box gateway.new (W.answers wire.new) desk.new.left) }
+    ensures { Asks track (box gateway.old (W.answers wire.old) desk.old.left desk.old.ending) result
+        (box gateway.new (W.answers wire.new) desk.new.left desk.new.ending) }
 {
     match wire.receive(limit, room) {
         Ok(Some((place, count))) => {
-            take_letter(gateway, place, &room[..count], wire, track, desk, errors);
+            take_letter(gateway, place, &room[..count], wire, track, desk, log);
             true
         }
         Ok(None) => false,
@@ -158,36 +243,39 @@ fn take_next<W: Wire, E: Write>(
     }
 }
 
-/// Hands in what came at a place, if it is an event.
-fn take_letter<W: Wire, E: Write>(
+/// Hands in what came at a place, if it is an event; and keeps whether it says that the box is to end.
+fn take_letter<W: Wire, L: Log>(
     gateway: &mut Gateway,
     place: Place,
     bytes: &[u8],
     wire: &mut W,
     track: bool,
     desk: &mut Desk,
-    errors: &mut E,
+    log: &L,
 )
-    ensures taken { TakesAny (state gateway.old desk.old.left) (event_of track place bytes.entry)
-        (state gateway.new desk.new.left) }
+    ensures taken { TakesAny
+        (state gateway.old desk.old.left (desk.old.ending || is_end place bytes.now))
+        (event_of track place bytes.entry)
+        (state gateway.new desk.new.left desk.new.ending) }
     ensures answers { W.answers wire.new ≡ W.answers wire.old }
 {
+    desk.ending = desk.ending || is_end(place, bytes);
     match event_of(place, bytes, track) {
-        Some(event) => hand_in(gateway, event, wire, desk, errors),
+        Some(event) => hand_in(gateway, event, wire, desk, log),
         None => {}
     }
 }
 
-/// Hands an event in, sends what the gateway tells, and writes the lines for the operator.
-fn hand_in<W: Wire, E: Write>(
+/// Hands an event in, sends what the gateway tells, and tells the operator of it.
+fn hand_in<W: Wire, L: Log>(
     gateway: &mut Gateway,
     event: Event<'_>,
     wire: &mut W,
     desk: &mut Desk,
-    errors: &mut E,
+    log: &L,
 )
-    ensures taken { Takes (state gateway.old desk.old.left) event.entry
-        (state gateway.new desk.new.left) }
+    ensures taken { Takes (state gateway.old desk.old.left desk.old.ending) event.entry
+        (state gateway.new desk.new.left desk.new.ending) }
     ensures answers { W.answers wire.new ≡ W.answers wire.old }
 {
     desk.out.clear();
@@ -197,7 +285,7 @@ fn hand_in<W: Wire, E: Write>(
     }
     send_all(wire, &desk.out);
     let view = view_of(gateway);
-    let _left_out = tell(errors, &event, outcome, &desk.view, &view);
+    tell_step(log, &mut desk.tally, &event, outcome, &desk.view, &view);
     desk.view = view;
 }
 

@@ -2,6 +2,7 @@ use Rattle.rounds.proofs.rounds.round.Goals as goal
 
 pub returns : goal.returns
 returns g c = record {
+  goes_on = c.requires;
   answers = c.take_what_comes.ensures.answers;
   poll = c.take_what_comes.ensures.poll;
   between = _;

@@ -1,5 +1,10 @@
-use Rattle.rounds.proofs.Taking.{one_round_more}
 use Rattle.rounds.proofs.rounds.run.Goals as goal
 
-pub loop-preserved : goal.loop-preserved
-loop-preserved g c = one_round_more _ _ _ _ _ _ _ _ _ c.loop.invariant c.round.ensures
+pub returns : goal.returns
+returns g c = record {
+  last = _;
+  all = rw (c.desk_of-desk.ensures.left, c.desk_of-desk.ensures.ending) at c.all_rounds.ensures;
+  ending = _;
+  stop = c.hand_in.ensures.taken;
+  no_more = c.hand_in.ensures.answers;
+}

@@ -1,0 +1,69 @@
+//! Which records pass.
+ghost use Rattle.std.specs.Prelude.{◌≡◌, IfOk, IfErr, None};
+ghost use Rattle.log.specs.Filter.{filter_rules, invalid_spec, or_errors};
+ghost use Rattle.journal.specs.Filters.{IsRefused, rules_of, text_of};
+
+use log::LevelFilter;
+use log::filter::{Builder, Filter, ParseError};
+use std::alloc::Global;
+use std::env::{self, VarError};
+use std::rt::Env;
+use thiserror::Error;
+
+/// The variable of the environment that may hold a filter.
+pub const VARIABLE: &str = "NATPAIR_LOG";
+
+/// Why a text is no filter.
+#[derive(Debug, Drop, Error)]
+pub enum FilterFault<'a> {
+    /// This part of it is no directive, or has no level.
+    #[error("log 1 NoFilter {0}")]
+    NoFilter(&'a str),
+    #[error("log 2 NoMemory")]
+    NoMemory,
+}
+
+/// The filter that the option's text says, or else the environment's, over the usual level, which is info: directives
+/// with commas between them, as `warn,natpair::link=debug`. The directive with the longest name that a target begins
+/// with decides.
+///
+/// # Errors
+///
+/// `NoFilter` with the first part that is no directive; `NoMemory` where memory is refused.
+pub fn filter_of<'a>(
+    alloc: Global,
+    option: Option<&'a str>,
+    environment: Option<&'a str>,
+) -> Result<Filter, FilterFault<'a>>
+    ensures rules { IfOk result (λ filter. filter_rules filter
+        ≡ or_errors (rules_of (text_of option.entry environment.entry))) }
+    ensures valid { IfOk result
+        (λ filter. invalid_spec (text_of option.entry environment.entry) ≡ None) }
+    ensures refused { IfErr result (λ fault. IsRefused (text_of option.entry environment.entry) fault) }
+{
+    let text = option.or(environment).unwrap_or("");
+    let Ok(usual) = Builder::new(alloc).filter_level(LevelFilter::Info) else {
+        return Err(FilterFault::NoMemory);
+    };
+    match usual.try_parse(text) {
+        Ok(builder) => Ok(builder.build()),
+        Err(ParseError::InvalidSpec(part)) => Err(FilterFault::NoFilter(part)),
+        Err(ParseError::OutOfMemory) => Err(FilterFault::NoMemory),
+    }
+}
+
+/// The filter that the environment holds, if it holds one.
+///
+/// # Errors
+///
+/// `NoFilter` where it isn't text; `NoMemory` where memory is refused.
+pub fn environment<R: Env + Alloc<A = Global>>(
+    rt: &R,
+) -> Result<Option<String>, FilterFault<'static>> {
+    match env::var(rt, VARIABLE) {
+        Ok(text) => Ok(Some(text)),
+        Err(VarError::NotPresent) => Ok(None),
+        Err(VarError::OutOfMemory) => Err(FilterFault::NoMemory),
+        Err(_) => Err(FilterFault::NoFilter(VARIABLE)),
+    }
+}

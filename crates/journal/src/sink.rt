@@ -1,0 +1,137 @@
+//! A sink that never waits.
+ghost use Rattle.std.specs.Prelude.{◌≡◌, ◌<◌, true, [], Some, if◌then◌else◌};
+ghost use Rattle.journal.specs.Fates.{left_after, left_told};
+ghost use Rattle.journal.specs.declared.sink.Fate.TheVariants as fates;
+
+use crate::lines::{Format, LeftOutLines, Shown};
+use crate::origins::Origin;
+use crate::outlets::Outlet;
+use log::kv::{Source, With};
+use log::span::Spans;
+use log::{Level, Log, Metadata, Record};
+use std::cell::RefCell;
+use std::fmt::Display;
+
+/// What became of a line.
+#[derive(Clone, Copy, Debug, PartialEq, Eq)]
+pub(crate) enum Fate {
+    /// It was written; and before it how many were left out, if any were.
+    Written,
+    /// It was left out.
+    LeftOut,
+    /// How many were left out was written, and then this one was left out.
+    ToldAndLeftOut,
+}
+
+/// An outlet, and how many lines were left out that stand in no line of it yet.
+#[derive(Drop)]
+struct Desk<O> {
+    outlet: O,
+    format: Format,
+    left_out: u64,
+}
+
+impl<O: Outlet> Desk<O> {
+    /// Writes a line where there is room for it; and before it how many were left out.
+    fn offer<D: Display + Drop>(&mut self, line: D) -> Fate
+        ensures left { self.new.left_out ≡ left_after result self.old.left_out }
+        ensures told { result ≡ fates.ToldAndLeftOut → 0 < self.old.left_out }
+    {
+        let owed = 0 < self.left_out;
+        if !self.tell_left_out() {
+            self.left_out = self.left_out.saturating_add(1);
+            return Fate::LeftOut;
+        }
+        if self.put(line) {
+            return Fate::Written;
+        }
+        self.left_out = 1;
+        if owed {
+            Fate::ToldAndLeftOut
+        } else {
+            Fate::LeftOut
+        }
+    }
+
+    /// Writes how many lines were left out, if any were and there is room; and says whether all were told.
+    fn tell_left_out(&mut self) -> bool
+        ensures { self.new.left_out ≡ left_told result self.old.left_out }
+    {
+        let left_out = self.left_out;
+        if left_out == 0 {
+            return true;
+        }
+        let event = With {
+            before: (),
+            key: "event",
+            value: "left-out",
+        };
+        let pairs = With {
+            before: event,
+            key: "lines",
+            value: left_out,
+        };
+        let metadata = Metadata::new(Level::Warn, Origin::Own.target());
+        let line = Record::new(metadata, LeftOutLines(left_out), pairs, ());
+        let is_told = self.put(Shown::new(self.format, &line));
+        if is_told {
+            self.left_out = 0;
+        }
+        is_told
+    }
+
+    /// Writes a line if there is room, and says whether it was written.
+    fn put<D: Display + Drop>(&mut self, line: D) -> bool
+        ensures { self.new.left_out ≡ self.old.left_out }
+    {
+        self.outlet.has_room() && self.outlet.write(line).is_ok()
+    }
+}
+
+/// Writes each record by one write, where that doesn't wait. It counts what it leaves out, and writes the count when
+/// there is room again: before the next record, or at a `flush`.
+#[derive(Drop)]
+pub struct Unhindered<O> {
+    desk: RefCell<Desk<O>>,
+    format: Format,
+}
+
+impl<O: Outlet> Unhindered<O> {
+    /// Over an outlet, of which nothing was left out yet.
+    pub fn new(outlet: O, format: Format) -> Unhindered<O> {
+        Unhindered {
+            desk: RefCell::new(Desk {
+                outlet,
+                format,
+                left_out: 0,
+            }),
+            format,
+        }
+    }
+}
+
+impl<O: Outlet> Log for Unhindered<O> {
+    ghost enables = { λ _ _ _. Some true };
+
+    ghost target_of = { λ _. Some [] };
+
+    fn enabled(&self, _metadata: &Metadata<'_>) -> bool {
+        true
+    }
+
+    fn log<D: Display, K: Source, S: Spans>(&self, record: &Record<'_, D, K, S>) {
+        if let Ok(mut desk) = self.desk.try_borrow_mut() {
+            let _fate = desk.offer(Shown::new(self.format, record));
+        }
+    }
+
+    fn flush(&self) {
+        if let Ok(mut desk) = self.desk.try_borrow_mut() {
+            let _is_told = desk.tell_left_out();
+        }
+    }
+
+    fn target(&self) -> &str {
+        ""
+    }
+}

@@ -1,0 +1,65 @@
+//! The calls by which a box writes its records.
+ghost use Rattle.std.specs.Prelude.{◌≡◌};
+ghost use Rattle.journal.specs.Tally.{noted, turned};
+
+use crate::causes::CAUSES;
+use crate::entries::Entry;
+use crate::notes::Note;
+use crate::origins::ORIGINS;
+use crate::{Cause, Origin, Tally};
+use log::{Log, Metadata, Record};
+
+/// Writes one record, if it passes.
+pub fn tell<L: Log>(log: &L, moment: u64, entry: Entry) {
+    let metadata = Metadata::new(entry.level(), entry.origin().target());
+    if log.enabled(&metadata) {
+        let note = Note { moment, entry };
+        log.log(&Record::new(metadata, note, note, ()));
+    }
+}
+
+/// Counts an event of which nothing came, and writes a record if it is the first of its second there for that cause;
+/// before it those that are owed of a second that has ended.
+pub fn tell_loss<L: Log>(log: &L, tally: &mut Tally, moment: u64, origin: Origin, cause: Cause)
+    ensures { tally.new ≡ noted origin cause (turned moment tally.old) }
+{
+    tell_turn(log, tally, moment);
+    if tally.note(origin, cause) {
+        tell(log, moment, Entry::First(origin, cause));
+    }
+}
+
+/// Where a later second has begun, writes the records that are owed of the one that has ended, and how many lines were
+/// left out, if there is room.
+pub fn tell_turn<L: Log>(log: &L, tally: &mut Tally, moment: u64)
+    ensures { tally.new ≡ turned moment tally.old }
+{
+    if let Some(ended) = tally.turn(moment) {
+        tell_all_others(log, moment, &ended);
+        log.flush();
+    }
+}
+
+/// Writes at a box's end what is owed of the second that hasn't ended, and how many lines were left out, if there is
+/// room.
+pub fn tell_end<L: Log>(log: &L, tally: &Tally, moment: u64) {
+    tell_all_others(log, moment, tally);
+    log.flush();
+}
+
+/// Writes how many others there were of a second, for each origin and cause where there were any.
+fn tell_all_others<L: Log>(log: &L, moment: u64, ended: &Tally) {
+    for origin in ORIGINS {
+        tell_others(log, moment, origin, ended);
+    }
+}
+
+/// Writes how many others there were of a second, for each cause where there were any.
+fn tell_others<L: Log>(log: &L, moment: u64, origin: Origin, ended: &Tally) {
+    for cause in CAUSES {
+        let others = ended.others(origin, cause);
+        if 0 < others {
+            tell(log, moment, Entry::Others(origin, cause, others));
+        }
+    }
+}

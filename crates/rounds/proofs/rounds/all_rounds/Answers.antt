@@ -1,0 +1,13 @@
+use Rattle.std.proofs.Common.{arith, rules}
+use Rattle.rounds.proofs.Taking.{all_had, all_told, one_round_more}
+use Rattle.rounds.proofs.rounds.all_rounds.Goals as goal
+
+pub returns-then-is_over : goal.returns-then-is_over
+returns-then-is_over g c =
+    all_told _ _ _ _ _ _ _ _ _ c.loop.invariant (omega arith) (c.is_over.ensures.ends (search rules))
+
+pub loop-preserved : goal.loop-preserved
+loop-preserved g c = one_round_more _ _ _ _ _ _ _ _ _ c.loop.invariant c.round.ensures
+
+pub returns : goal.returns
+returns g c = all_had _ _ _ _ _ _ _ _ _ c.loop.invariant (omega arith)
