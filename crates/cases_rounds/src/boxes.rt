@@ -140,14 +140,18 @@ impl Boxes {
 
     /// The datagrams of a box come to the other, if that is there.
     fn pass_on(&mut self, from: &str, letters: Vec<Letter>) -> Result<()> {
-        let other = match id_named(from)? {
-            GatewayId::Zero => self.one.as_mut(),
-            GatewayId::One => self.zero.as_mut(),
-        };
-        match other {
-            Some(station) => station.wire.add(letters),
-            None => Ok(()),
+        match id_named(from)? {
+            GatewayId::Zero => add_to(&mut self.one, letters),
+            GatewayId::One => add_to(&mut self.zero, letters),
         }
+    }
+}
+
+/// The datagrams come to a box, if it is there.
+fn add_to(station: &mut Option<Station>, letters: Vec<Letter>) -> Result<()> {
+    match station {
+        Some(station) => station.wire.add(letters),
+        None => Ok(()),
     }
 }
 
