@@ -48,6 +48,8 @@ PAGE = TOP / "docs" / "OPERATING.md"
 PLACES = {"where you build": ("builder",), "to both machines": ("builder",), "on both machines": ("box 0", "box 1"),
           "on box 0": ("box 0",), "on box 1": ("box 1",)}
 TUNNEL = "What the link trusts"
+# Where boxes are stopped whole: a journal has the gate's last line there, if the program has `natpair stop`.
+WHOLE_STOPS = "A new release"
 FLOWS = 20
 # What the page says of a journal, by the section in which it says so: the machine, its unit, and what is in a line there.
 SAID = {
@@ -161,9 +163,10 @@ def groups():
 
 
 def remove_group(folder):
+    """Removes a group of processes that are ending."""
+    wait_until(lambda: "populated 0" in (folder / "cgroup.events").read_text(encoding="ascii"), 5, f"{folder} is empty")
     for path, _, _ in os.walk(folder, topdown=False):
-        with contextlib.suppress(OSError):
-            os.rmdir(path)
+        os.rmdir(path)
 
 
 class Machine:
@@ -196,7 +199,7 @@ class Machine:
 
     def booted(self, root, stack):
         """In a group of processes of its own, which its systemd divides further."""
-        group = groups() / f"natpair-{self.room.name}"
+        group = groups() / self.room.name
         group.mkdir()
         stack.callback(remove_group, group)
         # What was called last is done first: the machine has to end before its group is removed.
@@ -237,6 +240,12 @@ class Machine:
         target.write_text(text, encoding="utf-8")
 
 
+def run_help(program):
+    """The help of `natpair stop`, or the refusal of that word by a program from before it."""
+    done = subprocess.run((program, "stop", "--help"), capture_output=True, text=True)
+    return done.stdout + done.stderr
+
+
 class Site:
     """The two machines, and the networks between which they stand."""
 
@@ -256,6 +265,7 @@ class Site:
         self.around.address()
         self.work = pathlib.Path(tempfile.mkdtemp(prefix="natpair-files-"))
         stack.callback(shutil.rmtree, self.work, ignore_errors=True)
+        self.can_stop = "natpair stop" in run_help(options.program)
         self.serve()
         self.loop = Loop()
         self.flows = Flows(self.loop, self.around.host, stack)
@@ -319,8 +329,8 @@ class Site:
     def expect_said(self, section):
         for name, unit, lines in SAID.get(section, []):
             journal = self.machines[name].do(f"journalctl -u {unit} -n 1000")
-            for line in lines:
-                if not re.search(line, journal):
+            for line in lines + (["[ :]end$"] if section == WHOLE_STOPS and self.can_stop else []):
+                if not re.search(line, journal, re.MULTILINE):
                     raise SystemExit(f"joining: {section}: {name} doesn't say {line!r}:\n{journal}")
 
     def follow(self, page):
@@ -348,12 +358,19 @@ class Site:
         """Removes and purges the package; both boot files stay as they are."""
         for number, (name, machine) in enumerate(self.machines.items()):
             boot = machine.root() / f"var/lib/natpair/boot{number}"
-            self.run(name, f"systemctl stop natpair@{number}")
             before = boot.read_bytes()
+            if not self.options.root:
+                # Without a systemd the package stops nothing.
+                self.run(name, f"systemctl stop natpair@{number}")
             for command in ("dpkg --remove natpair", "dpkg --purge natpair"):
                 self.run(name, command)
                 if boot.read_bytes() != before:
                     raise SystemExit(f"joining: {name}: {command} changes {boot.name}")
+                if "natpair" in machine.do("ps -e -o comm="):
+                    raise SystemExit(f"joining: {name}: {command} stops no box")
+            if number == 0:
+                self.rest(1)
+                self.expect_flows("box 0 has no package")
             for gone in ("usr/sbin/natpair", "etc/natpair/box.conf", "lib/systemd/system/natpair@.service"):
                 if (machine.root() / gone).exists():
                     raise SystemExit(f"joining: {name}: purged, it has {gone}")
