@@ -364,9 +364,9 @@ class Site:
                 self.run(name, f"systemctl stop natpair@{number}")
             for command in ("dpkg --remove natpair", "dpkg --purge natpair"):
                 self.run(name, command)
-                if boot.read_bytes() != before:
-                    raise SystemExit(f"joining: {name}: {command} changes {boot.name}")
-                if "natpair" in machine.do("ps -e -o comm="):
+                if not boot.exists() or boot.read_bytes() != before:
+                    raise SystemExit(f"joining: {name}: {command} touches {boot.name}")
+                if "natpair" in machine.do("ps -e -o comm=").splitlines():
                     raise SystemExit(f"joining: {name}: {command} stops no box")
             if number == 0:
                 self.rest(1)
