@@ -79,11 +79,11 @@ class Bench:
             return self.udp(end, place, patient=patient)
         return self.tcp(end, place, SYN, patient=patient)
 
-    def icmp(self, station, target, kind, code, rest, inner=b""):
-        """A message of ICMP with a mark at its end; what came out of this type."""
+    def icmp(self, station, target, kind, code, rest, inner=b"", patient=False):
+        """A message of ICMP with a mark at its end; what came out with it."""
         mark = os.urandom(6)
         message = icmp(kind, code, rest, inner + mark)
-        return self.ask(station, ipv4(station.address, target, ICMP, message), mark, patient=False)
+        return self.ask(station, ipv4(station.address, target, ICMP, message), mark, patient)
 
     def outside(self, port):
         """The outside end of a port; where a pair's isn't known, nobody's."""

@@ -103,11 +103,14 @@ class Flow:
         if not text:
             self.fail(OSError(errno.ECONNRESET, ""))
         for line in text.splitlines():
-            words = line.split()
-            if int(words[1]) == self.number and int(words[2]) == self.round > self.answered:
-                self.answered = self.round
-                self.ports.append(int(words[5]))
-                self.on_answer(self)
+            self.note(line.split())
+
+    def note(self, words):
+        """An answer counts where it is that to the last question."""
+        if int(words[1]) == self.number and int(words[2]) == self.round > self.answered:
+            self.answered = self.round
+            self.ports.append(int(words[5]))
+            self.on_answer(self)
 
     def connect(self):
         number = self.sock.getsockopt(socket.SOL_SOCKET, socket.SO_ERROR)

@@ -15,15 +15,18 @@ TCP, UDP = 6, 17
 NAMES = {TCP: "tcp", UDP: "udp"}
 # Of a box that says nothing for so long it isn't known that it is Active.
 FRESH = 2.5
-# A filter of packets: what isn't an advertisement isn't looked at.
-ONLY_ADVERTISEMENTS = (
-    (0x28, 0, 0, 12),  # the EtherType
-    (0x15, 0, 3, 0x0800),  # IPv4, or away
-    (0x30, 0, 0, 23),  # the protocol
-    (0x15, 0, 1, ADVERTISEMENT),
-    (0x06, 0, 0, 65535),
-    (0x06, 0, 0, 0),
-)
+
+
+def only(protocol):
+    """A filter of frames: what isn't a packet of this protocol isn't looked at."""
+    return (
+        (0x28, 0, 0, 12),  # the EtherType
+        (0x15, 0, 3, 0x0800),  # IPv4, or away
+        (0x30, 0, 0, 23),  # the protocol
+        (0x15, 0, 1, protocol),
+        (0x06, 0, 0, 65535),
+        (0x06, 0, 0, 0),
+    )
 
 
 def set_filter(sock, lines):
@@ -91,7 +94,7 @@ class Observer:
                 self.sockets[side] = card("bridge")
             stack.callback(self.sockets[side].close)
             if not all_frames:
-                set_filter(self.sockets[side], ONLY_ADVERTISEMENTS)
+                set_filter(self.sockets[side], only(ADVERTISEMENT))
         if folder:
             with networks.boxes[0].space.entered():
                 self.sockets["link"] = card("link")

@@ -142,6 +142,10 @@ class Box:
         self.gate.wait()
         return moment
 
+    def stop(self):
+        """Says to this box that it is to end."""
+        self.natpair("stop", str(self.top / SETTINGS.name), "--id", str(self.number))
+
     def halt(self):
         self.gate.send_signal(signal.SIGSTOP)
 
@@ -281,6 +285,11 @@ class Networks(Surroundings):
     def down_interval(self, number):
         """After how many seconds without an advertisement a box takes over: three intervals of the
         Active box, and the skew of the own priority."""
-        own = self.settings[f"gateway_{number}"]
-        interval = self.settings[f"gateway_{1 - number}"]["interval"] / 100
-        return 3 * interval + (256 - own["priority"]) * interval / 256
+        return 3 * self.interval(1 - number) + self.skew(number)
+
+    def skew(self, number):
+        """After how many seconds a box takes over once the Active one has resigned."""
+        return (256 - self.settings[f"gateway_{number}"]["priority"]) * self.interval(1 - number) / 256
+
+    def interval(self, number):
+        return self.settings[f"gateway_{number}"]["interval"] / 100

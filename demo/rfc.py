@@ -10,6 +10,7 @@ import rfc_page
 from benches import Couple, Scripted, Wired
 from pair import SETTINGS
 from rfc_clock import BY_THE_CLOCK, both_boxes, no_room
+from rfc_errors import OF_ERRORS
 from rfc_hosts import by_hosts
 from rfc_linux import at_linux
 from rfc_packets import AT_A_BOX
@@ -76,7 +77,7 @@ def by_sim(options, report):
 
 def at_box(current, number, report):
     bench = Wired(number, current)
-    for probe in AT_A_BOX:
+    for probe in (*AT_A_BOX, *OF_ERRORS):
         probe(bench, report)
     on_the_wire(bench, report)
     by_hosts(current, bench, report)

@@ -7,8 +7,8 @@ looked at in a run of its own.
 import os
 
 from benches import HOSTS, REMOTES, End, is_error
-from packets import ACK, DONT_FRAGMENT, FIN, IPV4, PLAIN, PSH, RST, SYN, TCP, UDP, ethernet, ipv4, udp
-from rfc_packets import LONGEST, PLACES, packet_bytes, port_of, told, yes
+from packets import ACK, DONT_FRAGMENT, FIN, IPV4, PLAIN, PSH, RST, SYN, TCP, UDP, ethernet, ipv4, tcp, udp
+from rfc_packets import LONGEST, PLACES, arrived, port_of, told, yes
 
 HOST, REMOTE, STRANGER = End(HOSTS[0], 5000), End(REMOTES[0], 53), End(REMOTES[1], 9)
 TICK = 1
@@ -41,12 +41,16 @@ def there_after(fresh, protocol, course, steps):
     """Whether a pair is there, in a run in which it is made and these steps follow: a time of rest, or what is done then."""
     bench = fresh()
     port = begin(bench, protocol, course)
+    take(bench, port, steps)
+    return is_there(bench, protocol, port)
+
+
+def take(bench, port, steps):
     for step in steps:
         if callable(step):
             step(bench, port)
         else:
             bench.rest(step)
-    return is_there(bench, protocol, port)
 
 
 def limit(report, fresh, requirement, what, rest, protocol, course=(), before=()):
@@ -91,16 +95,38 @@ def forged(bench, port):
     bench.put("outside", ethernet(bench.own_mac("outside"), REMOTES[1].mac, IPV4, packet))
 
 
-def told_in(bench, port):
-    """A remote station's error about the pair."""
-    about = ipv4(bench.virtual, REMOTE.place[0], UDP, udp(bench.outside(port), REMOTE.place, b"asked"))
-    bench.icmp(REMOTES[0], bench.virtual, 3, 3, bytes(4), about)
+def between(source, target, protocol=UDP):
+    """A packet from one end to another. Of what an error is about nobody keeps whether it came."""
+    inner = udp(source, target, b"asked") if protocol == UDP else tcp(source, target, ACK, b"asked")
+    return ipv4(source[0], target[0], protocol, inner)
 
 
-def told_out(bench, port):
-    """A stranger's segment comes in, and the host tells of it by an error."""
-    heard = bench.tcp(STRANGER, bench.outside(port), SYN)
-    bench.icmp(HOSTS[0], STRANGER.place[0], 3, 3, bytes(4), packet_bytes(heard))
+def told_in(bench, port, protocol=UDP):
+    """A router's error about the pair's packet; whether it comes to the host."""
+    about = between(bench.outside(port), REMOTE.place, protocol)
+    return arrived(bench.icmp(STRANGER.station, bench.virtual, 11, 0, bytes(4), about), 11, HOST.station)
+
+
+def told_in_tcp(bench, port):
+    return told_in(bench, port, TCP)
+
+
+def told_out(bench, _):
+    """The host's error about the remote station's packet; whether it comes there."""
+    about = between(REMOTE.place, HOST.place)
+    return arrived(bench.icmp(HOST.station, REMOTE.place[0], 3, 3, bytes(4), about), 3, REMOTE.station)
+
+
+def told_across(bench, port):
+    """The host's error about its own packet to itself by the outside address; whether it comes back."""
+    about = between(bench.outside(port), HOST.place)
+    return arrived(bench.icmp(HOST.station, bench.virtual, 3, 3, bytes(4), about), 3, HOST.station)
+
+
+def told_stranger(bench, _):
+    """The host's error about the segment of a stranger; whether it comes to him."""
+    about = between(STRANGER.place, HOST.place, TCP)
+    return arrived(bench.icmp(HOST.station, STRANGER.place[0], 3, 3, bytes(4), about), 3, STRANGER.station)
 
 
 def knocked(bench, port):
@@ -125,9 +151,7 @@ def five_knocked(bench, port):
 NO_USES = (
     ("7857 6", "a packet that is refused, from a forged inside address, doesn't refresh", UDP, (),
      (UDP_REST - TICK, forged, TICK)),
-    ("5508 REQ-6", "an error of a remote station doesn't refresh", UDP, (), (UDP_REST - TICK, told_in, TICK)),
-    # A stranger's SYN is a use of its own, so each is set against the moment at which that one's rest is over.
-    ("7857 6.1 a", "a host's error to a stranger doesn't refresh", TCP, OPENED[:1], (1000, told_out, SHORT)),
+    # A stranger's SYN is a use of its own, so what follows is set against the moment at which that one's rest is over.
     ("7857 6.1 b", "a host's RST to a stranger doesn't refresh", TCP, OPENED[:1],
      (1000, knocked, 1000, answered, SHORT - 1000)),
     ("own 1", f"a stranger's ACK keeps a half-open pair for {seconds(SHORT)} at most", TCP, OPENED[:1],
@@ -141,6 +165,37 @@ def no_uses(fresh, report):
     for requirement, what, protocol, course, steps in NO_USES:
         there = there_after(fresh, protocol, course, steps)
         report.note(fresh, requirement, what, yes_there(there), not there)
+
+
+# What is told of a pair's packet: its requirement, who tells, how the pair is made, the steps before, how, and the time of
+# rest after it, at whose end the pair's own rest is over.
+ERRORS = (
+    ("5508 REQ-6", "a router's error about UDP", UDP, (), (UDP_REST - TICK,), told_in, TICK),
+    ("5508 REQ-6", "a router's error about TCP", TCP, OPENED, (LONG - TICK,), told_in_tcp, TICK),
+    ("5508 REQ-6", "a host's error", UDP, (), (UDP_REST - TICK,), told_out, TICK),
+    ("5508 REQ-6", "a host's error to itself", UDP, (), (UDP_REST - TICK,), told_across, TICK),
+    ("7857 6.1 a", "a host's error to a stranger", TCP, OPENED[:1], (1000, knocked, 1000), told_stranger, SHORT - 1000),
+)
+
+
+def told_then(fresh, protocol, course, before, tell, after):
+    """Whether an error passes, and whether its pair is there so long after it."""
+    bench = fresh()
+    port = begin(bench, protocol, course)
+    take(bench, port, before)
+    passed = tell(bench, port)
+    bench.rest(after)
+    return passed, is_there(bench, protocol, port)
+
+
+def errors(fresh, report):
+    """Each error passes, and the pair's rest goes on as if it hadn't come: it isn't begun anew, nor ended."""
+    for requirement, who, protocol, course, before, tell, after in ERRORS:
+        found = [told_then(fresh, protocol, course, before, tell, rest) for rest in (after - TICK, after)]
+        (passed, short), (_, whole) = found
+        report.note(fresh, requirement, f"{who} passes, and neither refreshes nor ends its pair",
+                    f"{yes(passed)}; {yes_there(short)} until its rest is over, {yes_there(whole)} then",
+                    found == [(True, True), (True, False)])
 
 
 def too_large(fresh, report):
@@ -190,4 +245,4 @@ def yes_there(there):
     return "there" if there else "gone"
 
 
-BY_THE_CLOCK = (udp_timers, tcp_timers, resets, no_uses, too_large)
+BY_THE_CLOCK = (udp_timers, tcp_timers, resets, no_uses, errors, too_large)

@@ -6,8 +6,8 @@ import socket
 import time
 
 from packets import ICMP, icmp
-from pair import BEYOND, HOSTS, SERVER
-from rfc_packets import yes
+from pair import BEYOND, HOSTS, ROUTER, SERVER
+from rfc_packets import told, yes
 
 TCP_PLACE, UDP_PLACE, CLOSED = (SERVER, 8080), (SERVER, 8081), (SERVER, 9)
 SIZE = 3_000_000
@@ -17,6 +17,9 @@ LONGEST = 4.0
 # An answer of a host's kernel comes within so many seconds.
 PATIENCE = 1.0
 IP_MTU_DISCOVER, NEVER_CUT, MAY_CUT = 10, 2, 0
+IP_MTU, IP_RECVERR = 14, 11
+# Where the sender of an error stands in what the kernel tells of it: struct sock_extended_err, and an address behind it.
+OFFENDER = slice(20, 24)
 
 
 def bound(space, kind, place, protocol=0):
@@ -38,6 +41,8 @@ class Hosts:
         networks = current.networks
         self.host, self.router, self.server = networks.host, networks.router, networks.server
         self.host.sysctl("ipv4/tcp_mtu_probing", 0)
+        for space in (self.router, self.server):
+            space.sysctl("ipv4/icmp_ratelimit", 0)
         self.listener = self.keep(bound(self.server, socket.SOCK_STREAM, TCP_PLACE))
         self.listener.listen()
         self.heard = self.keep(bound(self.server, socket.SOCK_DGRAM, UDP_PLACE))
@@ -90,18 +95,20 @@ class Hosts:
         taken[0].close()
         return come
 
-    def datagram(self, size):
-        """Whether a datagram that may be cut comes, of three."""
+    def datagram(self, size, cut=MAY_CUT):
+        """Whether a datagram comes, which may be cut or not, of three."""
         sender = self.own(socket.SOCK_DGRAM)
-        sender.setsockopt(socket.IPPROTO_IP, IP_MTU_DISCOVER, MAY_CUT)
+        sender.setsockopt(socket.IPPROTO_IP, IP_MTU_DISCOVER, cut)
         for _ in range(3):
-            sender.sendto(bytes(size), UDP_PLACE)
-            if self.until(lambda: self.heard.recv(1 << 16), PATIENCE / 2):
+            with contextlib.suppress(OSError):
+                sender.sendto(bytes(size), UDP_PLACE)
+            found = self.until(lambda: self.heard.recv(1 << 16), PATIENCE / 2)
+            if isinstance(found, bytes) and len(found) == size:
                 return True
         return False
 
     def told(self, place, size):
-        """What a sender is told, whose datagram may not be cut, or has no one who takes it."""
+        """What a sender is told, whose datagram may not be cut, or has no one who takes it; and the path's MTU by then."""
         sender = self.own(socket.SOCK_DGRAM)
         sender.setsockopt(socket.IPPROTO_IP, IP_MTU_DISCOVER, NEVER_CUT)
         sender.connect(place)
@@ -110,7 +117,17 @@ class Hosts:
             found = self.until(lambda: sender.recv(1), PATIENCE)
         except OSError as error:
             found = error
-        return os.strerror(found.errno) if isinstance(found, OSError) else "nothing"
+        text = os.strerror(found.errno) if isinstance(found, OSError) else "nothing"
+        return text, sender.getsockopt(socket.IPPROTO_IP, IP_MTU)
+
+    def hop(self, ttl):
+        """Who answers a datagram of this TTL to a closed port by an error, as `traceroute` asks."""
+        sender = self.own(socket.SOCK_DGRAM)
+        sender.setsockopt(socket.IPPROTO_IP, IP_RECVERR, 1)
+        sender.setsockopt(socket.IPPROTO_IP, socket.IP_TTL, ttl)
+        sender.sendto(b"who is there", (SERVER, 33433 + ttl))
+        found = self.until(lambda: sender.recvmsg(512, 512, socket.MSG_ERRQUEUE), PATIENCE)
+        return socket.inet_ntoa(found[1][0][2][OFFENDER]) if isinstance(found, tuple) else None
 
     def ping(self):
         """Whether the server answers an Echo."""
@@ -119,21 +136,33 @@ class Hosts:
         return self.until(lambda: sender.recv(1 << 16), PATIENCE)
 
 
+def at_full_width(hosts, bench, report):
+    come = hosts.upload()
+    report.note(bench, "5382 REQ-2", f"a host's upload of {SIZE:,} bytes", f"{come:,} bytes", come == SIZE)
+    text, _ = hosts.told(CLOSED, 1)
+    report.note(bench, "4787 REQ-12 b", "a host is told of a closed UDP port", text, text == "Connection refused")
+    found = [hosts.hop(ttl) for ttl in (1, 2, 3)]
+    report.note(bench, "5508 REQ-10", "a traceroute has a line of the pair", told(found[:1]), found[0] is not None)
+    report.note(bench, "4787 REQ-12 b", "a traceroute has lines of the router and the server", told(found[1:]),
+                found[1:] == [ROUTER, SERVER])
+    found = hosts.datagram(3000)
+    report.note(bench, "4787 REQ-14", "a host's datagram of 3,000 bytes comes", yes(found), found)
+    found = hosts.ping()
+    report.note(bench, "5508 REQ-1", "a host's ping of the server is answered", yes(found), bool(found))
+
+
+def at_a_narrow_path(hosts, bench, report):
+    come = hosts.upload()
+    report.note(bench, "5382 REQ-9", f"the upload, where the path takes {NARROW:,} bytes", f"{come:,} bytes", come == SIZE)
+    text, most = hosts.told(UDP_PLACE, 1400)
+    report.note(bench, "4787 REQ-12 b", f"a host is told that 1,400 bytes are too long there, and {NARROW:,} not",
+                f"{text}, {most:,}", (text, most) == ("Message too long", NARROW))
+
+
 def by_hosts(current, bench, report):
     with contextlib.ExitStack() as stack:
         hosts = Hosts(current, stack)
-        come = hosts.upload()
-        report.note(bench, "5382 REQ-2", f"a host's upload of {SIZE:,} bytes", f"{come:,} bytes", come == SIZE)
-        told = hosts.told(CLOSED, 1)
-        report.note(bench, "4787 REQ-12 b", "a host is told of a closed UDP port", told, told == "Connection refused")
-        found = hosts.datagram(3000)
-        report.note(bench, "4787 REQ-14", "a host's datagram of 3,000 bytes comes", yes(found), found)
-        found = hosts.ping()
-        report.note(bench, "5508 REQ-1", "a host's ping of the server is answered", yes(found), bool(found))
+        at_full_width(hosts, bench, report)
         hosts.widen(NARROW)
         stack.callback(hosts.widen)
-        come = hosts.upload()
-        report.note(bench, "5382 REQ-9", f"the upload, where the path takes {NARROW:,} bytes", f"{come:,} bytes", come == SIZE)
-        told = hosts.told(UDP_PLACE, 1400)
-        report.note(bench, "4787 REQ-12 b", "a host is told that 1,400 bytes are too long there", told,
-                    told == "Message too long")
+        at_a_narrow_path(hosts, bench, report)

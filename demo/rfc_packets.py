@@ -206,47 +206,6 @@ def packet_bytes(packet):
     return packet.frame[14 : 14 + packet.length] if packet else b""
 
 
-def errors_in(bench, report):
-    """A remote station and a router on the way tell of a packet; then the pair is used again."""
-    for protocol, standard, number, last in ((UDP, "4787", "REQ-12 b", "REQ-12 a"), (TCP, "5382", "REQ-9", "REQ-10")):
-        end = End(HOSTS[0], 5500)
-        sent = bench.send(protocol, end, PLACES[0])
-        about = packet_bytes(sent)
-        told_by = ((REMOTES[0], 3, 3, bytes(4)), (REMOTES[1], 3, 4, b"\0\0\5\0"), (REMOTES[1], 11, 0, bytes(4)))
-        found = [bench.icmp(who, bench.virtual, kind, code, rest, about) for who, kind, code, rest in told_by]
-        names = ("port unreachable from the remote station", "fragmentation needed from a router", "TTL over from a router")
-        for name, each, (_, kind, _, _) in zip(names, found, told_by):
-            came = arrived(each, kind, HOSTS[0])
-            report.note(bench, f"{standard} {number}", f"{name} comes in", yes(came), came)
-        if protocol == UDP:
-            restored = arrived(found[0], 3, HOSTS[0]) and source_of(found[0].payload[8:]) == end.place
-            report.note(bench, "5508 REQ-4", "an error about a pair comes in, with the inside end in it", yes(restored),
-                        restored)
-        again = bench.send(protocol, end, PLACES[0])
-        report.note(bench, f"{standard} {last}", "the pair stays after all of them", told([port_of(again)]),
-                    bool(again) and port_of(again) == port_of(sent))
-
-
-def source_of(body):
-    """From which end the packet in these bytes came."""
-    packet = Packet(bytes(14) + body)
-    return packet.source, packet.source_port
-
-
-def errors_out(bench, report):
-    """A host tells the remote station, and another inside host, of a packet of theirs."""
-    ends = End(HOSTS[0], 5200), End(HOSTS[1], 5300)
-    ports = [port_of(bench.send(UDP, end, PLACES[0])) for end in ends]
-    heard = bench.udp(End(REMOTES[0], 53), bench.outside(ports[0]))
-    found = bench.icmp(HOSTS[0], REMOTES[0].address, 3, 3, bytes(4), packet_bytes(heard))
-    came = arrived(found, 3, REMOTES[0]) and found.source == bench.virtual
-    report.note(bench, "5508 REQ-5", "a host's error about a pair goes out", yes(came), came)
-    heard = bench.udp(ends[0], bench.outside(ports[1]))
-    found = bench.icmp(HOSTS[1], bench.virtual, 3, 3, bytes(4), packet_bytes(heard))
-    came = arrived(found, 3, HOSTS[0]) and source_of(found.payload[8:]) == ends[0].place
-    report.note(bench, "5508 REQ-7", "a host's error about another's hairpin reaches it", yes(came), came)
-
-
 def queries(bench, report):
     """Echo through the pair, and between two hosts by the outside address; what is neither query nor error."""
     asked = b"\0\7\0\1"
@@ -338,5 +297,5 @@ def identification(bench, report):
     report.note(bench, "7857 9", "two hosts' 1234 leave as two numbers", told(seen), len(set(seen)) == 2)
 
 
-AT_A_BOX = (mapping, apart, parity, order, protocols, filtering, hairpin, steady, connections, contents, errors_in,
-            errors_out, queries, own_messages, unasked, fragments, large, identification)
+AT_A_BOX = (mapping, apart, parity, order, protocols, filtering, hairpin, steady, connections, contents, queries,
+            own_messages, unasked, fragments, large, identification)

@@ -1,11 +1,12 @@
 -- What a plan holds of the gateway that it was made for.
-use Rattle.std.proofs.Common.{◌≡◌, Bool, true, false, cond, Option, Some, None, Result, Ok, Err, refl, sym, ap, subst, ◌∙◌, ⊥}
+use Rattle.std.proofs.Common.{◌≡◌, Bool, true, false, cond, Option, Some, None, Result, Ok, Err, refl, sym, ap, subst, ◌∙◌}
 use Rattle.addresses.specs.declared.ethernet.Mac.{Mac}
 use Rattle.addresses.specs.declared.internet.Ip.{Ip}
 use Rattle.nat_types.specs.declared.gateways.Side.{Side}
 use Rattle.nat_types.specs.declared.pairs.Pair.{Pair}
 use Rattle.spec_binding.specs.declared.changes.Want.{Want as Wanted}
 use Rattle.spec_binding.specs.declared.changes.Want.TheVariants as want
+use Rattle.spec_binding.specs.Rows.{new_pair}
 use Rattle.ipv4.specs.declared.flows.Flow.{Flow}
 use Rattle.waiting.specs.declared.waits.WaitsFor.TheVariants as wait
 use Rattle.waiting.specs.Packets.{has_place}
@@ -24,6 +25,7 @@ use Rattle.spec_step.specs.declared.plans.Plan.TheVariants.{Send, Ask, AskAgain,
 use Rattle.spec_step.specs.Shown.{Shown}
 use Rattle.spec_step.specs.Verdict.{exit_by, hop_to, look_for, next_to, plan_by, plan_from, plan_of, plan_on, plan_to, plan_via, target_pair, error_by, error_on, error_plan, pair_in_of, pair_out}
 use Rattle.icmp.specs.declared.packets.ErrorFlow.{ErrorFlow}
+use Rattle.forwarder.specs.Plans.{IsOwn}
 
 -- a packet whose next hop isn't known waits for it, where there is a place
 pub plan-waits : (g : Shown) (to : Ip) (by : Translation) (hop : Ip) (place : Bool) → hop ≡ hop_to g by to → next_to g by to ≡ None → has_place g.kept (wait.Hop (exit_by by) hop) ≡ place
@@ -35,44 +37,45 @@ plan-waits g to by hop place is none at =
     ∙ ap (λ (b : Bool). let r : Result Plan Reason = cond b (Ok (Ask by hop)) (Ok (AskAgain by hop)) in r) at
     )
 
--- what is planned to wait has a place, and waits for the packet's own pair, or for its next hop
+-- what is planned to wait has a place, and waits for the packet's own pair, or for its next hop; what leaves the inside does so
+-- by its own pair
 abbrev pub Holds : Shown → Flow → Result Plan Reason → Type 0
-Holds g flow (Ok (Send by next)) = Unit {0}
-Holds g flow (Ok (Ask by hop)) = has_place g.kept (wait.Hop (exit_by by) hop) ≡ true
+Holds g flow (Ok (Send by next)) = IsOwn flow by
+Holds g flow (Ok (Ask by hop)) = IsOwn flow by × (has_place g.kept (wait.Hop (exit_by by) hop) ≡ true)
 Holds g flow (Ok (AskAgain by hop)) = Unit {0}
 Holds g flow (Ok (WaitFor e)) = (has_place g.kept (wait.Pair e) ≡ true) × (e ≡ source_of flow)
 Holds g flow (Err reason) = Unit {0}
 
-to-holds : (g : Shown) (flow : Flow) (by : Translation) (hop : Ip) (next : Option Mac) → Holds g flow (plan_to g by hop next)
-to-holds g flow by hop (Some next) = tt
-to-holds g flow by hop None = at (has_place g.kept (wait.Hop (exit_by by) hop)) refl
+to-holds : (g : Shown) (flow : Flow) (by : Translation) (hop : Ip) (next : Option Mac) → IsOwn flow by → Holds g flow (plan_to g by hop next)
+to-holds g flow by hop (Some next) own = own
+to-holds g flow by hop None own = at (has_place g.kept (wait.Hop (exit_by by) hop)) refl
   where
     at : (b : Bool) → has_place g.kept (wait.Hop (exit_by by) hop) ≡ b → Holds g flow (let r : Result Plan Reason = cond b (Ok (Ask by hop)) (Ok (AskAgain by hop)) in r)
-    at true is = is
+    at true is = (own, is)
     at false is = tt
 
-from-holds : (g : Shown) (flow : Flow) (by : Pair → Translation) (w : Wanted) → Holds g flow (plan_from g flow by w)
-from-holds g flow by (want.Port port) = to-holds g flow _ _ _
-from-holds g flow by want.Wait = at (has_place g.kept (wait.Pair (source_of flow))) refl
+from-holds : (g : Shown) (flow : Flow) (by : Pair → Translation) (w : Wanted) → ((own : Pair) → own.endpoint ≡ source_of flow → IsOwn flow (by own)) → Holds g flow (plan_from g flow by w)
+from-holds g flow by (want.Port port) own = to-holds g flow _ _ _ (own (new_pair (source_of flow) port) refl)
+from-holds g flow by want.Wait own = at (has_place g.kept (wait.Pair (source_of flow))) refl
   where
     at : (b : Bool) → has_place g.kept (wait.Pair (source_of flow)) ≡ b → Holds g flow (let r : Result Plan Reason = cond b (Ok (WaitFor (source_of flow))) (Err CannotWait) in r)
     at true is = (is, refl)
     at false is = tt
-from-holds g flow by want.NoPort = tt
-from-holds g flow by want.NotNow = tt
-from-holds g flow by want.HostLimit = tt
+from-holds g flow by want.NoPort own = tt
+from-holds g flow by want.NotNow own = tt
+from-holds g flow by want.HostLimit own = tt
 
 on-holds : (g : Shown) (flow : Flow) (w : Direction) → Holds g flow (plan_on g flow w)
-on-holds g flow way.Outward = from-holds g flow Outward (look_for g flow)
+on-holds g flow way.Outward = from-holds g flow Outward (look_for g flow) (λ own is. is)
 on-holds g flow way.Inward = at (target_pair g flow)
   where
     at : (r : Result Pair Reason) → Holds g flow (and_then r (λ p. plan_by g flow (Inward p)))
-    at (Ok p) = to-holds g flow (Inward p) _ _
+    at (Ok p) = to-holds g flow (Inward p) _ _ tt
     at (Err reason) = tt
 on-holds g flow way.Hairpin = at (target_pair g flow)
   where
     at : (r : Result Pair Reason) → Holds g flow (and_then r (λ p. plan_from g flow (λ own. Hairpin own p) (look_for g flow)))
-    at (Ok p) = from-holds g flow (λ own. Hairpin own p) (look_for g flow)
+    at (Ok p) = from-holds g flow (λ own. Hairpin own p) (look_for g flow) (λ own is. is)
     at (Err reason) = tt
 
 holds : (g : Shown) (side : Side) (flow : Flow) → Holds g flow (plan_of g side flow)

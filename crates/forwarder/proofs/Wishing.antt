@@ -1,7 +1,9 @@
--- A wish for a port leaves 64 places of the link free, where they were.
-use Rattle.std.proofs.Common.{◌≡◌, ◌≤◌, ◌+◌, ◌&&◌, Bool, true, false, cond, not, Option, Some, None, [], ◌∷◌, min, refl, arith, length-append}
+-- A wish for a port leaves 64 places of the link free, where they were; and one that changes nothing.
+use Rattle.std.proofs.Common.{◌≡◌, ◌≤◌, ◌+◌, ◌&&◌, Bool, true, false, cond, not, Option, Some, None, [], ◌∷◌, List, min, refl, ap, ◌∙◌, arith, length-append}
 use Rattle.std.proofs.lemmas.Bool.{ltb-false}
+use Rattle.std.proofs.lemmas.List.{append-nil}
 use Rattle.addresses.specs.declared.transport.Port.{Port}
+use Rattle.nat_types.specs.declared.notes.Note.{Note}
 use Rattle.nat_types.specs.declared.notes.NoteKind.TheVariants.{Retaken}
 use Rattle.nat_types.specs.declared.pairs.Endpoint.{Endpoint}
 use Rattle.nat_types.specs.declared.pairs.EntryState.{EntryState}
@@ -18,6 +20,8 @@ use Rattle.spec_binding.specs.declared.changes.Transition.{Transition}
 use Rattle.spec_binding.specs.declared.changes.Want.TheVariants as want
 use Rattle.spec_binding.specs.Books.{Book, is_lone, is_synced}
 use Rattle.spec_binding.specs.Rows.{answered, is_at_limit, is_full, known_wish, new_pair, new_wish, none_row, port_for, quiet, row, wish, wish_by, wish_of}
+use Rattle.spec_step.specs.Parts.{by_row, wanted_by}
+use Rattle.spec_step.specs.Shown.{GatewayAndOutput, scene}
 
 -- ---- where the link is full nothing is pushed
 
@@ -81,3 +85,11 @@ wish-leaves b l e = at (is_full l) refl
     at : (full : Bool) → is_full l ≡ full → min 64 (free_places l) ≤ free_places (answered l (wish_of b full e).row.answer)
     at true is = mute-leaves l (wish_of b true e).row.answer (wish-mute b e)
     at false is = answered-leaves l (wish_of b false e).row.answer is
+
+-- ---- a wish that changes nothing
+
+quiet-done : (s : GatewayAndOutput) → by_row s quiet ≡ s
+quiet-done s = ap (λ (notes : List Note). scene s.shown (record s.told { notes = notes })) (append-nil s.told.notes)
+
+pub still : (s : GatewayAndOutput) (e : Endpoint) → (wish_of s.shown.ledger.book (is_full s.shown.link) e).row ≡ quiet → wanted_by s e ≡ s
+still s e is = ap (by_row s) is ∙ quiet-done s

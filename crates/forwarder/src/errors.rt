@@ -19,8 +19,9 @@ use addresses::{Ip, Mac};
 use icmp::{ErrorFlow, ErrorPacket};
 use nat_types::{NoMemory, Pair, Side};
 use output::OutputBuffer;
-use packet_rules::{Direction, Reason, Translation};
-use packet_rules::{endpoint_inside, error_direction, key_inside, limits_law};
+use packet_rules::{
+    Direction, Reason, Translation, endpoint_inside, error_direction, key_inside, limits_law,
+};
 use spec_step::{Outcome, Plan};
 use std::alloc::Global;
 use waiting::{HeldPacket, WaitsFor};

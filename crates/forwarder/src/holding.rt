@@ -10,6 +10,7 @@ ghost use Rattle.spec_step.specs.Parts.{asked_again, by_plan, by_refusal, framed
 ghost use Rattle.spec_step.specs.Shown.{station_on};
 ghost use Rattle.spec_step.specs.Verdict.{exit_by};
 ghost use Rattle.forwarder.specs.Forwarder.{scene_on, shown_of};
+ghost use Rattle.forwarder.specs.Plans.{IsOwn};
 ghost use Rattle.forwarder.specs.Room.{HasRoomFor, LeavesPlaces, Spends, a_wish, an_ask, frames_alone};
 
 use crate::Forwarder;
@@ -48,6 +49,7 @@ impl Forwarder {
         copy: HeldPacket,
     )
         requires formed { IsWellFormedEndpoint (source_of flow) }
+        requires own { IsOwn flow by }
         requires place { has_place self.old.kept copy.wait ≡ true }
         requires since { copy.since ≡ self.old.moment }
         requires asked { copy.asked ≡ self.old.moment }

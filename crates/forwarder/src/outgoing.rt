@@ -12,8 +12,9 @@ use arp::ArpPacket;
 use icmp::ErrorPacket;
 use ipv4::Packet;
 use output::WriteBytes;
-use packet_rules::{Network, Networks, Translation};
-use packet_rules::{append_answer, append_passed, append_request, append_sent};
+use packet_rules::{
+    Network, Networks, Translation, append_answer, append_passed, append_request, append_sent,
+};
 
 /// The frame by which a packet is sent on.
 #[derive(Drop)]

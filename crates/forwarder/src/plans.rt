@@ -98,7 +98,10 @@ impl Forwarder {
         ensures { result ≡ plan_from (shown_of self.now) flow (leaving_by other) given }
     {
         match given {
-            Want::Port(port) => self.plan_to(flow.destination, leaving(own_pair(flow, port), other)),
+            Want::Port(port) => self.plan_to(
+                flow.destination,
+                leaving(own_pair(flow, port), other),
+            ),
             Want::Wait => {
                 let endpoint = source_endpoint(flow);
                 if self.kept.has_place(WaitsFor::Pair(endpoint)) {

@@ -14,6 +14,7 @@ ghost use Rattle.spec_step.specs.Parts.{remote, wanted_by, wanted_for};
 ghost use Rattle.spec_step.specs.Verdict.{exit_by};
 ghost use Rattle.spec_step.specs.Shown.{station_on};
 ghost use Rattle.forwarder.specs.Forwarder.{scene_on, shown_of};
+ghost use Rattle.forwarder.specs.Plans.{IsOwn};
 ghost use Rattle.forwarder.specs.Room.{HasRoomFor, LeavesPlaces, Spends, a_packet, a_wish};
 ghost use Rattle.forwarder.specs.Room.{frames_alone, notes_alone};
 
@@ -22,9 +23,9 @@ use crate::outgoing::SentFrame;
 use activity::{Remote, Way};
 use addresses::{Ip, Mac, Port, TcpFlags};
 use ipv4::{Flow, Packet};
-use nat_types::{Endpoint, Key, Side};
+use nat_types::{Endpoint, Key, Pair, Side};
 use output::OutputBuffer;
-use packet_rules::{Translation, limits_law, source_endpoint};
+use packet_rules::{Translation, limits_law};
 
 fn remote_at(address: Ip, port: Port) -> Remote
     ensures { result ≡ remote address port }
@@ -51,9 +52,27 @@ impl Forwarder {
         page.put_notes(notes);
     }
 
+    /// The endpoint of a pair wants a port. Where the table has that very pair nothing changes, and the
+    /// endpoint isn't looked up.
+    fn wish_by(&mut self, page: &mut OutputBuffer, own: Pair)
+        requires formed { IsWellFormedEndpoint own.endpoint }
+        requires room { HasRoomFor a_wish self.old page.old }
+        ensures scene { scene_on self.new page.new
+            ≡ wanted_by (scene_on self.old page.old) own.endpoint }
+        ensures rest { self.new
+            ≡ record self.old { core = self.new.core; link = self.new.link } }
+        ensures spends { Spends a_wish self.old page.old self.new page.new }
+        ensures places { LeavesPlaces self.old self.new }
+    {
+        if !self.core.carries(own) {
+            self.wish(page, own.endpoint);
+        }
+    }
+
     /// A packet of the inside has its endpoint's pair made, or proposed, or a port wanted for it.
     pub(crate) fn wish_for(&mut self, page: &mut OutputBuffer, flow: Flow, by: &Translation)
         requires formed { IsWellFormedEndpoint (source_of flow) }
+        requires own { IsOwn flow by.now }
         requires room { HasRoomFor a_wish self.old page.old }
         ensures scene { scene_on self.new page.new
             ≡ wanted_for (scene_on self.old page.old) flow by.now }
@@ -63,9 +82,7 @@ impl Forwarder {
         ensures places { LeavesPlaces self.old self.new }
     {
         match by {
-            Translation::Outward(_) | Translation::Hairpin(_, _) => {
-                self.wish(page, source_endpoint(flow));
-            }
+            Translation::Outward(own) | Translation::Hairpin(own, _) => self.wish_by(page, *own),
             Translation::Inward(_) => {}
         }
     }
@@ -193,6 +210,7 @@ impl Forwarder {
         requires forwardable { IsForwardable bytes.now }
         requires read { packet ≡ packet_in bytes.now }
         requires formed { IsWellFormedEndpoint (source_of packet.flow) }
+        requires own { IsOwn packet.flow by }
         requires room { HasRoomFor a_packet self.old page.old }
         ensures scene { (side : OnSide) → scene_on self.new page.new
             ≡ by_plan (scene_on self.old page.old) side bytes.now packet.flow (Send by next) }

@@ -17,9 +17,15 @@ ask_for_error-requires-clause-place c =
     let made : c.plan_error.result ≡ Ok (Ask c.in-Ok-Ask.by c.in-Ok-Ask.hop) = c.in-Ok-Ask.is ∙ ap (λ (p : Plan). let r : Result Plan Reason = Ok p in r) c.in-Ok-Ask.field-0-is in
     let holds = error-plan-holds (shown_of c.args.self.now) c.args.side c.args.packet.flow (Ok (Ask c.in-Ok-Ask.by c.in-Ok-Ask.hop)) (sym made ∙ c.plan_error.ensures) in
     let exit : c.exit.result ≡ exit_by c.in-Ok-Ask.by = c.exit.ensures ∙ ap exit_of c.direction.ensures in
-    ap (λ (w : HeldPacket). has_place c.args.self.now.kept w.wait) c.in_ok-copy.ensures
+    ap (λ (w : HeldPacket). has_place c.args.self.now.kept w.wait) c.in_ok-copy-in-Ok-Ask.ensures
     ∙ ap (λ (s : Side). has_place c.args.self.now.kept (Hop s c.in-Ok-Ask.hop)) exit
     ∙ holds
+
+-- no error waits for a pair
+pub unreachable-requires : goal.unreachable-requires
+unreachable-requires c =
+    let made : c.plan_error.result ≡ Ok (WaitFor c.in-Ok-Wait.field-0-0) = c.in-Ok-Wait.is ∙ ap (λ (p : Plan). let r : Result Plan Reason = Ok p in r) c.in-Ok-Wait.field-0-is in
+    error-plan-holds (shown_of c.args.self.now) c.args.side c.args.packet.flow (Ok (WaitFor c.in-Ok-Wait.field-0-0)) (sym made ∙ c.plan_error.ensures)
 
 pub returns-in-Ok-Send-clause-scene : goal.returns-in-Ok-Send-clause-scene
 returns-in-Ok-Send-clause-scene c =

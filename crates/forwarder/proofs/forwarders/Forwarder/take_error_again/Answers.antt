@@ -22,12 +22,18 @@ ask_for_error-requires-clause-place c =
     ∙ ap (λ (s : Side). has_place c.args.self.now.kept (Hop s c.in-Ok-Ask.hop)) exit
     ∙ holds
 
+-- no error waits for a pair
+pub unreachable-requires : goal.unreachable-requires
+unreachable-requires c =
+    let made : c.plan_error.result ≡ Ok (WaitFor c.in-Ok-Wait.field-0-0) = c.in-Ok-Wait.is ∙ ap (λ (p : Plan). let r : Result Plan Reason = Ok p in r) c.in-Ok-Wait.field-0-is in
+    error-plan-holds (shown_of c.args.self.now) c.packet.inside.side c.args.reading.flow (Ok (WaitFor c.in-Ok-Wait.field-0-0)) (sym made ∙ c.plan_error.ensures)
+
 pub returns-in-Ok-Send-clause-scene : goal.returns-in-Ok-Send-clause-scene
 returns-in-Ok-Send-clause-scene c =
     let s = scene_on c.args.self.now c.args.page.now in
     let made : c.plan_error.result ≡ Ok (Send c.in-Ok-Send.by c.in-Ok-Send.next) = c.in-Ok-Send.is ∙ ap (λ (p : Plan). let r : Result Plan Reason = Ok p in r) c.in-Ok-Send.field-0-is in
     let side : c.packet.inside.side ≡ c.args.packet.side = ap (λ (w : HeldPacket). w.side) c.packet.view_is in
-    let bytes : c.deref-in-Ok-Send.result.now ≡ c.args.packet.bytes = c.deref-in-Ok-Send.ensures.value ∙ ap (λ (w : HeldPacket). w.bytes) c.packet.view_is in
+    let bytes : c.deref.result.now ≡ c.args.packet.bytes = c.deref.ensures.value ∙ ap (λ (w : HeldPacket). w.bytes) c.packet.view_is in
     c.pass.ensures.scene c.args.packet.side
     ∙ ap (λ (bs : List ℕ). by_error_plan s c.args.packet.side bs c.args.reading.flow (Send c.in-Ok-Send.by c.in-Ok-Send.next)) bytes
     ∙ error-taken-as s c.args.packet.side c.args.packet.bytes c.args.reading.flow (Ok (Send c.in-Ok-Send.by c.in-Ok-Send.next)) (sym made ∙ c.plan_error.ensures ∙ ap (λ (x : Side). error_plan (shown_of c.args.self.now) x c.args.reading.flow) side)

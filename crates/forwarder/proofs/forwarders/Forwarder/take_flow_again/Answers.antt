@@ -15,6 +15,17 @@ use Rattle.forwarder.proofs.Planning.{plan-holds}
 use Rattle.forwarder.proofs.Taking.{taken-as}
 use Rattle.forwarder.proofs.forwarders.Forwarder.take_flow_again.Goals as goal
 
+pub send-requires-clause-own : goal.send-requires-clause-own
+send-requires-clause-own c =
+    let made : c.plan.result ≡ Ok (Send c.in-Ok-Send.by c.in-Ok-Send.next) = c.in-Ok-Send.is ∙ ap (λ (p : Plan). let r : Result Plan Reason = Ok p in r) c.in-Ok-Send.field-0-is in
+    plan-holds (shown_of c.args.self.now) c.packet.inside.side c.args.reading.flow (Ok (Send c.in-Ok-Send.by c.in-Ok-Send.next)) (sym made ∙ c.plan.ensures)
+
+pub ask-requires-clause-own : goal.ask-requires-clause-own
+ask-requires-clause-own c =
+    let made : c.plan.result ≡ Ok (Ask c.in-Ok-Ask.by c.in-Ok-Ask.hop) = c.in-Ok-Ask.is ∙ ap (λ (p : Plan). let r : Result Plan Reason = Ok p in r) c.in-Ok-Ask.field-0-is in
+    let holds = plan-holds (shown_of c.args.self.now) c.packet.inside.side c.args.reading.flow (Ok (Ask c.in-Ok-Ask.by c.in-Ok-Ask.hop)) (sym made ∙ c.plan.ensures) in
+    holds.0
+
 pub ask-requires-clause-place : goal.ask-requires-clause-place
 ask-requires-clause-place c =
     let made : c.plan.result ≡ Ok (Ask c.in-Ok-Ask.by c.in-Ok-Ask.hop) = c.in-Ok-Ask.is ∙ ap (λ (p : Plan). let r : Result Plan Reason = Ok p in r) c.in-Ok-Ask.field-0-is in
@@ -22,7 +33,7 @@ ask-requires-clause-place c =
     let exit : c.exit.result ≡ exit_by c.in-Ok-Ask.by = c.exit.ensures ∙ ap exit_of c.direction.ensures in
     ap (λ (w : HeldPacket). has_place c.args.self.now.kept w.wait) c.again-copy.ensures
     ∙ ap (λ (s : Side). has_place c.args.self.now.kept (Hop s c.in-Ok-Ask.hop)) exit
-    ∙ holds
+    ∙ holds.1
 
 pub wait-requires-clause-place : goal.wait-requires-clause-place
 wait-requires-clause-place c =
