@@ -13,7 +13,8 @@ on both machines, and both boot files have to be there still.
 
     --program FILE  the program, if it isn't crates/natpair/out/natpair
     --root FOLDER   a machine is a copy of this root of Debian, with its own systemd as its first process: of the
-                    commands above only `./build`, `scp` and `sudo` are something else then. packaging/test makes it
+                    commands above only `./build`, `scp` and `sudo` are something else then. packaging/test makes it.
+                    FOLDER may be layers with colons between, the upper one first
     --wireguard     tries the link's tunnel too
     --list          prints the commands, and runs none
 
@@ -45,8 +46,8 @@ from pair import FOLDER, PYTHON, SERVER, Surroundings, wait_until
 
 TOP = FOLDER.parent
 PAGE = TOP / "docs" / "OPERATING.md"
-PLACES = {"where you build": ("builder",), "to both machines": ("builder",), "on both machines": ("box 0", "box 1"),
-          "on box 0": ("box 0",), "on box 1": ("box 1",)}
+PLACES = {"where you build": ("builder",), "on both machines": ("box 0", "box 1"), "on box 0": ("box 0",),
+          "on box 1": ("box 1",)}
 TUNNEL = "What the link trusts"
 # Where boxes are stopped whole: a journal has the gate's last line there, if the program has `natpair stop`.
 WHOLE_STOPS = "A new release"
