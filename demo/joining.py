@@ -330,7 +330,7 @@ class Site:
     def expect_said(self, section):
         for name, unit, lines in SAID.get(section, []):
             journal = self.machines[name].do(f"journalctl -u {unit} -n 1000")
-            for line in lines + (["[ :]end$"] if section == WHOLE_STOPS and self.can_stop else []):
+            for line in lines + ([r"\bend$"] if section == WHOLE_STOPS and self.can_stop else []):
                 if not re.search(line, journal, re.MULTILINE):
                     raise SystemExit(f"joining: {section}: {name} doesn't say {line!r}:\n{journal}")
 
