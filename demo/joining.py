@@ -1,20 +1,25 @@
 #!/usr/bin/env python3
 """Tries the commands of docs/OPERATING.md, "Joining the boxes", as they stand there, on two machines made of namespaces.
 
-    sudo demo/joining.py [--program FILE] [--launcher FILE] [--wireguard] [--list]
+    sudo demo/joining.py [--program FILE] [--root FOLDER] [--wireguard] [--list]
 
 A machine is a network namespace with the interfaces eth1, eth2 and eth3, and a copy of this system's files in which
 what it writes stays its own. Each command of the page is run there, and has to end well. In place of some there stands
-something else: `./build` and `launcher/build` (the program and the launcher are there), `scp` (the folder is copied),
-`apt-get` (the packages have to be there), `sudo`, `systemctl` and `journalctl` (demo/machine: a machine has no systemd).
+something else: `./build` (the program is there), `scp` (the package is copied), `apt-get` (the package is installed by
+dpkg, what it depends on has to be there), `sudo`, `systemctl` and `journalctl` (demo/machine: a machine has no systemd).
 Beside them hosts, a router and a server are made, as for demo/run; flows from a host stay open through all that the
-page does to the boxes, and what the page says of the journals is looked for.
+page does to the boxes, and what the page says of the journals is looked for. At last the package is removed and purged
+on both machines, and both boot files have to be there still.
 
+    --program FILE  the program, if it isn't crates/natpair/out/natpair
+    --root FOLDER   a machine is a copy of this root of Debian, with its own systemd as its first process: of the
+                    commands above only `./build`, `scp` and `sudo` are something else then. packaging/test makes it.
+                    FOLDER may be layers with colons between, the upper one first
     --wireguard     tries the link's tunnel too
     --list          prints the commands, and runs none
 
-It needs root, iproute2, ethtool, iputils-ping, Python 3.11, and wireguard-tools and wireguard-go (or a kernel with
-WireGuard) for the tunnel.
+It needs root, a C compiler, dpkg-deb, Python 3.11, and but for --root adduser, iproute2, ethtool, iputils-ping, and
+wireguard-tools and wireguard-go (or a kernel with WireGuard) for the tunnel.
 """
 
 import sys
@@ -23,6 +28,7 @@ sys.dont_write_bytecode = True
 
 import argparse
 import contextlib
+import functools
 import os
 import pathlib
 import re
@@ -36,23 +42,28 @@ from ending import catch_signals
 from flows import PORT, Flows, Loop, verdict
 from limits import many_files
 from namespaces import Namespace
-from pair import FOLDER, PYTHON, SERVER, Surroundings
+from pair import FOLDER, PYTHON, SERVER, Surroundings, wait_until
 
 TOP = FOLDER.parent
 PAGE = TOP / "docs" / "OPERATING.md"
-PLACES = {"where you build": ("builder",), "to both machines": ("builder",), "on both machines": ("box 0", "box 1"),
-          "on box 0": ("box 0",), "on box 1": ("box 1",)}
+PLACES = {"where you build": ("builder",), "on both machines": ("box 0", "box 1"), "on box 0": ("box 0",),
+          "on box 1": ("box 1",)}
 TUNNEL = "What the link trusts"
+# Where boxes are stopped whole: a journal has the gate's last line there, if the program has `natpair stop`.
+WHOLE_STOPS = "A new release"
 FLOWS = 20
-# What the page says of a journal, by the section in which it says so: the machine, its unit, and lines that are there.
+# What the page says of a journal, by the section in which it says so: the machine, its unit, and what is in a line there.
 SAID = {
-    "6. Founding": [("box 0", "natpair-found", ["boot 1", "inside Active", "outside Active"])],
-    "7. The second box": [("box 1", "natpair", ["boot 1", "synced"])],
-    "8. Box 0 under its own unit": [("box 0", "natpair", ["boot 2", "synced", "inside Active", "outside Active"])],
-    "10. Watching a fail-over": [
-        ("box 0", "natpair", ["boot 3", "keeper inside cable out", " away", "keeper inside cable in", " back"]),
-        ("box 1", "natpair", ["inside Active", "outside Active", "inside Backup", "outside Backup"]),
+    "6. Founding": [("box 0", "natpair-found@0", ["boot 1", "inside.* Active", "outside.* Active"])],
+    "7. The second box": [("box 1", "natpair@1", ["boot 1", "synced"])],
+    "8. Box 0 under its own unit": [
+        ("box 0", "natpair@0", ["boot 2", "synced", "inside.* Active", "outside.* Active"]),
     ],
+    "10. Watching a fail-over": [
+        ("box 0", "natpair@0", ["boot 3", "keeper inside cable out", " away", "keeper inside cable in", " back"]),
+        ("box 1", "natpair@1", ["inside.* Active", "outside.* Active", "inside.* Backup", "outside.* Backup"]),
+    ],
+    "A new release": [("box 0", "natpair@0", ["boot 4", "synced"]), ("box 1", "natpair@1", ["boot 2", "synced"])],
 }
 
 
@@ -97,43 +108,115 @@ def blocks():
     return found
 
 
-# What makes a machine of a namespace: the system's files, with what is written kept aside.
-MACHINE = """set -e
+# What makes a machine of a namespace: the files of $2, with what is written kept aside in $1, and the programs of $3.
+FILES = """set -e
 mount -t tmpfs -o mode=755 tmpfs "$1"
 mkdir "$1/upper" "$1/work" "$1/root"
-mount -t overlay -o "lowerdir=/,upperdir=$1/upper,workdir=$1/work" overlay "$1/root"
-mount --rbind /dev "$1/root/dev"
-mount -t proc proc "$1/root/proc"
-mount -t sysfs sysfs "$1/root/sys"
-mount -t tmpfs -o mode=755 tmpfs "$1/root/run"
-mount -t tmpfs -o mode=1777 tmpfs "$1/root/tmp"
-mkdir -p "$1/root/home/user"
-cp -P "$2"/* "$1/root/usr/local/bin/"
-echo ready
-exec chroot "$1/root" sleep infinity
+mount -t overlay -o "lowerdir=$2,upperdir=$1/upper,workdir=$1/work" overlay "$1/root"
+cd "$1/root"
+mount -t proc proc proc
+mount -t sysfs sysfs sys
+mount -t tmpfs -o mode=755 tmpfs run
+mount -t tmpfs -o mode=1777 tmpfs tmp
+mkdir -p home/user
+shift 2
+cp -P "$@" usr/local/bin/
 """
+# It has the system's devices, and a first process that does nothing.
+STILL = FILES + """
+mount --rbind /dev dev
+echo ready
+exec chroot . sleep infinity
+"""
+# Its first process is its own systemd. It has a few devices, of the kernel's numbers it sets only those of its own
+# network, and it has no right to the system's clock, modules or devices.
+BOOTED = FILES + """
+mount -t cgroup2 cgroup2 sys/fs/cgroup
+mount -t tmpfs -o mode=755 tmpfs dev
+mkdir dev/pts dev/shm ../net
+for device in null zero full random urandom tty; do
+    touch "dev/$device"
+    mount --bind "/dev/$device" "dev/$device"
+done
+mount -t devpts -o newinstance,ptmxmode=666 devpts dev/pts
+ln -s pts/ptmx dev/ptmx
+ln -s /proc/self/fd dev/fd
+mount --bind proc/sys/net ../net
+mount --bind proc/sys proc/sys
+mount -o remount,bind,ro proc/sys
+mount --bind ../net proc/sys/net
+for unit in getty.target console-getty.service proc-sys-fs-binfmt_misc.automount; do
+    ln -sf /dev/null "etc/systemd/system/$unit"
+done
+echo ready
+exec setpriv --bounding-set=-sys_module,-sys_boot,-sys_time,-sys_rawio,-syslog,-mknod \
+    env -i container=natpair PATH=/usr/sbin:/usr/bin:/sbin:/bin chroot . /lib/systemd/systemd > run/started 2>&1
+"""
+
+
+@functools.cache
+def groups():
+    """Where the kernel's groups of processes are."""
+    for line in pathlib.Path("/proc/self/mounts").read_text(encoding="utf-8").splitlines():
+        if line.split()[2] == "cgroup2":
+            return pathlib.Path(line.split()[1])
+    raise SystemExit("joining: no cgroup2 is mounted, which a systemd needs")
+
+
+def remove_group(folder):
+    """Removes a group of processes that are ending."""
+    wait_until(lambda: "populated 0" in (folder / "cgroup.events").read_text(encoding="ascii"), 5, f"{folder} is empty")
+    for path, _, _ in os.walk(folder, topdown=False):
+        os.rmdir(path)
 
 
 class Machine:
     """A fresh machine: a network namespace, and files of its own."""
 
-    def __init__(self, name, stack):
+    def __init__(self, name, root, stack):
         self.name = name
         self.space = Namespace(name)
         stack.callback(self.space.close)
         self.room = pathlib.Path(tempfile.mkdtemp(prefix="natpair-machine-"))
         stack.callback(shutil.rmtree, self.room, ignore_errors=True)
         self.folder = "/home/user"
-        words = ("unshare", "--mount", "--pid", "--uts", "--fork", "--kill-child", "--propagation", "private",
-                 "sh", "-c", MACHINE, "sh", str(self.room), str(FOLDER / "machine"))
-        self.holder = self.space.start(*words, stdout=subprocess.PIPE)
+        self.holder = self.space.start(*(self.booted(root, stack) if root else self.still()), stdout=subprocess.PIPE)
         if self.holder.stdout.readline() != b"ready\n":
             raise SystemExit(f"joining: {name} can't be made")
         pid = self.holder.pid
         self.inner = pathlib.Path(f"/proc/{pid}/task/{pid}/children").read_text(encoding="ascii").split()[0]
-        for path in ("/etc/natpair", "/var/lib/natpair", "/usr/local/sbin/natpair"):
+        for path in ("/etc/natpair", "/var/lib/natpair", "/usr/sbin/natpair", "/usr/local/sbin/natpair"):
             if (self.root() / path[1:]).exists():
                 raise SystemExit(f"joining: {name} isn't fresh: it has {path}")
+        if root:
+            wait_until(self.runs, 60, f"{name} runs")
+
+    def apart(self, *more):
+        return ("unshare", "--mount", "--pid", "--uts", "--fork", "--kill-child", "--propagation", "private", *more)
+
+    def still(self):
+        programs = map(str, (FOLDER / "machine").iterdir())
+        return (*self.apart(), "sh", "-c", STILL, "sh", str(self.room), "/", *programs)
+
+    def booted(self, root, stack):
+        """In a group of processes of its own, which its systemd divides further."""
+        group = groups() / self.room.name
+        group.mkdir()
+        stack.callback(remove_group, group)
+        # What was called last is done first: the machine has to end before its group is removed.
+        stack.callback(self.space.end)
+        return ("sh", "-c", 'echo $$ > "$0" && exec "$@"', str(group / "cgroup.procs"), *self.apart("--cgroup", "--ipc"),
+                "sh", "-c", BOOTED, "sh", str(self.room), str(root), str(FOLDER / "machine" / "sudo"))
+
+    def runs(self):
+        done = subprocess.run((*self.words(), "systemctl", "is-system-running"), capture_output=True, text=True)
+        return done.stdout.strip() in ("running", "degraded")
+
+    def words(self):
+        """What stands before a command that is run in the machine."""
+        return ("nsenter", "--target", self.inner, "--mount", "--net", "--pid", "--uts", "--root", "--wd",
+                "env", "-i", "PATH=/usr/local/sbin:/usr/local/bin:/usr/sbin:/usr/bin:/sbin:/bin",
+                "DEBIAN_FRONTEND=noninteractive")
 
     def root(self):
         return pathlib.Path(f"/proc/{self.inner}/root")
@@ -141,8 +224,7 @@ class Machine:
     def do(self, command):
         """Runs a command of the page in the folder that the last one left; gives what it printed."""
         line = f"cd {self.folder}\n{command}\nstatus=$?\npwd > /tmp/folder\nexit $status"
-        words = ("nsenter", "--target", self.inner, "--mount", "--net", "--pid", "--uts", "--root", "--wd",
-                 "env", "-i", "PATH=/usr/local/sbin:/usr/local/bin:/usr/sbin:/usr/bin:/sbin:/bin", "sh", "-c", line)
+        words = (*self.words(), "sh", "-c", line)
         done = subprocess.run(words, stdout=subprocess.PIPE, stderr=subprocess.STDOUT, stdin=subprocess.DEVNULL, text=True,
                               timeout=60)
         self.folder = (self.root() / "tmp/folder").read_text(encoding="utf-8").strip()
@@ -150,13 +232,19 @@ class Machine:
             raise SystemExit(f"joining: {self.name}: {command!r} ends with {done.returncode}: {done.stdout}")
         return done.stdout
 
-    def receive(self, folder):
-        shutil.copytree(folder, self.root() / "home/user" / folder.name)
+    def receive(self, file):
+        shutil.copy(file, self.root() / "home/user")
 
     def write(self, path, text):
         target = self.root() / path[1:]
         target.parent.mkdir(parents=True, exist_ok=True)
         target.write_text(text, encoding="utf-8")
+
+
+def run_help(program):
+    """The help of `natpair stop`, or the refusal of that word by a program from before it."""
+    done = subprocess.run((program, "stop", "--help"), capture_output=True, text=True)
+    return done.stdout + done.stderr
 
 
 class Site:
@@ -168,7 +256,7 @@ class Site:
             self.around = Surroundings(tomllib.load(file))
         for space in self.around.spaces():
             stack.callback(space.close)
-        self.machines = {name: Machine(name, stack) for name in ("box 0", "box 1")}
+        self.machines = {name: Machine(name, options.root, stack) for name in ("box 0", "box 1")}
         self.around.plug()
         for number, machine in enumerate(self.machines.values()):
             for side, name in (("inside", "eth1"), ("outside", "eth2")):
@@ -178,12 +266,7 @@ class Site:
         self.around.address()
         self.work = pathlib.Path(tempfile.mkdtemp(prefix="natpair-files-"))
         stack.callback(shutil.rmtree, self.work, ignore_errors=True)
-        for name in ("examples", "docs"):
-            shutil.copytree(TOP / name, self.work / name)
-        for source, target in ((options.program, "crates/natpair/out/natpair"),
-                               (options.launcher, "launcher/out/natpair-launch")):
-            (self.work / target).parent.mkdir(parents=True)
-            shutil.copy(source, self.work / target)
+        self.can_stop = "natpair stop" in run_help(options.program)
         self.serve()
         self.loop = Loop()
         self.flows = Flows(self.loop, self.around.host, stack)
@@ -194,14 +277,18 @@ class Site:
             raise SystemExit("joining: the server doesn't run")
 
     def build(self, command):
-        """A command where one builds: what is built is there, and a copy to a machine goes by its files."""
-        if command in ("./build", "launcher/build"):
+        """A command where one builds: the program is there, the package is made of it, and a copy goes by its files."""
+        if command == "./build":
             return ""
-        if command.startswith("scp -r natpair-files "):
-            name = command.split()[-1].removesuffix(":").replace("box", "box ")
-            self.machines[name].receive(self.work / "natpair-files")
-            return ""
-        return subprocess.run(command, shell=True, cwd=self.work, check=True, capture_output=True, text=True).stdout
+        if command == "packaging/deb/build":
+            words = (TOP / command, "--program", self.options.program, "--out", self.work)
+            return subprocess.run(words, check=True, capture_output=True, text=True).stdout
+        copied = re.fullmatch(r"scp packaging/deb/out/(natpair_\S+) box(\d):", command)
+        if not copied:
+            raise SystemExit(f"joining: {command!r} isn't a command that is known where one builds")
+        for file in self.work.glob(copied[1]):
+            self.machines[f"box {copied[2]}"].receive(file)
+        return ""
 
     def rest(self, seconds):
         """Lets the flows be while time passes."""
@@ -243,8 +330,8 @@ class Site:
     def expect_said(self, section):
         for name, unit, lines in SAID.get(section, []):
             journal = self.machines[name].do(f"journalctl -u {unit} -n 1000")
-            for line in lines:
-                if line not in journal:
+            for line in lines + ([r"\bend$"] if section == WHOLE_STOPS and self.can_stop else []):
+                if not re.search(line, journal, re.MULTILINE):
                     raise SystemExit(f"joining: {section}: {name} doesn't say {line!r}:\n{journal}")
 
     def follow(self, page):
@@ -268,11 +355,32 @@ class Site:
                     self.open_flows()
         self.open_flows()
 
+    def remove(self):
+        """Removes and purges the package; both boot files stay as they are."""
+        for number, (name, machine) in enumerate(self.machines.items()):
+            boot = machine.root() / f"var/lib/natpair/boot{number}"
+            before = boot.read_bytes()
+            if not self.options.root:
+                # Without a systemd the package stops nothing.
+                self.run(name, f"systemctl stop natpair@{number}")
+            for command in ("dpkg --remove natpair", "dpkg --purge natpair"):
+                self.run(name, command)
+                if not boot.exists() or boot.read_bytes() != before:
+                    raise SystemExit(f"joining: {name}: {command} touches {boot.name}")
+                if "natpair" in machine.do("ps -e -o comm=").splitlines():
+                    raise SystemExit(f"joining: {name}: {command} stops no box")
+            if number == 0:
+                self.rest(1)
+                self.expect_flows("box 0 has no package")
+            for gone in ("usr/sbin/natpair", "etc/natpair/box.conf", "lib/systemd/system/natpair@.service"):
+                if (machine.root() / gone).exists():
+                    raise SystemExit(f"joining: {name}: purged, it has {gone}")
+
 
 def options_of(words):
     parser = argparse.ArgumentParser(prog="joining.py", description=__doc__.split("\n")[0])
     parser.add_argument("--program", type=pathlib.Path, default=TOP / "crates/natpair/out/natpair")
-    parser.add_argument("--launcher", type=pathlib.Path, default=TOP / "launcher/out/natpair-launch")
+    parser.add_argument("--root", type=pathlib.Path)
     parser.add_argument("--wireguard", action="store_true")
     parser.add_argument("--list", action="store_true")
     return parser.parse_args(words)
@@ -288,14 +396,15 @@ def main():
         return 0
     if os.geteuid() != 0:
         raise SystemExit("joining: it makes namespaces, and has to be root for that")
-    for file, how in ((options.program, "./build"), (options.launcher, "launcher/build")):
-        if not file.is_file():
-            raise SystemExit(f"joining: no program at {file}, where {how} puts it")
+    if not options.program.is_file():
+        raise SystemExit(f"joining: no program at {options.program}, where ./build puts it")
     catch_signals()
     many_files()
     with contextlib.ExitStack() as stack:
-        Site(options, stack).follow(page)
-    print("every command of the page ended well, and no flow was lost")
+        site = Site(options, stack)
+        site.follow(page)
+        site.remove()
+    print("every command of the page ended well, no flow was lost, and the boot files are there")
     return 0
 
 

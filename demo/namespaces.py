@@ -139,11 +139,15 @@ class Namespace:
             if ethtool(control, name, SENDS_CHECKSUMS, 0) != 0:
                 raise SystemExit(f"demo: {self.name}: {name} still leaves checksums out")
 
-    def close(self):
+    def end(self):
+        """Ends the programs that run in it."""
         for child in self.children:
             if child.poll() is None:
                 child.kill()
             child.wait()
+
+    def close(self):
+        self.end()
         os.close(self.handle)
 
 
