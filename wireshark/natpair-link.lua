@@ -3,7 +3,8 @@
 --     wireshark -X lua_script:wireshark/natpair-link.lua link.pcap
 --     tshark -X lua_script:wireshark/natpair-link.lua -r link.pcap -Y natpair -V
 --
--- A UDP datagram that begins with the letters NP and has the version is taken for one, whatever its port.
+-- A UDP datagram that begins with the letters NP and has the version is taken for one, whatever its port; and so is a packet
+-- of link type USER0, as at link0 and link1 of a capture of `natpair sim`.
 
 local VERSION = 2
 local LINK_PORT = 7000
@@ -182,3 +183,6 @@ end)
 
 -- Wireshark has another protocol at the port that the examples use.
 DissectorTable.get("udp.port"):add(LINK_PORT, link)
+
+-- The link's interfaces in a capture that natpair wrote.
+DissectorTable.get("wtap_encap"):add((wtap_encaps or wtap).USER0, link)

@@ -1,0 +1,3 @@
+mod Writing
+mod Lengths
+pub mod Offered
