@@ -1,3 +1,2 @@
 mod Writing
 mod Lengths
-pub mod Offered

@@ -1,5 +1,5 @@
 -- A tape that takes events down one after another.
-use Rattle.std.proofs.Common.{◌≡◌, List, [], ◌∷◌, refl}
+use Rattle.std.proofs.Common.{◌≡◌, List, ◌∷◌}
 use Rattle.nat_types.specs.declared.events.WorldEvent.{WorldEvent}
 use Rattle.frame_sim.specs.declared.events.Step.{Step}
 use Rattle.frame_sim.specs.World.{World}
@@ -19,17 +19,3 @@ pub leads_next : {T : Type 0} (takes : TakesOn T) (w : World) (first : T) (all :
     → takes t w e s next → LeadsOn takes w first all every t es ss → LeadsOn takes w first all every next es2 ss2
 leads_next takes w first all every t es es2 ss ss2 e s next events steps taken h =
     record { whole = λ t2 more. h.whole t2 (rw (events, steps) (next, (taken, more))) }
-
-none_left : {T : Type 0} (takes : TakesOn T) (w : World) (t : T) (es : List WorldEvent) → AreTaken takes w t es [] t
-none_left takes w t [] = refl
-none_left takes w t (e ∷ es) = refl
-
--- no event is left
-pub leads_whole : {T : Type 0} (takes : TakesOn T) (w : World) (first : T) (all : List WorldEvent) (every : List Step) (t : T)
-    (es : List WorldEvent) (ss : List Step) → es ≡ [] → LeadsOn takes w first all every t es ss → AreTaken takes w first all every t
-leads_whole takes w first all every t es ss none h = h.whole t (rw none refl)
-
--- no step is left
-pub leads_short : {T : Type 0} (takes : TakesOn T) (w : World) (first : T) (all : List WorldEvent) (every : List Step) (t : T)
-    (es : List WorldEvent) (ss : List Step) → ss ≡ [] → LeadsOn takes w first all every t es ss → AreTaken takes w first all every t
-leads_short takes w first all every t es ss none h = h.whole t (rw none (none_left takes w t es))

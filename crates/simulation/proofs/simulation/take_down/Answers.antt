@@ -8,4 +8,4 @@ loop-event-preserved g c =
     let l = c.loop-event in
     let e = c.event-item.result in
     let events = drop_more c.args.events.now l.event-index e c.loop-event-test.true ∙ ap (λ x. x ∷ drop (l.event-index + 1) c.args.events.now) (sym c.event-item.is) in
-    leads_next _ _ _ _ _ _ _ _ _ _ _ _ _ events ? c.in_ok-take.ensures l.invariant
+    leads_next _ _ _ _ _ _ _ _ _ _ _ _ _ events c.in-Some.ensures.cases.0 c.in_ok-take.ensures l.invariant
