@@ -1,7 +1,7 @@
 -- The lengths of blocks.
-use Rattle.std.proofs.Common.{◌≡◌, ◌∙◌, ◌++◌, ◌+◌, ◌<◌, ℕ, zero, suc, List, [], ◌∷◌, length, take, refl, ap, arith, length-append}
+use Rattle.std.proofs.Common.{◌≡◌, ◌∙◌, ◌++◌, ◌+◌, ◌<◌, ℕ, zero, suc, List, [], ◌∷◌, length, take, refl, ap, sym, arith, length-append}
 use Rattle.captures.specs.declared.interfaces.Interface.{Interface}
-use Rattle.captures.specs.Captures.{Captured, interface_body, kept, packet_body}
+use Rattle.captures.specs.Captures.{Captured, header_before, interface_body, kept, packet_body}
 use Rattle.captures.specs.Fields.{half, option_of, padded, padding_of, word}
 use Rattle.captures.specs.Interfaces.{name_of}
 
@@ -38,11 +38,16 @@ pub interface_size : (i : Interface) (name : List ℕ) (pad : ℕ) → name ≡ 
     → 36 + length name + pad ≡ 12 + length (interface_body i)
 interface_size i name pad is fills = rw (fills, is) (length-interface_body i)
 
-length-packet_body : (p : Captured) → 44 + length (kept p.bytes) + padding_of (length (kept p.bytes)) ≡ 12 + length (packet_body p)
-length-packet_body p =
-    simp (length-append, length-word, length-padded, length-option_of) (omega arith)
+length-packet_body : (p : Captured) → 44 + length (header_before p ++ kept p.bytes) + padding_of (length (header_before p ++ kept p.bytes)) ≡ 12 + length (packet_body p)
+length-packet_body p = parts (header_before p ++ kept p.bytes) _ _ _ _ _ _ _
+  where
+    parts : (shown : List ℕ) (a b c d e f g : ℕ) → 44 + length shown + padding_of (length shown)
+        ≡ 12 + length (word a ++ word b ++ word c ++ word d ++ word e ++ padded shown ++ option_of 2 (word f) ++ word g)
+    parts shown a b c d e f g = simp (length-append, length-word, length-padded, length-option_of) (omega arith)
 
 -- a packet's block is so long
-pub packet_size : (p : Captured) (front : List ℕ) (pad : ℕ) → front ≡ kept p.bytes → pad ≡ padding_of (length front)
-    → 44 + length front + pad ≡ 12 + length (packet_body p)
-packet_size p front pad is fills = rw (fills, is) (length-packet_body p)
+pub packet_size : (p : Captured) (header front : List ℕ) (pad : ℕ) → header ≡ header_before p → front ≡ kept p.bytes
+    → pad ≡ padding_of (length header + length front) → 44 + (length header + length front) + pad ≡ 12 + length (packet_body p)
+packet_size p header front pad before is fills =
+    let sum : length header + length front ≡ length (header_before p ++ kept p.bytes) = rw (before, is) (sym (length-append (header_before p) (kept p.bytes))) in
+    rw (fills, sum) (length-packet_body p)

@@ -7,7 +7,7 @@ use Rattle.captures.specs.declared.interfaces.Interface.{Interface}
 use Rattle.captures.specs.declared.interfaces.Interface.TheVariants.{Side, Link}
 use Rattle.captures.specs.declared.packets.Packet.{Packet}
 use Rattle.captures.specs.Fields.{block_of, half, option_of, padded, word}
-use Rattle.captures.specs.Interfaces.{flags_of, link_type_of, name_of, number_of}
+use Rattle.captures.specs.Interfaces.{flags_of, header_of, name_of, number_of}
 
 -- a packet, the interface where it was seen, which way it went, and the moment, in centiseconds
 pub record Captured : Type 0 where
@@ -25,10 +25,10 @@ captured_of p = record { interface = p.interface; direction = p.direction; momen
 unfoldable pub section_block : List ℕ
 section_block = block_of 0x0a0d0d0a (word 0x1a2b3c4d ++ half 1 ++ half 0 ++ word 0xffffffff ++ word 0xffffffff)
 
--- of an Interface Description Block: link type, nothing, snap length; if_name, if_tsresol (microseconds), opt_endofopt
+-- of an Interface Description Block: LINKTYPE_ETHERNET, nothing, snap length; if_name, if_tsresol (microseconds), opt_endofopt
 abbrev pub interface_body : Interface → List ℕ
 interface_body i =
-    half (link_type_of i) ++ half 0 ++ word 65535 ++ option_of 2 (name_of i) ++ option_of 9 (6 ∷ []) ++ word 0
+    half 1 ++ half 0 ++ word 65535 ++ option_of 2 (name_of i) ++ option_of 9 (6 ∷ []) ++ word 0
 
 unfoldable pub interface_block : Interface → List ℕ
 interface_block i = block_of 1 (interface_body i)
@@ -45,14 +45,19 @@ microseconds moment = min (moment * 10000) (2 ^ 64 - 1)
 
 -- the bytes of a packet that a capture has
 abbrev pub kept : List ℕ → List ℕ
-kept bytes = take (min (length bytes) 65535) bytes
+kept bytes = take (min (length bytes) 65521) bytes
+
+-- what stands before them
+abbrev pub header_before : Captured → List ℕ
+header_before p = header_of p.interface p.direction
 
 -- of an Enhanced Packet Block: interface, moment, how many bytes follow, how many there were, and those that follow;
 -- epb_flags, opt_endofopt
 abbrev pub packet_body : Captured → List ℕ
 packet_body p =
     word (number_of p.interface) ++ word (microseconds p.moment / 2 ^ 32) ++ word (microseconds p.moment % 2 ^ 32)
-    ++ word (length (kept p.bytes)) ++ word (min (length p.bytes) (2 ^ 32 - 1)) ++ padded (kept p.bytes)
+    ++ word (length (header_before p ++ kept p.bytes)) ++ word (min (length (header_before p ++ p.bytes)) (2 ^ 32 - 1))
+    ++ padded (header_before p ++ kept p.bytes)
     ++ option_of 2 (word (flags_of p.direction)) ++ word 0
 
 unfoldable pub packet_block : Captured → List ℕ

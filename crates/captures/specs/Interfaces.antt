@@ -1,5 +1,7 @@
 -- The interfaces of a capture, and the ways that packets go.
-use Rattle.std.specs.Prelude.{ℕ, List, codes}
+use Rattle.std.specs.Prelude.{ℕ, List, [], ◌∷◌, ◌++◌, codes}
+use Rattle.nat_types.specs.Same.{other}
+use Rattle.nat_types.specs.declared.gateways.GatewayId.{GatewayId}
 use Rattle.nat_types.specs.declared.gateways.GatewayId.TheVariants.{Zero, One}
 use Rattle.nat_types.specs.declared.gateways.Side.TheVariants.{Inside, Outside}
 use Rattle.captures.specs.declared.interfaces.Direction.{Direction}
@@ -24,10 +26,21 @@ name_of (Side One Outside) = codes "gateway1-outside"
 name_of (Link Zero) = codes "link0"
 name_of (Link One) = codes "link1"
 
--- LINKTYPE_ETHERNET for frames, LINKTYPE_USER0 for datagrams of the link
-abbrev pub link_type_of : Interface → ℕ
-link_type_of (Side i side) = 1
-link_type_of (Link i) = 147
+-- a locally administered address of a gateway
+abbrev pub mac_of : GatewayId → List ℕ
+mac_of Zero = 0x02 ∷ 0x4e ∷ 0x50 ∷ 0 ∷ 0 ∷ 0 ∷ []
+mac_of One = 0x02 ∷ 0x4e ∷ 0x50 ∷ 0 ∷ 0 ∷ 1 ∷ []
+
+-- an Ethernet header from one gateway to the other, of the type Local Experimental EtherType 1
+abbrev pub header_from : GatewayId → List ℕ
+header_from i = mac_of (other i) ++ mac_of i ++ (0x88 ∷ 0xb5 ∷ [])
+
+-- What is put before a packet, since readers want one link type for all interfaces: nothing before a frame, and before a
+-- datagram of the link a header from the gateway that sent it.
+abbrev pub header_of : Interface → Direction → List ℕ
+header_of (Side i side) direction = []
+header_of (Link i) Outbound = header_from i
+header_of (Link i) Inbound = header_from (other i)
 
 -- the lowest two bits of epb_flags
 abbrev pub flags_of : Direction → ℕ

@@ -1,5 +1,5 @@
 //! The fields of blocks.
-ghost use Rattle.std.specs.Prelude.{◌≡◌, ◌<◌, ◌^◌, length, take, OnOk};
+ghost use Rattle.std.specs.Prelude.{◌≡◌, ◌<◌, ◌≤◌, ◌++◌, ◌^◌, length, OnOk};
 ghost use Rattle.std.specs.Io.KnownBytes.{Appends};
 ghost use Rattle.captures.specs.Fields.{half, word, option_of, padded, padding_of};
 
@@ -30,6 +30,22 @@ pub(crate) fn padding(length: usize) -> usize
     ensures { result ≡ padding_of length }
 {
     (4 - length % 4) % 4
+}
+
+/// Writes bytes in two parts, filled up.
+pub(crate) fn write_both<W: Write>(
+    output: &mut W,
+    front: &[u8],
+    bytes: &[u8],
+) -> io::Result<()>
+    requires { length front.now ≤ 14 }
+    ensures { OnOk result
+        (Appends (W.contents output.old) (W.contents output.new) (padded (front.now ++ bytes.now))) }
+{
+    output.write_all(front)?;
+    output.write_all(bytes)?;
+    output.write_all(&ZEROS[..padding(front.len() + bytes.len())])?;
+    Ok(())
 }
 
 /// Writes bytes, filled up.

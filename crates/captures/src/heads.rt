@@ -61,7 +61,7 @@ fn write_description<W: Write>(output: &mut W, interface: Interface) -> io::Resu
     ensures { OnOk result
         (Appends (W.contents output.old) (W.contents output.new) (interface_body interface)) }
 {
-    write_half(output, interface.link_type())?;
+    write_half(output, 1)?;
     write_half(output, 0)?;
     write_word(output, 65535)?;
     write_option(output, 2, interface.name().as_bytes())?;

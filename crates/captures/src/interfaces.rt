@@ -1,8 +1,19 @@
 //! Where a packet was seen, and which way it went.
 ghost use Rattle.std.specs.Prelude.{◌≡◌, ◌≤◌, length};
-ghost use Rattle.captures.specs.Interfaces.{number_of, name_of, link_type_of, flags_of};
+ghost use Rattle.captures.specs.Interfaces.{number_of, name_of, header_of, flags_of};
 
 use nat_types::{GatewayId, Side};
+
+/// The header of a datagram that gateway 0 sent: to 02-4E-50-00-00-01, from 02-4E-50-00-00-00, of a type for local
+/// experiments.
+const FROM_ZERO: [u8; 14] = [
+    0x02, 0x4e, 0x50, 0, 0, 1, 0x02, 0x4e, 0x50, 0, 0, 0, 0x88, 0xb5,
+];
+
+/// The header of one that gateway 1 sent.
+const FROM_ONE: [u8; 14] = [
+    0x02, 0x4e, 0x50, 0, 0, 0, 0x02, 0x4e, 0x50, 0, 0, 1, 0x88, 0xb5,
+];
 
 /// An interface of a gateway: one of its two sides, or its end of the link.
 #[derive(Clone, Copy, Debug, PartialEq, Eq)]
@@ -41,13 +52,18 @@ impl Interface {
         }
     }
 
-    /// What its packets begin with: an Ethernet header, or the datagram itself.
-    pub(crate) fn link_type(self) -> u16
-        ensures { result ≡ link_type_of self }
+    /// What is put before its packets that go this way: nothing before a frame, and before a datagram of the link an
+    /// Ethernet header, from the gateway that sent it to the other.
+    pub(crate) fn header(self, direction: Direction) -> &'static [u8]
+        ensures header { result.now ≡ header_of self direction }
+        ensures short { length result.now ≤ 14 }
     {
-        match self {
-            Interface::Side(_, _) => 1,
-            Interface::Link(_) => 147,
+        match (self, direction) {
+            (Interface::Side(_, _), _) => &[],
+            (Interface::Link(GatewayId::Zero), Direction::Outbound)
+            | (Interface::Link(GatewayId::One), Direction::Inbound) => &FROM_ZERO,
+            (Interface::Link(GatewayId::One), Direction::Outbound)
+            | (Interface::Link(GatewayId::Zero), Direction::Inbound) => &FROM_ONE,
         }
     }
 }

@@ -1,9 +1,9 @@
 //! The packets of a capture.
-ghost use Rattle.std.specs.Prelude.{◌≡◌, ◌≤◌, ◌-◌, ◌^◌, length, min, OnOk};
+ghost use Rattle.std.specs.Prelude.{◌≡◌, ◌≤◌, ◌-◌, ◌^◌, ◌++◌, length, min, OnOk};
 ghost use Rattle.std.specs.Io.KnownBytes.{Appends};
 ghost use Rattle.captures.specs.Captures.{captured_of, kept, microseconds, packet_block, packet_body};
 
-use crate::fields::{padding, write_option, write_padded, write_word};
+use crate::fields::{padding, write_both, write_option, write_word};
 use crate::{Direction, Interface};
 use std::io::{self, Write};
 
@@ -18,11 +18,11 @@ pub struct Packet<'a> {
 }
 
 /// Of how many bytes of a packet at most a capture has more than their number.
-const SNAP_LENGTH: usize = 65_535;
+const SNAP_LENGTH: usize = 65_521;
 
 /// Writes a packet behind the head of a capture and the packets before it. A moment that 64 bits of microseconds don't hold
-/// becomes the greatest that they hold. Of a packet longer than 65,535 bytes those at its front are written, and its length,
-/// or 4,294,967,295 where that is greater.
+/// becomes the greatest that they hold. Of a packet longer than 65,521 bytes those at its front are written, and its length,
+/// or 4,294,967,295 where that is greater. Before a datagram of the link stands an Ethernet header, which counts.
 ///
 /// # Errors
 ///
@@ -31,8 +31,10 @@ pub fn write_packet<W: Write>(output: &mut W, packet: &Packet<'_>) -> io::Result
     ensures { OnOk result (Appends (W.contents output.old) (W.contents output.new)
         (packet_block (captured_of packet.now))) }
 {
+    let header = packet.interface.header(packet.direction);
     let front = front(packet.bytes);
-    let length = (44 + front.len() + padding(front.len())) as u32;
+    let size = header.len() + front.len();
+    let length = (44 + size + padding(size)) as u32;
     write_word(output, 6)?;
     write_word(output, length)?;
     write_body(output, packet)?;
@@ -46,13 +48,14 @@ fn write_body<W: Write>(output: &mut W, packet: &Packet<'_>) -> io::Result<()>
         (packet_body (captured_of packet.now))) }
 {
     let moment = microseconds(packet.moment);
+    let header = packet.interface.header(packet.direction);
     let front = front(packet.bytes);
     write_word(output, packet.interface.number())?;
     write_word(output, (moment / 0x1_0000_0000) as u32)?;
     write_word(output, (moment % 0x1_0000_0000) as u32)?;
-    write_word(output, front.len() as u32)?;
-    write_word(output, whole_length(packet.bytes))?;
-    write_padded(output, front)?;
+    write_word(output, (header.len() + front.len()) as u32)?;
+    write_word(output, whole_length(header, packet.bytes))?;
+    write_both(output, header, front)?;
     write_option(output, 2, &packet.direction.flags().to_le_bytes())?;
     write_word(output, 0)?;
     Ok(())
@@ -61,16 +64,17 @@ fn write_body<W: Write>(output: &mut W, packet: &Packet<'_>) -> io::Result<()>
 /// The bytes of a packet that a capture has.
 fn front(bytes: &[u8]) -> &[u8]
     ensures front { result.now ≡ kept bytes.now }
-    ensures short { length result.now ≤ 65535 }
+    ensures short { length result.now ≤ 65521 }
 {
     &bytes[..bytes.len().min(SNAP_LENGTH)]
 }
 
-/// How many bytes a packet has, as 32 bits can say it.
-fn whole_length(bytes: &[u8]) -> u32
-    ensures { result ≡ min (length bytes.now) (2 ^ 32 - 1) }
+/// How many bytes a packet has with its header, as 32 bits can say it.
+fn whole_length(header: &[u8], bytes: &[u8]) -> u32
+    requires { length header.now ≤ 14 }
+    ensures { result ≡ min (length (header.now ++ bytes.now)) (2 ^ 32 - 1) }
 {
-    bytes.len().min(0xffff_ffff) as u32
+    (header.len() + bytes.len()).min(0xffff_ffff) as u32
 }
 
 /// A moment in microseconds, as 64 bits can say it.
