@@ -3,10 +3,12 @@
 --     wireshark -X lua_script:wireshark/natpair-link.lua link.pcap
 --     tshark -X lua_script:wireshark/natpair-link.lua -r link.pcap -Y natpair -V
 --
--- A UDP datagram that begins with the letters NP and has the version is taken for one, whatever its port.
+-- A UDP datagram that begins with the letters NP and has the version is taken for one, whatever its port; and so is
+-- what comes in a frame of EtherType 0x88b5, as at link0 and link1 of a capture of `natpair sim`.
 
 local VERSION = 2
 local LINK_PORT = 7000
+local LOCAL_EXPERIMENTS = 0x88b5
 local MOST_RECORDS = 64
 local MOST_PORTS = 16
 -- A session's records have the numbers below this one.
@@ -182,3 +184,6 @@ end)
 
 -- Wireshark has another protocol at the port that the examples use.
 DissectorTable.get("udp.port"):add(LINK_PORT, link)
+
+-- The link's interfaces in a capture that natpair wrote.
+DissectorTable.get("ethertype"):add(LOCAL_EXPERIMENTS, link)

@@ -47,17 +47,25 @@ boot_rule = record (new_rule (codes "boot")) {
   parser = Some (Unsigned 0 18446744073709551615);
 }
 
+-- `--capture FILE`
+abbrev pub capture_rule : Rule
+capture_rule = record (new_rule (codes "capture")) { long = Some (codes "capture"); action = Some Set }
+
 -- `init FILE`
 abbrev pub init_app : App
 init_app = with_rule (new_app (codes "init")) (file_rule (codes "FILE"))
 
--- `sim SETTINGS SCRIPT`
-abbrev pub sim_app : App
-sim_app = with_rule (with_rule (new_app (codes "sim")) (file_rule (codes "SETTINGS"))) (file_rule (codes "SCRIPT"))
+-- `SETTINGS SCRIPT [--capture FILE]`
+abbrev pub with_script : App → App
+with_script a = with_rule (with_rule (with_rule a (file_rule (codes "SETTINGS"))) (file_rule (codes "SCRIPT"))) capture_rule
 
--- `loop SETTINGS SCRIPT`
+-- `sim SETTINGS SCRIPT [--capture FILE]`
+abbrev pub sim_app : App
+sim_app = with_script (new_app (codes "sim"))
+
+-- `loop SETTINGS SCRIPT [--capture FILE]`
 abbrev pub loop_app : App
-loop_app = with_rule (with_rule (new_app (codes "loop")) (file_rule (codes "SETTINGS"))) (file_rule (codes "SCRIPT"))
+loop_app = with_script (new_app (codes "loop"))
 
 -- `[--inside WAY] [--outside WAY] [--link WAY]`
 abbrev pub with_ways : App → App

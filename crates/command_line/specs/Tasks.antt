@@ -1,5 +1,5 @@
 -- The task that words ask for.
-use Rattle.std.specs.Prelude.{◌≡◌, ◌⊎◌, ◌<◌, ◌^◌, ℕ, Bool, true, false, not, List, [], codes, Option, Some, None, unwrap_or, string_bytes, if◌then◌else◌}
+use Rattle.std.specs.Prelude.{◌≡◌, ◌⊎◌, ◌<◌, ◌^◌, ℕ, Bool, true, false, not, List, [], codes, Option, Some, None, option_map, unwrap_or, string_bytes, if◌then◌else◌}
 use Rattle.std.specs.Str.{bytes_eq}
 use Rattle.std.specs.Str.Parse.{IsNumeral, digits_value, without_leading_plus}
 use Rattle.std.specs.Option.{option_map_or}
@@ -11,6 +11,7 @@ use Rattle.nat_types.specs.declared.gateways.GatewayId.{GatewayId}
 use Rattle.nat_types.specs.declared.gateways.GatewayId.TheVariants.{Zero, One}
 use Rattle.nat_types.specs.declared.gateways.Side.{Side}
 use Rattle.nat_types.specs.declared.gateways.Side.TheVariants.{Inside, Outside}
+use Rattle.command_line.specs.declared.tasks.RunWords.{RunWords}
 use Rattle.command_line.specs.declared.tasks.WayWords.{WayWords}
 use Rattle.command_line.specs.declared.tasks.Task.{Task}
 use Rattle.command_line.specs.declared.tasks.Task.TheVariants as task
@@ -74,6 +75,12 @@ abbrev pub ReadsId : List Row → Option GatewayId → Type 0
 ReadsId rows (Some id) = IsId rows id
 ReadsId rows None = LacksId rows
 
+-- the files of a run, and the file for its capture, where `--capture` names one
+pub record AreFiles (rows : List Row) (files : RunWords) : Type 0 where
+  pub settings : string_bytes files.settings ≡ word_of (codes "SETTINGS") rows
+  pub script : string_bytes files.script ≡ word_of (codes "SCRIPT") rows
+  pub capture : option_map string_bytes files.capture ≡ first_of (codes "capture") rows
+
 -- the words of the three ways
 pub record AreWays (rows : List Row) (ways : WayWords) : Type 0 where
   pub inside : string_bytes ways.inside ≡ word_of (codes "inside") rows
@@ -95,12 +102,8 @@ state_in rows = either_of (codes "up") true (codes "down") false (word_of (codes
 -- the task of a command, by the values that the words give it
 abbrev pub IsTask : Text → List Row → Task → Type 0
 IsTask name rows (task.Init file) = (name ≡ codes "init") × (string_bytes file ≡ word_of (codes "FILE") rows)
-IsTask name rows (task.Sim settings script) =
-    (name ≡ codes "sim") × (string_bytes settings ≡ word_of (codes "SETTINGS") rows)
-    × (string_bytes script ≡ word_of (codes "SCRIPT") rows)
-IsTask name rows (task.Loop settings script) =
-    (name ≡ codes "loop") × (string_bytes settings ≡ word_of (codes "SETTINGS") rows)
-    × (string_bytes script ≡ word_of (codes "SCRIPT") rows)
+IsTask name rows (task.Sim files) = (name ≡ codes "sim") × AreFiles rows files
+IsTask name rows (task.Loop files) = (name ≡ codes "loop") × AreFiles rows files
 IsTask name rows (task.Gate settings id rounds found ways track) =
     (name ≡ codes "gate") × (string_bytes settings ≡ word_of (codes "SETTINGS") rows)
     × IsId rows id × IsNumber 32 (codes "rounds") rows rounds × (found ≡ flag_of (codes "found") rows)

@@ -2,7 +2,7 @@
 ghost use Rattle.std.specs.Prelude.{◌≡◌, codes, false, IfOk};
 ghost use Rattle.clap.specs.Words.{app_of, with_rule, with_subcommand};
 ghost use Rattle.clap.specs.declared.builder.command.Command.TheViews.{out-Command as fields_of};
-ghost use Rattle.command_line.specs.Line.{file_rule, id_rule, init_app, sim_app, loop_app, with_rounds, with_ways, gate_app, peer_off_app, side_app, top_app, line_app};
+ghost use Rattle.command_line.specs.Line.{file_rule, id_rule, init_app, sim_app, loop_app, with_rounds, with_script, with_ways, gate_app, peer_off_app, side_app, top_app, line_app};
 
 use crate::options;
 use clap::Command;
@@ -28,17 +28,18 @@ fn init<'a>(alloc: Global) -> Result<Command<'a>, AllocError>
         .arg(file)
 }
 
-/// The words SETTINGS and SCRIPT.
+/// The words SETTINGS and SCRIPT, and the option `--capture`.
 fn with_script<'a>(alloc: Global, command: Command<'a>) -> Result<Command<'a>, AllocError>
     requires local { (fields_of command).has_globals ≡ false }
-    ensures app { IfOk result (λ c. app_of c ≡ with_rule (with_rule (app_of command.entry)
-        (file_rule (codes "SETTINGS"))) (file_rule (codes "SCRIPT"))) }
+    ensures app { IfOk result (λ c. app_of c ≡ with_script (app_of command.entry)) }
     ensures local { IfOk result (λ c. (fields_of c).has_globals ≡ false) }
 {
     let settings = options::file(alloc, "SETTINGS", "The settings in TOML, as in S.toml");
-    let command = command.arg(settings)?;
     let script = options::file(alloc, "SCRIPT", "The events, a line each, as in day.script");
-    command.arg(script)
+    command
+        .arg(settings)?
+        .arg(script)?
+        .arg(options::capture(alloc))
 }
 
 fn sim<'a>(alloc: Global) -> Result<Command<'a>, AllocError>

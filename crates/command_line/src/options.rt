@@ -1,7 +1,7 @@
 //! The options and words that the commands take.
 ghost use Rattle.std.specs.Prelude.{◌≡◌, false};
 ghost use Rattle.clap.specs.Words.{rule_of};
-ghost use Rattle.command_line.specs.Line.{file_rule, id_rule, rounds_rule, found_rule, way_rule, no_track_rule, boot_rule};
+ghost use Rattle.command_line.specs.Line.{file_rule, id_rule, rounds_rule, found_rule, way_rule, no_track_rule, boot_rule, capture_rule};
 
 use clap::builder::ValueParser;
 use clap::{Arg, ArgAction};
@@ -89,4 +89,15 @@ pub(crate) fn boot<'a>(alloc: Global) -> Arg<'a>
         .action(ArgAction::Set)
         .value_parser(ValueParser::Unsigned(0, 18_446_744_073_709_551_615))
         .help("The boot of the peer that has ended, as in --boot 7")
+}
+
+/// `--capture FILE`.
+pub(crate) fn capture<'a>(alloc: Global) -> Arg<'a>
+    ensures rule { rule_of result ≡ capture_rule }
+    ensures local { result.global ≡ false }
+{
+    Arg::new(alloc, "capture")
+        .long("capture")
+        .action(ArgAction::Set)
+        .help("A file for all frames and datagrams, in pcapng, as in --capture day.pcapng")
 }

@@ -2,7 +2,7 @@
 ghost use Rattle.std.specs.Prelude.{◌≡◌, codes, string_bytes, map, option_map, IfOk, IfErr};
 ghost use Rattle.clap.specs.Words.{found_of, rows_of, subcommand_rows_of};
 ghost use Rattle.command_line.specs.Line.{Takes, entered_by};
-ghost use Rattle.command_line.specs.Tasks.{IsTask, Asks, AreWays, FoundsAtZero, IsNamed, Enters, HasId, HasNumbersOfGate, HasNumbersOfPeerOff, HasNumbers, Numbered, RefusesGate, RefusesSide, RefusesValues, RefusesEntered, RefusesWords, Refuses};
+ghost use Rattle.command_line.specs.Tasks.{IsTask, Asks, AreFiles, AreWays, FoundsAtZero, IsNamed, Enters, HasId, HasNumbersOfGate, HasNumbersOfPeerOff, HasNumbers, Numbered, RefusesGate, RefusesSide, RefusesValues, RefusesEntered, RefusesWords, Refuses};
 
 use crate::faults::LineFault;
 use crate::{commands, values};
@@ -10,6 +10,15 @@ use clap::ArgMatches;
 use clap::error::ErrorKind;
 use nat_types::{GatewayId, Side};
 use std::alloc::{AllocError, Global};
+
+/// The files of a run. Files are paths.
+#[derive(Debug, Drop)]
+pub struct RunWords {
+    pub settings: String,
+    pub script: String,
+    /// The run is captured in this file.
+    pub capture: Option<String>,
+}
 
 /// The ways of a gateway's places, as they are written.
 #[derive(Debug, Drop)]
@@ -24,10 +33,10 @@ pub struct WayWords {
 pub enum Task {
     /// Create a boot file.
     Init(String),
-    /// Run a script (the second file) with settings (the first) and print it.
-    Sim(String, String),
+    /// Run a script with settings and print it.
+    Sim(RunWords),
     /// The same, with frames and datagrams sent through loopback sockets.
-    Loop(String, String),
+    Loop(RunWords),
     /// Run one gateway with settings, for so many rounds.
     Gate {
         settings: String,
@@ -58,20 +67,28 @@ fn init(alloc: Global, matches: &ArgMatches<'_>) -> Result<Task, AllocError>
     Ok(Task::Init(file))
 }
 
+fn files(alloc: Global, matches: &ArgMatches<'_>) -> Result<RunWords, AllocError>
+    ensures { IfOk result (AreFiles (rows_of (found_of matches.now))) }
+{
+    Ok(RunWords {
+        settings: values::word(alloc, matches, "SETTINGS")?,
+        script: values::word(alloc, matches, "SCRIPT")?,
+        capture: values::word_if(alloc, matches, "capture")?,
+    })
+}
+
 fn sim(alloc: Global, matches: &ArgMatches<'_>) -> Result<Task, AllocError>
     ensures { IfOk result (IsTask (codes "sim") (rows_of (found_of matches.now))) }
 {
-    let settings = values::word(alloc, matches, "SETTINGS")?;
-    let script = values::word(alloc, matches, "SCRIPT")?;
-    Ok(Task::Sim(settings, script))
+    let files = files(alloc, matches)?;
+    Ok(Task::Sim(files))
 }
 
 fn repeat(alloc: Global, matches: &ArgMatches<'_>) -> Result<Task, AllocError>
     ensures { IfOk result (IsTask (codes "loop") (rows_of (found_of matches.now))) }
 {
-    let settings = values::word(alloc, matches, "SETTINGS")?;
-    let script = values::word(alloc, matches, "SCRIPT")?;
-    Ok(Task::Loop(settings, script))
+    let files = files(alloc, matches)?;
+    Ok(Task::Loop(files))
 }
 
 fn ways(alloc: Global, matches: &ArgMatches<'_>) -> Result<WayWords, AllocError>

@@ -1,6 +1,6 @@
 //! The values that clap gives the options of a command.
-ghost use Rattle.std.specs.Prelude.{◌≡◌, string_bytes, IfOk};
-ghost use Rattle.clap.specs.Words.{found_of, rows_of};
+ghost use Rattle.std.specs.Prelude.{◌≡◌, option_map, string_bytes, IfOk};
+ghost use Rattle.clap.specs.Words.{first_of, found_of, rows_of};
 ghost use Rattle.command_line.specs.Tasks.{word_of, flag_of, side_in, state_in, ReadsNumber, ReadsId};
 
 use clap::ArgMatches;
@@ -24,6 +24,24 @@ pub(crate) fn word(
         ≡ word_of name.now (rows_of (found_of matches.now))) }
 {
     String::from_str(alloc, text(matches, name))
+}
+
+/// The word at a name, if one stands there.
+pub(crate) fn word_if(
+    alloc: Global,
+    matches: &ArgMatches<'_>,
+    name: &str,
+) -> Result<Option<String>, AllocError>
+    ensures { IfOk result (λ o. option_map string_bytes o
+        ≡ first_of name.now (rows_of (found_of matches.now))) }
+{
+    match matches.get_str(name) {
+        Some(text) => {
+            let word = String::from_str(alloc, text)?;
+            Ok(Some(word))
+        }
+        None => Ok(None),
+    }
 }
 
 /// Whether a flag is set.

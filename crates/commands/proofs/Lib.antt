@@ -1,3 +1,4 @@
 mod Statuses
 mod Refusing
 mod Passing
+mod Taping

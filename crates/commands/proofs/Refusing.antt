@@ -42,8 +42,8 @@ gates_differ bad = cc
 none_at_one : (name : Text) (rows : List Row) (task : Task) → IsTask name rows task → FoundsAtZero task
     → name ≡ codes "gate" → FoundsAtOne rows → ⊥
 none_at_one name rows (kind.Init file) t zero gate one = apart (codes "init") (codes "gate") refl refl (sym t.0 ∙ gate)
-none_at_one name rows (kind.Sim settings script) t zero gate one = apart (codes "sim") (codes "gate") refl refl (sym t.0 ∙ gate)
-none_at_one name rows (kind.Loop settings script) t zero gate one = apart (codes "loop") (codes "gate") refl refl (sym t.0 ∙ gate)
+none_at_one name rows (kind.Sim files) t zero gate one = apart (codes "sim") (codes "gate") refl refl (sym t.0 ∙ gate)
+none_at_one name rows (kind.Loop files) t zero gate one = apart (codes "loop") (codes "gate") refl refl (sym t.0 ∙ gate)
 none_at_one name rows (kind.PeerOff settings id boot) t zero gate one = apart (codes "peer-off") (codes "gate") refl refl (sym t.0 ∙ gate)
 none_at_one name rows (kind.Side settings id side up) t zero gate one = apart (codes "side") (codes "gate") refl refl (sym t.0 ∙ gate)
 none_at_one name rows (kind.Gate settings id rounds found ways track) t zero gate one =
@@ -63,8 +63,8 @@ has_side rows side up one two (inr none) = there (state_in rows) up two none
 -- no task lacks them
 none_lacks : (name : Text) (rows : List Row) (task : Task) → IsTask name rows task → name ≡ codes "side" → LacksSide rows → ⊥
 none_lacks name rows (kind.Init file) t is lacks = apart (codes "init") (codes "side") refl refl (sym t.0 ∙ is)
-none_lacks name rows (kind.Sim settings script) t is lacks = apart (codes "sim") (codes "side") refl refl (sym t.0 ∙ is)
-none_lacks name rows (kind.Loop settings script) t is lacks = apart (codes "loop") (codes "side") refl refl (sym t.0 ∙ is)
+none_lacks name rows (kind.Sim files) t is lacks = apart (codes "sim") (codes "side") refl refl (sym t.0 ∙ is)
+none_lacks name rows (kind.Loop files) t is lacks = apart (codes "loop") (codes "side") refl refl (sym t.0 ∙ is)
 none_lacks name rows (kind.Gate settings id rounds found ways track) t is lacks = apart (codes "gate") (codes "side") refl refl (sym t.0 ∙ is)
 none_lacks name rows (kind.PeerOff settings id boot) t is lacks = apart (codes "peer-off") (codes "side") refl refl (sym t.0 ∙ is)
 none_lacks name rows (kind.Side settings id side up) t is lacks = has_side rows side up t.3 t.4 lacks

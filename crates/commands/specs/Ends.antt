@@ -36,8 +36,8 @@ pub record HasLoop (status : ℕ) : Type 0 where
 -- the others; and for `gate` there are a start and its rounds.
 abbrev pub Ends : Option (List ℕ) → Option (List ℕ) → Task → ℕ → Type 0
 Ends before after (task.Init file) status = status ≡ 0
-Ends before after (task.Sim settings script) status = HasRun status
-Ends before after (task.Loop settings script) status = HasLoop status
+Ends before after (task.Sim files) status = HasRun status
+Ends before after (task.Loop files) status = HasLoop status
 Ends before after (task.Gate settings id rounds found ways track) status = (status ≡ 0) × HasServed id rounds found track before after
 Ends before after (task.PeerOff settings id boot) status = status ≡ 0
 Ends before after (task.Side settings id side up) status = status ≡ 0

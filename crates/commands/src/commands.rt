@@ -1,19 +1,13 @@
 //! The commands.
-ghost use Rattle.std.specs.Prelude.{◌≡◌, ◌⊎◌, ◌≤◌, map, string_bytes, IfErr};
-ghost use Rattle.faults.specs.Faults.{status_of};
+ghost use Rattle.std.specs.Prelude.{◌≡◌, ◌⊎◌, ◌≤◌, map, string_bytes};
 ghost use Rattle.command_line.specs.Tasks.{FoundsAtZero};
-ghost use Rattle.simulation.specs.Status.{RunsScript};
 ghost use Rattle.commands.specs.Words.{AreRefused};
-ghost use Rattle.commands.specs.Ends.{AreDone, Ends, HasLoop, HasRun};
+ghost use Rattle.commands.specs.Ends.{AreDone, Ends};
 
-use crate::meters::Meter;
+use crate::runs::{repeat, sim};
 use boot_file::{Lockable, Uncached};
 use command_line::{Task, WayWords, command};
-use faults::{Fault, text_of};
 use gate::{Start, WayTexts, gate, init, peer_off, side};
-use loopback::Loopback;
-use loopback_run::run_loop;
-use simulation::{simulate, simulate_watched};
 use std::fs::Files;
 use std::io::Write;
 use std::net::Net;
@@ -68,13 +62,8 @@ where
 {
     match task {
         Task::Init(file) => init(rt, file.as_str(), errors),
-        Task::Sim(settings, script) => {
-            let (settings, script) = (settings.as_str(), script.as_str());
-            sim(rt, settings, script, is_watched, output, errors)
-        }
-        Task::Loop(settings, script) => {
-            repeat(rt, settings.as_str(), script.as_str(), output, errors)
-        }
+        Task::Sim(files) => sim(rt, files, is_watched, output, errors),
+        Task::Loop(files) => repeat(rt, files, output, errors),
         Task::Gate {
             settings,
             id,
@@ -110,101 +99,4 @@ fn texts_of(words: &WayWords) -> WayTexts<'_> {
         outside: words.outside.as_str(),
         link: words.link.as_str(),
     }
-}
-
-/// Runs the script of one file with the settings of another.
-fn sim<R: Files + Clock + AllocGlobal, O: Write, E: Write>(
-    rt: &R,
-    settings: &str,
-    script: &str,
-    is_watched: bool,
-    output: &mut O,
-    errors: &mut E,
-) -> u8
-    ensures status { (result ≡ 0) ⊎ ((result ≡ 1) ⊎ (result ≡ 3)) }
-    ensures run { (result ≡ 0) ⊎ (result ≡ 3) → HasRun result }
-{
-    match texts(rt, settings, script) {
-        Ok((settings, script)) => {
-            let (settings, script) = (settings.as_str(), script.as_str());
-            simulated(rt, settings, script, is_watched, output, errors)
-        }
-        Err(fault) => fault.tell(errors),
-    }
-}
-
-/// Runs a script.
-fn simulated<R: Clock + AllocGlobal, O: Write, E: Write>(
-    rt: &R,
-    settings: &str,
-    script: &str,
-    is_watched: bool,
-    output: &mut O,
-    errors: &mut E,
-) -> u8
-    ensures status { (result ≡ 0) ⊎ ((result ≡ 1) ⊎ (result ≡ 3)) }
-    ensures run { (result ≡ 0) ⊎ (result ≡ 3) → RunsScript settings.now script.now result }
-{
-    if is_watched {
-        watched(rt, settings, script, output, errors)
-    } else {
-        simulate(rt.alloc(), settings, script, output, errors)
-    }
-}
-
-/// Runs a script, and says how far it is while somebody waits.
-fn watched<R: Clock + AllocGlobal, O: Write, E: Write>(
-    rt: &R,
-    settings: &str,
-    script: &str,
-    output: &mut O,
-    errors: &mut E,
-) -> u8
-    ensures status { (result ≡ 0) ⊎ ((result ≡ 1) ⊎ (result ≡ 3)) }
-    ensures run { (result ≡ 0) ⊎ (result ≡ 3) → RunsScript settings.now script.now result }
-{
-    let mut meter = Meter::start(rt, errors);
-    match simulate_watched(rt.alloc(), settings, script, &mut meter, output) {
-        Ok(status) => status,
-        Err(fault) => fault.tell(errors),
-    }
-}
-
-/// Runs the script of one file with the settings of another, over the own loopback ports of both gateways.
-fn repeat<R: Files + Net + Clock + AllocGlobal, O: Write, E: Write>(
-    rt: &R,
-    settings: &str,
-    script: &str,
-    output: &mut O,
-    errors: &mut E,
-) -> u8
-    ensures status { (result ≡ 0) ⊎ ((result ≡ 1) ⊎ (result ≡ 3)) }
-    ensures run { (result ≡ 0) ⊎ (result ≡ 3) → HasLoop result }
-{
-    match texts(rt, settings, script) {
-        Ok((settings, script)) => {
-            run_loop(
-                rt.alloc(),
-                settings.as_str(),
-                script.as_str(),
-                &mut Loopback::new(rt),
-                output,
-                errors,
-            )
-        }
-        Err(fault) => fault.tell(errors),
-    }
-}
-
-/// The texts of two files. The first file's fault comes first.
-fn texts<R: Files + AllocGlobal>(
-    rt: &R,
-    settings: &str,
-    script: &str,
-) -> Result<(String, String), Fault>
-    ensures status { IfErr result (λ fault. status_of fault ≡ 1) }
-{
-    let settings = text_of(rt, settings)?;
-    let script = text_of(rt, script)?;
-    Ok((settings, script))
 }

@@ -3,4 +3,4 @@
 
 mod turns;
 
-pub use turns::{loop_script, play, run_loop};
+pub use turns::{loop_captured, loop_script, play, run_loop};

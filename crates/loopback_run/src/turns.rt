@@ -15,6 +15,7 @@ use gateway::Out;
 use loopback::{Channel, Passed};
 use nat_types::WorldEvent;
 use printing::Printer;
+use recording::{Tape, Untaped};
 use settings::Settings;
 use sockets::{Place, SocketFault};
 use std::alloc::Global;
@@ -75,9 +76,43 @@ pub fn loop_script<P: Channel, O: Write>(
     ensures untouched { (HoldJob settings.now script.now → ⊥)
         → Untouched passage.old passage.new output.old output.new }
 {
+    loop_captured(alloc, settings, script, passage, &mut Untaped, output)
+}
+
+/// Runs a script as `loop_script` does, and has a tape take down each event that isn't lost, before what it gave is printed.
+///
+/// # Errors
+///
+/// As those of `loop_script`; `NotWritten` also where the tape is refused.
+pub fn loop_captured<P: Channel, T: Tape, O: Write>(
+    alloc: Global,
+    settings: &str,
+    script: &str,
+    passage: &mut P,
+    tape: &mut T,
+    output: &mut O,
+) -> Result<u8, Fault>
+    ensures told { IfErr result (TellsLoop settings.now script.now) }
+    ensures known { IfErr result (λ fault. status_of fault ≡ 1) }
+    ensures good { OnOk result (first_bad_line script.now ≡ None) }
+    ensures run { IfOk result (LoopsScript P.opens P.passes settings.now script.now passage.old
+        passage.new) }
+    ensures status { IfOk result (λ status. (status ≡ 0) ⊎ (status ≡ 3)) }
+    ensures leaves { IfErr result (Leaves P.opens P.refuses P.passes settings.now script.now
+        passage.old passage.new output.old output.new) }
+    ensures untouched { (HoldJob settings.now script.now → ⊥)
+        → Untouched passage.old passage.new output.old output.new }
+{
     let job = job_of(alloc, settings, script)?;
     match passage.open(&job.settings) {
-        Ok(()) => play(alloc, &job.settings, job.events.as_slice(), passage, output),
+        Ok(()) => play(
+            alloc,
+            &job.settings,
+            job.events.as_slice(),
+            passage,
+            tape,
+            output,
+        ),
         Err(fault) => Err(of_socket(fault)),
     }
 }
@@ -91,18 +126,19 @@ fn of_socket(fault: SocketFault) -> Fault
     }
 }
 
-/// Runs events on a new world of these settings, each after what it hands in has passed, and prints their steps, which
-/// were lost, and the world's tables. The answer is the exit status.
+/// Runs events on a new world of these settings, each after what it hands in has passed, has a tape take down those that
+/// aren't lost, and prints their steps, which were lost, and the world's tables. The answer is the exit status.
 ///
 /// # Errors
 ///
-/// `NotWritten` where output is refused: the events up to there have had their turns. `NoMemory`
+/// `NotWritten` where the tape or output is refused: the events up to there have had their turns. `NoMemory`
 /// before the first event, or after the last.
-pub fn play<P: Channel, O: Write>(
+pub fn play<P: Channel, T: Tape, O: Write>(
     alloc: Global,
     settings: &Settings,
     events: &[WorldEvent],
     passage: &mut P,
+    tape: &mut T,
     output: &mut O,
 ) -> Result<u8, Fault>
     ensures run { IfOk result (IsLoop P.passes settings.now events.now passage.old passage.new) }
@@ -114,7 +150,7 @@ pub fn play<P: Channel, O: Write>(
 {
     match World::founded(alloc, settings) {
         Ok(mut world) => {
-            let status = played(alloc, &mut world, events, passage, output);
+            let status = played(alloc, &mut world, events, passage, tape, output);
             world.end();
             status
         }
@@ -122,12 +158,13 @@ pub fn play<P: Channel, O: Write>(
     }
 }
 
-/// Runs events on a world, and prints what they gave and its tables.
-fn played<P: Channel, O: Write>(
+/// Runs events on a world, has a tape take them down, and prints what they gave and its tables.
+fn played<P: Channel, T: Tape, O: Write>(
     alloc: Global,
     world: &mut World<'_>,
     events: &[WorldEvent],
     passage: &mut P,
+    tape: &mut T,
     output: &mut O,
 ) -> Result<u8, Fault>
     ensures run { IfOk result (TakesTurns P.passes world.old passage.old events.now world.new
@@ -137,18 +174,19 @@ fn played<P: Channel, O: Write>(
         (λ fault. (fault ≡ faults.NotWritten) ⊎ (fault ≡ faults.NoMemory)) }
     ensures stops { IfErr result (Stops P.passes world.old passage.old events.now passage.new) }
 {
-    let refused = turned(alloc, world, events, passage, output)?;
+    let refused = turned(alloc, world, events, passage, tape, output)?;
     world.tables(output)?;
     output.flush()?;
     Ok(status_of(refused))
 }
 
-/// Gives each event its turn, and prints what it gave. The answer says whether one was refused.
-fn turned<P: Channel, O: Write>(
+/// Gives each event its turn, has a tape take it down, and prints what it gave. The answer says whether one was refused.
+fn turned<P: Channel, T: Tape, O: Write>(
     alloc: Global,
     world: &mut World<'_>,
     events: &[WorldEvent],
     passage: &mut P,
+    tape: &mut T,
     output: &mut O,
 ) -> io::Result<bool>
     ensures had { IfOk result (HasTurned P.passes world.old passage.old events.now world.new
@@ -161,6 +199,7 @@ fn turned<P: Channel, O: Write>(
     for event in events {
         let step = turn(alloc, world, event, passage);
         refused = has_refused(refused, &step);
+        take_down(tape, world, event, &step)?;
         print(&mut printer, output, event, &step)?;
     }
     Ok(refused)
@@ -187,6 +226,19 @@ fn is_refusal(step: &Option<Step>) -> bool
     match step {
         Some(step) => step.answer.is_err(),
         None => false,
+    }
+}
+
+/// Has a tape take an event down, unless it is lost.
+fn take_down<T: Tape>(
+    tape: &mut T,
+    world: &World<'_>,
+    event: &WorldEvent,
+    step: &Option<Step>,
+) -> io::Result<()> {
+    match step {
+        Some(step) => tape.take(world, event, step),
+        None => Ok(()),
     }
 }
 

@@ -6,26 +6,31 @@ use Rattle.frame_sim.specs.declared.events.Step.{Step}
 use Rattle.nat_types.specs.declared.events.WorldEvent.{WorldEvent}
 use Rattle.frame_sim.specs.World.{World}
 use Rattle.frame_sim.specs.Runs.{AreSteps}
-use Rattle.frame_sim.specs.Status.{IsNew, IsRun, TakesSteps}
+use Rattle.frame_sim.specs.Status.{IsNew}
+use Rattle.recording.specs.Tapes.{TakesOn}
+use Rattle.simulation.specs.Tapes.{IsTapedRun, TapesSteps}
 
 -- what holds of the value of a result holds by what follows from it
-in_ok : {E : Type 0} {P Q : ℕ → Type 0} (r : Result ℕ E) → ((n : ℕ) → P n → Q n) → IfOk r P → IfOk r Q
+pub in_ok : {E : Type 0} {P Q : ℕ → Type 0} (r : Result ℕ E) → ((n : ℕ) → P n → Q n) → IfOk r P → IfOk r Q
 in_ok (Ok n) f h = f n h
 in_ok (Err e) f h = tt
 
-run_from : (settings : Settings) (w : World) (events : List WorldEvent) (w2 : World) (status : ℕ) → IsNew settings w
-    → TakesSteps w events w2 status → IsRun settings events status
+run_from : {T : Type 0} (takes : TakesOn T) (settings : Settings) (w : World) (events : List WorldEvent) (w2 : World) (t t2 : T) (status : ℕ)
+    → IsNew settings w → TapesSteps takes w events w2 t t2 status → IsTapedRun takes settings events t t2 status
 unfolding IsNew
-run_from settings w events w2 status new h = record {
-  steps = h.steps;
-  world = w2;
-  answers = subst (λ (x : World). AreSteps x events h.steps w2) new h.answers;
-  refusals = h.refusals;
+run_from takes settings w events w2 t t2 status new h = record {
+  run = record {
+    steps = h.run.steps;
+    world = w2;
+    answers = subst (λ (x : World). AreSteps x events h.run.steps w2) new h.run.answers;
+    refusals = h.run.refusals;
+  };
+  taken = h.taken;
 }
 
-pub runs_from : {E : Type 0} (r : Result ℕ E) (settings : Settings) (w : World) (events : List WorldEvent) (w2 : World) → IsNew settings w
-    → IfOk r (TakesSteps w events w2) → IfOk r (IsRun settings events)
-runs_from r settings w events w2 new h = in_ok r (λ n t. run_from settings w events w2 n new t) h
+pub runs_from : {E : Type 0} {T : Type 0} (r : Result ℕ E) (takes : TakesOn T) (settings : Settings) (w : World) (events : List WorldEvent) (w2 : World) (t t2 : T)
+    → IsNew settings w → IfOk r (TapesSteps takes w events w2 t t2) → IfOk r (IsTapedRun takes settings events t t2)
+runs_from r takes settings w events w2 t t2 new h = in_ok r (λ n p. run_from takes settings w events w2 t t2 n new p) h
 
 -- ---- events that are run some at a time
 

@@ -6,4 +6,4 @@ mod shown;
 mod simulation;
 
 pub use progress::{Progress, Unwatched};
-pub use simulation::{play, simulate, simulate_watched};
+pub use simulation::{play, simulate, simulate_captured, simulate_watched};

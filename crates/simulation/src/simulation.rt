@@ -4,8 +4,10 @@ ghost use Rattle.frame_sim.specs.Runs.{AreSteps};
 ghost use Rattle.faults.specs.Faults.{status_of};
 ghost use Rattle.scripts.specs.Script.{first_bad_line};
 ghost use Rattle.faults.specs.Jobs.{TellsRun};
-ghost use Rattle.frame_sim.specs.Status.{has_refusal, run_status, IsRun, TakesSteps};
+ghost use Rattle.frame_sim.specs.Status.{has_refusal, run_status};
+ghost use Rattle.recording.specs.Tapes.{AreTaken};
 ghost use Rattle.simulation.specs.Status.{RunsScript};
+ghost use Rattle.simulation.specs.Tapes.{IsTapedRun, TapesScript, TapesSteps};
 ghost use Rattle.faults.specs.declared.faults.Fault.TheVariants as faults;
 
 use crate::shown::print_steps;
@@ -13,9 +15,10 @@ use crate::{Progress, Unwatched};
 use faults::{Fault, PrintFault, job_of};
 use frame_sim::{Step, World};
 use nat_types::{NoMemory, WorldEvent};
+use recording::{Tape, Untaped};
 use settings::Settings;
 use std::alloc::Global;
-use std::io::Write;
+use std::io::{self, Write};
 
 /// Runs a script on a new world of the settings that a text in TOML holds, and prints its steps and tables.
 ///
@@ -56,37 +59,68 @@ pub fn simulate_watched<P: Progress, O: Write>(
     ensures run { IfOk result (RunsScript settings.now script.now) }
     ensures status { IfOk result (λ status. (status ≡ 0) ⊎ (status ≡ 3)) }
 {
+    simulate_captured(
+        alloc,
+        settings,
+        script,
+        progress,
+        &mut Untaped,
+        output,
+    )
+}
+
+/// Runs a script as `simulate_watched` does, and has a tape take the run down before it is printed.
+///
+/// # Errors
+///
+/// The settings' fault, else the script's first bad line; `NotWritten` where the tape or output is refused, `NoMemory`.
+pub fn simulate_captured<P: Progress, T: Tape, O: Write>(
+    alloc: Global,
+    settings: &str,
+    script: &str,
+    progress: &mut P,
+    tape: &mut T,
+    output: &mut O,
+) -> Result<u8, Fault>
+    ensures told { IfErr result (TellsRun settings.now script.now) }
+    ensures known { IfErr result (λ fault. status_of fault ≡ 1) }
+    ensures good { OnOk result (first_bad_line script.now ≡ None) }
+    ensures run { IfOk result (TapesScript T.takes settings.now script.now tape.old tape.new) }
+    ensures status { IfOk result (λ status. (status ≡ 0) ⊎ (status ≡ 3)) }
+{
     let job = job_of(alloc, settings, script)?;
     play(
         alloc,
         &job.settings,
         job.events.as_slice(),
         progress,
+        tape,
         output,
     )
 }
 
-/// Runs events on a new world of these settings, tells how far it is before every few of them, and prints their steps and the
-/// world's tables. The answer is the exit status.
+/// Runs events on a new world of these settings, tells how far it is before every few of them, and has a tape take them down
+/// before their steps and the world's tables are printed. The answer is the exit status.
 ///
 /// # Errors
 ///
-/// `NotWritten` where output is refused, `NoMemory`.
-pub fn play<P: Progress, O: Write>(
+/// `NotWritten` where the tape or output is refused, `NoMemory`.
+pub fn play<P: Progress, T: Tape, O: Write>(
     alloc: Global,
     settings: &Settings,
     events: &[WorldEvent],
     progress: &mut P,
+    tape: &mut T,
     output: &mut O,
 ) -> Result<u8, Fault>
-    ensures run { IfOk result (IsRun settings.now events.now) }
+    ensures run { IfOk result (IsTapedRun T.takes settings.now events.now tape.old tape.new) }
     ensures status { IfOk result (λ status. (status ≡ 0) ⊎ (status ≡ 3)) }
     ensures fault { IfErr result
         (λ fault. (fault ≡ faults.NotWritten) ⊎ (fault ≡ faults.NoMemory)) }
 {
     match World::founded(alloc, settings) {
         Ok(mut world) => {
-            let status = played(alloc, &mut world, events, progress, output);
+            let status = played(alloc, &mut world, events, progress, tape, output);
             world.end();
             status
         }
@@ -94,22 +128,46 @@ pub fn play<P: Progress, O: Write>(
     }
 }
 
-/// Runs events on a world, and prints their steps and its tables.
-fn played<P: Progress, O: Write>(
+/// Runs events on a world, has a tape take them down, and prints their steps and its tables.
+fn played<P: Progress, T: Tape, O: Write>(
     alloc: Global,
     world: &mut World<'_>,
     events: &[WorldEvent],
     progress: &mut P,
+    tape: &mut T,
     output: &mut O,
 ) -> Result<u8, Fault>
-    ensures run { IfOk result (TakesSteps world.old events.now world.new) }
+    ensures run { IfOk result
+        (TapesSteps T.takes world.old events.now world.new tape.old tape.new) }
     ensures status { IfOk result (λ status. (status ≡ 0) ⊎ (status ≡ 3)) }
     ensures fault { IfErr result
         (λ fault. (fault ≡ faults.NotWritten) ⊎ (fault ≡ faults.NoMemory)) }
 {
     let steps = steps_of(alloc, world, events, progress)?;
+    take_down(tape, world, events, steps.as_slice())?;
     print(world, events, steps.as_slice(), output)?;
     Ok(status_of(steps.as_slice()))
+}
+
+/// Has a tape take events down, each with its step, by the world to which they led.
+fn take_down<T: Tape>(
+    tape: &mut T,
+    world: &World<'_>,
+    events: &[WorldEvent],
+    steps: &[Step],
+) -> io::Result<()>
+    ensures { OnOk result
+        (AreTaken T.takes world.now tape.old events.now steps.now tape.new) }
+{
+    let mut rest = steps;
+    for event in events {
+        let Some((step, others)) = rest.split_first() else {
+            return Ok(());
+        };
+        tape.take(world, event, step)?;
+        rest = others;
+    }
+    Ok(())
 }
 
 /// Prints steps, and the tables of the world to which they led.

@@ -5,7 +5,7 @@ use Rattle.loopback_run.specs.Stops.{StopsLoop}
 use Rattle.loopback_run.proofs.Looping.{in_ok}
 use Rattle.loopback_run.proofs.Stopping.{in_err, leaves_refused, leaves_stopped}
 use Rattle.loopback_run.proofs.Telling.{told_socket}
-use Rattle.loopback_run.proofs.turns.loop_script.Goals as goal
+use Rattle.loopback_run.proofs.turns.loop_captured.Goals as goal
 
 pub returns-clause-told : goal.returns-clause-told
 returns-clause-told g c =

@@ -1,0 +1,12 @@
+//! Captures in the format pcapng: the packets that came to the gateways of a pair, and those that they sent, each with its
+//! interface and its moment.
+#![tactic(auto)]
+
+mod fields;
+mod heads;
+mod interfaces;
+mod packets;
+
+pub use heads::write_head;
+pub use interfaces::{Direction, Interface};
+pub use packets::{Packet, write_packet};

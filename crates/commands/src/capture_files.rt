@@ -1,0 +1,65 @@
+//! The file of a capture.
+ghost use Rattle.std.specs.Prelude.{◌≡◌, ◌⊎◌, Ok, IfErr, IfOk};
+ghost use Rattle.faults.specs.Faults.{status_of};
+
+use faults::Fault;
+use recording::Capture;
+use std::fs::{Files, OpenOptions};
+use std::io::{self, BufWriter, ErrorKind, Write};
+
+/// Begins a capture in the file at a path; one that is there loses what it has.
+///
+/// # Errors
+///
+/// Where it can't be made or written.
+pub(crate) fn capture_at<R: Files + AllocGlobal>(
+    rt: &R,
+    path: &str,
+) -> io::Result<Capture<BufWriter<R::File>>> {
+    let file = OpenOptions::new()
+        .write(true)
+        .create(true)
+        .truncate(true)
+        .open(rt, path)?;
+    Capture::begin(BufWriter::new(rt.alloc(), file)?)
+}
+
+/// Tells why a capture couldn't be begun, and gives the exit status.
+pub(crate) fn unmade<E: Write>(error: io::Error, path: &str, errors: &mut E) -> u8
+    ensures { result ≡ 1 }
+{
+    match error.kind() {
+        ErrorKind::OutOfMemory => Fault::NoMemory.tell(errors),
+        _ => unwritten(path, errors),
+    }
+}
+
+/// The exit status of a run, whose fault is told: that its capture couldn't be written comes before others.
+pub(crate) fn ended<E: Write>(
+    run: Result<u8, Fault>,
+    written: io::Result<()>,
+    path: &str,
+    errors: &mut E,
+) -> u8
+    requires status { IfOk run (λ status. (status ≡ 0) ⊎ (status ≡ 3)) }
+    requires known { IfErr run (λ fault. status_of fault ≡ 1) }
+    ensures status { (result ≡ 0) ⊎ ((result ≡ 1) ⊎ (result ≡ 3)) }
+    ensures run { (result ≡ 0) ⊎ (result ≡ 3) → run ≡ Ok result }
+{
+    if written.is_err() {
+        return unwritten(path, errors);
+    }
+    match run {
+        Ok(status) => status,
+        Err(fault) => fault.tell(errors),
+    }
+}
+
+/// Tells that the file of a capture couldn't be made or written, and gives the exit status.
+fn unwritten<E: Write>(path: &str, errors: &mut E) -> u8
+    ensures { result ≡ 1 }
+{
+    let fault = Fault::NotWritten;
+    let _untold = writeln!(errors, "natpair: {fault} {path}");
+    1
+}

@@ -1,0 +1,96 @@
+//! What takes a run down.
+ghost use Rattle.std.specs.Prelude.{OnOk, IfOk};
+ghost use Rattle.std.specs.Io.KnownBytes.{Keeps};
+ghost use Rattle.frame_sim.specs.World.{World as Scenery};
+ghost use Rattle.frame_sim.specs.declared.events.Step.{Step as Given};
+ghost use Rattle.nat_types.specs.declared.events.WorldEvent.{WorldEvent as Happening};
+ghost use Rattle.recording.specs.Tapes.{Begins, Records};
+
+use crate::Clocks;
+use crate::writing::write_event;
+use captures::write_head;
+use frame_sim::{Step, World};
+use nat_types::WorldEvent;
+use std::io::{self, ErrorKind, Write};
+
+/// What takes a run down, event by event.
+pub trait Tape {
+    /// What it is after it took an event down, with the step that the event gave, in a world that has had that step.
+    ghost takes: { Self → Scenery → Happening → Given → Self → Type 0 };
+
+    /// Takes an event down.
+    ///
+    /// # Errors
+    ///
+    /// Where it can't be written; part of it may be.
+    fn take(&mut self, world: &World<'_>, event: &WorldEvent, step: &Step) -> io::Result<()>
+        ensures { OnOk result (takes self.old world.now event.now step.now self.new) };
+}
+
+/// A run isn't taken down.
+#[derive(Clone, Copy, Debug)]
+pub struct Untaped;
+
+impl Tape for Untaped {
+    ghost takes = { λ _ _ _ _ _. Unit {0} };
+
+    fn take(&mut self, _world: &World<'_>, _event: &WorldEvent, _step: &Step) -> io::Result<()> {
+        Ok(())
+    }
+}
+
+/// A run is taken down as a capture (of `captures`): behind its head of each event first the packet that came with it, and
+/// then those that its gateway sent.
+#[derive(Drop)]
+pub struct Capture<W> {
+    /// Where the capture is written.
+    pub output: W,
+    /// The gateways' clocks.
+    pub clocks: Clocks,
+    /// Something couldn't be written.
+    is_refused: bool,
+}
+
+impl<W: Write + Drop> Capture<W> {
+    /// Begins a capture of a run on a new world: its head is written.
+    ///
+    /// # Errors
+    ///
+    /// Where output is refused; part of the head may be written.
+    pub fn begin(mut output: W) -> io::Result<Capture<W>>
+        ensures { IfOk result (λ c. Begins (W.contents output) (W.contents c.output) c.clocks) }
+    {
+        write_head(&mut output)?;
+        Ok(Capture {
+            output,
+            clocks: Clocks::founded(),
+            is_refused: false,
+        })
+    }
+
+    /// Ends the capture: all of it is handed on.
+    ///
+    /// # Errors
+    ///
+    /// Where that is refused, or something was refused before.
+    pub fn end(&mut self) -> io::Result<()>
+        ensures { Keeps (W.contents self.old.output) (W.contents self.new.output) }
+    {
+        let handed_on = self.output.flush();
+        if self.is_refused {
+            return Err(io::Error::from(ErrorKind::Other));
+        }
+        handed_on
+    }
+}
+
+impl<W: Write> Tape for Capture<W> {
+    ghost takes = { λ c w e s c2. Records (W.contents c.output) c.clocks w e s (W.contents c2.output) c2.clocks };
+
+    fn take(&mut self, world: &World<'_>, event: &WorldEvent, step: &Step) -> io::Result<()> {
+        self.clocks.follow(event, step.answer.is_ok());
+        let written = write_event(&mut self.output, &self.clocks, world, event, step);
+        self.is_refused = self.is_refused || written.is_err();
+        written
+    }
+}
