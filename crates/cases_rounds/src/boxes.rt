@@ -156,11 +156,7 @@ fn add_to(station: &mut Option<Station>, letters: Vec<Letter>) -> Result<()> {
 }
 
 /// Prints what a box has sent and the lines that it wrote. The answer is what it sent on the link.
-fn told_by<O: Write>(
-    station: &mut Station,
-    lines: Vec<u8>,
-    output: &mut O,
-) -> Result<Vec<Letter>> {
+fn told_by<O: Write>(station: &mut Station, lines: Vec<u8>, output: &mut O) -> Result<Vec<Letter>> {
     station.wire.show(output)?;
     output.write_all(lines.as_slice())?;
     station.wire.sent_on_link()

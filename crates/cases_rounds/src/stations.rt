@@ -201,6 +201,8 @@ fn served<W: Wire, O: Write, L: Log>(
 ) -> io::Result<()> {
     let until = Patience::new(orders.told);
     let rounds = orders.rounds;
-    serve(alloc, gateway, wire, clock, &until, rounds, true, output, log)?;
+    serve(
+        alloc, gateway, wire, clock, &until, rounds, true, output, log,
+    )?;
     Ok(())
 }

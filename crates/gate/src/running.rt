@@ -74,12 +74,7 @@ pub fn gate<
     R: Files + Net + Clock + RandomSource + Eprint + Env + Input + AllocGlobal,
     O: Write,
     E: Write,
->(
-    rt: &R,
-    start: &Start<'_>,
-    output: &mut O,
-    errors: &mut E,
-) -> u8
+>(rt: &R, start: &Start<'_>, output: &mut O, errors: &mut E) -> u8
 where
     R::File: Uncached + Lockable,
     requires found { IsTrue start.now.found → start.now.id ≡ Zero }
@@ -201,13 +196,7 @@ fn filtered<'a, R: Eprint + AllocGlobal>(
 }
 
 /// Starts the gateway and runs its rounds, on a wire that wasn't asked yet.
-fn run<
-    R: Clock + RandomSource + Input + AllocGlobal,
-    D: Disk,
-    W: Wire + Drop,
-    O: Write,
-    L: Log,
->(
+fn run<R: Clock + RandomSource + Input + AllocGlobal, D: Disk, W: Wire + Drop, O: Write, L: Log>(
     rt: &R,
     start: &Start<'_>,
     settings: &Settings,

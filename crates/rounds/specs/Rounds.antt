@@ -110,7 +110,7 @@ pub record AreAllRounds {C : Type 0} (track : Bool) (reads : Reads C) (most : �
 -- all rounds, and then one Stop and nothing more: a gateway shows this at its end, its wire has answered this, and so many
 -- events were left out
 pub record IsRun {C : Type 0} (track : Bool) (reads : Reads C) (most : ℕ) (otherwise : Type 0) (b : Box) (c : C) (g : Shown) (answers : List Polled)
-  (left_out : ℕ) (c2 : C) : Type 0
+    (left_out : ℕ) (c2 : C) : Type 0
   where
     pub last : Box
     pub all : AreAllRounds track reads most otherwise b c last c2
@@ -120,7 +120,7 @@ pub record IsRun {C : Type 0} (track : Bool) (reads : Reads C) (most : ℕ) (oth
 
 -- a whole run, whatever is answered; and Ok answers how many events were left out
 pub record RunsTo {C E : Type 0} (track : Bool) (reads : Reads C) (most : ℕ) (otherwise : Type 0) (b : Box) (c : C) (g : Shown) (answers : List Polled)
-  (c2 : C) (result : Result ℕ E) : Type 0
+    (c2 : C) (result : Result ℕ E) : Type 0
   where
     pub left_out : ℕ
     pub run : IsRun track reads most otherwise b c g answers left_out c2

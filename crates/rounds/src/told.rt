@@ -52,6 +52,7 @@ fn is_at_end<R: Input>(rt: &R) -> bool {
     let mut room = [0; 512];
     match rt.reader().read(&mut room) {
         Ok(count) => count == 0,
-        Err(error) => error.kind() != ErrorKind::Interrupted && error.kind() != ErrorKind::WouldBlock,
+        Err(error) => error.kind() != ErrorKind::Interrupted
+            && error.kind() != ErrorKind::WouldBlock,
     }
 }
