@@ -25,7 +25,7 @@ returns-in_err-take_down-clause-begun g c =
     let turn = subst (λ (x : WorldEvent). TakesTurn g.P.Channel.passes l.world l.passage x c.turn-step.result after.world after.passage) c.event-item.is c.turn-step.ensures in
     let turned : HasTurned g.P.Channel.passes c.args.world.now c.args.passage.now (take (l.event-index + 1) c.args.events.now) after.world after.passage (l.refused || is_refusal c.turn-step.result) =
     rw more (one_turned _ _ _ (take l.event-index c.args.events.now) l.world l.passage l.refused _ c.turn-step.result after.world after.passage l.invariant turn) in
-    on_err c.from_residual-in_err-take_down.result (some_turned _ _ _ c.args.events.now l.event-index after.world after.passage _ turned)
+    on_err c.from_residual.result (some_turned _ _ _ c.args.events.now l.event-index after.world after.passage _ turned)
 
 pub returns-in_err-print-clause-begun : goal.returns-in_err-print-clause-begun
 returns-in_err-print-clause-begun g c =
