@@ -33,11 +33,7 @@ pub(crate) fn padding(length: usize) -> usize
 }
 
 /// Writes bytes in two parts, filled up.
-pub(crate) fn write_both<W: Write>(
-    output: &mut W,
-    front: &[u8],
-    bytes: &[u8],
-) -> io::Result<()>
+pub(crate) fn write_both<W: Write>(output: &mut W, front: &[u8], bytes: &[u8]) -> io::Result<()>
     requires { length front.now ≤ 14 }
     ensures { OnOk result
         (Appends (W.contents output.old) (W.contents output.new) (padded (front.now ++ bytes.now))) }

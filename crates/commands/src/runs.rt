@@ -95,7 +95,15 @@ fn sim_captured<R: Files + Clock + AllocGlobal, O: Write, E: Write>(
 {
     match capture_at(rt, path) {
         Ok(mut capture) => {
-            let run = taped(rt, settings, script, is_watched, &mut capture, output, errors);
+            let run = taped(
+                rt,
+                settings,
+                script,
+                is_watched,
+                &mut capture,
+                output,
+                errors,
+            );
             ended(run, capture.end(), path, errors)
         }
         Err(error) => unmade(error, path, errors),

@@ -60,7 +60,12 @@ fn write_came<W: Write>(
 {
     match event {
         WorldEvent::Frame(id, side, bytes) => {
-            write_inbound(output, Interface::Side(*id, *side), moment, bytes.as_slice())
+            write_inbound(
+                output,
+                Interface::Side(*id, *side),
+                moment,
+                bytes.as_slice(),
+            )
         }
         WorldEvent::Deliver(id, number) => match handed_in(world, *id, *number, step) {
             Some(bytes) => write_inbound(output, Interface::Link(*id), moment, bytes),
@@ -76,12 +81,7 @@ fn write_came<W: Write>(
 }
 
 /// The datagram that an event hands in, unless it was refused since none was sent.
-fn handed_in<'w>(
-    world: &'w World<'_>,
-    id: GatewayId,
-    number: u64,
-    step: &Step,
-) -> Option<&'w [u8]>
+fn handed_in<'w>(world: &'w World<'_>, id: GatewayId, number: u64, step: &Step) -> Option<&'w [u8]>
     ensures { option_map (λ b. b.now) result ≡ handed_in world.now id number step.now.answer }
 {
     match step.answer {
@@ -109,12 +109,7 @@ fn write_inbound<W: Write>(
 }
 
 /// Writes the frames that a gateway sent, in order.
-fn write_frames<W: Write>(
-    output: &mut W,
-    id: GatewayId,
-    moment: u64,
-    out: &Out,
-) -> io::Result<()>
+fn write_frames<W: Write>(output: &mut W, id: GatewayId, moment: u64, out: &Out) -> io::Result<()>
     ensures { OnOk result (Appends (W.contents output.old) (W.contents output.new)
         (packet_blocks (map (frame_out id moment) out.now.frames))) }
 {

@@ -1,5 +1,5 @@
 -- A run that a tape takes down.
-use Rattle.std.specs.Prelude.{◌≡◌, ℕ, List}
+use Rattle.std.specs.Prelude.{ℕ, List}
 use Rattle.nat_types.specs.declared.events.WorldEvent.{WorldEvent}
 use Rattle.settings.specs.declared.whole.Settings.{Settings}
 use Rattle.faults.specs.declared.jobs.Job.{Job}

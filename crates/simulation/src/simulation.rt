@@ -59,14 +59,7 @@ pub fn simulate_watched<P: Progress, O: Write>(
     ensures run { IfOk result (RunsScript settings.now script.now) }
     ensures status { IfOk result (λ status. (status ≡ 0) ⊎ (status ≡ 3)) }
 {
-    simulate_captured(
-        alloc,
-        settings,
-        script,
-        progress,
-        &mut Untaped,
-        output,
-    )
+    simulate_captured(alloc, settings, script, progress, &mut Untaped, output)
 }
 
 /// Runs a script as `simulate_watched` does, and has a tape take the run down before it is printed.

@@ -1,4 +1,4 @@
-use Rattle.std.proofs.Common.{◌∙◌, ◌++◌, sym, ap, length-append}
+use Rattle.std.proofs.Common.{◌∙◌, sym, ap, length-append}
 use Rattle.captures.specs.Fields.{padded, padding_of}
 use Rattle.captures.proofs.Writing.{joined}
 use Rattle.captures.proofs.fields.write_both.Goals as goal
