@@ -7,6 +7,7 @@ ghost use Rattle.packet_rules.specs.Errors.{passed_frame};
 ghost use Rattle.packet_rules.specs.Flows.{error_in};
 ghost use Rattle.packet_rules.specs.Steps.{IsPassable};
 ghost use Rattle.spec_step.specs.Parts.{by_error_plan, error_taken, framed};
+ghost use Rattle.spec_step.specs.declared.events.Outcome.TheVariants.{Waiting};
 ghost use Rattle.spec_step.specs.declared.plans.Plan.TheVariants.{Ask, Send};
 ghost use Rattle.spec_step.specs.Verdict.{error_on, error_plan, exit_by, outcome_by, pair_in_of, pair_out};
 ghost use Rattle.forwarder.specs.Forwarder.{scene_on, shown_of};
@@ -149,7 +150,8 @@ impl Forwarder {
     }
 
     /// Takes an error: it goes on, waits for its next hop, or is dropped. One that has to wait is
-    /// copied. An `Err` stands for a refused copy; nothing has changed then.
+    /// copied. An `Err` stands for a refused copy: it comes only where the error has to wait, and
+    /// nothing has changed then.
     pub fn take_error(
         &mut self,
         alloc: Global,
@@ -166,6 +168,8 @@ impl Forwarder {
         ensures scene { OnOk result (scene_on self.new page.new
             ≡ error_taken (scene_on self.old page.old) side bytes.now packet.flow) }
         ensures err { OnErr result (scene_on self.new page.new ≡ scene_on self.old page.old) }
+        ensures waits { OnErr result
+            (outcome_by (error_plan (shown_of self.old) side packet.flow) ≡ Waiting) }
         ensures link { self.new.link ≡ self.old.link }
         ensures spends { Spends (frames_alone 2) self.old page.old self.new page.new }
     {
