@@ -1,5 +1,5 @@
 //! One gateway of the pair, and its step.
-ghost use Rattle.std.specs.Prelude.{◌≡◌, ◌<◌, IsTrue, IfOk, OnOk, OnErr, [], map, if◌then◌else◌};
+ghost use Rattle.std.specs.Prelude.{◌≡◌, ◌<◌, ◌^◌, IsTrue, IfOk, OnOk, OnErr, [], map, if◌then◌else◌};
 ghost use Rattle.nat_types.specs.declared.gateways.GatewayId.TheVariants.{Zero};
 ghost use Rattle.bindings.specs.Entries.{is_pair, pairs_in, translates};
 ghost use Rattle.bindings.specs.Runs.{port_at};
@@ -18,7 +18,7 @@ ghost use Rattle.gateway.specs.Gateway.{IsGateway};
 use crate::begins::begin;
 use crate::rooms::{PACKET_NOTES, entry_count};
 use crate::{NoMemory, Out, steps};
-use addresses::Port;
+use addresses::{Ip, Port};
 use bindings::Hashers;
 use forwarder::Forwarder;
 use link::RECORDS_IN_A_DATAGRAM;
@@ -45,6 +45,13 @@ impl Model for Gateway {
     ghost view = { λ g. shown_of g.forwarder };
 
     ghost invariant = { λ g. IsGateway (shown_of g.forwarder) };
+}
+
+/// Reminds the prover that an address has 32 bits; it does nothing when it runs.
+fn recall_address(address: Ip)
+    ensures { address.0 < 2 ^ 32 }
+{
+    let _ = address.0;
 }
 
 impl Gateway {
@@ -74,7 +81,9 @@ impl Gateway {
         ensures gateway { IsGateway self.now }
         ensures link { IsLink self.now.link }
         ensures wired { AreWired self.now }
+        ensures outside { self.now.networks.outside.interface.virtual_ip.0 < 2 ^ 32 }
     {
+        recall_address(self.forwarder.networks.outside.interface.virtual_ip);
         self.forwarder.link.recall();
         self.forwarder.networks.recall();
         self.forwarder.inside.recall();
