@@ -1,7 +1,7 @@
 -- What a plan says of an error: of one that is sent its way, its pairs, and that its next hop is known; of one that asks for its
 -- next hop the same, and that no hardware address is known for that host; of one that waits for it, that it has a place. No
 -- error waits for a pair.
-use Rattle.std.proofs.Common.{◌≡◌, Bool, true, false, cond, Option, Some, None, Result, Ok, Err, List, [], refl, sym, ap, ◌∙◌, inl}
+use Rattle.std.proofs.Common.{◌≡◌, ◌≢◌, Bool, true, false, cond, Option, Some, None, Result, Ok, Err, List, [], refl, sym, ap, ◌∙◌, inl}
 use Rattle.std.specs.List.{AllByRecursion}
 use Rattle.addresses.specs.declared.ethernet.Mac.{Mac}
 use Rattle.addresses.specs.declared.internet.Ip.{Ip}
@@ -94,6 +94,17 @@ module _ (g : Shown) (side : Side) (flow : ErrorFlow) where
       at : (r : Result Direction Reason) → error_direction g.networks side flow ≡ r → ErrorSays g side flow (and_then r (error_on g flow))
       at (Ok w) there = on-says w there
       at (Err reason) there = tt
+
+-- a plan that was told isn't one to wait for a pair
+told-waits : (g : Shown) (side : Side) (flow : ErrorFlow) (r : Result Plan Reason) → ErrorSays g side flow r → (e : Endpoint) → r ≢ Ok (WaitFor e)
+told-waits g side flow (Ok (Send by next)) says e is = absurd (cc)
+told-waits g side flow (Ok (Ask by hop)) says e is = absurd (cc)
+told-waits g side flow (Ok (AskAgain by hop)) says e is = absurd (cc)
+told-waits g side flow (Ok (WaitFor other)) says e is = says
+told-waits g side flow (Err reason) says e is = absurd (cc)
+
+pub no-error-waits : (g : Shown) (side : Side) (flow : ErrorFlow) (e : Endpoint) → error_plan g side flow ≢ Ok (WaitFor e)
+no-error-waits g side flow e = told-waits g side flow (error_plan g side flow) (error-says g side flow) e
 
 -- ---- the pairs that were found are those that the rules name
 

@@ -1,9 +1,10 @@
 //! What holds of a step of a gateway. Each law is the contract of a function that does nothing.
 
-ghost use Rattle.std.specs.Prelude.{◌≡◌, ◌≤◌, ◌<◌, ◌+◌, ◌^◌, ◌∷◌, ◌++◌, ℕ, true, false, [], List, length, reverse};
+ghost use Rattle.std.specs.Prelude.{◌≡◌, ◌≢◌, Ok, ◌≤◌, ◌<◌, ◌+◌, ◌^◌, ◌∷◌, ◌++◌, ℕ, true, false, [], List, length, reverse};
 ghost use Rattle.nat_types.specs.declared.gateways.GatewayId.{GatewayId};
 ghost use Rattle.nat_types.specs.declared.gateways.Side.{Side};
 ghost use Rattle.nat_types.specs.declared.notes.NoteKind.TheVariants.{Booted, Crashed};
+ghost use Rattle.nat_types.specs.declared.pairs.Endpoint.{Endpoint};
 ghost use Rattle.nat_types.specs.declared.notes.Note.{Note};
 ghost use Rattle.nat_types.specs.declared.pairs.Key.{Key};
 ghost use Rattle.nat_types.specs.declared.records.Record.{Record};
@@ -19,6 +20,8 @@ ghost use Rattle.spec_binding.specs.Books.{IsBook};
 ghost use Rattle.spec_binding.specs.Ledgers.{let_go};
 ghost use Rattle.spec_step.specs.declared.events.Event.{Event};
 ghost use Rattle.spec_step.specs.declared.events.Event.TheVariants.{Tick};
+ghost use Rattle.spec_step.specs.declared.plans.Plan.TheVariants.{Wait as WaitForPair};
+ghost use Rattle.spec_step.specs.Verdict.{error_plan};
 ghost use Rattle.spec_step.specs.Founding.{HasRanges, begun, bounds_of, founded, link_places};
 ghost use Rattle.spec_step.specs.Machine.{Goes, HasBytes, HasPushed, IsAlone, IsStanding, KeepsBytes};
 ghost use Rattle.spec_step.specs.Machine.{letters_in, words_in};
@@ -88,8 +91,8 @@ pub fn steps_pass_on()
     frames_law();
 }
 
-/// Of the inside nothing is left in an error that a step sends at the outside: it comes from the
-/// outside virtual address, and the packet inside went to that address.
+/// An error that a step sends at the outside comes from the outside virtual address, and the packet
+/// inside went to that address. Options and what stands behind the packet inside stay.
 pub fn errors_hide()
     ensures { (s : GatewayAndOutput) (event : Event) (s2 : GatewayAndOutput) (frames : List Sent)
         → IsStepOn s event s2
@@ -103,10 +106,13 @@ pub fn errors_hide()
     hides_inside();
 }
 
-/// An error is no use of its pairs: it makes, renews and ends none, it is neither noted nor pushed.
+/// An error is no use of its pairs: it makes, renews and ends none, it is neither noted nor pushed,
+/// and it waits for none.
 pub fn errors_leave_pairs()
-    ensures { (s : GatewayAndOutput) (side : Side) (bytes : List ℕ) (flow : ErrorFlow)
+    ensures pairs { (s : GatewayAndOutput) (side : Side) (bytes : List ℕ) (flow : ErrorFlow)
         → LeavesPairs s (error_taken s side bytes flow) }
+    ensures no_wait { (g : Shown) (side : Side) (flow : ErrorFlow) (endpoint : Endpoint)
+        → error_plan g side flow ≢ Ok (WaitForPair endpoint) }
 {}
 
 /// All other frames of a step are, in their order: an answer to the ARP request that came in, or the
