@@ -1,3 +1,4 @@
 mod Moved
 mod Parts
+mod Rights
 mod Shows

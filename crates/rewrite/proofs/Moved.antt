@@ -98,7 +98,7 @@ regroup_new ttl protocol a b c d h = omega arith
 word-bytes : (a b : ℕ) → a * 256 + (b * 1 + 0) ≡ 256 * a + b
 word-bytes a b = omega arith
 
-positive-first : (a b rest : ℕ) → 0 < a → 0 < 256 * a + b + rest
+pub positive-first : (a b rest : ℕ) → 0 < a → 0 < 256 * a + b + rest
 positive-first a b rest h = omega arith
 
 -- the whole sum of a header changes by the difference of its words, and isn't 0
@@ -127,19 +127,19 @@ word-written v h = omega arith
 complement-right : (whole sum field : ℕ) → 0 < sum → whole ≡ sum + field → field ≡ 65535 - ones_sum sum → (whole % 65535 ≡ 0) × (0 < whole)
 complement-right whole sum field some is_whole is_field = (omega arith, omega arith)
 
--- bytes with a field of 0 that is filled with the complement of their sum
-filled-right : (u : List ℕ) (v : ℕ) → v ≡ checksum_of u → 12 ≤ length u → word_sum (take 2 (drop 10 u)) ≡ 0 → 0 < word_sum u → IsRight (with_word 10 v u)
-filled-right u v is_v long empty some =
-    let replaced : word_sum (take 10 u ++ (v / 256 % 256 ∷ v % 256 ∷ [] ++ drop 12 u)) + word_sum (take 2 (drop 10 u)) ≡ word_sum u + (256 * (v / 256 % 256) + v % 256) = word_sum-replace 5 u (v / 256 % 256) (v % 256) long in
+-- bytes with a field of 0, at the word h, that is filled with the complement of their sum
+pub filled-right : (h : ℕ) (u : List ℕ) (v : ℕ) → v ≡ checksum_of u → 2 * h + 2 ≤ length u → word_sum (take 2 (drop (2 * h) u)) ≡ 0 → 0 < word_sum u → IsRight (with_word (2 * h) v u)
+filled-right h u v is_v long empty some =
+    let replaced : word_sum (take (2 * h) u ++ (v / 256 % 256 ∷ v % 256 ∷ [] ++ drop (2 * h + 2) u)) + word_sum (take 2 (drop (2 * h) u)) ≡ word_sum u + (256 * (v / 256 % 256) + v % 256) = word_sum-replace h u (v / 256 % 256) (v % 256) long in
     let small : v < 65536 = omega (arith, is_v) in
     let written : 256 * (v / 256 % 256) + v % 256 ≡ v = word-written v small in
-    let whole : word_sum (take 10 u ++ (v / 256 % 256 ∷ v % 256 ∷ [] ++ drop 12 u)) ≡ word_sum u + v = omega (arith, replaced, written, empty) in
-    let joined : word_sum (with_word 10 v u) ≡ word_sum u + v = ap word_sum (append_assoc (take 10 u) (v / 256 % 256 ∷ v % 256 ∷ []) (drop 12 u)) ∙ whole in
-    complement-right (word_sum (with_word 10 v u)) (word_sum u) v some joined is_v
+    let whole : word_sum (take (2 * h) u ++ (v / 256 % 256 ∷ v % 256 ∷ [] ++ drop (2 * h + 2) u)) ≡ word_sum u + v = omega (arith, replaced, written, empty) in
+    let joined : word_sum (with_word (2 * h) v u) ≡ word_sum u + v = ap word_sum (append_assoc (take (2 * h) u) (v / 256 % 256 ∷ v % 256 ∷ []) (drop (2 * h + 2) u)) ∙ whole in
+    complement-right (word_sum (with_word (2 * h) v u)) (word_sum u) v some joined is_v
 
 -- a header with the complement of the whole sum is right
 pub header_with-right : (flow : Flow) (header : List ℕ) → 20 ≤ length header → 0 < slice_index header 0 → IsRight (header_with flow header)
 header_with-right flow (b0 ∷ b1 ∷ b2 ∷ b3 ∷ b4 ∷ b5 ∷ b6 ∷ b7 ∷ b8 ∷ b9 ∷ b10 ∷ b11 ∷ b12 ∷ b13 ∷ b14 ∷ b15 ∷ b16 ∷ b17 ∷ b18 ∷ b19 ∷ options) long version =
     let u = header_unsummed flow (b0 ∷ b1 ∷ b2 ∷ b3 ∷ b4 ∷ b5 ∷ b6 ∷ b7 ∷ b8 ∷ b9 ∷ b10 ∷ b11 ∷ b12 ∷ b13 ∷ b14 ∷ b15 ∷ b16 ∷ b17 ∷ b18 ∷ b19 ∷ options) in
-    filled-right u (checksum_of u) refl (omega arith) refl (positive-first b0 b1 _ version)
+    filled-right 5 u (checksum_of u) refl (omega arith) refl (positive-first b0 b1 _ version)
 header_with-right flow _ long version = absurd (omega arith)

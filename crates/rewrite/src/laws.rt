@@ -6,8 +6,9 @@ ghost use Rattle.addresses.specs.declared.internet.Ip.{Ip as IpValue};
 ghost use Rattle.addresses.specs.declared.transport.Port.{Port as PortValue};
 ghost use Rattle.ipv4.specs.Header.{word_at, header_of, payload_of, IsIpv4};
 ghost use Rattle.icmp.specs.Error.{inside_of};
-ghost use Rattle.icmp.specs.Packet.{IsErrorPacket};
-ghost use Rattle.rewrite.specs.PassedOn.{error_outward_of};
+ghost use Rattle.icmp.specs.Packet.{IsErrorPacket, error_flow};
+ghost use Rattle.icmp.specs.declared.packets.ErrorFlow.{ErrorFlow as ErrorFlowValue};
+ghost use Rattle.rewrite.specs.PassedOn.{error_outward_of, inside_header, message_with, passed_on};
 ghost use Rattle.rewrite.specs.Translated.{header_with, moved_sum, summed, udp_with, tcp_with};
 
 /// A checksum moved from a whole sum `s` to `s2` is a number below 65535 that is as right as it
@@ -49,8 +50,20 @@ pub fn tcp_law()
         → IsRight (summed new 6 (tcp_with old new segment)) }
 {}
 
-/// An error passed on outward comes from the outside address, and the packet inside went to it: of
-/// the inside nothing is left there.
+/// Of an error that is passed on the message, with its checksum, and the header inside are right; its
+/// own header is by [`header_law`].
+pub fn error_law()
+    ensures payload { (new : ErrorFlowValue) (packet : List ℕ) → IsIpv4 packet
+        → IsErrorPacket packet → payload_of (passed_on new packet)
+        ≡ message_with (error_flow packet).inside new.inside (payload_of packet) }
+    ensures message { (new : ErrorFlowValue) (packet : List ℕ) → IsIpv4 packet
+        → IsErrorPacket packet → IsRight (payload_of (passed_on new packet)) }
+    ensures inside { (new : FlowValue) (header : List ℕ) → 20 ≤ length header
+        → 0 < slice_index header 0 → IsRight (inside_header new header) }
+{}
+
+/// An error passed on outward comes from the outside address, and the packet inside went to it.
+/// Options and what stands behind the packet inside stay.
 pub fn hides_inside()
     ensures source { (packet : List ℕ) (from : IpValue) (port : PortValue) → IsIpv4 packet
         → from.0 < 2 ^ 32
