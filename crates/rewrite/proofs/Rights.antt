@@ -1,5 +1,5 @@
 -- The checksums by whole sums of an error that was passed on are right: that of the header inside, and that of the message.
-use Rattle.std.proofs.Common.{◌≡◌, ℕ, zero, suc, true, false, ◌+◌, ◌*◌, ◌≤◌, ◌<◌, IsTrue, List, [], ◌∷◌, ◌++◌, length, take, drop, slice_index, arith, refl, sym, subst}
+use Rattle.std.proofs.Common.{◌≡◌, ℕ, zero, suc, true, false, ◌≤◌, ◌<◌, IsTrue, List, ◌∷◌, ◌++◌, length, take, drop, slice_index, arith, refl, sym, subst}
 use Rattle.sums.specs.Sum.{checksum_of, IsRight}
 use Rattle.ipv4.specs.Header.{IsIpv4, payload_of}
 use Rattle.ipv4.specs.declared.flows.Flow.{Flow}
