@@ -1,4 +1,4 @@
--- Words that clap takes enter one of the five commands.
+-- Words that clap takes enter one of the seven commands.
 use Rattle.std.proofs.Common.{◌≡◌, ◌&&◌, Bool, true, false, not, List, [], ◌∷◌, Option, Some, None, is_some, refl, inl, inr, subst, codes}
 use Rattle.std.specs.Prelude.{find}
 use Rattle.std.specs.List.{list_any}
@@ -69,9 +69,10 @@ required = refl
 all_named : AllNamed (built line_app).subs
 all_named =
     let gate : IsNamed (codes "gate") = inr (inr (inr (inl refl))) in
-    let peer_off : IsNamed (codes "peer-off") = inr (inr (inr (inr (inl refl)))) in
-    let side : IsNamed (codes "side") = inr (inr (inr (inr (inr refl)))) in
-    (inl refl, (inr (inl refl), (inr (inr (inl refl)), (gate, (peer_off, (side, tt))))))
+    let stop : IsNamed (codes "stop") = inr (inr (inr (inr (inl refl)))) in
+    let peer_off : IsNamed (codes "peer-off") = inr (inr (inr (inr (inr (inl refl))))) in
+    let side : IsNamed (codes "side") = inr (inr (inr (inr (inr (inr refl))))) in
+    (inl refl, (inr (inl refl), (inr (inr (inl refl)), (gate, (stop, (peer_off, (side, tt)))))))
 
 pub enters : (words : List Text) → Takes words → Enters (entered_by words)
 enters words taken = enters_of (built line_app) nothing_held (argument_words line_app words) required all_named taken

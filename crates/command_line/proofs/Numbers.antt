@@ -1,5 +1,5 @@
 -- Words that clap takes give `gate` and `peer-off` the numbers that they want.
-use Rattle.std.proofs.Common.{◌≡◌, ◌∙◌, ◌^◌, ◌<◌, ◌≤◌, ◌==◌, ℕ, zero, suc, Bool, true, false, cond, List, [], ◌∷◌, drop, Option, Some, None, refl, sym, ap, subst, inl, inr, arith, codes}
+use Rattle.std.proofs.Common.{◌≡◌, ◌∙◌, ◌⊎◌, ◌^◌, ◌<◌, ◌≤◌, ◌==◌, ℕ, zero, suc, Bool, true, false, cond, List, [], ◌∷◌, drop, Option, Some, None, refl, sym, ap, subst, inl, inr, arith, codes}
 use Rattle.std.specs.Prelude.{find, pos, unwrap_or}
 use Rattle.std.specs.Option.{option_map_or}
 use Rattle.std.specs.Str.{bytes_eq}
@@ -8,17 +8,17 @@ use Rattle.std.proofs.lemmas.Bool.{ne_eqb}
 use Rattle.std.proofs.lemmas.Int.{ints}
 use Rattle.std.proofs.lemmas.Str.Parse.{digit_from_value}
 use Rattle.clap.specs.Lexer.{without_minus}
-use Rattle.clap.specs.Values.{IsSignedIn}
-use Rattle.clap.specs.Walk.{Held, Text, answers_to, nothing_held, rows_after, walk, walk_from}
+use Rattle.clap.specs.Values.{Accepts, IsSignedIn, read_as, reading_of}
+use Rattle.clap.specs.Walk.{Held, Text, answers_to, nothing_held, one_of, rows_after, walk, walk_from}
 use Rattle.clap.specs.Simple.{App, Shape, argument_words, built, entered, label_of, names_of}
 use Rattle.clap.specs.Faults.{built_fault, entered_fault, level_fault, walk_fault}
 use Rattle.clap.specs.declared.builder.value_parser.ValueParser.TheVariants.{Signed, Unsigned}
 use Rattle.nat_types.specs.declared.gateways.GatewayId.{GatewayId}
 use Rattle.nat_types.specs.declared.gateways.GatewayId.TheVariants.{Zero, One}
 use Rattle.command_line.specs.Line.{Takes, entered_by, line_app}
-use Rattle.command_line.specs.Tasks.{HasId, HasNumber, HasNumbers, IsRead, IsReadFrom, Numbered, number_of}
+use Rattle.command_line.specs.Tasks.{HasId, HasNumber, HasNumberIf, HasNumbers, IsRead, IsReadFrom, IsReadIf, Numbered, number_of}
 use Rattle.command_line.proofs.Entering.{neither}
-use Rattle.command_line.proofs.Passing.{AllFit, Wants, level_reads}
+use Rattle.command_line.proofs.Passing.{AllFit, Wants, level_reads, level_reads_if}
 
 -- ---- texts that passed
 
@@ -79,13 +79,20 @@ module _ (s : Shape) (words : List Text) (none : level_fault s [] nothing_held w
       let at : IsReadFrom 8 (Some (without_minus got.0)) (number_of id.0) = subst (IsRead 8 (without_leading_plus (without_minus got.0))) id.1 read.1 in
       (id.0, subst (λ o. IsReadFrom 8 o (number_of id.0)) (sym got.1) at)
 
-  rounds_there : AllFit (codes "rounds") (Signed (pos 0) (pos 4294967295)) s.rules → Wants (codes "rounds") s.rules
-      → HasNumber 32 (codes "rounds") (rows_after s.rules [] words)
-  rounds_there all wants =
-      let got = level_reads (codes "rounds") (Signed (pos 0) (pos 4294967295)) s all wants words none in
-      let most : 4294967295 < 2 ^ 32 = omega arith in
-      let read = signed_number 32 4294967295 got.0 most got.2 in
-      (read.0, subst (λ o. IsReadFrom 32 o read.0) (sym got.1) read.1)
+  rounds_there : AllFit (codes "rounds") (Signed (pos 0) (pos 4294967295)) s.rules → HasNumberIf 32 (codes "rounds") (rows_after s.rules [] words)
+  rounds_there all = go (level_reads_if (codes "rounds") (Signed (pos 0) (pos 4294967295)) s all words none)
+    where
+      at : Option Text
+      at = one_of (codes "rounds") (rows_after s.rules [] words)
+
+      go : (at ≡ None) ⊎ ((v : Text) × (at ≡ Some (read_as (reading_of (Signed (pos 0) (pos 4294967295))) v))
+          × Accepts false (Signed (pos 0) (pos 4294967295)) v)
+          → HasNumberIf 32 (codes "rounds") (rows_after s.rules [] words)
+      go (inl left_out) = (None, subst (λ o. IsReadIf 32 o None) (sym left_out) tt)
+      go (inr got) =
+          let most : 4294967295 < 2 ^ 32 = omega arith in
+          let read = signed_number 32 4294967295 got.0 most got.2 in
+          (Some read.0, subst (λ o. IsReadIf 32 o (Some read.0)) (sym got.1) read.1)
 
   boot_there : AllFit (codes "boot") (Unsigned 0 18446744073709551615) s.rules → Wants (codes "boot") s.rules
       → HasNumber 64 (codes "boot") (rows_after s.rules [] words)
@@ -112,35 +119,56 @@ AllGive [] = Unit {0}
 AllGive (s ∷ rest) = Gives s × AllGive rest
 
 -- a command that wants no number
-gives_none : (s : Shape) → bytes_eq s.name (codes "gate") ≡ false → bytes_eq s.name (codes "peer-off") ≡ false → bytes_eq s.name (codes "side") ≡ false → Gives s
-gives_none s gate peer_off side words none =
-    (λ is. apart s.name (codes "gate") gate refl is, λ is. apart s.name (codes "peer-off") peer_off refl is, λ is. apart s.name (codes "side") side refl is)
-
--- `gate` wants two
-gives_gate : (s : Shape) → bytes_eq s.name (codes "peer-off") ≡ false → bytes_eq s.name (codes "side") ≡ false
-    → AllFit (codes "id") (Signed (pos 0) (pos 1)) s.rules → Wants (codes "id") s.rules
-    → AllFit (codes "rounds") (Signed (pos 0) (pos 4294967295)) s.rules → Wants (codes "rounds") s.rules → Gives s
-gives_gate s peer_off side ids id rounds round words none = (
-  λ _. (id_there s words none ids id, rounds_there s words none rounds round),
+gives_none : (s : Shape) → bytes_eq s.name (codes "gate") ≡ false → bytes_eq s.name (codes "peer-off") ≡ false → bytes_eq s.name (codes "side") ≡ false
+    → bytes_eq s.name (codes "stop") ≡ false → Gives s
+gives_none s gate peer_off side stop words none = (
+  λ is. apart s.name (codes "gate") gate refl is,
   λ is. apart s.name (codes "peer-off") peer_off refl is,
   λ is. apart s.name (codes "side") side refl is,
+  λ is. apart s.name (codes "stop") stop refl is,
 )
 
--- `peer-off` too
-gives_peer_off : (s : Shape) → bytes_eq s.name (codes "gate") ≡ false → bytes_eq s.name (codes "side") ≡ false
+-- `gate` wants one, and may have another
+gives_gate : (s : Shape) → bytes_eq s.name (codes "peer-off") ≡ false → bytes_eq s.name (codes "side") ≡ false → bytes_eq s.name (codes "stop") ≡ false
+    → AllFit (codes "id") (Signed (pos 0) (pos 1)) s.rules → Wants (codes "id") s.rules
+    → AllFit (codes "rounds") (Signed (pos 0) (pos 4294967295)) s.rules → Gives s
+gives_gate s peer_off side stop ids id rounds words none = (
+  λ _. (id_there s words none ids id, rounds_there s words none rounds),
+  λ is. apart s.name (codes "peer-off") peer_off refl is,
+  λ is. apart s.name (codes "side") side refl is,
+  λ is. apart s.name (codes "stop") stop refl is,
+)
+
+-- `peer-off` wants two
+gives_peer_off : (s : Shape) → bytes_eq s.name (codes "gate") ≡ false → bytes_eq s.name (codes "side") ≡ false → bytes_eq s.name (codes "stop") ≡ false
     → AllFit (codes "id") (Signed (pos 0) (pos 1)) s.rules → Wants (codes "id") s.rules
     → AllFit (codes "boot") (Unsigned 0 18446744073709551615) s.rules → Wants (codes "boot") s.rules → Gives s
-gives_peer_off s gate side ids id boots boot words none = (
+gives_peer_off s gate side stop ids id boots boot words none = (
   λ is. apart s.name (codes "gate") gate refl is,
   λ _. (id_there s words none ids id, boot_there s words none boots boot),
   λ is. apart s.name (codes "side") side refl is,
+  λ is. apart s.name (codes "stop") stop refl is,
 )
 
 -- `side` wants one
-gives_side : (s : Shape) → bytes_eq s.name (codes "gate") ≡ false → bytes_eq s.name (codes "peer-off") ≡ false
+gives_side : (s : Shape) → bytes_eq s.name (codes "gate") ≡ false → bytes_eq s.name (codes "peer-off") ≡ false → bytes_eq s.name (codes "stop") ≡ false
     → AllFit (codes "id") (Signed (pos 0) (pos 1)) s.rules → Wants (codes "id") s.rules → Gives s
-gives_side s gate peer_off ids id words none =
-    (λ is. apart s.name (codes "gate") gate refl is, λ is. apart s.name (codes "peer-off") peer_off refl is, λ _. id_there s words none ids id)
+gives_side s gate peer_off stop ids id words none = (
+  λ is. apart s.name (codes "gate") gate refl is,
+  λ is. apart s.name (codes "peer-off") peer_off refl is,
+  λ _. id_there s words none ids id,
+  λ is. apart s.name (codes "stop") stop refl is,
+)
+
+-- `stop` too
+gives_stop : (s : Shape) → bytes_eq s.name (codes "gate") ≡ false → bytes_eq s.name (codes "peer-off") ≡ false → bytes_eq s.name (codes "side") ≡ false
+    → AllFit (codes "id") (Signed (pos 0) (pos 1)) s.rules → Wants (codes "id") s.rules → Gives s
+gives_stop s gate peer_off side ids id words none = (
+  λ is. apart s.name (codes "gate") gate refl is,
+  λ is. apart s.name (codes "peer-off") peer_off refl is,
+  λ is. apart s.name (codes "side") side refl is,
+  λ _. id_there s words none ids id,
+)
 
 -- what two names that differ would give
 differs : {A : Type 0} → false ≡ true → A
@@ -148,20 +176,22 @@ differs e = cc
 
 all_give : AllGive (built line_app).subs
 all_give =
-    let gate = gives_gate _ refl refl
-    ((λ is. differs is), ((λ _. record { parser = refl; ignore_case = refl; action = refl; least = refl; defaults = refl }), ((λ is. differs is), ((λ is. differs is), ((λ is. differs is), ((λ is. differs is), ((λ is. differs is), ((λ is. differs is), ((λ is. differs is), tt)))))))))
+    let gate = gives_gate _ refl refl refl
+    ((λ is. differs is), ((λ _. record { parser = refl; ignore_case = refl; action = refl; least = refl; defaults = refl }), ((λ is. differs is), ((λ is. differs is), ((λ is. differs is), ((λ is. differs is), ((λ is. differs is), ((λ is. differs is), ((λ is. differs is), ((λ is. differs is), ((λ is. differs is), ((λ is. differs is), tt))))))))))))
     (inr (inl (refl, refl)))
-    ((λ is. differs is), ((λ is. differs is), ((λ _. record { parser = refl; ignore_case = refl; action = refl; least = refl; defaults = refl }), ((λ is. differs is), ((λ is. differs is), ((λ is. differs is), ((λ is. differs is), ((λ is. differs is), ((λ is. differs is), tt)))))))))
-    (inr (inr (inl (refl, refl)))) in
-    let peer_off = gives_peer_off _ refl refl
+    ((λ is. differs is), ((λ is. differs is), ((λ _. record { parser = refl; ignore_case = refl; action = refl; least = refl; defaults = refl }), ((λ is. differs is), ((λ is. differs is), ((λ is. differs is), ((λ is. differs is), ((λ is. differs is), ((λ is. differs is), ((λ is. differs is), ((λ is. differs is), ((λ is. differs is), tt)))))))))))) in
+    let stop = gives_stop _ refl refl refl
+    ((λ is. differs is), ((λ _. record { parser = refl; ignore_case = refl; action = refl; least = refl; defaults = refl }), ((λ is. differs is), tt)))
+    (inr (inl (refl, refl))) in
+    let peer_off = gives_peer_off _ refl refl refl
     ((λ is. differs is), ((λ _. record { parser = refl; ignore_case = refl; action = refl; least = refl; defaults = refl }), ((λ is. differs is), ((λ is. differs is), tt))))
     (inr (inl (refl, refl)))
     ((λ is. differs is), ((λ is. differs is), ((λ _. record { parser = refl; ignore_case = refl; action = refl; least = refl; defaults = refl }), ((λ is. differs is), tt))))
     (inr (inr (inl (refl, refl)))) in
-    let side = gives_side _ refl refl
+    let side = gives_side _ refl refl refl
     ((λ is. differs is), ((λ _. record { parser = refl; ignore_case = refl; action = refl; least = refl; defaults = refl }), ((λ is. differs is), ((λ is. differs is), ((λ is. differs is), tt)))))
     (inr (inl (refl, refl))) in
-    (gives_none _ refl refl refl, (gives_none _ refl refl refl, (gives_none _ refl refl refl, (gate, (peer_off, (side, tt))))))
+    (gives_none _ refl refl refl refl, (gives_none _ refl refl refl refl, (gives_none _ refl refl refl refl, (gate, (stop, (peer_off, (side, tt)))))))
 
 found_gives : (p : Shape → Bool) (xs : List Shape) (s : Shape) → AllGive xs → find p xs ≡ Some s → Gives s
 found_gives p [] s all e = cc

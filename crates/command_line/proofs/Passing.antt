@@ -206,6 +206,17 @@ module _ (k : Text) (q : ValueParser) where
           let p = found_row rows r h e in
           (p.0, ap (option_and_then row_text) e ∙ (ap (option_map (read_as r.reading)) p.1 ∙ ap (λ how. Some (read_as how p.0)) p.3), p.2)
 
+  given_reads_if : (rows : List Row) → AllPass rows
+      → (one_of k rows ≡ None) ⊎ ((v : Text) × (one_of k rows ≡ Some (read_as (reading_of q) v)) × Accepts false q v)
+  given_reads_if rows h = go (find (λ (r : Row). bytes_eq r.id k) rows) refl
+    where
+      go : (o : Option Row) → find (λ (r : Row). bytes_eq r.id k) rows ≡ o
+          → (one_of k rows ≡ None) ⊎ ((v : Text) × (one_of k rows ≡ Some (read_as (reading_of q) v)) × Accepts false q v)
+      go None e = inl (ap (option_and_then row_text) e)
+      go (Some r) e =
+          let p = found_row rows r h e in
+          inr (p.0, ap (option_and_then row_text) e ∙ (ap (option_map (read_as r.reading)) p.1 ∙ ap (λ how. Some (read_as how p.0)) p.3), p.2)
+
   -- ---- one level of a parse
 
   module _ (s : Shape) (all : AllFit s.rules) where
@@ -386,6 +397,22 @@ module _ (k : Text) (q : ValueParser) where
   defaults_pass [] rows all h = h
   defaults_pass (a ∷ rest) rows all h = defaults_pass rest (with_default rows a) all.1 (default_pass a rows all.0 h)
 
+  -- the rows of a level all passed
+  level_passes : (s : Shape) → AllFit s.rules → (words : List Text) → level_fault s [] nothing_held words false [] ≡ []
+      → AllPass (rows_after s.rules [] words)
+  level_passes s all words none =
+      let end = (walk s.rules [] nothing_held words).held in
+      let walking = neither (walk_fault s [] (walk_from nothing_held) words) _ none in
+      let settling = neither (settle_fault s.rules s.args_override_self end) _ walking.1 in
+      let walked_through = walk_pass s all [] (walk_from nothing_held) words walking.0 tt in
+      defaults_pass s.rules (settled s.rules end).rows all (settle_pass s all end settling.0 walked_through)
+
+  -- what stands at the name, if anything does, passed the parser
+  pub level_reads_if : (s : Shape) → AllFit s.rules → (words : List Text) → level_fault s [] nothing_held words false [] ≡ []
+      → (one_of k (rows_after s.rules [] words) ≡ None)
+      ⊎ ((v : Text) × (one_of k (rows_after s.rules [] words) ≡ Some (read_as (reading_of q) v)) × Accepts false q v)
+  level_reads_if s all words none = given_reads_if (rows_after s.rules [] words) (level_passes s all words none)
+
   -- what is wanted at the name stands there, and passed the parser
   pub level_reads : (s : Shape) → AllFit s.rules → Wants k s.rules → (words : List Text) → level_fault s [] nothing_held words false [] ≡ []
       → (v : Text) × (one_of k (rows_after s.rules [] words) ≡ Some (read_as (reading_of q) v)) × Accepts false q v
@@ -395,7 +422,6 @@ module _ (k : Text) (q : ValueParser) where
       let walking = neither (walk_fault s [] (walk_from nothing_held) words) _ none in
       let settling = neither (settle_fault s.rules s.args_override_self end) _ walking.1 in
       let defaults = neither (defaults_fault (settled s.rules end).rows s.rules) _ settling.1 in
-      let walked_through = walk_pass s all [] (walk_from nothing_held) words walking.0 tt in
-      let passed = defaults_pass s.rules (settled s.rules end).rows all (settle_pass s all end settling.0 walked_through) in
+      let passed = level_passes s all words none in
       let missing = none_wanted _ _ _ defaults.1 in
       given_reads rows passed (given_there k s.rules rows wants (none_missing s.subcommand_negates_reqs _ missing))

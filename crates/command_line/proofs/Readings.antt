@@ -6,7 +6,7 @@ use Rattle.std.specs.Str.Parse.{ParsesUnsigned}
 use Rattle.clap.specs.Words.{ReadsOne, Row, Text, one_of, one_text, rows_of}
 use Rattle.clap.specs.declared.parser.matches.Found.{Found}
 use Rattle.clap.proofs.WalkLemmas.{one_text-rows}
-use Rattle.command_line.specs.Tasks.{IsReadFrom, ReadsNumber}
+use Rattle.command_line.specs.Tasks.{HasNumberIf, IsReadFrom, IsReadIf, ReadsNumber}
 
 -- the text of a value, or of a default
 pub text_or : (o : Option (Bor Text)) (d : Bor Text) (x : Option Text) → option_map (λ s. s.now) o ≡ x → (unwrap_or o d).now ≡ unwrap_or x d.now
@@ -38,3 +38,19 @@ number_at E G bits f name r reads none value =
     go : (o : Option Text) → one_text f name ≡ o → ReadsFrom bits o r
     go None e = subst (λ (x : Option ℕ). ReadsFrom bits None x) (sym (none e)) (λ n is. is)
     go (Some t) e = read_from E G bits t r reads (value t e)
+
+from_rows : (bits : ℕ) (name : Text) (rows : List Row) (r : Option ℕ) → ReadsNumber bits name rows r → ReadsFrom bits (one_of name rows) r
+from_rows bits name rows (Some n) reads = reads
+from_rows bits name rows None reads = reads
+
+-- what is read where a number stands, or nothing
+pub read_if : (bits : ℕ) (name : Text) (rows : List Row) (r : Option ℕ) → HasNumberIf bits name rows → ReadsNumber bits name rows r
+    → IsReadIf bits (one_of name rows) r
+read_if bits name rows r has reads = go (one_of name rows) r has (from_rows bits name rows r reads)
+  where
+    go : (o : Option Text) (x : Option ℕ) → ((n : Option ℕ) × IsReadIf bits o n) → ReadsFrom bits o x → IsReadIf bits o x
+    go None None there is = tt
+    go None (Some n) there is = is
+    go (Some t) (Some n) there is = is
+    go (Some t) None (None, bad) is = bad
+    go (Some t) None (Some n, number) is = is n number

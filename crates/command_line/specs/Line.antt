@@ -21,22 +21,21 @@ id_rule = record (new_rule (codes "id")) {
 abbrev pub rounds_rule : Rule
 rounds_rule = record (new_rule (codes "rounds")) {
   long = Some (codes "rounds");
-  required = true;
   action = Some Set;
   parser = Some (Signed (pos 0) (pos 4294967295));
 }
 
--- `--found`
-abbrev pub found_rule : Rule
-found_rule = record (new_rule (codes "found")) { long = Some (codes "found"); action = Some SetTrue }
+-- `--NAME`, a flag
+abbrev pub flag_rule : List ℕ → Rule
+flag_rule name = record (new_rule name) { long = Some name; action = Some SetTrue }
+
+-- `--NAME TEXT`, which may be left out
+abbrev pub text_rule : List ℕ → Rule
+text_rule name = record (new_rule name) { long = Some name; action = Some Set }
 
 -- `--NAME WAY`, which is `loopback` where it is left out
 abbrev pub way_rule : List ℕ → Rule
 way_rule name = record (new_rule name) { long = Some name; action = Some Set; defaults = codes "loopback" ∷ [] }
-
--- `--no-track`
-abbrev pub no_track_rule : Rule
-no_track_rule = record (new_rule (codes "no-track")) { long = Some (codes "no-track"); action = Some SetTrue }
 
 -- `--boot`, from 0 to 18446744073709551615
 abbrev pub boot_rule : Rule
@@ -47,17 +46,13 @@ boot_rule = record (new_rule (codes "boot")) {
   parser = Some (Unsigned 0 18446744073709551615);
 }
 
--- `--capture FILE`
-abbrev pub capture_rule : Rule
-capture_rule = record (new_rule (codes "capture")) { long = Some (codes "capture"); action = Some Set }
-
 -- `init FILE`
 abbrev pub init_app : App
 init_app = with_rule (new_app (codes "init")) (file_rule (codes "FILE"))
 
 -- `SETTINGS SCRIPT [--capture FILE]`
 abbrev pub with_script : App → App
-with_script a = with_rule (with_rule (with_rule a (file_rule (codes "SETTINGS"))) (file_rule (codes "SCRIPT"))) capture_rule
+with_script a = with_rule (with_rule (with_rule a (file_rule (codes "SETTINGS"))) (file_rule (codes "SCRIPT"))) (text_rule (codes "capture"))
 
 -- `sim SETTINGS SCRIPT [--capture FILE]`
 abbrev pub sim_app : App
@@ -71,23 +66,33 @@ loop_app = with_script (new_app (codes "loop"))
 abbrev pub with_ways : App → App
 with_ways a = with_rule (with_rule (with_rule a (way_rule (codes "inside"))) (way_rule (codes "outside"))) (way_rule (codes "link"))
 
--- `--rounds N [--found]`
-abbrev pub with_rounds : App → App
-with_rounds a = with_rule (with_rule a rounds_rule) found_rule
+-- `SETTINGS --id I`
+abbrev pub with_gateway : App → App
+with_gateway a = with_rule (with_rule a (file_rule (codes "SETTINGS"))) id_rule
 
--- `gate SETTINGS --id I --rounds N [--found]`, the ways, `[--no-track]`
+-- `[--rounds N] [--until-eof] [--found]`
+abbrev pub with_rounds : App → App
+with_rounds a = with_rule (with_rule (with_rule a rounds_rule) (flag_rule (codes "until-eof"))) (flag_rule (codes "found"))
+
+-- `[--log FILTER] [--log-pairs]`
+abbrev pub with_log : App → App
+with_log a = with_rule (with_rule a (text_rule (codes "log"))) (flag_rule (codes "log-pairs"))
+
+-- `gate SETTINGS --id I [--rounds N] [--until-eof] [--found]`, the ways, `[--no-track] [--log FILTER] [--log-pairs]`
 abbrev pub gate_app : App
-gate_app = with_rule (with_ways (with_rounds (with_rule (with_rule (new_app (codes "gate")) (file_rule (codes "SETTINGS"))) id_rule))) no_track_rule
+gate_app = with_log (with_rule (with_ways (with_rounds (with_gateway (new_app (codes "gate"))))) (flag_rule (codes "no-track")))
+
+-- `stop SETTINGS --id I`
+abbrev pub stop_app : App
+stop_app = with_gateway (new_app (codes "stop"))
 
 -- `peer-off SETTINGS --id I --boot N`
 abbrev pub peer_off_app : App
-peer_off_app = with_rule (with_rule (with_rule (new_app (codes "peer-off")) (file_rule (codes "SETTINGS"))) id_rule) boot_rule
+peer_off_app = with_rule (with_gateway (new_app (codes "peer-off"))) boot_rule
 
 -- `side SETTINGS --id I SIDE STATE`
 abbrev pub side_app : App
-side_app =
-    with_rule (with_rule (with_rule (with_rule (new_app (codes "side")) (file_rule (codes "SETTINGS"))) id_rule) (file_rule (codes "SIDE")))
-    (file_rule (codes "STATE"))
+side_app = with_rule (with_rule (with_gateway (new_app (codes "side"))) (file_rule (codes "SIDE"))) (file_rule (codes "STATE"))
 
 -- the program, of which one command has to be named, and which has no command `help`
 abbrev pub top_app : App
@@ -98,8 +103,8 @@ top_app = record (new_app (codes "natpair")) {
 -- all commands
 abbrev pub line_app : App
 line_app =
-    with_subcommand (with_subcommand (with_subcommand (with_subcommand (with_subcommand (with_subcommand top_app
-    init_app.top) sim_app.top) loop_app.top) gate_app.top) peer_off_app.top) side_app.top
+    with_subcommand (with_subcommand (with_subcommand (with_subcommand (with_subcommand (with_subcommand (with_subcommand top_app
+    init_app.top) sim_app.top) loop_app.top) gate_app.top) stop_app.top) peer_off_app.top) side_app.top
 
 -- `clap` takes the words for this command line: it finds no fault in them
 abbrev pub Takes : List Text → Type 0

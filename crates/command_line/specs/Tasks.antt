@@ -11,6 +11,7 @@ use Rattle.nat_types.specs.declared.gateways.GatewayId.{GatewayId}
 use Rattle.nat_types.specs.declared.gateways.GatewayId.TheVariants.{Zero, One}
 use Rattle.nat_types.specs.declared.gateways.Side.{Side}
 use Rattle.nat_types.specs.declared.gateways.Side.TheVariants.{Inside, Outside}
+use Rattle.command_line.specs.declared.tasks.GateWords.{GateWords}
 use Rattle.command_line.specs.declared.tasks.RunWords.{RunWords}
 use Rattle.command_line.specs.declared.tasks.WayWords.{WayWords}
 use Rattle.command_line.specs.declared.tasks.Task.{Task}
@@ -50,6 +51,17 @@ abbrev pub ReadsNumber : ℕ → Text → List Row → Option ℕ → Type 0
 ReadsNumber bits name rows (Some n) = IsNumber bits name rows n
 ReadsNumber bits name rows None = LacksNumber bits name rows
 
+-- n is the number at an option that may be left out: a numeral of so many bits stands there, or nothing
+abbrev pub IsReadIf : ℕ → Option Text → Option ℕ → Type 0
+IsReadIf bits None None = Unit {0}
+IsReadIf bits None (Some n) = ⊥
+IsReadIf bits (Some text) None = ⊥
+IsReadIf bits (Some text) (Some n) = IsRead bits (without_leading_plus text) n
+
+-- a number of so many bits stands there, or nothing
+abbrev pub HasNumberIf : ℕ → Text → List Row → Type 0
+HasNumberIf bits name rows = (n : Option ℕ) × IsReadIf bits (one_of name rows) n
+
 -- the flag at a name is set
 abbrev pub flag_of : Text → List Row → Bool
 flag_of name rows = option_map_or (λ text. bytes_eq text (codes "true")) (first_of name rows) false
@@ -87,6 +99,18 @@ pub record AreWays (rows : List Row) (ways : WayWords) : Type 0 where
   pub outside : string_bytes ways.outside ≡ word_of (codes "outside") rows
   pub link : string_bytes ways.link ≡ word_of (codes "link") rows
 
+-- what the words of `gate` say
+pub record IsGate (rows : List Row) (gate : GateWords) : Type 0 where
+  pub settings : string_bytes gate.settings ≡ word_of (codes "SETTINGS") rows
+  pub id : IsId rows gate.id
+  pub rounds : IsReadIf 32 (one_of (codes "rounds") rows) gate.rounds
+  pub until_eof : gate.until_eof ≡ flag_of (codes "until-eof") rows
+  pub found : gate.found ≡ flag_of (codes "found") rows
+  pub ways : AreWays rows gate.ways
+  pub track : gate.track ≡ not (flag_of (codes "no-track") rows)
+  pub log : option_map string_bytes gate.log ≡ first_of (codes "log") rows
+  pub pairs : gate.pairs ≡ flag_of (codes "log-pairs") rows
+
 -- one of two things by its word, if it is one of their words
 abbrev pub either_of : {X : Type 0} → Text → X → Text → X → Text → Option X
 either_of one x two y word = if bytes_eq word one then Some x else if bytes_eq word two then Some y else None
@@ -104,10 +128,9 @@ abbrev pub IsTask : Text → List Row → Task → Type 0
 IsTask name rows (task.Init file) = (name ≡ codes "init") × (string_bytes file ≡ word_of (codes "FILE") rows)
 IsTask name rows (task.Sim files) = (name ≡ codes "sim") × AreFiles rows files
 IsTask name rows (task.Loop files) = (name ≡ codes "loop") × AreFiles rows files
-IsTask name rows (task.Gate settings id rounds found ways track) =
-    (name ≡ codes "gate") × (string_bytes settings ≡ word_of (codes "SETTINGS") rows)
-    × IsId rows id × IsNumber 32 (codes "rounds") rows rounds × (found ≡ flag_of (codes "found") rows)
-    × AreWays rows ways × (track ≡ not (flag_of (codes "no-track") rows))
+IsTask name rows (task.Gate gate) = (name ≡ codes "gate") × IsGate rows gate
+IsTask name rows (task.Stop settings id) =
+    (name ≡ codes "stop") × (string_bytes settings ≡ word_of (codes "SETTINGS") rows) × IsId rows id
 IsTask name rows (task.PeerOff settings id boot) =
     (name ≡ codes "peer-off") × (string_bytes settings ≡ word_of (codes "SETTINGS") rows)
     × IsId rows id × IsNumber 64 (codes "boot") rows boot
@@ -122,22 +145,22 @@ Asks (Some entered) task = IsTask entered.0 entered.1 task
 
 -- only gateway 0 founds the pair
 abbrev pub FoundsAtZero : Task → Type 0
-FoundsAtZero (task.Gate settings id rounds found ways track) = found ≡ true → id ≡ Zero
+FoundsAtZero (task.Gate gate) = gate.found ≡ true → gate.id ≡ Zero
 FoundsAtZero _ = Unit {0}
 
--- one of the six commands
+-- one of the seven commands
 abbrev pub IsNamed : Text → Type 0
 IsNamed name = (name ≡ codes "init") ⊎ ((name ≡ codes "sim") ⊎ ((name ≡ codes "loop")
-    ⊎ ((name ≡ codes "gate") ⊎ ((name ≡ codes "peer-off") ⊎ (name ≡ codes "side")))))
+    ⊎ ((name ≡ codes "gate") ⊎ ((name ≡ codes "stop") ⊎ ((name ≡ codes "peer-off") ⊎ (name ≡ codes "side"))))))
 
--- one of the six commands was entered
+-- one of the seven commands was entered
 abbrev pub Enters : Option (Text × List Row) → Type 0
 Enters None = ⊥
 Enters (Some entered) = IsNamed entered.0
 
--- the numbers that `gate` wants stand at their options
+-- the numbers of `gate` stand at their options, that of rounds if anything does
 abbrev pub HasNumbersOfGate : List Row → Type 0
-HasNumbersOfGate rows = HasId rows × HasNumber 32 (codes "rounds") rows
+HasNumbersOfGate rows = HasId rows × HasNumberIf 32 (codes "rounds") rows
 
 -- those of `peer-off` do
 abbrev pub HasNumbersOfPeerOff : List Row → Type 0
@@ -147,7 +170,7 @@ HasNumbersOfPeerOff rows = HasId rows × HasNumber 64 (codes "boot") rows
 abbrev pub HasNumbers : Text → List Row → Type 0
 HasNumbers name rows =
     (name ≡ codes "gate" → HasNumbersOfGate rows) × (name ≡ codes "peer-off" → HasNumbersOfPeerOff rows)
-    × (name ≡ codes "side" → HasId rows)
+    × (name ≡ codes "side" → HasId rows) × (name ≡ codes "stop" → HasId rows)
 
 -- those of the command that was entered do
 abbrev pub Numbered : Option (Text × List Row) → Type 0

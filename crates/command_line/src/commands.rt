@@ -2,7 +2,7 @@
 ghost use Rattle.std.specs.Prelude.{◌≡◌, codes, false, IfOk};
 ghost use Rattle.clap.specs.Words.{app_of, with_rule, with_subcommand};
 ghost use Rattle.clap.specs.declared.builder.command.Command.TheViews.{out-Command as fields_of};
-ghost use Rattle.command_line.specs.Line.{file_rule, id_rule, init_app, sim_app, loop_app, with_rounds, with_script, with_ways, gate_app, peer_off_app, side_app, top_app, line_app};
+ghost use Rattle.command_line.specs.Line.{flag_rule, rounds_rule, text_rule, init_app, sim_app, loop_app, with_gateway, with_log, with_rounds, with_script, with_ways, gate_app, stop_app, peer_off_app, side_app, top_app, line_app};
 
 use crate::options;
 use clap::Command;
@@ -15,7 +15,10 @@ const GATE_HELP: &str = "A way is one of
   vxlan:OWN:PORT,OTHER:PORT,NUMBER  VXLAN between two ends, NUMBER the network's
   udp:OWN:PORT,OTHER:PORT           UDP between two ends
 
-Example: natpair gate S.toml --id 0 --rounds 1000 --found";
+A filter is directives with commas between them, as in --log warn,natpair::link=debug; left out, it is that of the
+environment's NATPAIR_LOG, or info.
+
+Example: natpair gate S.toml --id 0";
 
 fn init<'a>(alloc: Global) -> Result<Command<'a>, AllocError>
     ensures app { IfOk result (λ c. app_of c ≡ init_app) }
@@ -36,10 +39,11 @@ fn with_script<'a>(alloc: Global, command: Command<'a>) -> Result<Command<'a>, A
 {
     let settings = options::file(alloc, "SETTINGS", "The settings in TOML, as in S.toml");
     let script = options::file(alloc, "SCRIPT", "The events, a line each, as in day.script");
+    let capture = "A file for all frames and datagrams, in pcapng, as in --capture day.pcapng";
     command
         .arg(settings)?
         .arg(script)?
-        .arg(options::capture(alloc))
+        .arg(options::text(alloc, "capture", capture))
 }
 
 fn sim<'a>(alloc: Global) -> Result<Command<'a>, AllocError>
@@ -67,22 +71,75 @@ fn repeat<'a>(alloc: Global) -> Result<Command<'a>, AllocError>
 /// The word SETTINGS and the option `--id`.
 fn with_gateway<'a>(alloc: Global, command: Command<'a>) -> Result<Command<'a>, AllocError>
     requires local { (fields_of command).has_globals ≡ false }
-    ensures app { IfOk result (λ c. app_of c
-        ≡ with_rule (with_rule (app_of command.entry) (file_rule (codes "SETTINGS"))) id_rule) }
+    ensures app { IfOk result (λ c. app_of c ≡ with_gateway (app_of command.entry)) }
     ensures local { IfOk result (λ c. (fields_of c).has_globals ≡ false) }
 {
     let settings = options::file(alloc, "SETTINGS", "The settings in TOML, as in S.toml");
     command.arg(settings)?.arg(options::id(alloc))
 }
 
-/// The options `--rounds` and `--found`.
+/// The options `--rounds`, `--until-eof` and `--found`.
 fn with_rounds<'a>(alloc: Global, command: Command<'a>) -> Result<Command<'a>, AllocError>
     requires local { (fields_of command).has_globals ≡ false }
     ensures app { IfOk result (λ c. app_of c ≡ with_rounds (app_of command.entry)) }
     ensures local { IfOk result (λ c. (fields_of c).has_globals ≡ false) }
 {
-    let command = command.arg(options::rounds(alloc))?;
-    command.arg(options::found(alloc))
+    let until_eof = "Ends, as told, where its standard input ends";
+    let found = "Founds the pair: once, at gateway 0, with a new boot file";
+    let command = with_limit(alloc, command)?;
+    let command = with_flag(alloc, command, "until-eof", until_eof)?;
+    with_flag(alloc, command, "found", found)
+}
+
+/// The option `--rounds`.
+fn with_limit<'a>(alloc: Global, command: Command<'a>) -> Result<Command<'a>, AllocError>
+    requires local { (fields_of command).has_globals ≡ false }
+    ensures app { IfOk result (λ c. app_of c ≡ with_rule (app_of command.entry) rounds_rule) }
+    ensures local { IfOk result (λ c. (fields_of c).has_globals ≡ false) }
+{
+    command.arg(options::rounds(alloc))
+}
+
+/// A flag.
+fn with_flag<'a>(
+    alloc: Global,
+    command: Command<'a>,
+    name: &'a str,
+    help: &'a str,
+) -> Result<Command<'a>, AllocError>
+    requires local { (fields_of command).has_globals ≡ false }
+    ensures app { IfOk result (λ c. app_of c
+        ≡ with_rule (app_of command.entry) (flag_rule name.entry.now)) }
+    ensures local { IfOk result (λ c. (fields_of c).has_globals ≡ false) }
+{
+    command.arg(options::flag(alloc, name, help))
+}
+
+/// An option with a text.
+fn with_text<'a>(
+    alloc: Global,
+    command: Command<'a>,
+    name: &'a str,
+    help: &'a str,
+) -> Result<Command<'a>, AllocError>
+    requires local { (fields_of command).has_globals ≡ false }
+    ensures app { IfOk result (λ c. app_of c
+        ≡ with_rule (app_of command.entry) (text_rule name.entry.now)) }
+    ensures local { IfOk result (λ c. (fields_of c).has_globals ≡ false) }
+{
+    command.arg(options::text(alloc, name, help))
+}
+
+/// The options `--log` and `--log-pairs`.
+fn with_log<'a>(alloc: Global, command: Command<'a>) -> Result<Command<'a>, AllocError>
+    requires local { (fields_of command).has_globals ≡ false }
+    ensures app { IfOk result (λ c. app_of c ≡ with_log (app_of command.entry)) }
+    ensures local { IfOk result (λ c. (fields_of c).has_globals ≡ false) }
+{
+    let log = "Which records it writes to the standard error, as in --log debug";
+    let pairs = "Writes each record as key=value, for programs";
+    let command = with_text(alloc, command, "log", log)?;
+    with_flag(alloc, command, "log-pairs", pairs)
 }
 
 /// The options `--inside`, `--outside` and `--link`.
@@ -108,7 +165,21 @@ fn gate<'a>(alloc: Global) -> Result<Command<'a>, AllocError>
         .about("Runs one gateway: on interfaces, over VXLAN, or on loopback sockets")
         .after_help(GATE_HELP);
     let command = with_rounds(alloc, with_gateway(alloc, command)?)?;
-    with_ways(alloc, command)?.arg(options::no_track(alloc))
+    let track = "Doesn't give way where an interface says that it has no carrier";
+    let command = with_ways(alloc, command)?.arg(options::flag(alloc, "no-track", track))?;
+    with_log(alloc, command)
+}
+
+fn stop<'a>(alloc: Global) -> Result<Command<'a>, AllocError>
+    ensures app { IfOk result (λ c. app_of c ≡ stop_app) }
+    ensures local { IfOk result (λ c. (fields_of c).has_globals ≡ false) }
+{
+    let command = Command::new(alloc, "stop")
+        .about(
+            "Tells a running gateway to end: it resigns on both sides, so that its peer takes over",
+        )
+        .after_help("Example: natpair stop S.toml --id 0");
+    with_gateway(alloc, command)
 }
 
 fn peer_off<'a>(alloc: Global) -> Result<Command<'a>, AllocError>
@@ -163,6 +234,7 @@ pub(crate) fn line<'a>(alloc: Global) -> Result<Command<'a>, AllocError>
     let line = with_command(line, sim(alloc)?)?;
     let line = with_command(line, repeat(alloc)?)?;
     let line = with_command(line, gate(alloc)?)?;
+    let line = with_command(line, stop(alloc)?)?;
     let line = with_command(line, peer_off(alloc)?)?;
     with_command(line, side(alloc)?)
 }

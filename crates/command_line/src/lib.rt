@@ -8,4 +8,4 @@ mod tasks;
 mod values;
 
 pub use faults::LineFault;
-pub use tasks::{RunWords, Task, WayWords, command};
+pub use tasks::{GateWords, RunWords, Task, WayWords, command};

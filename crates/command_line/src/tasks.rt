@@ -2,7 +2,7 @@
 ghost use Rattle.std.specs.Prelude.{◌≡◌, codes, string_bytes, map, option_map, IfOk, IfErr};
 ghost use Rattle.clap.specs.Words.{found_of, rows_of, subcommand_rows_of};
 ghost use Rattle.command_line.specs.Line.{Takes, entered_by};
-ghost use Rattle.command_line.specs.Tasks.{IsTask, Asks, AreFiles, AreWays, FoundsAtZero, IsNamed, Enters, HasId, HasNumbersOfGate, HasNumbersOfPeerOff, HasNumbers, Numbered, RefusesGate, RefusesSide, RefusesValues, RefusesEntered, RefusesWords, Refuses};
+ghost use Rattle.command_line.specs.Tasks.{IsTask, Asks, AreFiles, AreWays, FoundsAtZero, IsGate, IsId, IsNamed, Enters, HasId, HasNumbersOfGate, HasNumbersOfPeerOff, HasNumbers, Numbered, RefusesGate, RefusesSide, RefusesValues, RefusesEntered, RefusesWords, Refuses};
 
 use crate::faults::LineFault;
 use crate::{commands, values};
@@ -28,6 +28,27 @@ pub struct WayWords {
     pub link: String,
 }
 
+/// How a gateway is to be run. Files are paths.
+#[derive(Debug, Drop)]
+pub struct GateWords {
+    pub settings: String,
+    pub id: GatewayId,
+    /// For so many rounds; or until it is told to end.
+    pub rounds: Option<u32>,
+    /// The end of its standard input tells it to end.
+    pub until_eof: bool,
+    /// It founds the pair.
+    pub found: bool,
+    /// Its places are reached by these.
+    pub ways: WayWords,
+    /// It gives way by the carrier of its interfaces.
+    pub track: bool,
+    /// Which records it writes, as a filter's text.
+    pub log: Option<String>,
+    /// It writes them as keys and values.
+    pub pairs: bool,
+}
+
 /// What a command line asks for. Files are paths.
 #[derive(Debug, Drop)]
 pub enum Task {
@@ -37,18 +58,10 @@ pub enum Task {
     Sim(RunWords),
     /// The same, with frames and datagrams sent through loopback sockets.
     Loop(RunWords),
-    /// Run one gateway with settings, for so many rounds.
-    Gate {
-        settings: String,
-        id: GatewayId,
-        rounds: u32,
-        /// It founds the pair.
-        found: bool,
-        /// Its places are reached by these.
-        ways: WayWords,
-        /// It gives way by the carrier of its interfaces.
-        track: bool,
-    },
+    /// Run one gateway with settings.
+    Gate(GateWords),
+    /// Tell a running gateway to end.
+    Stop(String, GatewayId),
     /// Tell a running gateway that this boot of its peer has ended for good.
     PeerOff(String, GatewayId, u64),
     /// Tell a running gateway that a side is up, or that it is down.
@@ -115,20 +128,44 @@ fn gate(alloc: Global, matches: &ArgMatches<'_>) -> Result<Task, LineFault>
     if found && id == GatewayId::One {
         return Err(LineFault::FoundNeedsIdZero);
     }
-    let Some(rounds) = values::short(matches, "rounds") else {
+    let gate = gate_words(alloc, matches, id)?;
+    Ok(Task::Gate(gate))
+}
+
+/// What the words say of the gateway to run.
+fn gate_words(
+    alloc: Global,
+    matches: &ArgMatches<'_>,
+    id: GatewayId,
+) -> Result<GateWords, AllocError>
+    requires numbers { HasNumbersOfGate (rows_of (found_of matches.now)) }
+    requires id { IsId (rows_of (found_of matches.now)) id }
+    ensures words { IfOk result (IsGate (rows_of (found_of matches.now))) }
+    ensures id { IfOk result (λ gate. gate.id ≡ id) }
+{
+    Ok(GateWords {
+        settings: values::word(alloc, matches, "SETTINGS")?,
+        id,
+        rounds: values::short_if(matches, "rounds"),
+        until_eof: values::flag(matches, "until-eof"),
+        found: values::flag(matches, "found"),
+        ways: ways(alloc, matches)?,
+        track: !values::flag(matches, "no-track"),
+        log: values::word_if(alloc, matches, "log")?,
+        pairs: values::flag(matches, "log-pairs"),
+    })
+}
+
+/// The gateway that is to end.
+fn stop(alloc: Global, matches: &ArgMatches<'_>) -> Result<Task, AllocError>
+    requires { HasId (rows_of (found_of matches.now)) }
+    ensures { IfOk result (IsTask (codes "stop") (rows_of (found_of matches.now))) }
+{
+    let Some(id) = values::id(matches) else {
         unreachable!()
     };
     let settings = values::word(alloc, matches, "SETTINGS")?;
-    let ways = ways(alloc, matches)?;
-    let track = !values::flag(matches, "no-track");
-    Ok(Task::Gate {
-        settings,
-        id,
-        rounds,
-        found,
-        ways,
-        track,
-    })
+    Ok(Task::Stop(settings, id))
 }
 
 fn peer_off(alloc: Global, matches: &ArgMatches<'_>) -> Result<Task, AllocError>
@@ -189,6 +226,7 @@ fn named(alloc: Global, name: &str, matches: &ArgMatches<'_>) -> Result<Task, Li
         "sim" => Ok(sim(alloc, matches)?),
         "loop" => Ok(repeat(alloc, matches)?),
         "gate" => gate(alloc, matches),
+        "stop" => Ok(stop(alloc, matches)?),
         "peer-off" => Ok(peer_off(alloc, matches)?),
         "side" => side(alloc, matches),
         _ => unreachable!(),

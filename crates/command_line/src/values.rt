@@ -1,7 +1,7 @@
 //! The values that clap gives the options of a command.
 ghost use Rattle.std.specs.Prelude.{◌≡◌, option_map, string_bytes, IfOk};
-ghost use Rattle.clap.specs.Words.{first_of, found_of, rows_of};
-ghost use Rattle.command_line.specs.Tasks.{word_of, flag_of, side_in, state_in, ReadsNumber, ReadsId};
+ghost use Rattle.clap.specs.Words.{first_of, found_of, one_of, rows_of};
+ghost use Rattle.command_line.specs.Tasks.{word_of, flag_of, side_in, state_in, HasNumberIf, IsReadIf, ReadsNumber, ReadsId};
 
 use clap::ArgMatches;
 use nat_types::{GatewayId, Side};
@@ -61,8 +61,16 @@ fn byte(matches: &ArgMatches<'_>, name: &str) -> Option<u8>
     matches.get_one::<u8>(name)
 }
 
+/// The number of 32 bits at an option that may be left out.
+pub(crate) fn short_if(matches: &ArgMatches<'_>, name: &str) -> Option<u32>
+    requires { HasNumberIf 32 name.now (rows_of (found_of matches.now)) }
+    ensures { IsReadIf 32 (one_of name.now (rows_of (found_of matches.now))) result }
+{
+    short(matches, name)
+}
+
 /// The number of 32 bits at a name.
-pub(crate) fn short(matches: &ArgMatches<'_>, name: &str) -> Option<u32>
+fn short(matches: &ArgMatches<'_>, name: &str) -> Option<u32>
     ensures { ReadsNumber 32 name.now (rows_of (found_of matches.now)) result }
 {
     matches.get_one::<u32>(name)

@@ -46,8 +46,8 @@ none_at_one name rows (kind.Sim files) t zero gate one = apart (codes "sim") (co
 none_at_one name rows (kind.Loop files) t zero gate one = apart (codes "loop") (codes "gate") refl refl (sym t.0 ∙ gate)
 none_at_one name rows (kind.PeerOff settings id boot) t zero gate one = apart (codes "peer-off") (codes "gate") refl refl (sym t.0 ∙ gate)
 none_at_one name rows (kind.Side settings id side up) t zero gate one = apart (codes "side") (codes "gate") refl refl (sym t.0 ∙ gate)
-none_at_one name rows (kind.Gate settings id rounds found ways track) t zero gate one =
-    gates_differ (sym (zero (t.4 ∙ one.0)) ∙ one_id rows id One t.2 one.1)
+none_at_one name rows (kind.Gate words) t zero gate one = gates_differ (sym (zero (t.1.found ∙ one.0)) ∙ one_id rows words.id One t.1.id one.1)
+none_at_one name rows (kind.Stop settings id) t zero gate one = apart (codes "stop") (codes "gate") refl refl (sym t.0 ∙ gate)
 
 -- what is found isn't missing
 there : {X : Type 0} (o : Option X) (x : X) → o ≡ Some x → o ≡ None → ⊥
@@ -65,7 +65,8 @@ none_lacks : (name : Text) (rows : List Row) (task : Task) → IsTask name rows 
 none_lacks name rows (kind.Init file) t is lacks = apart (codes "init") (codes "side") refl refl (sym t.0 ∙ is)
 none_lacks name rows (kind.Sim files) t is lacks = apart (codes "sim") (codes "side") refl refl (sym t.0 ∙ is)
 none_lacks name rows (kind.Loop files) t is lacks = apart (codes "loop") (codes "side") refl refl (sym t.0 ∙ is)
-none_lacks name rows (kind.Gate settings id rounds found ways track) t is lacks = apart (codes "gate") (codes "side") refl refl (sym t.0 ∙ is)
+none_lacks name rows (kind.Gate words) t is lacks = apart (codes "gate") (codes "side") refl refl (sym t.0 ∙ is)
+none_lacks name rows (kind.Stop settings id) t is lacks = apart (codes "stop") (codes "side") refl refl (sym t.0 ∙ is)
 none_lacks name rows (kind.PeerOff settings id boot) t is lacks = apart (codes "peer-off") (codes "side") refl refl (sym t.0 ∙ is)
 none_lacks name rows (kind.Side settings id side up) t is lacks = has_side rows side up t.3 t.4 lacks
 

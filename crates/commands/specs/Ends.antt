@@ -38,7 +38,8 @@ abbrev pub Ends : Option (List ℕ) → Option (List ℕ) → Task → ℕ → T
 Ends before after (task.Init file) status = status ≡ 0
 Ends before after (task.Sim files) status = HasRun status
 Ends before after (task.Loop files) status = HasLoop status
-Ends before after (task.Gate settings id rounds found ways track) status = (status ≡ 0) × HasServed id rounds found track before after
+Ends before after (task.Gate gate) status = (status ≡ 0) × HasServed gate.id gate.rounds gate.found gate.track gate.until_eof before after
+Ends before after (task.Stop settings id) status = status ≡ 0
 Ends before after (task.PeerOff settings id boot) status = status ≡ 0
 Ends before after (task.Side settings id side up) status = status ≡ 0
 

@@ -6,13 +6,14 @@ ghost use Rattle.commands.specs.Ends.{AreDone, Ends};
 
 use crate::runs::{repeat, sim};
 use boot_file::{Lockable, Uncached};
-use command_line::{Task, WayWords, command};
-use gate::{Start, WayTexts, gate, init, peer_off, side};
+use command_line::{GateWords, Task, WayWords, command};
+use gate::{Start, WayTexts, gate, init, peer_off, side, stop};
+use journal::Format;
 use std::fs::Files;
 use std::io::Write;
 use std::net::Net;
 use std::random::RandomSource;
-use std::rt::Clock;
+use std::rt::{Clock, Env};
 
 /// All that the program does with its words, its name first. The answer is the exit status. Where somebody watches
 /// `errors` at a terminal, a long script of `sim` says there every few seconds how far it is.
@@ -23,13 +24,11 @@ use std::rt::Clock;
 /// | 1 | a fault, told on `errors` as `natpair: AREA NUMBER NAME` |
 /// | 2 | the words are refused: why stands on `errors` |
 /// | 3 | an event of the script was refused |
-pub fn act<R: Files + Net + Clock + RandomSource + AllocGlobal, O: Write, E: Write>(
-    rt: &R,
-    words: &[String],
-    is_watched: bool,
-    output: &mut O,
-    errors: &mut E,
-) -> u8
+pub fn act<
+    R: Files + Net + Clock + RandomSource + Eprint + Env + Input + AllocGlobal,
+    O: Write,
+    E: Write,
+>(rt: &R, words: &[String], is_watched: bool, output: &mut O, errors: &mut E) -> u8
 where
     R::File: Uncached + Lockable,
     ensures usage { result ≡ 2 → AreRefused (map string_bytes words.now) }
@@ -46,13 +45,11 @@ where
 }
 
 /// Does a task.
-fn done<R: Files + Net + Clock + RandomSource + AllocGlobal, O: Write, E: Write>(
-    rt: &R,
-    task: &Task,
-    is_watched: bool,
-    output: &mut O,
-    errors: &mut E,
-) -> u8
+fn done<
+    R: Files + Net + Clock + RandomSource + Eprint + Env + Input + AllocGlobal,
+    O: Write,
+    E: Write,
+>(rt: &R, task: &Task, is_watched: bool, output: &mut O, errors: &mut E) -> u8
 where
     R::File: Uncached + Lockable,
     requires found { FoundsAtZero task.now }
@@ -64,24 +61,8 @@ where
         Task::Init(file) => init(rt, file.as_str(), errors),
         Task::Sim(files) => sim(rt, files, is_watched, output, errors),
         Task::Loop(files) => repeat(rt, files, output, errors),
-        Task::Gate {
-            settings,
-            id,
-            rounds,
-            found,
-            ways,
-            track,
-        } => {
-            let start = Start {
-                settings: settings.as_str(),
-                id: *id,
-                rounds: *rounds,
-                found: *found,
-                ways: texts_of(ways),
-                track: *track,
-            };
-            gate(rt, &start, output, errors)
-        }
+        Task::Gate(words) => gate(rt, &start_of(words), output, errors),
+        Task::Stop(settings, id) => stop(rt, settings.as_str(), *id, errors),
         Task::PeerOff(settings, id, boot) => peer_off(rt, settings.as_str(), *id, *boot, errors),
         Task::Side {
             settings,
@@ -90,6 +71,40 @@ where
             up,
         } => side(rt, settings.as_str(), *id, *told, *up, errors),
     }
+}
+
+/// How a gateway is run that these words ask for.
+fn start_of(words: &GateWords) -> Start<'_>
+    ensures id { result.now.id ≡ words.now.id }
+    ensures rounds { result.now.rounds ≡ words.now.rounds }
+    ensures found { result.now.found ≡ words.now.found }
+    ensures track { result.now.track ≡ words.now.track }
+    ensures until_eof { result.now.until_eof ≡ words.now.until_eof }
+{
+    Start {
+        settings: words.settings.as_str(),
+        id: words.id,
+        rounds: words.rounds,
+        found: words.found,
+        ways: texts_of(&words.ways),
+        track: words.track,
+        until_eof: words.until_eof,
+        log: filter_of(&words.log),
+        format: format_of(words.pairs),
+    }
+}
+
+/// The text of a filter.
+fn filter_of(log: &Option<String>) -> Option<&str> {
+    match log {
+        Some(filter) => Some(filter.as_str()),
+        None => None,
+    }
+}
+
+/// How records are written.
+fn format_of(pairs: bool) -> Format {
+    if pairs { Format::Pairs } else { Format::Text }
 }
 
 /// The texts of ways.

@@ -14,5 +14,6 @@ returns c =
     let two = c.in_ok-line-2.ensures ∙ ap₂ beneath one c.in_ok-sim.ensures.app in
     let three = c.in_ok-line-3.ensures ∙ ap₂ beneath two c.in_ok-repeat.ensures.app in
     let four = c.in_ok-line-4.ensures ∙ ap₂ beneath three c.in_ok-gate.ensures.app in
-    let five = c.in_ok-line-5.ensures ∙ ap₂ beneath four c.in_ok-peer_off.ensures.app in
-    IfOk-weaker c.with_command-6.result _ _ (λ a h. h ∙ ap₂ beneath five c.in_ok-side.ensures.app) c.with_command-6.ensures
+    let five = c.in_ok-line-5.ensures ∙ ap₂ beneath four c.in_ok-stop.ensures.app in
+    let six = c.in_ok-line-6.ensures ∙ ap₂ beneath five c.in_ok-peer_off.ensures.app in
+    IfOk-weaker c.with_command-7.result _ _ (λ a h. h ∙ ap₂ beneath six c.in_ok-side.ensures.app) c.with_command-7.ensures

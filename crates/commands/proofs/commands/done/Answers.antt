@@ -9,6 +9,9 @@ returns-in-Gate-clause-done g c h =
     let none = is_0 _ c.gate.ensures.status h in
     rw c.in-Gate.is (none, c.gate.ensures.served none)
 
+pub returns-in-Stop-clause-done : goal.returns-in-Stop-clause-done
+returns-in-Stop-clause-done g c h = rw c.in-Stop.is (is_0 _ c.stop.ensures.status h)
+
 pub returns-in-PeerOff-clause-done : goal.returns-in-PeerOff-clause-done
 returns-in-PeerOff-clause-done g c h = rw c.in-PeerOff.is (is_0 _ c.peer_off.ensures.status h)
 
