@@ -49,8 +49,6 @@ PAGE = TOP / "docs" / "OPERATING.md"
 PLACES = {"where you build": ("builder",), "on both machines": ("box 0", "box 1"), "on box 0": ("box 0",),
           "on box 1": ("box 1",)}
 TUNNEL = "What the link trusts"
-# Where boxes are stopped whole: a journal has the gate's last line there, if the program has `natpair stop`.
-WHOLE_STOPS = "A new release"
 FLOWS = 20
 # What the page says of a journal, by the section in which it says so: the machine, its unit, and what is in a line there.
 SAID = {
@@ -63,7 +61,10 @@ SAID = {
         ("box 0", "natpair@0", ["boot 3", "keeper inside cable out", " away", "keeper inside cable in", " back"]),
         ("box 1", "natpair@1", ["inside.* Active", "outside.* Active", "inside.* Backup", "outside.* Backup"]),
     ],
-    "A new release": [("box 0", "natpair@0", ["boot 4", "synced"]), ("box 1", "natpair@1", ["boot 2", "synced"])],
+    "A new release": [
+        ("box 0", "natpair@0", [r"\bend$", "boot 4", "synced"]),
+        ("box 1", "natpair@1", [r"\bend$", "boot 2", "synced"]),
+    ],
 }
 
 
@@ -241,12 +242,6 @@ class Machine:
         target.write_text(text, encoding="utf-8")
 
 
-def run_help(program):
-    """The help of `natpair stop`, or the refusal of that word by a program from before it."""
-    done = subprocess.run((program, "stop", "--help"), capture_output=True, text=True)
-    return done.stdout + done.stderr
-
-
 class Site:
     """The two machines, and the networks between which they stand."""
 
@@ -266,7 +261,6 @@ class Site:
         self.around.address()
         self.work = pathlib.Path(tempfile.mkdtemp(prefix="natpair-files-"))
         stack.callback(shutil.rmtree, self.work, ignore_errors=True)
-        self.can_stop = "natpair stop" in run_help(options.program)
         self.serve()
         self.loop = Loop()
         self.flows = Flows(self.loop, self.around.host, stack)
@@ -330,7 +324,7 @@ class Site:
     def expect_said(self, section):
         for name, unit, lines in SAID.get(section, []):
             journal = self.machines[name].do(f"journalctl -u {unit} -n 1000")
-            for line in lines + ([r"\bend$"] if section == WHOLE_STOPS and self.can_stop else []):
+            for line in lines:
                 if not re.search(line, journal, re.MULTILINE):
                     raise SystemExit(f"joining: {section}: {name} doesn't say {line!r}:\n{journal}")
 
