@@ -44,14 +44,17 @@ PLACES = {"where you build": ("builder",), "to both machines": ("builder",), "on
           "on box 0": ("box 0",), "on box 1": ("box 1",)}
 TUNNEL = "What the link trusts"
 FLOWS = 20
-# What the page says of a journal, by the section in which it says so: the machine, its unit, and lines that are there.
+# What the page says of a journal, by the section in which it says so: the machine, its unit, and records that are there.
+ACTIVE = [r"natpair::inside\] \d+ Active", r"natpair::outside\] \d+ Active"]
+BACKUP = [r"natpair::inside\] \d+ Backup", r"natpair::outside\] \d+ Backup"]
+SYNCED, AWAY, BACK = (rf"natpair::box\] \d+ {word}" for word in ("synced", "away", "back"))
 SAID = {
-    "6. Founding": [("box 0", "natpair-found", ["boot 1", "inside Active", "outside Active"])],
-    "7. The second box": [("box 1", "natpair", ["boot 1", "synced"])],
-    "8. Box 0 under its own unit": [("box 0", "natpair", ["boot 2", "synced", "inside Active", "outside Active"])],
+    "6. Founding": [("box 0", "natpair-found", ["boot 1", *ACTIVE])],
+    "7. The second box": [("box 1", "natpair", ["boot 1", SYNCED])],
+    "8. Box 0 under its own unit": [("box 0", "natpair", ["boot 2", SYNCED, *ACTIVE])],
     "10. Watching a fail-over": [
-        ("box 0", "natpair", ["boot 3", "keeper inside cable out", " away", "keeper inside cable in", " back"]),
-        ("box 1", "natpair", ["inside Active", "outside Active", "inside Backup", "outside Backup"]),
+        ("box 0", "natpair", ["boot 3", "keeper inside cable out", AWAY, "keeper inside cable in", BACK]),
+        ("box 1", "natpair", [*ACTIVE, *BACKUP]),
     ],
 }
 
@@ -244,7 +247,7 @@ class Site:
         for name, unit, lines in SAID.get(section, []):
             journal = self.machines[name].do(f"journalctl -u {unit} -n 1000")
             for line in lines:
-                if line not in journal:
+                if not re.search(line, journal):
                     raise SystemExit(f"joining: {section}: {name} doesn't say {line!r}:\n{journal}")
 
     def follow(self, page):
