@@ -133,7 +133,8 @@ def where_told(seen, size):
     outside, inside = seen.errors
     return [
         (f"an upload of {size:,} bytes comes, with the right SHA-256",
-         f"{seen.taken:,} bytes in {seen.seconds or 'no'} s", right and seen.taken == size),
+         f"{seen.taken:,} bytes" + (f" in {seen.seconds} s" if seen.seconds else ", not over"),
+         right and seen.taken == size),
         (f"each error of the router's comes in, with its MTU of {NARROW:,}", f"{outside} outside, {inside} inside",
          outside == inside > 0),
         (f"the host's TCP takes the path to be of {NARROW:,} bytes", f"{seen.mtu:,}", seen.mtu == NARROW),
