@@ -1,6 +1,5 @@
 """A planned stop of a box: it resigns, the other takes over, and each packet that established flows lose is counted."""
 
-import subprocess
 import time
 from typing import NamedTuple
 
@@ -121,15 +120,7 @@ def turns(current, traffic):
     return rows, ended
 
 
-def expect_stop(program):
-    """Ends the demo where the program can't be told to stop."""
-    said = subprocess.run((str(program), "stop", "--help"), capture_output=True, text=True, check=False)
-    if "unrecognized" in said.stderr:
-        raise SystemExit("demo: this program has no `natpair stop`")
-
-
 def handover(options):
-    expect_stop(options.program)
     with scene(options, options.capture, bool(options.capture)) as current:
         traffic = Traffic(current, options.flows)
         traffic.go_on(2 * BEFORE)

@@ -3,6 +3,7 @@
 import os
 import pathlib
 import pwd
+import re
 import shutil
 import signal
 import sys
@@ -31,8 +32,11 @@ TUNNELS = {"inside": 11, "outside": 12}
 TUNNEL_MTU = 1600
 # The user that the boxes run as.
 USER = "nobody"
-# The rounds of a box that isn't to end by itself.
-ROUNDS = "4294967295"
+# A record of a box: where it belongs, and what it tells. Of drops the first of a second is one, and so are all others of it.
+RECORD = re.compile(r"\[\w+ +natpair::(\w+)\] \d+ (.*)")
+DROP = re.compile(r"(dropped \d+ \w+)(?:, (\d+) more)?")
+# What other people's frames come to is told too.
+LEVEL = "debug"
 SIDES = ("inside", "outside")
 
 
@@ -100,7 +104,7 @@ class Box:
         program, settings = str(self.top / "natpair"), str(self.top / SETTINGS.name)
         launcher = [str(self.top / "natpair-launch"), "--inside", "inside", "--outside", "outside",
                     "--boot-file", f"boot{number}", "--user", USER]
-        gate = [program, "gate", settings, "--id", number, "--rounds", ROUNDS]
+        gate = [program, "gate", settings, "--id", number, "--log", LEVEL]
         if self.options.no_track:
             gate.append("--no-track")
         if self.options.sides == "vxlan":
@@ -132,12 +136,17 @@ class Box:
                    f"box {self.number} prints its boot: {self.log.read_text()}")
         self.boot = int(self.output.read_text().split()[1])
 
+    def records(self):
+        """What the box has told since its last start: where it belongs, and what it is."""
+        found = map(RECORD.match, self.log.read_text().splitlines())
+        return [record.groups() for record in found if record]
+
     def is_synced(self):
         """Whether the box said so since its last start."""
-        return any(line.endswith(" synced") for line in self.log.read_text().splitlines())
+        return ("box", "synced") in self.records()
 
-    def kill(self):
-        self.gate.send_signal(signal.SIGKILL)
+    def kill(self, how=signal.SIGKILL):
+        self.gate.send_signal(how)
         moment = time.monotonic()
         self.gate.wait()
         return moment
@@ -164,11 +173,10 @@ class Box:
     def dropped(self):
         """How often the box dropped something since its last start, by where and why."""
         counts = {}
-        for line in self.log.read_text().splitlines():
-            words = line.split()
-            if "dropped" in words:
-                name = " ".join(words[2:])
-                counts[name] = counts.get(name, 0) + 1
+        for place, text in self.records():
+            if drop := DROP.fullmatch(text):
+                name = f"{place} {drop[1]}"
+                counts[name] = counts.get(name, 0) + int(drop[2] or 1)
         return counts
 
 

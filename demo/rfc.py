@@ -2,6 +2,7 @@
 
 import functools
 import math
+import signal
 import tempfile
 from pathlib import Path
 from typing import NamedTuple
@@ -90,7 +91,7 @@ def on_the_pair(options, report):
     with scene(options, options.capture) as current:
         at_box(current, 0, report)
         bench = Wired(1, current)
-        killed = current.kill(0)
+        killed = ended(bench, report, "9568 6.4 stop c", "SIGTERM", lambda: current.kill(0, signal.SIGTERM))
         current.tell_takeover(1, killed)
         moment = current.observer.took_over(1, killed) or math.inf
         taken_over(bench, report, moment - killed, current.networks.down_interval(1))
@@ -98,7 +99,7 @@ def on_the_pair(options, report):
         current.say("box 1 is told that box 0 is off")
         bench = at_box(current, 1, report)
         current.tell_drops()
-        ended(bench, report, current.boxes[1])
+        ended(bench, report, "9568 6.4 stop b", "`natpair stop`", current.boxes[1].stop)
 
 
 def order_of(page, name):

@@ -1,7 +1,5 @@
 """Probes of the virtual routers (RFC 9568): by `natpair sim` line by line, and what is seen of them on the running pair."""
 
-import signal
-
 from benches import ACTIVE, HOSTS, REMOTES, SILENCE, End
 from packets import (EVERYBODY, IPV4, PLAIN, UDP, VRRP_GROUP, VRRP_MAC, Advert, Packet, arp_request, ethernet, ip_bytes,
                      ipv4, is_advert, is_arp, is_ipv4, udp, virtual_mac)
@@ -170,9 +168,10 @@ def taken_over(bench, report, after, owed):
         report.note(bench, "9568 6.4.2 c", f"{side}: a gratuitous ARP at the take-over", f"{found} of them", found > 0)
 
 
-def ended(bench, report, box):
-    """The Active box is ended by a signal: whether it resigns before it goes."""
+def ended(bench, report, requirement, how, end):
+    """The Active box is ended: whether it resigns before it goes. What ending it gives."""
     bench.take(bench.cards["outside"])
-    box.gate.send_signal(signal.SIGTERM)
+    given = end()
     found = [frame[36] for frame in bench.listen("outside", INTERVAL) if is_advert(frame)]
-    report.note(bench, "9568 6.4 stop b", "a gate that is ended advertises priority 0", f"priorities {found}", 0 in found)
+    report.note(bench, requirement, f"a gate that is ended by {how} advertises priority 0", f"priorities {found}", 0 in found)
+    return given

@@ -2,6 +2,7 @@
 
 import contextlib
 import shutil
+import signal
 import subprocess
 import time
 
@@ -49,8 +50,8 @@ class Scene:
         if not self.loop.until(lambda: self.observer.active(number), seconds):
             raise SystemExit(f"demo: box {number} isn't Active after {seconds} s")
 
-    def kill(self, number):
-        moment = self.boxes[number].kill()
+    def kill(self, number, how=signal.SIGKILL):
+        moment = self.boxes[number].kill(how)
         self.say(f"box {number} is killed")
         return moment
 

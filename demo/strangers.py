@@ -9,7 +9,7 @@ import subprocess
 import time
 
 from flows import PATIENCE, Flows, verdict
-from pair import LINK_ADDRESSES, LINK_PORT, SIDES, TUNNEL_PORT
+from pair import DROP, LINK_ADDRESSES, LINK_PORT, SIDES, TUNNEL_PORT
 from scene import audit, scene, show
 
 FLOWS = 100
@@ -202,12 +202,8 @@ class Watch:
 
     def lines(self):
         """The boxes' lines but those of drops, of which there may be any number."""
-        found = []
-        for box in self.current.boxes:
-            for line in box.log.read_text().splitlines():
-                if "dropped" not in line:
-                    found.append((box.number, " ".join(line.split()[2:])))
-        return sorted(found)
+        return sorted((box.number, f"{place} {text}") for box in self.current.boxes for place, text in box.records()
+                      if not DROP.fullmatch(text))
 
     def after(self, name, tried, taken):
         """Looks again, and notes a row of the table."""
