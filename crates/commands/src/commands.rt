@@ -6,7 +6,7 @@ ghost use Rattle.commands.specs.Ends.{AreDone, Ends};
 
 use crate::runs::{repeat, sim};
 use boot_file::{Lockable, Uncached};
-use command_line::{GateWords, Task, WayWords, command};
+use command_line::{Task, WayWords, command};
 use gate::{Start, WayTexts, gate, init, peer_off, side, stop};
 use journal::Format;
 use std::fs::Files;
@@ -61,7 +61,20 @@ where
         Task::Init(file) => init(rt, file.as_str(), errors),
         Task::Sim(files) => sim(rt, files, is_watched, output, errors),
         Task::Loop(files) => repeat(rt, files, output, errors),
-        Task::Gate(words) => gate(rt, &start_of(words), output, errors),
+        Task::Gate(words) => {
+            let start = Start {
+                settings: words.settings.as_str(),
+                id: words.id,
+                rounds: words.rounds,
+                found: words.found,
+                ways: texts_of(&words.ways),
+                track: words.track,
+                until_eof: words.until_eof,
+                log: filter_of(&words.log),
+                format: format_of(words.pairs),
+            };
+            gate(rt, &start, output, errors)
+        }
         Task::Stop(settings, id) => stop(rt, settings.as_str(), *id, errors),
         Task::PeerOff(settings, id, boot) => peer_off(rt, settings.as_str(), *id, *boot, errors),
         Task::Side {
@@ -70,27 +83,6 @@ where
             side: told,
             up,
         } => side(rt, settings.as_str(), *id, *told, *up, errors),
-    }
-}
-
-/// How a gateway is run that these words ask for.
-fn start_of(words: &GateWords) -> Start<'_>
-    ensures id { result.now.id ≡ words.now.id }
-    ensures rounds { result.now.rounds ≡ words.now.rounds }
-    ensures found { result.now.found ≡ words.now.found }
-    ensures track { result.now.track ≡ words.now.track }
-    ensures until_eof { result.now.until_eof ≡ words.now.until_eof }
-{
-    Start {
-        settings: words.settings.as_str(),
-        id: words.id,
-        rounds: words.rounds,
-        found: words.found,
-        ways: texts_of(&words.ways),
-        track: words.track,
-        until_eof: words.until_eof,
-        log: filter_of(&words.log),
-        format: format_of(words.pairs),
     }
 }
 
