@@ -3,7 +3,7 @@ ghost use Rattle.std.specs.Prelude.{IfErr, IfOk};
 ghost use Rattle.boot_file.specs.Locks.{IsOfMaking, IsOfOpening};
 
 use crate::{FileDisk, FileFault, Lockable, Uncached};
-use boot_store::init;
+use boot_store::{Disk, init};
 use std::fs::{File, Files, OpenOptions};
 use std::io::{self, ErrorKind};
 use std::os::unix::fs::OpenOptionsExt;
@@ -20,38 +20,69 @@ fn folder_of(path: &str) -> &str {
     }
 }
 
-/// Why a file wasn't made.
-fn not_made(error: io::Error) -> FileFault
+/// Why a file or its folder isn't opened.
+fn not_opened(error: io::Error) -> FileFault
+    ensures opening { IsOfOpening result }
+    ensures making { IsOfMaking result }
+{
+    FileFault::NoFile(error.kind())
+}
+
+/// Why a file isn't put in its place.
+fn not_placed(error: io::Error) -> FileFault
     ensures { IsOfMaking result }
 {
-    if error.kind() == ErrorKind::AlreadyExists {
-        FileFault::Exists
-    } else {
-        FileFault::NoFile
+    match error.kind() {
+        ErrorKind::AlreadyExists => FileFault::Exists,
+        _ => FileFault::NotWritten,
     }
 }
 
-/// Makes a boot file of number 0, on which a gateway can be founded, with mode 0600. A file that is
-/// there is left as it is. The file and its name outlast a crash from the answer on. After NotWritten
-/// nothing is there, unless what was made can't be removed either; where power is cut within the call
-/// a part of the file may be there.
+/// Makes a boot file of number 0, on which a gateway can be founded, with mode 0600, whole or not at all: it is written
+/// and synced under another name (its own with `.new` behind it), then given its own, and its folder is synced. What is
+/// there is left as it is. The file and its name outlast a crash from the answer on; where power is cut before, there
+/// is no file of that name, or the whole one.
 ///
 /// # Errors
-/// NoFile where the file or its folder can't be opened, Exists, NotWritten.
-pub fn create<R: Files>(rt: &R, path: &str) -> Result<(), FileFault>
+/// NoFile where the folder can't be opened or no file can be made there, Exists, NotWritten, NoMemory. After each of
+/// them nothing of that name was made.
+pub fn create<R: Files + AllocGlobal>(rt: &R, path: &str) -> Result<(), FileFault>
 where
     R::File: Uncached,
     ensures err { IfErr result IsOfMaking }
 {
-    let folder = File::open(rt, folder_of(path)).map_err(|_| FileFault::NoFile)?;
+    let folder = File::open(rt, folder_of(path)).map_err(not_opened)?;
+    if rt.symlink_metadata(path).is_ok() {
+        return Err(FileFault::Exists);
+    }
+    let Ok(other) = format!(in rt.alloc(); "{path}.new") else {
+        return Err(FileFault::NoMemory);
+    };
+    let made = placed(rt, folder, other.as_str(), path);
+    let _is_gone = rt.remove_file(other.as_str());
+    made
+}
+
+/// Writes a boot file under another name, and gives it its own once it is on the disk.
+fn placed<R: Files>(rt: &R, folder: R::File, other: &str, path: &str) -> Result<(), FileFault>
+where
+    R::File: Uncached,
+    ensures err { IfErr result IsOfMaking }
+{
+    let _is_gone = rt.remove_file(other);
     let file = OpenOptions::new()
         .read(true)
         .write(true)
         .create_new(true)
         .mode(MODE)
-        .open(rt, path)
-        .map_err(not_made)?;
-    match init(&mut FileDisk::new(file, folder)) {
+        .open(rt, other)
+        .map_err(not_opened)?;
+    let mut disk = FileDisk::new(file, folder);
+    if init(&mut disk).is_err() {
+        return Err(FileFault::NotWritten);
+    }
+    rt.hard_link(other, path).map_err(not_placed)?;
+    match disk.sync() {
         Ok(()) => Ok(()),
         Err(_) => {
             let _may_stay = rt.remove_file(path);
@@ -72,11 +103,11 @@ where
     ensures locked { IfOk result (λ d. ⟦<R::File as Lockable>⟧.locked d.file) }
     ensures err { IfErr result IsOfOpening }
 {
-    let folder = File::open(rt, folder_of(path)).map_err(|_| FileFault::NoFile)?;
+    let folder = File::open(rt, folder_of(path)).map_err(not_opened)?;
     let file = OpenOptions::new()
         .read(true)
         .write(true)
         .open(rt, path)
-        .map_err(|_| FileFault::NoFile)?;
+        .map_err(not_opened)?;
     FileDisk::locked(file, folder)
 }

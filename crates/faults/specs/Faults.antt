@@ -1,7 +1,7 @@
 -- The faults of the program, and what leads to each.
 use Rattle.std.specs.Prelude.{ℕ}
 use Rattle.faults.specs.declared.faults.Fault.{Fault}
-use Rattle.faults.specs.declared.faults.Fault.TheVariants.{Words, Setting, BadLine, NoFile, Exists, NotWritten, NotText, NoSocket, NoMemory}
+use Rattle.faults.specs.declared.faults.Fault.TheVariants.{Words, Setting, BadLine, File, NotWritten, NotText, NoSocket, NoMemory}
 use Rattle.faults.specs.declared.prints.PrintFault.{PrintFault}
 use Rattle.faults.specs.declared.prints.PrintFault.TheVariants as prints
 use Rattle.scripts.specs.declared.faults.ScriptFault.{ScriptFault}
@@ -14,12 +14,17 @@ abbrev pub status_of : Fault → ℕ
 status_of Words = 2
 status_of (Setting fault) = 1
 status_of (BadLine n) = 1
-status_of NoFile = 1
-status_of Exists = 1
+status_of (File fault) = 1
 status_of NotWritten = 1
 status_of NotText = 1
-status_of NoSocket = 1
+status_of (NoSocket port) = 1
 status_of NoMemory = 1
+
+-- it is of a file, or of memory
+abbrev pub IsOfFile : Fault → Type 0
+IsOfFile (File fault) = Unit {0}
+IsOfFile NoMemory = Unit {0}
+IsOfFile other = ⊥
 
 -- the fault of a run that isn't printed
 abbrev pub of_print : PrintFault → Fault

@@ -1,11 +1,11 @@
 //! Why the program ends without its work done.
 ghost use Rattle.std.specs.Prelude.{◌≡◌};
 
-use crate::PrintFault;
+use crate::{FileFault, PrintFault, Refusal};
 use nat_types::NoMemory;
 use scripts::ScriptFault;
 use settings_file::SettingFault;
-use std::alloc::AllocError;
+use std::alloc::{AllocError, Global};
 use std::io::{self, ErrorKind, Write};
 use thiserror::Error;
 
@@ -21,21 +21,18 @@ pub enum Fault {
     /// The script's line with this number, from 1, is none of a script's.
     #[error("script 1 BadLine {0}")]
     BadLine(usize),
-    /// A file couldn't be opened or read.
-    #[error("file 1 NoFile")]
-    NoFile,
-    /// A file that was to be made is there already.
-    #[error("file 2 Exists")]
-    Exists,
-    /// A file or output couldn't be written.
-    #[error("file 3 NotWritten")]
+    /// A file isn't had as it was wanted.
+    #[error("{0}")]
+    File(FileFault),
+    /// The output couldn't be written.
+    #[error("file 3 NotWritten output")]
     NotWritten,
     /// A file isn't UTF-8.
     #[error("file 4 NotText")]
     NotText,
-    /// A port couldn't be had.
-    #[error("socket 1 NoSocket")]
-    NoSocket,
+    /// This port of the loopback address couldn't be had.
+    #[error("socket 1 NoSocket 127.0.0.1:{0}")]
+    NoSocket(u16),
     #[error("memory 1 NoMemory")]
     NoMemory,
 }
@@ -43,7 +40,7 @@ pub enum Fault {
 impl Fault {
     ghost use Rattle.std.specs.Prelude.{◌≡◌, ◌≢◌};
     ghost use Rattle.std.specs.IoError.{error_kind};
-    ghost use Rattle.faults.specs.Faults.{status_of};
+    ghost use Rattle.faults.specs.Faults.{IsOfFile, status_of};
     ghost use Rattle.faults.specs.declared.faults.Fault.TheVariants as faults;
 
     /// The exit status that the fault leads to.
@@ -76,15 +73,26 @@ impl Fault {
         }
     }
 
-    /// The fault of a file that couldn't be read.
-    pub fn of_reading(error: io::Error) -> Fault
-        ensures memory { error_kind error ≡ ErrorKind.OutOfMemory → result ≡ faults.NoMemory }
-        ensures file { error_kind error ≢ ErrorKind.OutOfMemory → result ≡ faults.NoFile }
+    /// The fault of the file at a path; `NoMemory` where the path can't be kept.
+    pub fn of_file(alloc: Global, refusal: Refusal, path: &str, cause: Option<ErrorKind>) -> Fault
+        ensures file { IsOfFile result }
+        ensures status { status_of result ≡ 1 }
+    {
+        match FileFault::at(alloc, refusal, path, cause) {
+            Ok(fault) => Fault::File(fault),
+            Err(_) => Fault::NoMemory,
+        }
+    }
+
+    /// The fault of the file at a path that couldn't be read.
+    pub fn of_reading(alloc: Global, path: &str, error: &io::Error) -> Fault
+        ensures memory { error_kind error.now ≡ ErrorKind.OutOfMemory → result ≡ faults.NoMemory }
+        ensures file { IsOfFile result }
         ensures status { status_of result ≡ 1 }
     {
         match error.kind() {
             ErrorKind::OutOfMemory => Fault::NoMemory,
-            _ => Fault::NoFile,
+            cause => Fault::of_file(alloc, Refusal::NoFile, path, Some(cause)),
         }
     }
 }

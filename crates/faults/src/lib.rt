@@ -2,11 +2,13 @@
 #![tactic(auto)]
 
 mod faults;
+mod files;
 mod jobs;
 mod prints;
 mod texts;
 
 pub use faults::Fault;
+pub use files::{FileFault, Refusal};
 pub use jobs::{Job, job_of};
 pub use prints::PrintFault;
 pub use texts::text_of;

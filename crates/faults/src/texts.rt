@@ -10,10 +10,12 @@ use std::rt::Files;
 ///
 /// # Errors
 ///
-/// `NoFile` where it can't be read, `NotText` where it isn't UTF-8, `NoMemory`.
+/// `File` where it can't be read, `NotText` where it isn't UTF-8, `NoMemory`.
 pub fn text_of<R: Files + AllocGlobal>(rt: &R, path: &str) -> Result<String, Fault>
     ensures status { IfErr result (λ fault. status_of fault ≡ 1) }
 {
-    let bytes = fs::read(rt, path).map_err(Fault::of_reading)?;
-    String::from_utf8(bytes).map_err(|_| Fault::NotText)
+    match fs::read(rt, path) {
+        Ok(bytes) => String::from_utf8(bytes).map_err(|_| Fault::NotText),
+        Err(error) => Err(Fault::of_reading(rt.alloc(), path, &error)),
+    }
 }

@@ -1,0 +1,56 @@
+//! A file that isn't had as it was wanted.
+
+use std::alloc::{AllocError, Global};
+use std::fmt;
+use std::io::ErrorKind;
+use thiserror::Error;
+
+/// What can't be done with a file.
+#[derive(Clone, Copy, Debug, PartialEq, Eq, Error)]
+pub enum Refusal {
+    /// It can't be opened or read.
+    #[error("file 1 NoFile")]
+    NoFile,
+    /// It was to be made, and something of that name is there already.
+    #[error("file 2 Exists")]
+    Exists,
+    /// It can't be made or written.
+    #[error("file 3 NotWritten")]
+    NotWritten,
+}
+
+/// A file that isn't had as it was wanted: which, and why, where the system said so.
+#[derive(Debug, Drop)]
+pub struct FileFault {
+    pub refusal: Refusal,
+    pub path: String,
+    pub cause: Option<ErrorKind>,
+}
+
+impl FileFault {
+    /// Of the file at a path.
+    pub fn at(
+        alloc: Global,
+        refusal: Refusal,
+        path: &str,
+        cause: Option<ErrorKind>,
+    ) -> Result<FileFault, AllocError> {
+        let path = String::from_str(alloc, path)?;
+        Ok(FileFault {
+            refusal,
+            path,
+            cause,
+        })
+    }
+}
+
+impl fmt::Display for FileFault {
+    /// As in `file 1 NoFile S.toml: permission denied`.
+    fn fmt<W: fmt::Write>(&self, f: &mut fmt::Formatter<W>) -> fmt::Result {
+        write!(f, "{} {}", self.refusal, self.path)?;
+        match self.cause {
+            Some(cause) => write!(f, ": {cause}"),
+            None => Ok(()),
+        }
+    }
+}
