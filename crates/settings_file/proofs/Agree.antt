@@ -86,6 +86,7 @@ told_keys t (faults.Missing k) h = refuses_missing t k h.0 h.1
 told_keys t (faults.BadValue k) h = absurd h
 told_keys t (faults.RangesOverlap) h = absurd h
 told_keys t (faults.SameIds) h = absurd h
+told_keys t (faults.CantWork k) h = absurd h
 told_keys t (faults.NoMemory) h = tt
 
 -- a fault of the values

@@ -1,3 +1,3 @@
 mod Agree
-mod Least
+mod Good
 mod Lists

@@ -1,5 +1,6 @@
 -- The values at the keys of a document, each read as its type and within its limits.
-use Rattle.std.specs.Prelude.{ℕ, pos, ◌-◌, ◌/◌, ◌^◌, ◌==◌, ◌&&◌, nat_le, min, not, Bool, false, if◌then◌else◌, List, [], ◌∷◌, Option, Some, None, option_map, option_and_then}
+use Rattle.std.specs.Prelude.{ℕ, pos, ◌-◌, ◌/◌, ◌^◌, ◌==◌, ◌&&◌, nat_le, min, not, Bool, false, true, if◌then◌else◌, List, [], ◌∷◌, Option, Some, None, option_map, option_and_then}
+use Rattle.addresses.specs.declared.internet.Prefix.{Prefix}
 use Rattle.toml.specs.Data.{Data, integer, Items, no_items, item, Members, get_member, as_str, as_bool, as_table, as_array}
 use Rattle.settings_file.specs.declared.keys.Section.{Section}
 use Rattle.settings_file.specs.declared.keys.Name.{Name}
@@ -77,13 +78,24 @@ Network = ℕ × ℕ
 unfoldable pub is_in : ℕ → ℕ → ℕ → Bool
 is_in address network length = address / 2 ^ (32 - length) == network / 2 ^ (32 - length)
 
--- an address is there, and of the network
-abbrev pub is_host : Network → Option ℕ → Bool
-is_host network (Some address) = is_in address network.0 network.1
-is_host network None = false
+abbrev pub network_of_prefix : Prefix → Network
+network_of_prefix prefix = (prefix.address.0, prefix.length)
 
--- a prefix that shares no address with the network
-abbrev pub is_apart : Network → Option ℕ → Option ℕ → Bool
-is_apart network (Some address) (Some length) = not (is_in address network.0 (min network.1 length))
-is_apart network (Some address) None = false
-is_apart network None length = false
+-- the network of an address and a prefix's length, where both are there
+abbrev pub network_with : Option ℕ → Option ℕ → Option Network
+network_with (Some address) (Some length) = Some (address, length)
+network_with (Some address) None = None
+network_with None length = None
+
+-- an address is there, and of the network, where that is known
+abbrev pub is_host : Option Network → Option ℕ → Bool
+is_host network None = false
+is_host None (Some address) = true
+is_host (Some network) (Some address) = is_in address network.0 network.1
+
+-- a prefix is there that shares no address with the network, where that and its own address are known
+abbrev pub is_apart : Option Network → Option ℕ → Option ℕ → Bool
+is_apart network address None = false
+is_apart None address (Some length) = true
+is_apart (Some network) None (Some length) = true
+is_apart (Some network) (Some address) (Some length) = not (is_in address network.0 (min network.1 length))

@@ -18,6 +18,11 @@ abbrev pub first_bad : List (Key × Bool) → Option Key
 first_bad [] = None
 first_bad (row ∷ rest) = if row.1 then first_bad rest else Some row.0
 
+-- all keys of a list whose values are not good
+abbrev pub all_bad : List (Key × Bool) → List Key
+all_bad [] = []
+all_bad (row ∷ rest) = if row.1 then all_bad rest else row.0 ∷ all_bad rest
+
 -- a key of the first part, or else of the second
 abbrev pub earlier : Option Key → Option Key → Option Key
 earlier (Some k) rest = Some k

@@ -1,8 +1,10 @@
 pub mod Assembled
+pub mod Clashes
 pub mod Document
 pub mod Faults
 pub mod Ids
 pub mod Keys
+pub mod Listing
 pub mod Missing
 pub mod Neighbours
 pub mod Rows
@@ -10,3 +12,4 @@ pub mod Settings
 pub mod Texts
 pub mod Unknown
 pub mod Values
+pub mod Works

@@ -1,5 +1,5 @@
 -- Keys that can't be left out.
-use Rattle.std.specs.Prelude.{Bool, List, [], ◌∷◌, Option, is_none, is_some, option_and_then}
+use Rattle.std.specs.Prelude.{Bool, List, [], ◌∷◌, ◌++◌, filter, Option, is_none, is_some, unwrap_or, option_and_then}
 use Rattle.std.specs.List.{find}
 use Rattle.toml.specs.Data.{Data, Members}
 use Rattle.settings_file.specs.declared.keys.Section.TheVariants.{Ports, Inside, Outside, GatewayZero, GatewayOne}
@@ -9,7 +9,7 @@ use Rattle.settings_file.specs.declared.keys.Key.{Key}
 use Rattle.settings_file.specs.Keys.{key}
 use Rattle.settings_file.specs.Document.{value_of}
 use Rattle.settings_file.specs.Faults.{earlier}
-use Rattle.settings_file.specs.Neighbours.{missing_in, neighbours_of}
+use Rattle.settings_file.specs.Neighbours.{missing_in, all_missing_from, neighbours_of}
 
 -- the keys of the sections that can't be left out, in the order of their text: all but host_limit, priority, interval and preempt
 abbrev pub required : List Key
@@ -38,6 +38,10 @@ missing_from ds = option_and_then missing_in (find is_incomplete ds)
 -- what isn't a list of tables lacks no key
 unfoldable pub missing_neighbour : Members → Option Key
 missing_neighbour t = option_and_then missing_from (neighbours_of t)
+
+-- all keys that are missing
+unfoldable pub all_missing : Members → List Key
+all_missing t = filter (lacks t) required ++ all_missing_from (unwrap_or (neighbours_of t) [])
 
 -- the first key that is missing
 unfoldable pub first_missing : Members → Option Key

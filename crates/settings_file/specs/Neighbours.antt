@@ -1,6 +1,6 @@
 -- The list of static neighbours.
-use Rattle.std.specs.Prelude.{ℕ, nat_le, Bool, if◌then◌else◌, List, [], ◌∷◌, length, codes, Option, Some, None, is_some, option_and_then}
-use Rattle.std.specs.List.{list_all}
+use Rattle.std.specs.Prelude.{ℕ, nat_le, Bool, if◌then◌else◌, List, [], ◌∷◌, ◌++◌, length, codes, Option, Some, None, is_some, option_and_then}
+use Rattle.std.specs.List.{list_all, flat_map}
 use Rattle.std.specs.Str.{bytes_eq}
 use Rattle.toml.specs.Data.{Data, Members, get_member, as_str, as_table}
 use Rattle.nat_types.specs.declared.gateways.Side.{Side}
@@ -13,7 +13,7 @@ use Rattle.settings_file.specs.declared.keys.Key.{Key}
 use Rattle.settings_file.specs.Keys.{key, name_text, section_text}
 use Rattle.settings_file.specs.Texts.{address_of, mac_of}
 use Rattle.settings_file.specs.Document.{Network, list_in, is_host}
-use Rattle.settings_file.specs.Faults.{first_bad, earlier}
+use Rattle.settings_file.specs.Faults.{first_bad, all_bad, earlier}
 
 abbrev pub is_table : Data → Bool
 is_table d = is_some (as_table d)
@@ -33,13 +33,21 @@ neighbours_of t = tables_in (get_member (section_text Neighbour) t)
 unfoldable pub field_of : Data → Name → Option Data
 field_of d name = option_and_then (get_member (name_text name)) (as_table d)
 
--- a key that a neighbour lacks
-unfoldable pub missing_in : Data → Option Key
-missing_in d = first_bad
-    ((key Neighbour SideKey, is_some (field_of d SideKey))
+-- the keys of a neighbour, each with whether it is there
+abbrev pub present_rows : Data → List (Key × Bool)
+present_rows d =
+    (key Neighbour SideKey, is_some (field_of d SideKey))
     ∷ (key Neighbour Ip, is_some (field_of d Ip))
     ∷ (key Neighbour Mac, is_some (field_of d Mac))
-    ∷ [])
+    ∷ []
+
+-- a key that a neighbour lacks
+unfoldable pub missing_in : Data → Option Key
+missing_in d = first_bad (present_rows d)
+
+-- all keys that the neighbours lack
+abbrev pub all_missing_from : List Data → List Key
+all_missing_from ds = flat_map (λ d. all_bad (present_rows d)) ds
 
 abbrev pub side_named : List ℕ → Option Side
 side_named word =
@@ -55,20 +63,24 @@ ip_of d = option_and_then address_of (option_and_then as_str (field_of d Ip))
 unfoldable pub mac_at_of : Data → Option (List ℕ)
 mac_at_of d = option_and_then mac_of (option_and_then as_str (field_of d Mac))
 
-abbrev pub network_of : Network → Network → Option Side → Network
+abbrev pub network_of : Option Network → Option Network → Option Side → Option Network
 network_of inside outside (Some Outside) = outside
 network_of inside outside (Some Inside) = inside
-network_of inside outside None = inside
+network_of inside outside None = None
 
--- a key of a neighbour whose value is bad: its address lies in its side's network
-unfoldable pub bad_neighbour : Network → Network → Data → Option Key
-bad_neighbour inside outside d = first_bad
-    ((key Neighbour SideKey, is_some (side_of d))
+-- the keys of a neighbour, each with whether its value is good: its address lies in its side's network
+abbrev pub neighbour_value_rows : Option Network → Option Network → Data → List (Key × Bool)
+neighbour_value_rows inside outside d =
+    (key Neighbour SideKey, is_some (side_of d))
     ∷ (key Neighbour Ip, is_host (network_of inside outside (side_of d)) (ip_of d))
     ∷ (key Neighbour Mac, is_some (mac_at_of d))
-    ∷ [])
+    ∷ []
 
-abbrev pub bad_in : Network → Network → List Data → Option Key
+-- a key of a neighbour whose value is bad
+unfoldable pub bad_neighbour : Option Network → Option Network → Data → Option Key
+bad_neighbour inside outside d = first_bad (neighbour_value_rows inside outside d)
+
+abbrev pub bad_in : Option Network → Option Network → List Data → Option Key
 bad_in inside outside [] = None
 bad_in inside outside (d ∷ rest) = earlier (bad_neighbour inside outside d) (bad_in inside outside rest)
 
@@ -76,13 +88,22 @@ bad_in inside outside (d ∷ rest) = earlier (bad_neighbour inside outside d) (b
 abbrev pub whole : Key
 whole = record { section = Neighbour; name = None }
 
-abbrev pub bad_list : Network → Network → Option (List Data) → Option Key
+abbrev pub bad_list : Option Network → Option Network → Option (List Data) → Option Key
 bad_list inside outside None = Some whole
 bad_list inside outside (Some ds) = if nat_le (length ds) 64 then bad_in inside outside ds else Some whole
 
 -- [[neighbour]]: a list of at most 64 tables
-unfoldable pub bad_neighbours : Network → Network → Members → Option Key
+unfoldable pub bad_neighbours : Option Network → Option Network → Members → Option Key
 bad_neighbours inside outside t = bad_list inside outside (neighbours_of t)
+
+abbrev pub all_bad_of_neighbour : Option Network → Option Network → Data → List Key
+all_bad_of_neighbour inside outside d = all_bad (neighbour_value_rows inside outside d)
+
+-- all bad keys of the neighbours
+abbrev pub all_bad_in : Option Network → Option Network → Option (List Data) → List Key
+all_bad_in inside outside None = whole ∷ []
+all_bad_in inside outside (Some ds) =
+    if nat_le (length ds) 64 then flat_map (all_bad_of_neighbour inside outside) ds else whole ∷ []
 
 abbrev pub neighbour_with : Option Side → Option ℕ → Option (List ℕ) → Option NeighbourValue
 neighbour_with (Some side) (Some ip) (Some mac) =

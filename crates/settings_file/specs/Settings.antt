@@ -17,6 +17,7 @@ use Rattle.settings_file.specs.Neighbours.{neighbours_of, neighbour_in, bad_neig
 use Rattle.settings_file.specs.Values.{IsRange, IsLimit, IsInterface, IsGateway}
 use Rattle.settings_file.specs.Missing.{first_missing}
 use Rattle.settings_file.specs.Unknown.{first_unknown}
+use Rattle.settings_file.specs.Works.{Works, cant_work}
 
 -- settings that stand at the keys of a document
 pub record HoldsValues (t : Members) (settings : Settings) : Type 0 where
@@ -110,7 +111,11 @@ refusal_of t =
     (first_of (option_map (λ k. bad_value k) (first_bad_value t))
     (if shares_port t then Some ranges_overlap else if shares_id t then Some same_ids else None)))
 
--- a fault tells the first reason, or want of memory
+-- the settings that a document holds, whether they can work or not: there is no reason against it
+abbrev pub IsHeld : Option Members → Settings → Type 0
+IsHeld document settings = (t : Members) × (document ≡ Some t) × (refusal_of t ≡ None) × HoldsValues t settings
+
+-- a fault tells the first reason, or else the first key that can't work, or want of memory
 abbrev pub Tells : Option Members → SettingFault → Type 0
 Tells document faults.NotToml = document ≡ None
 Tells document (faults.UnknownKey path) = option_and_then refusal_of document ≡ Some (unknown_key (string_bytes path))
@@ -118,8 +123,9 @@ Tells document (faults.Missing k) = option_and_then refusal_of document ≡ Some
 Tells document (faults.BadValue k) = option_and_then refusal_of document ≡ Some (bad_value k)
 Tells document faults.RangesOverlap = option_and_then refusal_of document ≡ Some ranges_overlap
 Tells document faults.SameIds = option_and_then refusal_of document ≡ Some same_ids
+Tells document (faults.CantWork k) = (settings : Settings) × IsHeld document settings × (cant_work settings ≡ Some k)
 Tells document faults.NoMemory = Unit {0}
 
--- settings of a text: it is a document with no reason against it
+-- settings of a text: it holds them, and they can work
 abbrev pub IsReadFrom : Option Members → Settings → Type 0
-IsReadFrom document settings = (t : Members) × (document ≡ Some t) × (refusal_of t ≡ None) × HoldsValues t settings
+IsReadFrom document settings = IsHeld document settings × Works settings

@@ -1,5 +1,6 @@
 -- Addresses as texts: four decimal numbers, or six pairs of hexadecimal digits.
 use Rattle.std.specs.Prelude.{ℕ, ◌+◌, ◌-◌, ◌*◌, ◌==◌, ◌&&◌, nat_le, nat_lt, if◌then◌else◌, List, [], ◌∷◌, Option, Some, None, option_map, option_and_then}
+use Rattle.std.specs.Option.{option_or}
 use Rattle.std.specs.List.{slice_split}
 use Rattle.std.specs.Int.{w32, from_be_bytes}
 
@@ -71,6 +72,6 @@ mac_in (a ∷ b ∷ c ∷ d ∷ e ∷ f ∷ []) =
     all_of (pair_of a ∷ pair_of b ∷ pair_of c ∷ pair_of d ∷ pair_of e ∷ pair_of f ∷ [])
 mac_in _ = None
 
--- an Ethernet address: six pairs of hexadecimal digits with a dash between two
+-- an Ethernet address: six pairs of hexadecimal digits with a dash between each two, or with a colon between each two
 unfoldable pub mac_of : List ℕ → Option (List ℕ)
-mac_of text = mac_in (parts_at 45 text)
+mac_of text = option_or (mac_in (parts_at 45 text)) (mac_in (parts_at 58 text))

@@ -7,8 +7,8 @@ use thiserror::Error;
 /// `2 Missing outside.router`.
 ///
 /// They are looked for in this order: `NotToml`, `UnknownKey`, `Missing`, `BadValue`,
-/// `RangesOverlap`, `SameIds`; of several missing keys or bad values the first in the order of the
-/// keys is told.
+/// `RangesOverlap`, `SameIds`, `CantWork`; of several missing keys, bad values or keys that can't work
+/// the first in the order of the keys is told.
 #[derive(Debug, Drop, Error)]
 pub enum SettingFault {
     /// The text isn't TOML.
@@ -29,6 +29,9 @@ pub enum SettingFault {
     /// A key that settings don't have: its path, of several the least by bytes.
     #[error("6 UnknownKey {0}")]
     UnknownKey(String),
+    /// The value can never work, as an address that no host has.
+    #[error("7 CantWork {0}")]
+    CantWork(Key),
     #[error("1 NoMemory")]
     NoMemory,
 }

@@ -5,7 +5,7 @@ ghost use Rattle.toml.specs.Data.{get_member, as_table, as_str, as_bool};
 ghost use Rattle.toml.specs.View.{table_view, view};
 ghost use Rattle.settings_file.specs.Keys.{section_text, key};
 ghost use Rattle.settings_file.specs.Document.{value_of, number_in, number_at, number_or, optional_at, flag_or, text_at, address_at, mac_at};
-ghost use Rattle.settings_file.specs.Document.{range_of, range_items, range_at, list_in, is_in, is_host};
+ghost use Rattle.settings_file.specs.Document.{network_of_prefix, range_of, range_items, range_at, list_in, is_in, is_host};
 ghost use Rattle.settings_file.specs.Faults.{IsBadAt, TellsFirst, first_bad};
 
 use crate::faults::ValueFault;
@@ -150,7 +150,7 @@ pub(crate) fn flag_or(
 
 /// The text at a key.
 #[tactic(auto, unfolding(crate::specs::Document::text_at))]
-fn text<'a>(document: &'a Table, section: Section, name: Name) -> Option<&'a str>
+pub(crate) fn text<'a>(document: &'a Table, section: Section, name: Name) -> Option<&'a str>
     ensures { option_map (λ s. s.now) result ≡ text_at (table_view document.now) section name }
 {
     match value_at(document, section, name) {
@@ -159,8 +159,24 @@ fn text<'a>(document: &'a Table, section: Section, name: Name) -> Option<&'a str
     }
 }
 
-/// The address at a key.
+/// The address at a key, where there is one.
 #[tactic(auto, unfolding(crate::specs::Document::address_at))]
+pub(crate) fn address_found(
+    alloc: Global,
+    document: &Table,
+    section: Section,
+    name: Name,
+) -> Result<Option<Ip>, AllocError>
+    ensures { IfOk result (λ found. option_map (λ ip. ip.0) found
+        ≡ address_at (table_view document.now) section name) }
+{
+    match text(document, section, name) {
+        Some(text) => texts::address_of(alloc, text),
+        None => Ok(None),
+    }
+}
+
+/// The address at a key.
 pub(crate) fn address(
     alloc: Global,
     document: &Table,
@@ -174,15 +190,28 @@ pub(crate) fn address(
       is_some (address_at (table_view document.now) section name),
     ) ∷ []))) }
 {
-    let found = match text(document, section, name) {
-        Some(text) => texts::address_of(alloc, text)?,
-        None => None,
-    };
+    let found = address_found(alloc, document, section, name)?;
     found.ok_or(ValueFault::BadValue(Key::new(section, name)))
 }
 
-/// The Ethernet address at a key.
+/// The Ethernet address at a key, where there is one.
 #[tactic(auto, unfolding(crate::specs::Document::mac_at))]
+pub(crate) fn mac_found(
+    alloc: Global,
+    document: &Table,
+    section: Section,
+    name: Name,
+) -> Result<Option<Mac>, AllocError>
+    ensures { IfOk result (λ found. option_map (λ mac. mac.0) found
+        ≡ mac_at (table_view document.now) section name) }
+{
+    match text(document, section, name) {
+        Some(text) => texts::mac_of(alloc, text),
+        None => Ok(None),
+    }
+}
+
+/// The Ethernet address at a key.
 pub(crate) fn mac(
     alloc: Global,
     document: &Table,
@@ -196,10 +225,7 @@ pub(crate) fn mac(
       is_some (mac_at (table_view document.now) section name),
     ) ∷ []))) }
 {
-    let found = match text(document, section, name) {
-        Some(text) => texts::mac_of(alloc, text)?,
-        None => None,
-    };
+    let found = mac_found(alloc, document, section, name)?;
     found.ok_or(ValueFault::BadValue(Key::new(section, name)))
 }
 
@@ -230,6 +256,18 @@ pub(crate) fn is_in(address: Ip, network: Prefix) -> bool
     network.contains(address)
 }
 
+/// Whether an address is there, and of the network, where that is known.
+pub(crate) fn is_host(network: Option<Prefix>, address: Option<Ip>) -> bool
+    ensures { result ≡ is_host (option_map network_of_prefix network)
+        (option_map (λ ip. ip.0) address) }
+{
+    match (network, address) {
+        (_, None) => false,
+        (None, Some(_)) => true,
+        (Some(network), Some(address)) => is_in(address, network),
+    }
+}
+
 /// The address at a key, which lies in a network.
 pub(crate) fn host(
     alloc: Global,
@@ -240,11 +278,11 @@ pub(crate) fn host(
 ) -> Result<Ip, ValueFault>
     ensures ok { IfOk result
         (λ ip. address_at (table_view document.now) section name ≡ Some ip.0) }
-    ensures inside { OnOk result (is_host (network.address.0, network.length)
+    ensures inside { OnOk result (is_host (Some (network.address.0, network.length))
         (address_at (table_view document.now) section name) ≡ true) }
     ensures err { IfErr result (TellsFirst (first_bad ((
       key section name,
-      is_host (network.address.0, network.length)
+      is_host (Some (network.address.0, network.length))
           (address_at (table_view document.now) section name),
     ) ∷ []))) }
 {

@@ -39,10 +39,10 @@ fn read_addresses(
         (λ a. address_at (table_view document.now) section OutsideIp ≡ Some a.outside_ip.0) }
     ensures outside_mac { IfOk result
         (λ a. mac_at (table_view document.now) section OutsideMac ≡ Some a.outside_mac.0) }
-    ensures good { OnOk result (bad_addresses (inside.address.0, inside.length)
-        (outside.address.0, outside.length) (table_view document.now) section ≡ None) }
-    ensures err { IfErr result (TellsFirst (bad_addresses (inside.address.0, inside.length)
-        (outside.address.0, outside.length) (table_view document.now) section)) }
+    ensures good { OnOk result (bad_addresses (Some (inside.address.0, inside.length))
+        (Some (outside.address.0, outside.length)) (table_view document.now) section ≡ None) }
+    ensures err { IfErr result (TellsFirst (bad_addresses (Some (inside.address.0, inside.length))
+        (Some (outside.address.0, outside.length)) (table_view document.now) section)) }
 {
     let inside_ip = fields::host(alloc, document, section, Name::InsideIp, inside)?;
     let inside_mac = fields::mac(alloc, document, section, Name::InsideMac)?;
@@ -136,10 +136,10 @@ pub(crate) fn gateway(
     outside: Prefix,
 ) -> Result<GatewaySettings, ValueFault>
     ensures ok { IfOk result (IsGateway (table_view document.now) section) }
-    ensures good { OnOk result (bad_gateway (inside.address.0, inside.length)
-        (outside.address.0, outside.length) (table_view document.now) section ≡ None) }
-    ensures err { IfErr result (TellsFirst (bad_gateway (inside.address.0, inside.length)
-        (outside.address.0, outside.length) (table_view document.now) section)) }
+    ensures good { OnOk result (bad_gateway (Some (inside.address.0, inside.length))
+        (Some (outside.address.0, outside.length)) (table_view document.now) section ≡ None) }
+    ensures err { IfErr result (TellsFirst (bad_gateway (Some (inside.address.0, inside.length))
+        (Some (outside.address.0, outside.length)) (table_view document.now) section)) }
 {
     let addresses = read_addresses(alloc, document, section, inside, outside)?;
     let role = read_role(alloc, document, section)?;

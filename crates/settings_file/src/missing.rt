@@ -1,10 +1,13 @@
 //! Keys of a document that can't be left out.
-ghost use Rattle.std.specs.Prelude.{◌≡◌, map, option_map};
+ghost use Rattle.std.specs.Prelude.{◌≡◌, ◌++◌, filter, map, option_map, IfOk, OnOk};
 ghost use Rattle.std.specs.List.{find};
 ghost use Rattle.toml.specs.View.{table_view, view};
-ghost use Rattle.settings_file.specs.Missing.{required, lacks, is_incomplete, missing_from, missing_neighbour, first_missing};
+ghost use Rattle.settings_file.specs.Missing.{required, lacks, is_incomplete, missing_from, missing_neighbour, first_missing, all_missing};
+ghost use Rattle.settings_file.specs.Neighbours.{all_missing_from};
 
+use crate::rows::add_bad;
 use crate::{Key, Name, Section, fields, neighbours};
+use std::alloc::{AllocError, Global};
 use toml::{Table, Value};
 
 /// The keys of the sections that can't be left out, in the order in which they are looked for.
@@ -101,4 +104,40 @@ pub(crate) fn first_missing(document: &Table) -> Option<Key>
         Some(key) => Some(key),
         None => missing_neighbour(document),
     }
+}
+
+fn add_missing(document: &Table, keys: &[Key], found: &mut Vec<Key>) -> Result<(), AllocError>
+    ensures { OnOk result (found.new.items
+        ≡ found.old.items ++ filter (lacks (table_view document.now)) keys.now) }
+{
+    for key in keys {
+        if lacks(document, *key) {
+            found.push(*key)?;
+        }
+    }
+    Ok(())
+}
+
+fn add_missing_from(tables: &[Value], found: &mut Vec<Key>) -> Result<(), AllocError>
+    ensures { OnOk result
+        (found.new.items ≡ found.old.items ++ all_missing_from (map view tables.now)) }
+{
+    for table in tables {
+        add_bad(&neighbours::present_rows(table), found)?;
+    }
+    Ok(())
+}
+
+/// All keys that are missing: of the sections, and then of the neighbours.
+#[tactic(auto, unfolding(crate::specs::Missing::all_missing))]
+pub(crate) fn all_missing(alloc: Global, document: &Table) -> Result<Vec<Key>, AllocError>
+    ensures { IfOk result (λ found. found.items ≡ all_missing (table_view document.now)) }
+{
+    let mut found = Vec::new(alloc);
+    add_missing(document, &required(), &mut found)?;
+    match neighbours::tables(document) {
+        Some(tables) => add_missing_from(tables, &mut found)?,
+        None => {}
+    }
+    Ok(found)
 }

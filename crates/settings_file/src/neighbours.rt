@@ -1,12 +1,17 @@
 //! The static neighbours of a document.
-ghost use Rattle.std.specs.Prelude.{◌≡◌, ◌≤◌, Some, None, length, map, is_some, option_map, option_and_then, vec_len, IfOk, IfErr, OnOk};
+ghost use Rattle.std.specs.Prelude.{◌≡◌, ◌≤◌, ◌++◌, Some, None, length, map, is_some, option_map, option_and_then, vec_len, IfOk, IfErr, OnOk};
 ghost use Rattle.std.specs.List.{list_all};
 ghost use Rattle.toml.specs.Data.{as_str};
 ghost use Rattle.toml.specs.View.{table_view, view};
 ghost use Rattle.settings_file.specs.Faults.{TellsFirst};
-ghost use Rattle.settings_file.specs.Neighbours.{is_table, tables_in, neighbours_of, field_of, missing_in, side_named, side_of, ip_of, mac_at_of, bad_neighbour, bad_in, bad_neighbours, neighbour_in};
+ghost use Rattle.std.specs.List.{flat_map};
+ghost use Rattle.settings_file.specs.declared.keys.Section.TheVariants as sections;
+ghost use Rattle.settings_file.specs.Keys.{key};
+ghost use Rattle.settings_file.specs.Document.{network_of_prefix};
+ghost use Rattle.settings_file.specs.Neighbours.{all_bad_of_neighbour, all_bad_in, is_table, tables_in, neighbours_of, field_of, present_rows, missing_in, neighbour_value_rows, side_named, side_of, ip_of, mac_at_of, bad_neighbour, bad_in, bad_neighbours, neighbour_in};
 
 use crate::faults::ValueFault;
+use crate::rows::{add_bad, first_bad};
 use crate::{Key, Name, Section, fields, texts};
 use addresses::{Ip, Mac, Prefix};
 use nat_types::Side;
@@ -56,21 +61,34 @@ fn field(neighbour: &Value, name: Name) -> Option<&Value>
     }
 }
 
+/// A neighbour's key, and whether it is there.
+fn present(neighbour: &Value, name: Name) -> (Key, bool)
+    ensures key { result.0 ≡ key sections.Neighbour name }
+    ensures present { result.1 ≡ is_some (field_of (view neighbour.now) name) }
+{
+    (
+        Key::new(Section::Neighbour, name),
+        field(neighbour, name).is_some(),
+    )
+}
+
+/// The keys of a neighbour, each with whether it is there.
+pub(crate) fn present_rows(neighbour: &Value) -> [(Key, bool); 3]
+    ensures { result ≡ present_rows (view neighbour.now) }
+{
+    [
+        present(neighbour, Name::Side),
+        present(neighbour, Name::Ip),
+        present(neighbour, Name::Mac),
+    ]
+}
+
 /// The first key that a neighbour lacks.
 #[tactic(auto, unfolding(crate::specs::Neighbours::missing_in))]
 pub(crate) fn missing_in(neighbour: &Value) -> Option<Key>
     ensures { result ≡ missing_in (view neighbour.now) }
 {
-    if field(neighbour, Name::Side).is_none() {
-        return Some(Key::new(Section::Neighbour, Name::Side));
-    }
-    if field(neighbour, Name::Ip).is_none() {
-        return Some(Key::new(Section::Neighbour, Name::Ip));
-    }
-    if field(neighbour, Name::Mac).is_none() {
-        return Some(Key::new(Section::Neighbour, Name::Mac));
-    }
-    None
+    first_bad(&present_rows(neighbour))
 }
 
 fn text(neighbour: &Value, name: Name) -> Option<&str>
@@ -125,6 +143,79 @@ fn mac_at_of(alloc: Global, neighbour: &Value) -> Result<Option<Mac>, AllocError
     }
 }
 
+/// The keys of a neighbour, each with whether its value is good.
+fn value_rows(
+    alloc: Global,
+    table: &Value,
+    inside: Option<Prefix>,
+    outside: Option<Prefix>,
+) -> Result<[(Key, bool); 3], AllocError>
+    ensures { IfOk result (λ rows. rows
+        ≡ neighbour_value_rows (option_map network_of_prefix inside)
+        (option_map network_of_prefix outside) (view table.now)) }
+{
+    let side = side_of(table);
+    let network = match side {
+        Some(Side::Inside) => inside,
+        Some(Side::Outside) => outside,
+        None => None,
+    };
+    let ip = ip_of(alloc, table)?;
+    let mac = mac_at_of(alloc, table)?;
+    Ok([
+        (Key::new(Section::Neighbour, Name::Side), side.is_some()),
+        (
+            Key::new(Section::Neighbour, Name::Ip),
+            fields::is_host(network, ip),
+        ),
+        (Key::new(Section::Neighbour, Name::Mac), mac.is_some()),
+    ])
+}
+
+fn add_bad_in(
+    alloc: Global,
+    tables: &[Value],
+    inside: Option<Prefix>,
+    outside: Option<Prefix>,
+    found: &mut Vec<Key>,
+) -> Result<(), AllocError>
+    ensures { OnOk result (found.new.items ≡ found.old.items
+        ++ flat_map (all_bad_of_neighbour (option_map network_of_prefix inside)
+        (option_map network_of_prefix outside)) (map view tables.now)) }
+{
+    for table in tables {
+        let rows = value_rows(alloc, table, inside, outside)?;
+        add_bad(&rows, found)?;
+    }
+    Ok(())
+}
+
+/// Adds the keys of the neighbours whose values are bad.
+pub(crate) fn add_bad_neighbours(
+    alloc: Global,
+    document: &Table,
+    inside: Option<Prefix>,
+    outside: Option<Prefix>,
+    found: &mut Vec<Key>,
+) -> Result<(), AllocError>
+    ensures { OnOk result (found.new.items ≡ found.old.items
+        ++ all_bad_in (option_map network_of_prefix inside) (option_map network_of_prefix outside)
+        (neighbours_of (table_view document.now))) }
+{
+    match tables(document) {
+        Some(tables) if tables.len() <= NEIGHBOURS => {
+            add_bad_in(alloc, tables, inside, outside, found)
+        }
+        _ => {
+            found.push(Key {
+                section: Section::Neighbour,
+                name: None,
+            })?;
+            Ok(())
+        }
+    }
+}
+
 /// The neighbour that a table says: its address lies in its side's network.
 #[tactic(auto, unfolding(crate::specs::Neighbours::bad_neighbour, crate::specs::Neighbours::neighbour_in))]
 fn neighbour(
@@ -134,10 +225,10 @@ fn neighbour(
     outside: Prefix,
 ) -> Result<Neighbour, ValueFault>
     ensures ok { IfOk result (λ n. neighbour_in (view table.now) ≡ Some n) }
-    ensures good { OnOk result (bad_neighbour (inside.address.0, inside.length)
-        (outside.address.0, outside.length) (view table.now) ≡ None) }
-    ensures err { IfErr result (TellsFirst (bad_neighbour (inside.address.0, inside.length)
-        (outside.address.0, outside.length) (view table.now))) }
+    ensures good { OnOk result (bad_neighbour (Some (inside.address.0, inside.length))
+        (Some (outside.address.0, outside.length)) (view table.now) ≡ None) }
+    ensures err { IfErr result (TellsFirst (bad_neighbour (Some (inside.address.0, inside.length))
+        (Some (outside.address.0, outside.length)) (view table.now))) }
 {
     let Some(side) = side_of(table) else {
         return Err(ValueFault::BadValue(Key::new(Section::Neighbour, Name::Side)));
@@ -166,10 +257,10 @@ fn neighbours_in(
 ) -> Result<Vec<Neighbour>, ValueFault>
     ensures ok { IfOk result (λ v. map Some v.items ≡ map neighbour_in (map view tables.now)) }
     ensures len { IfOk result (λ v. vec_len v ≡ length tables.now) }
-    ensures good { OnOk result (bad_in (inside.address.0, inside.length)
-        (outside.address.0, outside.length) (map view tables.now) ≡ None) }
-    ensures err { IfErr result (TellsFirst (bad_in (inside.address.0, inside.length)
-        (outside.address.0, outside.length) (map view tables.now))) }
+    ensures good { OnOk result (bad_in (Some (inside.address.0, inside.length))
+        (Some (outside.address.0, outside.length)) (map view tables.now) ≡ None) }
+    ensures err { IfErr result (TellsFirst (bad_in (Some (inside.address.0, inside.length))
+        (Some (outside.address.0, outside.length)) (map view tables.now))) }
 {
     let mut neighbours = Vec::new(alloc);
     for table in tables {
@@ -190,10 +281,10 @@ pub(crate) fn neighbours(
     ensures ok { IfOk result (λ v. option_map (map neighbour_in)
         (neighbours_of (table_view document.now)) ≡ Some (map Some v.items)) }
     ensures few { IfOk result (λ v. vec_len v ≤ 64) }
-    ensures good { OnOk result (bad_neighbours (inside.address.0, inside.length)
-        (outside.address.0, outside.length) (table_view document.now) ≡ None) }
-    ensures err { IfErr result (TellsFirst (bad_neighbours (inside.address.0, inside.length)
-        (outside.address.0, outside.length) (table_view document.now))) }
+    ensures good { OnOk result (bad_neighbours (Some (inside.address.0, inside.length))
+        (Some (outside.address.0, outside.length)) (table_view document.now) ≡ None) }
+    ensures err { IfErr result (TellsFirst (bad_neighbours (Some (inside.address.0, inside.length))
+        (Some (outside.address.0, outside.length)) (table_view document.now))) }
 {
     let whole = Key {
         section: Section::Neighbour,

@@ -4,7 +4,8 @@ ghost use Rattle.toml.specs.Parse.{parse_document};
 ghost use Rattle.toml.specs.View.{table_view};
 ghost use Rattle.settings_file.specs.Missing.{first_missing};
 ghost use Rattle.settings_file.specs.Unknown.{first_unknown};
-ghost use Rattle.settings_file.specs.Settings.{IsReadFrom, Tells, refusal_of, HoldsValues};
+ghost use Rattle.settings_file.specs.Settings.{IsHeld, IsReadFrom, Tells, refusal_of, HoldsValues};
+ghost use Rattle.settings_file.specs.Works.{Works};
 ghost use Rattle.settings_file.specs.Assembled.{TellsKey, IsAssembled, TellsValues};
 
 use crate::SettingFault;
@@ -12,6 +13,7 @@ use crate::ids::{overlap, same_ids};
 use crate::missing::first_missing;
 use crate::unknown::first_unknown;
 use crate::values::{Values, read_values};
+use crate::works::cant_work;
 use settings::{PortRanges, Settings};
 use std::alloc::Global;
 use toml::Table;
@@ -60,9 +62,9 @@ fn assemble(values: Values) -> Result<Settings, SettingFault>
     })
 }
 
-/// The settings of a document.
+/// The settings that a document holds, whether they can work or not.
 #[tactic(auto, using(crate::proofs::Agree::ports_agree, crate::proofs::Agree::ids_agree, crate::proofs::Agree::no_refusal, crate::proofs::Agree::told_keys, crate::proofs::Agree::told_values, crate::proofs::Agree::refuses_ports, crate::proofs::Agree::refuses_ids))]
-fn settings_of(alloc: Global, document: &Table) -> Result<Settings, SettingFault>
+pub(crate) fn held(alloc: Global, document: &Table) -> Result<Settings, SettingFault>
     ensures free { OnOk result (refusal_of (table_view document.now) ≡ None) }
     ensures values { IfOk result (HoldsValues (table_view document.now)) }
     ensures err { IfErr result (Tells (Some (table_view document.now))) }
@@ -72,12 +74,25 @@ fn settings_of(alloc: Global, document: &Table) -> Result<Settings, SettingFault
     assemble(values)
 }
 
+/// The settings of a document.
+fn settings_of(alloc: Global, document: &Table) -> Result<Settings, SettingFault>
+    ensures ok { IfOk result (IsReadFrom (Some (table_view document.now))) }
+    ensures err { IfErr result (Tells (Some (table_view document.now))) }
+{
+    let settings = held(alloc, document)?;
+    match cant_work(&settings) {
+        Some(key) => Err(SettingFault::CantWork(key)),
+        None => Ok(settings),
+    }
+}
+
 /// Reads settings from a text in TOML.
 ///
 /// # Errors
 /// The first fault in this order: the text isn't TOML, an unknown key (of several the least path by
-/// bytes), a missing key, a bad value, port ranges that overlap, ids that the two gateways share; of
-/// missing keys and bad values the first in the order of the keys. `NoMemory` can come at any point.
+/// bytes), a missing key, a bad value, port ranges that overlap, ids that the two gateways share, a
+/// value that can never work; of missing keys, bad values and values that can't work the first in the
+/// order of the keys. `NoMemory` can come at any point.
 pub fn read(alloc: Global, text: &str) -> Result<Settings, SettingFault>
     ensures ok { IfOk result (IsReadFrom (parse_document text.now)) }
     ensures err { IfErr result (Tells (parse_document text.now)) }

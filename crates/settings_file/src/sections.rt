@@ -52,9 +52,9 @@ pub(crate) fn inside(alloc: Global, document: &Table) -> Result<InterfaceSetting
 }
 
 /// Whether a network with this address and prefix shares no address with another.
-fn is_apart(network: Prefix, address: Ip, length: u8) -> bool
+pub(crate) fn is_apart(network: Prefix, address: Ip, length: u8) -> bool
     requires { length ≤ 30 }
-    ensures { result ≡ is_apart (network.address.0, network.length) (Some address.0)
+    ensures { result ≡ is_apart (Some (network.address.0, network.length)) (Some address.0)
         (Some length) }
 {
     let shorter = network.length.min(length);
@@ -70,9 +70,9 @@ pub(crate) fn outside(
 ) -> Result<InterfaceSettings, ValueFault>
     ensures ok { IfOk result (IsInterface (table_view document.now) Outside) }
     ensures good { OnOk result
-        (bad_outside (inside.address.0, inside.length) (table_view document.now) ≡ None) }
+        (bad_outside (Some (inside.address.0, inside.length)) (table_view document.now) ≡ None) }
     ensures err { IfErr result
-        (TellsFirst (bad_outside (inside.address.0, inside.length) (table_view document.now))) }
+        (TellsFirst (bad_outside (Some (inside.address.0, inside.length)) (table_view document.now))) }
 {
     let virtual_ip = fields::address(alloc, document, Section::Outside, Name::Virtual)?;
     let prefix_length = fields::number(document, Section::Outside, Name::Prefix, 8, 30)? as u8;
@@ -95,9 +95,9 @@ pub(crate) fn router(alloc: Global, document: &Table, outside: Prefix) -> Result
     ensures ok { IfOk result
         (λ ip. address_at (table_view document.now) Outside Router ≡ Some ip.0) }
     ensures good { OnOk result
-        (bad_router (outside.address.0, outside.length) (table_view document.now) ≡ None) }
+        (bad_router (Some (outside.address.0, outside.length)) (table_view document.now) ≡ None) }
     ensures err { IfErr result
-        (TellsFirst (bad_router (outside.address.0, outside.length) (table_view document.now))) }
+        (TellsFirst (bad_router (Some (outside.address.0, outside.length)) (table_view document.now))) }
 {
     fields::host(alloc, document, Section::Outside, Name::Router, outside)
 }

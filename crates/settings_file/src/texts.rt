@@ -67,16 +67,12 @@ fn pair(word: &str) -> Option<u8>
     }
 }
 
-fn parts_at_dots(alloc: Global, text: &str) -> Result<Vec<&str>, AllocError>
-    ensures { IfOk result (λ v. map (λ part. part.now) v.items ≡ parts_at 46 text.now) }
+/// What stands between the separators.
+fn parts_at(alloc: Global, text: &str, separator: char) -> Result<Vec<&str>, AllocError>
+    requires { separator < 128 }
+    ensures { IfOk result (λ v. map (λ part. part.now) v.items ≡ parts_at separator text.now) }
 {
-    text.split('.').collect(alloc)
-}
-
-fn parts_at_dashes(alloc: Global, text: &str) -> Result<Vec<&str>, AllocError>
-    ensures { IfOk result (λ v. map (λ part. part.now) v.items ≡ parts_at 45 text.now) }
-{
-    text.split('-').collect(alloc)
+    text.split(separator).collect(alloc)
 }
 
 fn address_in(parts: &[&str]) -> Option<Ip>
@@ -109,15 +105,16 @@ fn mac_in(parts: &[&str]) -> Option<Mac>
 pub(crate) fn address_of(alloc: Global, text: &str) -> Result<Option<Ip>, AllocError>
     ensures { IfOk result (λ found. option_map (λ ip. ip.0) found ≡ address_of text.now) }
 {
-    let parts = parts_at_dots(alloc, text)?;
+    let parts = parts_at(alloc, text, '.')?;
     Ok(address_in(parts.as_slice()))
 }
 
-/// The address that a text writes, as `02-00-00-00-01-00`, where it writes one.
+/// The address that a text writes, as `02-00-00-00-01-00` or `02:00:00:00:01:00`, where it writes one.
 #[tactic(auto, unfolding(crate::specs::Texts::mac_of))]
 pub(crate) fn mac_of(alloc: Global, text: &str) -> Result<Option<Mac>, AllocError>
     ensures { IfOk result (λ found. option_map (λ mac. mac.0) found ≡ mac_of text.now) }
 {
-    let parts = parts_at_dashes(alloc, text)?;
-    Ok(mac_in(parts.as_slice()))
+    let dashed = parts_at(alloc, text, '-')?;
+    let joined = parts_at(alloc, text, ':')?;
+    Ok(mac_in(dashed.as_slice()).or(mac_in(joined.as_slice())))
 }

@@ -1,5 +1,5 @@
 //! Keys of a document that settings don't have.
-ghost use Rattle.std.specs.Prelude.{◌≡◌, Some, map, option_map, string_bytes, IfOk};
+ghost use Rattle.std.specs.Prelude.{◌≡◌, ◌++◌, Some, None, map, option_map, string_bytes, IfOk, OnOk};
 ghost use Rattle.std.specs.List.{find, list_any};
 ghost use Rattle.toml.specs.Data.{as_table};
 ghost use Rattle.toml.specs.View.{table_view, view};
@@ -119,24 +119,22 @@ fn lesser(least: Option<String>, path: String) -> String
     }
 }
 
-/// The least of a path and of the unknown keys of a section's table.
+/// Adds the unknown keys of a section's table.
 fn unknown_in(
     alloc: Global,
     section: Section,
     table: &Table,
-    least: Option<String>,
-) -> Result<Option<String>, AllocError>
-    ensures { IfOk result (λ found. option_map string_bytes found
-        ≡ least_from (option_map string_bytes least) (unknown_in section (table_view table.now))) }
+    found: &mut Vec<String>,
+) -> Result<(), AllocError>
+    ensures { OnOk result (map string_bytes found.new.items
+        ≡ map string_bytes found.old.items ++ unknown_in section (table_view table.now)) }
 {
-    let mut found = least;
     for (text, _) in table {
         if !is_known(section, text.as_str()) {
-            let path = path(alloc, section, text.as_str())?;
-            found = Some(lesser(found, path));
+            found.push(path(alloc, section, text.as_str())?)?;
         }
     }
-    Ok(found)
+    Ok(())
 }
 
 #[tactic(auto, unfolding(crate::specs::Unknown::unknown_at))]
@@ -144,47 +142,39 @@ fn unknown_at(
     alloc: Global,
     section: Section,
     value: &Value,
-    least: Option<String>,
-) -> Result<Option<String>, AllocError>
-    ensures { IfOk result (λ found. option_map string_bytes found
-        ≡ least_from (option_map string_bytes least)
-        (unknown_at section (as_table (view value.now)))) }
+    found: &mut Vec<String>,
+) -> Result<(), AllocError>
+    ensures { OnOk result (map string_bytes found.new.items
+        ≡ map string_bytes found.old.items ++ unknown_at section (as_table (view value.now))) }
 {
     match value.as_table() {
-        Some(table) => unknown_in(alloc, section, table, least),
-        None => Ok(least),
+        Some(table) => unknown_in(alloc, section, table, found),
+        None => Ok(()),
     }
 }
 
-#[tactic(auto, using(crate::proofs::Least::least_of_both))]
-fn unknown_from(
-    alloc: Global,
-    tables: &[Value],
-    least: Option<String>,
-) -> Result<Option<String>, AllocError>
-    ensures { IfOk result (λ found. option_map string_bytes found
-        ≡ least_from (option_map string_bytes least) (unknown_from (map view tables.now))) }
+fn unknown_from(alloc: Global, tables: &[Value], found: &mut Vec<String>) -> Result<(), AllocError>
+    ensures { OnOk result (map string_bytes found.new.items
+        ≡ map string_bytes found.old.items ++ unknown_from (map view tables.now)) }
 {
-    let mut found = least;
     for table in tables {
-        found = unknown_at(alloc, Section::Neighbour, table, found)?;
+        unknown_at(alloc, Section::Neighbour, table, found)?;
     }
-    Ok(found)
+    Ok(())
 }
 
 #[tactic(auto, unfolding(crate::specs::Unknown::unknown_neighbour))]
 fn unknown_neighbour(
     alloc: Global,
     value: &Value,
-    least: Option<String>,
-) -> Result<Option<String>, AllocError>
-    ensures { IfOk result (λ found. option_map string_bytes found
-        ≡ least_from (option_map string_bytes least)
-        (unknown_neighbour (tables_in (Some (view value.now))))) }
+    found: &mut Vec<String>,
+) -> Result<(), AllocError>
+    ensures { OnOk result (map string_bytes found.new.items ≡ map string_bytes found.old.items
+        ++ unknown_neighbour (tables_in (Some (view value.now)))) }
 {
     match neighbours::tables_in(value) {
-        Some(tables) => unknown_from(alloc, tables, least),
-        None => Ok(least),
+        Some(tables) => unknown_from(alloc, tables, found),
+        None => Ok(()),
     }
 }
 
@@ -193,31 +183,49 @@ fn unknown_under(
     alloc: Global,
     text: &str,
     value: &Value,
-    least: Option<String>,
-) -> Result<Option<String>, AllocError>
-    ensures { IfOk result (λ found. option_map string_bytes found
-        ≡ least_from (option_map string_bytes least)
-        (unknown_under text.now (view value.now) (section_named text.now))) }
+    found: &mut Vec<String>,
+) -> Result<(), AllocError>
+    ensures { OnOk result (map string_bytes found.new.items ≡ map string_bytes found.old.items
+        ++ unknown_under text.now (view value.now) (section_named text.now)) }
 {
     match section_named(text) {
         None => {
-            let path = String::from_str(alloc, text)?;
-            Ok(Some(lesser(least, path)))
+            found.push(String::from_str(alloc, text)?)?;
+            Ok(())
         }
-        Some(Section::Neighbour) => unknown_neighbour(alloc, value, least),
-        Some(section) => unknown_at(alloc, section, value, least),
+        Some(Section::Neighbour) => unknown_neighbour(alloc, value, found),
+        Some(section) => unknown_at(alloc, section, value, found),
     }
 }
 
+/// The paths of all keys that settings don't have.
+pub(crate) fn unknown(alloc: Global, document: &Table) -> Result<Vec<String>, AllocError>
+    ensures { IfOk result
+        (λ found. map string_bytes found.items ≡ unknown_of (table_view document.now)) }
+{
+    let mut found = Vec::new(alloc);
+    for (text, value) in document {
+        unknown_under(alloc, text.as_str(), value, &mut found)?;
+    }
+    Ok(found)
+}
+
+fn least(paths: Vec<String>) -> Option<String>
+    ensures { option_map string_bytes result ≡ least_from None (map string_bytes paths.items) }
+{
+    let mut found = None;
+    for path in paths {
+        found = Some(lesser(found, path));
+    }
+    found
+}
+
 /// The least path of a key that settings don't have.
-#[tactic(auto, using(crate::proofs::Least::least_of_both), unfolding(crate::specs::Unknown::first_unknown))]
+#[tactic(auto, unfolding(crate::specs::Unknown::first_unknown))]
 pub(crate) fn first_unknown(alloc: Global, document: &Table) -> Result<Option<String>, AllocError>
     ensures { IfOk result (λ found. option_map string_bytes found
         ≡ first_unknown (table_view document.now)) }
 {
-    let mut found = None;
-    for (text, value) in document {
-        found = unknown_under(alloc, text.as_str(), value, found)?;
-    }
-    Ok(found)
+    let paths = unknown(alloc, document)?;
+    Ok(least(paths))
 }

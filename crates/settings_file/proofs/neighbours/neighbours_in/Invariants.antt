@@ -6,6 +6,6 @@ use Rattle.settings_file.proofs.neighbours.neighbours_in.Given as goal
 abbrev pub invariant-loop-table : goal.invariant-loop-table
 invariant-loop-table l = record {
   len : vec_len l.neighbours ≡ l.table-index;
-  left : bad_in (l.inside.address.0, l.inside.length) (l.outside.address.0, l.outside.length) (map view (drop l.table-index l.tables)) ≡ bad_in (l.inside.address.0, l.inside.length) (l.outside.address.0, l.outside.length) (map view l.tables);
+  left : bad_in (Some (l.inside.address.0, l.inside.length)) (Some (l.outside.address.0, l.outside.length)) (map view (drop l.table-index l.tables)) ≡ bad_in (Some (l.inside.address.0, l.inside.length)) (Some (l.outside.address.0, l.outside.length)) (map view l.tables);
   found : map Some l.neighbours.items ++ map neighbour_in (map view (drop l.table-index l.tables)) ≡ map neighbour_in (map view l.tables);
 }

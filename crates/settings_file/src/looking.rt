@@ -1,0 +1,65 @@
+//! Looks for all faults of a text.
+ghost use Rattle.std.specs.Prelude.{◌↔◌, Some, IfOk};
+ghost use Rattle.toml.specs.Parse.{parse_document};
+ghost use Rattle.toml.specs.View.{table_view};
+ghost use Rattle.settings_file.specs.Settings.{Tells};
+ghost use Rattle.settings_file.specs.Listing.{IsSeenIn, IsSeen, HasNoFault, IsGood};
+
+use crate::listing::all_bad_values;
+use crate::missing::all_missing;
+use crate::reading::held;
+use crate::unknown::unknown;
+use crate::works::all_that_cant;
+use crate::{Look, SettingFault};
+use std::alloc::{AllocError, Global};
+use toml::Table;
+
+/// What is seen of a document that holds no settings, for this fault.
+fn seen_of_fault(alloc: Global, document: &Table, fault: &SettingFault) -> Result<Look, AllocError>
+    requires { Tells (Some (table_view document.now)) fault.now }
+    ensures { IfOk result (IsSeenIn (table_view document.now)) }
+{
+    match fault {
+        SettingFault::UnknownKey(_) => Ok(Look::UnknownKeys(unknown(alloc, document)?)),
+        SettingFault::Missing(_) => Ok(Look::MissingKeys(all_missing(alloc, document)?)),
+        SettingFault::BadValue(_) => Ok(Look::BadValues(all_bad_values(alloc, document)?)),
+        SettingFault::RangesOverlap => Ok(Look::RangesOverlap),
+        SettingFault::SameIds => Ok(Look::SameIds),
+        SettingFault::NotToml | SettingFault::CantWork(_) | SettingFault::NoMemory => Err(
+            AllocError,
+        ),
+    }
+}
+
+/// What is seen of a document.
+fn seen(alloc: Global, document: &Table) -> Result<Look, AllocError>
+    ensures { IfOk result (IsSeenIn (table_view document.now)) }
+{
+    match held(alloc, document) {
+        Ok(settings) => {
+            let keys = all_that_cant(alloc, &settings)?;
+            Ok(Look::Held(settings, keys))
+        }
+        Err(fault) => seen_of_fault(alloc, document, &fault),
+    }
+}
+
+/// What is seen of a text: where `read` tells one fault, all of its kind. There is no fault just where `read` gives
+/// settings.
+pub fn look(alloc: Global, text: &str) -> Result<Look, AllocError>
+    ensures seen { IfOk result (IsSeen (parse_document text.now)) }
+    ensures good { IfOk result (λ look. HasNoFault look ↔ IsGood (parse_document text.now)) }
+{
+    let look = looked(alloc, text)?;
+    Ok(look)
+}
+
+fn looked(alloc: Global, text: &str) -> Result<Look, AllocError>
+    ensures { IfOk result (IsSeen (parse_document text.now)) }
+{
+    match toml::table_from_str(alloc, text) {
+        Ok(document) => seen(alloc, &document),
+        Err(fault) if fault.is_memory() => Err(AllocError),
+        Err(_) => Ok(Look::NotToml),
+    }
+}

@@ -1,0 +1,206 @@
+//! Settings that can never work.
+ghost use Rattle.std.specs.Prelude.{◌≡◌, ◌≤◌, ◌++◌, IfOk, OnOk};
+ghost use Rattle.std.specs.List.{flat_map};
+ghost use Rattle.settings_file.specs.Works.{is_first, is_last, is_host_address, is_group, is_station, is_ours, network_rows, gateway_rows, neighbour_rows, neighbours_cant, gateways_cant, cant_work, all_of_neighbour, all_that_cant};
+
+use crate::rows::{add_bad, first_bad};
+use crate::{Key, Name, Section};
+use addresses::{Ip, Mac};
+use nat_types::Side;
+use settings::{GatewaySettings, Neighbour, Settings};
+use std::alloc::{AllocError, Global};
+
+/// Whether an address is the first of its network, which stands for the network itself.
+#[tactic(auto, unfolding(crate::specs::Works::is_first, crate::specs::Document::is_in))]
+pub fn is_network_address(address: Ip, length: u8) -> bool
+    requires { length ≤ 32 }
+    ensures { result ≡ is_first length address.0 }
+{
+    let host_bits = 32 - length;
+    match address.0.checked_sub(1) {
+        Some(before) => u64::from(before) >> host_bits != u64::from(address.0) >> host_bits,
+        None => true,
+    }
+}
+
+/// Whether an address is the last of its network, its broadcast address.
+#[tactic(auto, unfolding(crate::specs::Works::is_last, crate::specs::Document::is_in))]
+fn is_broadcast_address(address: Ip, length: u8) -> bool
+    requires { length ≤ 32 }
+    ensures { result ≡ is_last length address.0 }
+{
+    let host_bits = 32 - length;
+    let behind = u64::from(address.0) + 1;
+    behind >> host_bits != u64::from(address.0) >> host_bits
+}
+
+fn is_host_address(address: Ip, length: u8) -> bool
+    requires { length ≤ 32 }
+    ensures { result ≡ is_host_address length address.0 }
+{
+    !(is_network_address(address, length) || is_broadcast_address(address, length))
+}
+
+fn is_group(mac: Mac) -> bool
+    ensures { result ≡ is_group mac.0 }
+{
+    mac.0[0] % 2 == 1
+}
+
+fn is_station(mac: Mac) -> bool
+    ensures { result ≡ is_station mac.0 }
+{
+    let is_virtual = mac.0[..5] == Mac::of_virtual_router(0).0[..5];
+    !(is_group(mac) || mac.0 == [0; 6] || is_virtual)
+}
+
+/// Whether an address is one that the pair has for itself on a side.
+fn is_ours(settings: &Settings, side: Side, address: Ip) -> bool
+    ensures { result ≡ is_ours settings.now side address.0 }
+{
+    let Settings { zero, one, .. } = settings;
+    match side {
+        Side::Inside => {
+            address.0 == settings.inside.virtual_ip.0
+                || address.0 == zero.inside_ip.0
+                || address.0 == one.inside_ip.0
+        }
+        Side::Outside => {
+            address.0 == settings.outside.virtual_ip.0
+                || address.0 == zero.outside_ip.0
+                || address.0 == one.outside_ip.0
+        }
+    }
+}
+
+/// What has to hold of the networks and the router.
+#[tactic(auto, unfolding(crate::specs::Works::network_rows))]
+pub(crate) fn network_rows(settings: &Settings) -> [(Key, bool); 3]
+    ensures { result ≡ network_rows settings.now }
+{
+    let Settings {
+        inside,
+        outside,
+        router,
+        ..
+    } = settings;
+    let is_router = !(is_broadcast_address(*router, outside.prefix_length)
+        || is_ours(settings, Side::Outside, *router));
+    [
+        (
+            Key::new(Section::Inside, Name::Virtual),
+            is_host_address(inside.virtual_ip, inside.prefix_length),
+        ),
+        (
+            Key::new(Section::Outside, Name::Virtual),
+            is_host_address(outside.virtual_ip, outside.prefix_length),
+        ),
+        (Key::new(Section::Outside, Name::Router), is_router),
+    ]
+}
+
+/// What has to hold of a gateway.
+#[tactic(auto, unfolding(crate::specs::Works::gateway_rows))]
+pub(crate) fn gateway_rows(
+    settings: &Settings,
+    section: Section,
+    gateway: &GatewaySettings,
+) -> [(Key, bool); 4]
+    ensures { result ≡ gateway_rows settings.now section gateway.now }
+{
+    let inside = settings.inside.prefix_length;
+    let outside = settings.outside.prefix_length;
+    [
+        (
+            Key::new(section, Name::InsideIp),
+            is_host_address(gateway.inside_ip, inside),
+        ),
+        (
+            Key::new(section, Name::InsideMac),
+            is_station(gateway.inside_mac),
+        ),
+        (
+            Key::new(section, Name::OutsideIp),
+            is_host_address(gateway.outside_ip, outside),
+        ),
+        (
+            Key::new(section, Name::OutsideMac),
+            is_station(gateway.outside_mac),
+        ),
+    ]
+}
+
+/// What has to hold of a neighbour.
+#[tactic(auto, unfolding(crate::specs::Works::neighbour_rows))]
+pub(crate) fn neighbour_rows(settings: &Settings, neighbour: &Neighbour) -> [(Key, bool); 2]
+    ensures { result ≡ neighbour_rows settings.now neighbour.now }
+{
+    [
+        (
+            Key::new(Section::Neighbour, Name::Ip),
+            !is_ours(settings, neighbour.side, neighbour.ip),
+        ),
+        (
+            Key::new(Section::Neighbour, Name::Mac),
+            !is_group(neighbour.mac),
+        ),
+    ]
+}
+
+fn of_neighbours(settings: &Settings, neighbours: &[Neighbour]) -> Option<Key>
+    ensures { result ≡ neighbours_cant settings.now neighbours.now }
+{
+    for neighbour in neighbours {
+        if let Some(key) = first_bad(&neighbour_rows(settings, neighbour)) {
+            return Some(key);
+        }
+    }
+    None
+}
+
+fn of_gateways(settings: &Settings) -> Option<Key>
+    ensures { result ≡ gateways_cant settings.now }
+{
+    first_bad(&gateway_rows(settings, Section::GatewayZero, &settings.zero)).or(first_bad(
+        &gateway_rows(settings, Section::GatewayOne, &settings.one),
+    ))
+}
+
+/// The first key, in the order of the text, whose value can never work.
+#[tactic(auto, unfolding(crate::specs::Works::cant_work))]
+pub fn cant_work(settings: &Settings) -> Option<Key>
+    ensures { result ≡ cant_work settings.now }
+{
+    first_bad(&network_rows(settings))
+        .or(of_gateways(settings))
+        .or(of_neighbours(settings, settings.neighbours.as_slice()))
+}
+
+fn add_of_neighbours(
+    settings: &Settings,
+    neighbours: &[Neighbour],
+    found: &mut Vec<Key>,
+) -> Result<(), AllocError>
+    ensures { OnOk result (found.new.items
+        ≡ found.old.items ++ flat_map (all_of_neighbour settings.now) neighbours.now) }
+{
+    for neighbour in neighbours {
+        add_bad(&neighbour_rows(settings, neighbour), found)?;
+    }
+    Ok(())
+}
+
+/// All keys, in the order of the text, whose values can never work.
+#[tactic(auto, unfolding(crate::specs::Works::all_that_cant))]
+pub(crate) fn all_that_cant(alloc: Global, settings: &Settings) -> Result<Vec<Key>, AllocError>
+    ensures { IfOk result (λ keys. keys.items ≡ all_that_cant settings.now) }
+{
+    let mut found = Vec::new(alloc);
+    add_bad(&network_rows(settings), &mut found)?;
+    let rows = gateway_rows(settings, Section::GatewayZero, &settings.zero);
+    add_bad(&rows, &mut found)?;
+    let rows = gateway_rows(settings, Section::GatewayOne, &settings.one);
+    add_bad(&rows, &mut found)?;
+    add_of_neighbours(settings, settings.neighbours.as_slice(), &mut found)?;
+    Ok(found)
+}
