@@ -4,7 +4,7 @@ use std::alloc::Global;
 use std::io::Write;
 
 /// The sample with its first line that is `old` replaced by `new`, whose `|` stand for line ends.
-fn edited(alloc: Global, sample: &str, old: &str, new: &str) -> Result<String> {
+pub(crate) fn edited(alloc: Global, sample: &str, old: &str, new: &str) -> Result<String> {
     let mut text = String::new(alloc);
     let mut done = false;
     for line in sample.lines() {

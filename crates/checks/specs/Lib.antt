@@ -1,0 +1,4 @@
+pub mod Counts
+pub mod Differences
+pub mod Digests
+pub mod Doubts

@@ -1,0 +1,23 @@
+//! Whether a pair could run with settings: every fault and every warning of a settings file, and in what two of them
+//! differ.
+#![tactic(auto)]
+
+mod boots;
+mod checking;
+mod comparing;
+mod differences;
+mod digests;
+mod doubts;
+mod places;
+mod requests;
+mod saying;
+mod tallies;
+mod warnings;
+
+pub use checking::check;
+pub use comparing::compare;
+pub use differences::{differing_keys, may_differ};
+pub use digests::digest;
+pub use doubts::{Doubt, Warning};
+pub use requests::Request;
+pub use warnings::warnings_of;
