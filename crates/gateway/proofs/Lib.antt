@@ -4,3 +4,4 @@ mod Lasting
 mod Places
 mod Staying
 mod Taking
+mod Behind

@@ -1,32 +1,39 @@
 //! One gateway of the pair, and its step.
-ghost use Rattle.std.specs.Prelude.{◌≡◌, ◌<◌, ◌^◌, IsTrue, IfOk, OnOk, OnErr, [], map, if◌then◌else◌};
+ghost use Rattle.std.specs.Prelude.{◌≡◌, ◌<◌, ◌≤◌, ◌^◌, ◌∷◌, [], Some, IsTrue, IfOk, IfSome, IfNone, OnOk, OnErr, length, map, if◌then◌else◌};
 ghost use Rattle.nat_types.specs.declared.gateways.GatewayId.TheVariants.{Zero};
-ghost use Rattle.bindings.specs.Entries.{is_pair, pairs_in, translates};
+ghost use Rattle.bindings.specs.Entries.{is_pair, pairs_in, slot_of, translates};
+ghost use Rattle.bindings.specs.Lists.{after_key};
 ghost use Rattle.bindings.specs.Runs.{port_at};
 ghost use Rattle.spec_binding.specs.Books.{is_synced};
 ghost use Rattle.spec_binding.specs.Ledgers.{is_heard};
+ghost use Rattle.interfaces.specs.Cables.{is_in};
 ghost use Rattle.interfaces.specs.Stations.{is_active};
 ghost use Rattle.spec_step.specs.Founding.{begun, founded};
 ghost use Rattle.spec_step.specs.Machine.{HasBytes};
 ghost use Rattle.spec_step.specs.Shown.{scene, station_on};
 ghost use Rattle.spec_step.specs.Steps.{IsStepOn, outcome_on};
 ghost use Rattle.spec_step.specs.Truly.{AreWired};
+ghost use Rattle.link.specs.Hearing.{peer_serves};
 ghost use Rattle.link.specs.Link.{IsLink};
+ghost use Rattle.waiting.specs.Packets.{hop_count as hops_in, pair_count as pairs_waiting};
 ghost use Rattle.spec_step.specs.Rests.{most_notes};
+ghost use Rattle.gateway.specs.Entries.{behind};
 ghost use Rattle.gateway.specs.Gateway.{IsGateway};
 
 use crate::begins::begin;
+use crate::entries::{self, hop_count, pair_count};
 use crate::rooms::{PACKET_NOTES, entry_count};
 use crate::{NoMemory, Out, steps};
 use addresses::{Ip, Port};
-use bindings::Hashers;
+use bindings::{Entry, Hashers};
 use forwarder::Forwarder;
 use link::RECORDS_IN_A_DATAGRAM;
-use nat_types::{GatewayId, Pair, Side};
+use nat_types::{GatewayId, Key, Pair, Side};
 use settings::Settings;
 use spec_step::{Event, Outcome, beginnings, beginnings_settle};
 use std::alloc::Global;
 use std::marker::Model;
+use vrrp_states::State;
 
 /// One gateway of the pair. Moments are in centiseconds.
 #[derive(Drop)]
@@ -131,6 +138,26 @@ impl Gateway {
         self.forwarder.station(side).is_active()
     }
 
+    /// The state of the virtual router on a side.
+    pub fn role(&self, side: Side) -> State
+        ensures { result ≡ (station_on self.now side).router.state }
+    {
+        if self.is_active(side) {
+            State::Active
+        } else if self.forwarder.is_running() {
+            State::Backup
+        } else {
+            State::Initialize
+        }
+    }
+
+    /// Whether the cable of a side is in.
+    pub fn is_in(&self, side: Side) -> bool
+        ensures { result ≡ is_in (station_on self.now side).cable }
+    {
+        self.forwarder.station(side).is_in()
+    }
+
     /// The boot of the other gateway that it knows; 0 where it knows none.
     pub fn known_peer(&self) -> u64
         ensures { result ≡ self.now.link.known }
@@ -144,6 +171,62 @@ impl Gateway {
         ensures { result ≡ is_heard self.now.link.heard self.now.moment }
     {
         self.forwarder.link.hears(self.forwarder.moment)
+    }
+
+    /// The moment at which the other gateway last counted as heard.
+    pub fn heard(&self) -> Option<u64>
+        ensures { result ≡ self.now.link.heard }
+    {
+        self.forwarder.link.heard()
+    }
+
+    /// Whether the other gateway serves: it is heard so, and said last that it serves.
+    pub fn peer_serves(&self) -> bool
+        ensures { result ≡ peer_serves self.now.link self.now.moment }
+    {
+        self.forwarder.link.peer_serves(self.forwarder.moment)
+    }
+
+    /// How many packets wait for a pair.
+    pub fn waiting_for_pairs(&self) -> usize
+        ensures { result ≡ pairs_waiting self.now.kept }
+    {
+        pair_count(self.forwarder.kept.packets())
+    }
+
+    /// How many packets wait for the address of their next hop.
+    pub fn waiting_for_hops(&self) -> usize
+        ensures { result ≡ hops_in self.now.kept }
+    {
+        hop_count(self.forwarder.kept.packets())
+    }
+
+    /// The entry of an outside port, whatever its state.
+    pub fn entry(&self, key: Key) -> Option<Entry>
+        ensures { result ≡ slot_of self.now.ledger.book.entries key }
+    {
+        self.forwarder.core.table().pair_of_port(key)
+    }
+
+    /// The entry that follows a key in the order by protocol (tcp first) and port, whatever its state; of `None` the
+    /// first one. The key needs no entry of its own.
+    pub fn entry_after(&self, last: Option<Key>) -> Option<Entry>
+        ensures exact { result ≡ after_key last self.now.ledger.book.entries }
+        // Behind the key it stands first, and what is behind it stands behind the key too.
+        ensures next { IfSome result (λ e. behind last self.now.ledger.book.entries
+            ≡ e ∷ behind (Some e.pair.key) self.now.ledger.book.entries) }
+        ensures none { IfNone result (behind last self.now.ledger.book.entries ≡ []) }
+    {
+        self.forwarder.core.recall();
+        entries::entry_after(self.forwarder.core.table(), last)
+    }
+
+    /// How many entries its table has, whatever their state.
+    pub fn entry_count(&self) -> usize
+        ensures count { result ≡ length self.now.ledger.book.entries }
+        ensures few { result ≤ 1000000 }
+    {
+        entry_count(&self.forwarder)
     }
 
     /// All pairs of its table, by protocol (tcp first) and port; a proposal given up is none.

@@ -6,6 +6,7 @@ mod arrivals;
 mod begins;
 mod datagrams;
 mod ends;
+mod entries;
 mod gateways;
 mod records;
 mod rooms;

@@ -1,0 +1,10 @@
+-- The entries of a table behind a key.
+use Rattle.std.specs.Prelude.{List, Option}
+use Rattle.std.specs.List.{filter}
+use Rattle.nat_types.specs.declared.pairs.Key.{Key}
+use Rattle.bindings.specs.declared.entries.Entry.{Entry}
+use Rattle.bindings.specs.Lists.{stands_behind}
+
+-- those that stand behind a key in the order by protocol (tcp first) and port; all where there is none
+abbrev pub behind : Option Key → List Entry → List Entry
+behind last entries = filter (stands_behind last) entries
