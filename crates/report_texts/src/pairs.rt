@@ -1,0 +1,92 @@
+//! The lines of pairs.
+ghost use Rattle.std.specs.Prelude.{◌≡◌};
+ghost use Rattle.report_texts.specs.Wanted.{passes, wants_address, wants_port, wants_protocol, wants_state};
+
+use crate::names::state_name;
+use addresses::{Ip, Port, Protocol};
+use bindings::Entry;
+use nat_types::EntryState;
+use reports::Page;
+use std::io::{self, Write};
+
+/// Which entries are wanted: those that have each thing that is said here.
+#[derive(Clone, Copy, Debug, PartialEq, Eq)]
+pub struct Filter {
+    pub protocol: Option<Protocol>,
+    /// Of the inside host.
+    pub address: Option<Ip>,
+    /// Outside.
+    pub port: Option<Port>,
+    pub state: Option<EntryState>,
+}
+
+fn wants_protocol(wanted: Option<Protocol>, protocol: Protocol) -> bool
+    ensures { result ≡ wants_protocol wanted protocol }
+{
+    match wanted {
+        None => true,
+        Some(wanted) => wanted.number() == protocol.number(),
+    }
+}
+
+fn wants_address(wanted: Option<Ip>, address: Ip) -> bool
+    ensures { result ≡ wants_address wanted address }
+{
+    match wanted {
+        None => true,
+        Some(wanted) => wanted.0 == address.0,
+    }
+}
+
+fn wants_port(wanted: Option<Port>, port: Port) -> bool
+    ensures { result ≡ wants_port wanted port }
+{
+    match wanted {
+        None => true,
+        Some(wanted) => wanted.0 == port.0,
+    }
+}
+
+fn wants_state(wanted: Option<EntryState>, state: EntryState) -> bool
+    ensures { result ≡ wants_state wanted state }
+{
+    match wanted {
+        None => true,
+        Some(wanted) => wanted == state,
+    }
+}
+
+impl Filter {
+    /// All entries.
+    pub const ALL: Filter = Filter {
+        protocol: None,
+        address: None,
+        port: None,
+        state: None,
+    };
+
+    /// Whether an entry is wanted.
+    pub fn passes(&self, entry: &Entry) -> bool
+        ensures { result ≡ passes self.now entry.now }
+    {
+        wants_protocol(self.protocol, entry.pair.key.protocol)
+            && wants_address(self.address, entry.pair.endpoint.address)
+            && wants_port(self.port, entry.pair.key.port)
+            && wants_state(self.state, entry.state)
+    }
+}
+
+/// Writes a line for each entry of a page that is wanted, as `udp 20000 192.168.1.10 5000 held`: protocol, outside port,
+/// inside address and port, state.
+///
+/// # Errors
+///
+/// Where output is refused.
+pub fn write_pairs<O: Write>(output: &mut O, page: &Page, filter: &Filter) -> io::Result<()> {
+    for entry in page.entries() {
+        if filter.passes(entry) {
+            writeln!(output, "{} {}", entry.pair, state_name(entry.state))?;
+        }
+    }
+    Ok(())
+}

@@ -1,0 +1,8 @@
+mod Places
+mod Numbers
+mod Formats
+mod Loop
+mod Whole
+mod Listings
+mod Walks
+mod Fitted

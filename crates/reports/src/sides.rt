@@ -1,0 +1,110 @@
+//! A box's sides, and since when each has been as it is.
+ghost use Rattle.std.specs.Prelude.{◌≡◌};
+ghost use Rattle.interfaces.specs.Cables.{is_in};
+ghost use Rattle.nat_types.specs.declared.gateways.Side.TheVariants.{Inside, Outside};
+ghost use Rattle.reports.specs.Gateways.{side_of};
+ghost use Rattle.reports.specs.Sides.{seen_again, seen_first, same_role};
+
+use gateway::Gateway;
+use nat_types::Side;
+use vrrp_states::State;
+
+/// A side of a box. Moments are in centiseconds since the box's start.
+#[derive(Clone, Copy, Debug, PartialEq, Eq)]
+pub struct SideReport {
+    /// The state of its virtual router.
+    pub role: State,
+    /// When that last changed; 0 where it hasn't.
+    pub role_since: u64,
+    /// Whether its cable is in, or was never said to be out.
+    pub up: bool,
+    /// When that last changed; 0 where it hasn't.
+    pub up_since: u64,
+}
+
+fn is_same_role(a: State, b: State) -> bool
+    ensures { result ≡ same_role a b }
+{
+    matches!(
+        (a, b),
+        (State::Initialize, State::Initialize)
+            | (State::Backup, State::Backup)
+            | (State::Active, State::Active)
+    )
+}
+
+impl SideReport {
+    /// As a box begins: seen so at moment 0.
+    pub fn new(role: State, up: bool) -> SideReport
+        ensures { result ≡ seen_first role up }
+    {
+        SideReport {
+            role,
+            role_since: 0,
+            up,
+            up_since: 0,
+        }
+    }
+
+    /// Is seen so at a moment: what is otherwise than before is so since then.
+    pub fn look(&mut self, role: State, up: bool, moment: u64)
+        ensures { self.new ≡ seen_again role up moment self.old }
+    {
+        if !is_same_role(self.role, role) {
+            self.role = role;
+            self.role_since = moment;
+        }
+        if self.up != up {
+            self.up = up;
+            self.up_since = moment;
+        }
+    }
+}
+
+/// Both sides of a box.
+#[derive(Clone, Copy, Debug, PartialEq, Eq)]
+pub struct Sides {
+    pub inside: SideReport,
+    pub outside: SideReport,
+}
+
+impl Sides {
+    /// As a gateway has them when its box begins.
+    pub fn of(gateway: &Gateway) -> Sides
+        ensures inside { let station = gateway.now.inside in
+            result.inside ≡ seen_first station.router.state (is_in station.cable) }
+        ensures outside { let station = gateway.now.outside in
+            result.outside ≡ seen_first station.router.state (is_in station.cable) }
+    {
+        let (inside, outside) = (Side::Inside, Side::Outside);
+        Sides {
+            inside: SideReport::new(gateway.role(inside), gateway.is_in(inside)),
+            outside: SideReport::new(gateway.role(outside), gateway.is_in(outside)),
+        }
+    }
+
+    /// Looks at them again, at the gateway's moment: after each of its steps, or once a round.
+    pub fn look(&mut self, gateway: &Gateway)
+        ensures inside { let station = gateway.now.inside in self.new.inside
+            ≡ seen_again station.router.state (is_in station.cable) gateway.now.moment self.old.inside }
+        ensures outside { let station = gateway.now.outside in self.new.outside
+            ≡ seen_again station.router.state (is_in station.cable) gateway.now.moment self.old.outside }
+    {
+        let moment = gateway.moment();
+        let (inside, outside) = (Side::Inside, Side::Outside);
+        self.inside
+            .look(gateway.role(inside), gateway.is_in(inside), moment);
+        self.outside
+            .look(gateway.role(outside), gateway.is_in(outside), moment);
+    }
+
+    /// One of them.
+    pub fn side(&self, side: Side) -> &SideReport
+        ensures { result.now ≡ side_of self.now side }
+    {
+        match side {
+            Side::Inside => &self.inside,
+            Side::Outside => &self.outside,
+        }
+    }
+}
