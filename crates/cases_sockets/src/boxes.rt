@@ -2,19 +2,17 @@
 
 use crate::callers::Callers;
 use anyhow::{Context, Result, bail};
+use cases_words::Given;
 use control::{Control, ControlPath};
 use nat_types::Side;
-use sockets::{Place, Ports, SocketFault, Sockets, Way, Ways};
+use sockets::{Place, Ports, Sockets, Way, Ways};
 use std::net::UdpSocket;
 use std::os::fd::AsRawFd;
 
 #[derive(Drop)]
 pub(crate) struct Boxes {
-    pub(crate) zero: Sockets,
-    pub(crate) one: Sockets,
-    pub(crate) hub: Sockets,
-    /// The box with these ways, once it is opened.
-    pub(crate) other: Option<Sockets>,
+    /// Box zero, box one, the hub, and the box with ways of its own, once it is opened.
+    pub(crate) sockets: Vec<Sockets>,
     /// What stands for an inherited descriptor: port 27321, connected to 27322.
     inherited: UdpSocket,
     pub(crate) callers: Callers,
@@ -29,50 +27,35 @@ const ON_LOOPBACK: Ways = Ways {
 
 impl Boxes {
     pub(crate) fn open(rt: &HostRuntime) -> Result<Boxes> {
-        let inherited = UdpSocket::bind(rt, "127.0.0.1:27321")?;
-        inherited.connect("127.0.0.1:27322")?;
+        let inherited = inherited(rt)?;
         Ok(Boxes {
-            zero: opened(rt, "zero", &ON_LOOPBACK)??,
-            one: opened(rt, "one", &ON_LOOPBACK)??,
-            hub: opened(rt, "hub", &ON_LOOPBACK)??,
-            other: None,
+            sockets: all_on_loopback(rt)?,
             inherited,
             callers: Callers::none(rt),
         })
     }
 
     pub(crate) fn named(&mut self, name: &str) -> Result<&mut Sockets> {
-        match name {
-            "zero" => Ok(&mut self.zero),
-            "one" => Ok(&mut self.one),
-            "hub" => Ok(&mut self.hub),
-            "other" => self.other.as_mut().context("not opened"),
-            _ => bail!("no box of that name"),
-        }
+        self.sockets.get_mut(number_of(name)?).context("not opened")
     }
 
-    /// Opens the box with ways of its own; `descriptor` is what is inherited.
-    pub(crate) fn open_other(
-        &mut self,
-        rt: &HostRuntime,
-        texts: [&str; 3],
-    ) -> Result<Result<(), SocketFault>> {
-        self.other = None;
-        let [inside, outside, link] = texts;
-        let ways = Ways {
-            inside: self.way(inside)?,
-            outside: self.way(outside)?,
-            link: self.way(link)?,
-        };
-        if let Err(fault) = ways.inherit() {
-            bail!("{fault}");
-        }
-        Ok(match opened(rt, "other", &ways)? {
-            Ok(sockets) => {
-                self.other = Some(sockets);
-                Ok(())
-            }
-            Err(fault) => Err(fault),
+    /// Opens the box with ways of its own, in place of the one before; `descriptor` is what is inherited.
+    pub(crate) fn open_other(&mut self, rt: &HostRuntime, given: &mut Given<'_>) -> Result<()> {
+        self.sockets.truncate(3);
+        let ways = self.ways(given)?;
+        ways.inherit()?;
+        self.sockets.push(opened(rt, "other", "other", &ways)?)?;
+        Ok(())
+    }
+
+    fn ways(&self, given: &mut Given<'_>) -> Result<Ways> {
+        let inside = self.way(given.word()?)?;
+        let outside = self.way(given.word()?)?;
+        let link = self.way(given.word()?)?;
+        Ok(Ways {
+            inside,
+            outside,
+            link,
         })
     }
 
@@ -80,30 +63,58 @@ impl Boxes {
         if text == "descriptor" {
             return Ok(Way::Descriptor(u16::try_from(self.inherited.as_raw_fd())?));
         }
-        Way::read(text).context("no way")
+        way_in(text).context("no way")
     }
 }
 
-/// A box with its own control socket, or why it has none of its sockets.
-pub(crate) fn opened(
-    rt: &HostRuntime,
-    name: &str,
-    ways: &Ways,
-) -> Result<Result<Sockets, SocketFault>> {
-    let path = ControlPath::beside(rt.alloc(), name)?;
-    let control = Control::open(rt, &path)?;
-    Ok(Sockets::open(rt, rt.alloc(), ways, ports_named(name)?, control))
+/// The way that a text writes. What a caller has to show stays small where this says nothing of it.
+pub(crate) fn way_in(text: &str) -> Option<Way> {
+    Way::read(text)
 }
 
-/// The same box once more, by a control socket of another name.
-pub(crate) fn opened_again(rt: &HostRuntime, name: &str) -> Result<Result<Sockets, SocketFault>> {
-    let path = ControlPath::beside(rt.alloc(), "again")?;
-    let control = Control::open(rt, &path)?;
-    Ok(Sockets::open(rt, rt.alloc(), &ON_LOOPBACK, ports_named(name)?, control))
+fn all_on_loopback(rt: &HostRuntime) -> Result<Vec<Sockets>> {
+    let mut sockets = Vec::new(rt.alloc());
+    for name in ["zero", "one", "hub"] {
+        sockets.push(on_loopback(rt, name, name)?)?;
+    }
+    Ok(sockets)
+}
+
+/// Where a box stands in their list.
+fn number_of(name: &str) -> Result<usize> {
+    match name {
+        "zero" => Ok(0),
+        "one" => Ok(1),
+        "hub" => Ok(2),
+        "other" => Ok(3),
+        _ => bail!("no box of that name"),
+    }
+}
+
+fn inherited(rt: &HostRuntime) -> Result<UdpSocket> {
+    let socket = UdpSocket::bind(rt, "127.0.0.1:27321")?;
+    socket.connect("127.0.0.1:27322")?;
+    Ok(socket)
+}
+
+/// A box on the loopback address, by a control socket of this name.
+pub(crate) fn on_loopback(rt: &HostRuntime, name: &str, control: &str) -> Result<Sockets> {
+    opened(rt, name, control, &ON_LOOPBACK)
+}
+
+fn opened(rt: &HostRuntime, name: &str, control: &str, ways: &Ways) -> Result<Sockets> {
+    let ports = ports_named(name)?;
+    let control = controlled(rt, control)?;
+    Ok(Sockets::open(rt, rt.alloc(), ways, ports, control)?)
+}
+
+fn controlled(rt: &HostRuntime, name: &str) -> Result<Control> {
+    let path = ControlPath::beside(rt.alloc(), name)?;
+    Ok(Control::open(rt, &path)?)
 }
 
 /// The ports of a box. The hub's link leads nowhere.
-pub(crate) fn ports_named(name: &str) -> Result<Ports> {
+fn ports_named(name: &str) -> Result<Ports> {
     match name {
         "zero" => Ok(Ports {
             link: (27_001, 27_002),
@@ -129,8 +140,9 @@ pub(crate) fn ports_named(name: &str) -> Result<Ports> {
     }
 }
 
-pub(crate) fn place_named(name: &str) -> Result<Place> {
-    match name {
+/// The place that the next word names.
+pub(crate) fn place(given: &mut Given<'_>) -> Result<Place> {
+    match given.word()? {
         "link" => Ok(Place::Link),
         "inside" => Ok(Place::Side(Side::Inside)),
         "outside" => Ok(Place::Side(Side::Outside)),

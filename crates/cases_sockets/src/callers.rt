@@ -1,5 +1,6 @@
 //! Who calls at a control socket.
 
+use crate::telling::tell;
 use anyhow::{Context, Result};
 use std::io::{ErrorKind, Read, Write};
 use std::os::unix::net::UnixStream;
@@ -20,9 +21,7 @@ impl Callers {
     /// So many more call.
     pub(crate) fn call(&mut self, rt: &HostRuntime, path: &str, count: usize) -> Result<()> {
         for _ in 0..count {
-            let stream = UnixStream::connect(rt, path)?;
-            stream.set_nonblocking(true)?;
-            self.streams.push(stream)?;
+            self.streams.push(calling(rt, path)?)?;
         }
         Ok(())
     }
@@ -35,21 +34,30 @@ impl Callers {
     }
 
     /// What a caller has heard.
-    pub(crate) fn hear<O: Write>(&mut self, number: usize, output: &mut O) -> Result<()> {
+    pub(crate) fn hear(&mut self, number: usize, output: &mut String) -> Result<()> {
         let stream = self.streams.get_mut(number).context("no caller")?;
         let mut room = [0; 16];
         match stream.read(&mut room) {
-            Ok(5) if &room[..5] == b"heard".as_slice() => writeln!(output, "  heard")?,
-            Ok(0) => writeln!(output, "  closed")?,
-            Ok(count) => writeln!(output, "  {count} other bytes")?,
-            Err(error) if error.kind() == ErrorKind::WouldBlock => writeln!(output, "  nothing")?,
-            Err(_) => writeln!(output, "  closed")?,
+            Ok(5) if &room[..5] == b"heard".as_slice() => tell(output, "heard"),
+            Ok(0) => tell(output, "closed"),
+            Ok(count) => {
+                writeln!(output, "  {count} other bytes")?;
+                Ok(())
+            }
+            Err(error) if error.kind() == ErrorKind::WouldBlock => tell(output, "nothing"),
+            Err(_) => tell(output, "closed"),
         }
-        Ok(())
     }
 
     /// All go.
     pub(crate) fn go(&mut self) {
         self.streams.clear();
     }
+}
+
+/// One that calls, and doesn't wait for what it hears.
+fn calling(rt: &HostRuntime, path: &str) -> Result<UnixStream> {
+    let stream = UnixStream::connect(rt, path)?;
+    stream.set_nonblocking(true)?;
+    Ok(stream)
 }

@@ -1,30 +1,33 @@
 //! Rounds over a wire of which one call fails.
 
-use crate::boxes::Boxes;
-use anyhow::Result;
-use sockets::{Failing, LONGEST, Place, Wire};
-use std::io::Write;
+use anyhow::{Context, Result};
+use sockets::{Failing, LONGEST, Place, Sockets, Wire};
 use std::time::Duration;
 
 /// In each of 20 rounds both boxes send a datagram on the link, and gateway 0 looks for one. Its wire fails at a call:
 /// at an odd number a datagram is lost, at an even one the datagram stays where it is.
-pub(crate) fn rounds<O: Write>(boxes: &mut Boxes, number: u64, output: &mut O) -> Result<()> {
-    let mut came = 0_usize;
-    {
-        let mut wire = Failing::new(&mut boxes.zero, number);
-        let mut room = [0; LONGEST];
-        for _ in 0..20 {
-            let _ = boxes.one.send(Place::Link, b"one");
-            let _ = wire.send(Place::Link, b"zero");
-            if let Ok(Some(_)) = wire.receive(Duration::ZERO, &mut room) {
-                came = came.saturating_add(1);
-            }
-        }
-    }
-    let left = emptied(&mut boxes.zero);
-    let sent = emptied(&mut boxes.one);
+pub(crate) fn rounds(sockets: &mut [Sockets], number: u64, output: &mut String) -> Result<()> {
+    let (zero, others) = sockets.split_first_mut().context("no box")?;
+    let one = others.first_mut().context("no other box")?;
+    let came = came(&mut Failing::new(zero, number), one);
+    let left = emptied(zero);
+    let sent = emptied(one);
     writeln!(output, "  sent {sent}, came {came}, left {left}")?;
     Ok(())
+}
+
+/// How many datagrams come in the rounds.
+fn came<W: Wire, V: Wire>(wire: &mut W, other: &mut V) -> usize {
+    let mut came = 0_usize;
+    let mut room = [0; LONGEST];
+    for _ in 0..20 {
+        let _ = other.send(Place::Link, b"one");
+        let _ = wire.send(Place::Link, b"zero");
+        if let Ok(Some(_)) = wire.receive(Duration::ZERO, &mut room) {
+            came = came.saturating_add(1);
+        }
+    }
+    came
 }
 
 /// How many datagrams are there, all of which are taken.

@@ -1,123 +1,119 @@
 //! A place over a conduit in memory.
 
 use crate::memory::{Letter, Memory};
-use crate::texts::bytes_of;
+use crate::telling::{tell, tell_losses};
 use addresses::Ip;
-use anyhow::{Context, Result, bail};
+use anyhow::{Context, Result, bail, ensure};
+use cases_words::{Given, words_of};
 use sockets::{Attachment, End, FarEnd, LONGEST, Network, Sender};
 use std::alloc::Global;
-use std::io::Write;
 
 #[derive(Drop)]
 pub(crate) struct Ear {
-    alloc: Global,
     place: Attachment<Memory>,
 }
 
 impl Ear {
     pub(crate) fn new(alloc: Global) -> Ear {
         Ear {
-            alloc,
-            place: Attachment::new(Memory::new(alloc), FarEnd::Interface),
+            place: Attachment::new(Memory::new(alloc, Vec::new(alloc)), FarEnd::Interface),
         }
     }
 
     /// Does what a line says.
-    ///
+    pub(crate) fn act(&mut self, alloc: Global, line: &str, output: &mut String) -> Result<()> {
+        let words = words_of(alloc, line)?;
+        self.answer(&mut Given::new(alloc, words.as_slice()), output)
+    }
+
     /// - `far udp END`, `far vxlan ADDRESS NUMBER`, `far interface`: a new place that speaks with this far end; the
     ///   words behind it are what is to come to it, from whom and which bytes, each with `from`
-    /// - `refuse N ..`: the same place, of which the conduit's call N is refused
+    /// - `refuse N END ..`: a place that speaks by udp, of which the conduit's call N is refused
     /// - `stuck`: a new place, all calls of whose conduit are refused
+    /// - `takes N`: a new place whose conduit takes at most N bytes at once
     /// - `wake`, `take`, `send HEX`, `send-long N`: as the place has them
-    /// - `strangers`, `failing`: what the place says
-    pub(crate) fn act<O: Write>(&mut self, line: &str, output: &mut O) -> Result<()> {
-        let words = line.split(' ').collect::<Vec<&str>>(self.alloc)?;
-        match words.as_slice() {
-            ["far", "udp", end, rest @ ..] => {
-                self.begin(FarEnd::Udp(End::read(end).context("no end")?), 0, rest)
-            }
-            ["far", "vxlan", address, number, rest @ ..] => {
-                let far = FarEnd::Vxlan(address_of(address)?, network_of(number)?);
-                self.begin(far, 0, rest)
-            }
-            ["far", "interface", rest @ ..] => self.begin(FarEnd::Interface, 0, rest),
-            ["refuse", call, end, rest @ ..] => {
-                let far = FarEnd::Udp(End::read(end).context("no end")?);
-                self.begin(far, call.parse::<u64>()?, rest)?;
-                self.count(output)
-            }
-            ["stuck"] => {
-                let mut memory = Memory::new(self.alloc);
-                memory.stuck = true;
-                self.place = Attachment::new(memory, FarEnd::Interface);
-                Ok(())
-            }
-            ["wake"] => {
-                self.place.wake();
-                Ok(())
-            }
-            ["take"] => self.take(output),
-            ["send", text] => self.send(bytes_of(self.alloc, text)?, output),
-            ["send-long", count] => {
-                let bytes = vec![in self.alloc; 7; count.parse::<usize>()?]?;
-                self.send(bytes, output)
-            }
-            ["strangers"] => Ok(writeln!(output, "  {}", self.place.strangers())?),
-            ["failing"] => Ok(writeln!(output, "  {}", self.place.is_failing())?),
+    /// - `strangers`, `failing`, `losses`: what the place says
+    fn answer(&mut self, given: &mut Given<'_>, output: &mut String) -> Result<()> {
+        match given.word()? {
+            "far" => self.begin(far_end(given)?, 0, given),
+            "refuse" => self.refuse(given, output),
+            "stuck" => self.stick(given.alloc),
+            "takes" => self.narrow(given),
+            "wake" => self.wake(),
+            "take" => self.take(given.alloc, output),
+            "send" => self.send(given, output),
+            "send-long" => self.send_long(given, output),
+            "strangers" => tell(output, self.place.strangers()),
+            "failing" => tell(output, self.place.is_failing()),
+            "losses" => tell_losses(output, self.place.losses()),
             _ => bail!("no line of the cases"),
         }
     }
 
     /// A new place, and what is to come to it.
-    fn begin(&mut self, far: FarEnd, left: u64, words: &[&str]) -> Result<()> {
-        let mut memory = Memory::new(self.alloc);
+    fn begin(&mut self, far: FarEnd, left: u64, given: &mut Given<'_>) -> Result<()> {
+        let mut memory = Memory::new(given.alloc, letters(given)?);
         memory.left = left;
-        let mut rest = words;
-        for _ in 0..words.len() {
-            let ["from", sender, text, others @ ..] = rest else {
-                break;
-            };
-            let bytes = bytes_of(self.alloc, text)?;
-            let sender = sender_of(sender)?;
-            memory.coming.push(Letter { sender, bytes })?;
-            rest = others;
-        }
         self.place = Attachment::new(memory, far);
         Ok(())
     }
 
-    fn take<O: Write>(&mut self, output: &mut O) -> Result<()> {
+    fn refuse(&mut self, given: &mut Given<'_>, output: &mut String) -> Result<()> {
+        let call = given.number()?;
+        self.begin(udp(given)?, call, given)?;
+        let [sent, heard, failed] = self.counts();
+        writeln!(output, "  sent {sent}, heard {heard}, failed {failed}")?;
+        Ok(())
+    }
+
+    fn stick(&mut self, alloc: Global) -> Result<()> {
+        let mut memory = Memory::new(alloc, Vec::new(alloc));
+        memory.stuck = true;
+        self.place = Attachment::new(memory, FarEnd::Interface);
+        Ok(())
+    }
+
+    fn narrow(&mut self, given: &mut Given<'_>) -> Result<()> {
+        let memory = Memory::narrow(given.alloc, given.count()?);
+        self.place = Attachment::new(memory, FarEnd::Interface);
+        Ok(())
+    }
+
+    fn wake(&mut self) -> Result<()> {
+        self.place.wake();
+        Ok(())
+    }
+
+    fn take(&mut self, alloc: Global, output: &mut String) -> Result<()> {
         let mut room = [0; LONGEST];
         match self.place.take(&mut room) {
-            Ok(Some(count)) => {
-                let text = hex::encode(self.alloc, &room[..count])?;
-                let text = if count == 0 { "-" } else { text.as_str() };
-                writeln!(output, "  heard {text}")?;
-            }
-            Ok(None) => writeln!(output, "  nothing")?,
-            Err(_) => writeln!(output, "  failed")?,
+            Ok(Some(count)) => tell_bytes(alloc, "heard", &room[..count], output),
+            Ok(None) => tell(output, "nothing"),
+            Err(_) => tell(output, "failed"),
         }
-        Ok(())
     }
 
-    fn send<O: Write>(&mut self, bytes: Vec<u8>, output: &mut O) -> Result<()> {
-        match self.place.send(bytes.as_slice()) {
-            Ok(()) => {
-                let sent = self.place.conduit().sent.last().context("nothing sent")?;
-                if sent.len() > 100 {
-                    writeln!(output, "  sent {} bytes", sent.len())?;
-                } else {
-                    let text = hex::encode(self.alloc, sent.as_slice())?;
-                    writeln!(output, "  sent {text}")?;
-                }
-            }
-            Err(_) => writeln!(output, "  lost")?,
-        }
-        Ok(())
+    fn send(&mut self, given: &mut Given<'_>, output: &mut String) -> Result<()> {
+        let bytes = given.bytes()?;
+        self.send_bytes(given.alloc, bytes.as_slice(), output)
     }
 
-    /// Four times a datagram is sent and one is looked for.
-    fn count<O: Write>(&mut self, output: &mut O) -> Result<()> {
+    fn send_long(&mut self, given: &mut Given<'_>, output: &mut String) -> Result<()> {
+        let bytes = vec![in given.alloc; 7; given.count()?]?;
+        self.send_bytes(given.alloc, bytes.as_slice(), output)
+    }
+
+    fn send_bytes(&mut self, alloc: Global, bytes: &[u8], output: &mut String) -> Result<()> {
+        if self.place.send(bytes).is_err() {
+            return tell(output, "lost");
+        }
+        let sent = self.place.conduit().sent.last().context("nothing sent")?;
+        tell_bytes(alloc, "sent", sent.as_slice(), output)
+    }
+
+    /// Four times a datagram is sent and one is looked for: how many were sent, how many came, and how often either
+    /// failed.
+    fn counts(&mut self) -> [u32; 3] {
         let mut room = [0; LONGEST];
         let mut counts = [0_u32; 3];
         for _ in 0..4 {
@@ -132,24 +128,66 @@ impl Ear {
                 Err(_) => counts[2] = counts[2].saturating_add(1),
             }
         }
-        let [sent, heard, failed] = counts;
-        writeln!(output, "  sent {sent}, heard {heard}, failed {failed}")?;
-        Ok(())
+        counts
     }
 }
 
-fn address_of(text: &str) -> Result<Ip> {
-    let address = text.parse::<std::net::Ipv4Addr>()?;
-    Ok(Ip(address.to_bits()))
+/// Bytes, `-` for none; of very many only how many they are.
+fn tell_bytes(alloc: Global, verb: &str, bytes: &[u8], output: &mut String) -> Result<()> {
+    if bytes.is_empty() {
+        writeln!(output, "  {verb} -")?;
+    } else if bytes.len() > 100 {
+        writeln!(output, "  {verb} {} bytes", bytes.len())?;
+    } else {
+        writeln!(output, "  {verb} {}", hex::encode(alloc, bytes)?)?;
+    }
+    Ok(())
 }
 
-fn network_of(text: &str) -> Result<Network> {
-    Network::new(text.parse::<u32>()?).context("no network")
+fn far_end(given: &mut Given<'_>) -> Result<FarEnd> {
+    match given.word()? {
+        "udp" => udp(given),
+        "vxlan" => vxlan(given),
+        "interface" => Ok(FarEnd::Interface),
+        _ => bail!("no far end"),
+    }
+}
+
+fn udp(given: &mut Given<'_>) -> Result<FarEnd> {
+    Ok(FarEnd::Udp(end_in(given.word()?).context("no end")?))
+}
+
+/// The end that a text writes. What a caller has to show stays small where this says nothing of it.
+fn end_in(text: &str) -> Option<End> {
+    End::read(text)
+}
+
+fn vxlan(given: &mut Given<'_>) -> Result<FarEnd> {
+    let address = given.word()?.parse::<std::net::Ipv4Addr>()?;
+    let number = given.word()?.parse::<u32>()?;
+    let network = Network::new(number).context("no network")?;
+    Ok(FarEnd::Vxlan(Ip(address.to_bits()), network))
+}
+
+/// What all words that are left say is to come: `from`, who sends it and the bytes, again and again.
+fn letters(given: &mut Given<'_>) -> Result<Vec<Letter>> {
+    let mut coming = Vec::new(given.alloc);
+    for _ in 0..given.left().len() / 3 {
+        coming.push(letter(given)?)?;
+    }
+    Ok(coming)
+}
+
+fn letter(given: &mut Given<'_>) -> Result<Letter> {
+    ensure!(given.word()? == "from", "no sender");
+    let sender = sender_of(given.word()?)?;
+    let bytes = given.bytes()?;
+    Ok(Letter { sender, bytes })
 }
 
 fn sender_of(text: &str) -> Result<Sender> {
     if text == "interface" {
         return Ok(Sender::Interface);
     }
-    Ok(Sender::End(End::read(text).context("no end")?))
+    Ok(Sender::End(end_in(text).context("no end")?))
 }

@@ -8,64 +8,79 @@ mod failures;
 mod hearing;
 mod memory;
 mod speaking;
+mod telling;
 mod texts;
 
 use anyhow::Result;
 use boxes::Boxes;
+use cases_words::is_silent;
 use hearing::Ear;
+use std::alloc::Global;
 use std::fs;
-use std::io::{self, BufWriter, Write};
 
-/// The lines of a file, and what each printed; a blank line and one that begins with `#` say nothing.
-fn lines_of(rt: &HostRuntime, name: &str) -> Result<String> {
-    Ok(fs::read_to_string(rt, name)?)
-}
-
-fn is_silent(line: &str) -> bool {
-    line.is_empty() || line.starts_with("#")
-}
-
-fn try_texts<O: Write>(rt: &HostRuntime, output: &mut O) -> Result<()> {
-    let cases = lines_of(rt, "texts.cases")?;
+fn tell_texts(alloc: Global, cases: &str, output: &mut String) -> Result<()> {
     for case in cases.lines() {
         if !is_silent(case) {
             writeln!(output, "{case}")?;
-            texts::act(rt.alloc(), case, output)?;
+            texts::act(alloc, case, output)?;
         }
     }
     Ok(())
 }
 
-fn try_hearing<O: Write>(rt: &HostRuntime, output: &mut O) -> Result<()> {
-    let cases = lines_of(rt, "hearing.cases")?;
+fn tell_hearing(alloc: Global, ear: &mut Ear, cases: &str, output: &mut String) -> Result<()> {
+    for case in cases.lines() {
+        if !is_silent(case) {
+            writeln!(output, "{case}")?;
+            ear.act(alloc, case, output)?;
+        }
+    }
+    Ok(())
+}
+
+fn tell_sockets(
+    rt: &HostRuntime,
+    boxes: &mut Boxes,
+    cases: &str,
+    output: &mut String,
+) -> Result<()> {
+    for case in cases.lines() {
+        if !is_silent(case) {
+            writeln!(output, "{case}")?;
+            speaking::act(rt, boxes, case, output)?;
+        }
+    }
+    Ok(())
+}
+
+fn try_texts(rt: &HostRuntime, output: &mut String) -> Result<()> {
+    let cases = fs::read_to_string(rt, "texts.cases")?;
+    tell_texts(rt.alloc(), cases.as_str(), output)
+}
+
+fn try_hearing(rt: &HostRuntime, output: &mut String) -> Result<()> {
+    let cases = fs::read_to_string(rt, "hearing.cases")?;
     let mut ear = Ear::new(rt.alloc());
-    for case in cases.lines() {
-        if !is_silent(case) {
-            writeln!(output, "{case}")?;
-            ear.act(case, output)?;
-        }
-    }
-    Ok(())
+    tell_hearing(rt.alloc(), &mut ear, cases.as_str(), output)
 }
 
-fn try_sockets<O: Write>(rt: &HostRuntime, output: &mut O) -> Result<()> {
-    let cases = lines_of(rt, "sockets.cases")?;
+fn try_sockets(rt: &HostRuntime, output: &mut String) -> Result<()> {
+    let cases = fs::read_to_string(rt, "sockets.cases")?;
     let mut boxes = Boxes::open(rt)?;
-    for case in cases.lines() {
-        if !is_silent(case) {
-            writeln!(output, "{case}")?;
-            let words = case.split(' ').collect::<Vec<&str>>(rt.alloc())?;
-            speaking::act(rt, &mut boxes, words.as_slice(), output)?;
-        }
-    }
-    Ok(())
+    let told = tell_sockets(rt, &mut boxes, cases.as_str(), output);
+    drop(boxes);
+    told
+}
+
+fn try_all(rt: &HostRuntime, output: &mut String) -> Result<()> {
+    try_texts(rt, output)?;
+    try_hearing(rt, output)?;
+    try_sockets(rt, output)
 }
 
 fn main(rt: HostRuntime) -> Result<()> {
-    let mut output = BufWriter::new(rt.alloc(), io::writer(&rt))?;
-    try_texts(&rt, &mut output)?;
-    try_hearing(&rt, &mut output)?;
-    try_sockets(&rt, &mut output)?;
-    output.flush()?;
-    Ok(())
+    let mut output = String::new(rt.alloc());
+    let tried = try_all(&rt, &mut output);
+    print!(rt; "{output}")?;
+    tried
 }

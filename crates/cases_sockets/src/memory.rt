@@ -2,7 +2,7 @@
 
 ghost use Rattle.std.specs.Prelude.{◌≡◌, ◌≤◌, IfOk, IfSome};
 
-use sockets::{Arrived, Conduit, LONGEST, Sender, Traffic, WireFault};
+use sockets::{Arrived, Conduit, LONGEST, SendFault, Sender, Traffic, WireFault};
 use std::alloc::Global;
 
 /// Bytes that are to come, and who sent them.
@@ -16,7 +16,7 @@ pub(crate) struct Letter {
 #[derive(Drop)]
 pub(crate) struct Memory {
     alloc: Global,
-    pub(crate) coming: Vec<Letter>,
+    coming: Vec<Letter>,
     /// How many of them have come.
     come: usize,
     pub(crate) sent: Vec<Vec<u8>>,
@@ -24,20 +24,30 @@ pub(crate) struct Memory {
     pub(crate) left: u64,
     /// Each call is refused.
     pub(crate) stuck: bool,
+    /// How many bytes it takes at once.
+    most: usize,
     traffic: Traffic,
 }
 
 impl Memory {
-    pub(crate) fn new(alloc: Global) -> Memory {
+    pub(crate) fn new(alloc: Global, coming: Vec<Letter>) -> Memory {
         Memory {
             alloc,
-            coming: Vec::new(alloc),
+            coming,
             come: 0,
             sent: Vec::new(alloc),
             left: 0,
             stuck: false,
+            most: LONGEST,
             traffic: Traffic::none(),
         }
+    }
+
+    /// It takes at most so many bytes at once, and nothing is to come.
+    pub(crate) fn narrow(alloc: Global, most: usize) -> Memory {
+        let mut memory = Memory::new(alloc, Vec::new(alloc));
+        memory.most = most;
+        memory
     }
 
     /// Counts a call, and says whether it is refused.
@@ -72,14 +82,17 @@ impl Memory {
         Ok(self.next(room))
     }
 
-    fn take(&mut self, bytes: &[u8]) -> Result<(), WireFault>
+    fn take(&mut self, bytes: &[u8]) -> Result<(), SendFault>
         ensures { self.new.traffic ≡ self.old.traffic }
     {
         if self.is_refused() {
-            return Err(WireFault);
+            return Err(SendFault::Failed);
         }
-        let bytes = Vec::from_slice(self.alloc, bytes).map_err(|_| WireFault)?;
-        self.sent.push(bytes).map_err(|_| WireFault)
+        if bytes.len() > self.most {
+            return Err(SendFault::TooLong);
+        }
+        let bytes = Vec::from_slice(self.alloc, bytes).map_err(|_| SendFault::Failed)?;
+        self.sent.push(bytes).map_err(|_| SendFault::Failed)
     }
 }
 
@@ -88,7 +101,7 @@ impl Conduit for Memory {
 
     ghost sent = { λ m. m.traffic.sent };
 
-    fn send(&mut self, room: &[u8; LONGEST], count: usize) -> Result<(), WireFault> {
+    fn send(&mut self, room: &[u8; LONGEST], count: usize) -> Result<(), SendFault> {
         let done = self.take(&room[..count]);
         self.traffic.sent(done, room, count);
         done

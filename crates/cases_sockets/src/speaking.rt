@@ -1,13 +1,14 @@
 //! What boxes, callers and strangers do.
 
-use crate::boxes::{self, Boxes, place_named};
+use crate::boxes::{Boxes, on_loopback, place};
+use crate::callers::Callers;
 use crate::failures;
-use crate::texts::bytes_of;
+use crate::telling::{tell, tell_losses};
 use anyhow::{Context, Result, bail};
-use control::{Control, ControlPath, say};
+use cases_words::{Given, words_of};
+use control::{Control, ControlPath, spelled_status};
 use sockets::{LONGEST, Sockets, Wire, WireFault};
 use std::fs;
-use std::io::Write;
 use std::net::UdpSocket;
 use std::os::unix::fs::PermissionsExt;
 use std::time::Duration;
@@ -16,160 +17,209 @@ use std::time::Duration;
 const PATIENCE: u64 = 5;
 
 /// Does what a line says.
-///
-/// - `NAME send PLACE COUNT BYTE`: the box sends so many of a byte
-/// - `NAME receive`, `NAME look`: the next datagram at the box, waited for or not
-/// - `NAME bind`: opens the box's ports once more
-/// - `NAME strangers PLACE`, `NAME failing PLACE`: what the box says
-/// - `other open INSIDE OUTSIDE LINK`: opens the box with these ways
+pub(crate) fn act(
+    rt: &HostRuntime,
+    boxes: &mut Boxes,
+    line: &str,
+    output: &mut String,
+) -> Result<()> {
+    let words = words_of(rt.alloc(), line)?;
+    answer(
+        rt,
+        boxes,
+        &mut Given::new(rt.alloc(), words.as_slice()),
+        output,
+    )
+}
+
+/// - `fail N`: rounds of a wire whose call N fails
 /// - `stranger FROM TO HEX`, `stranger FROM TO N times HEX`, `stranger FROM TO N bytes BYTE`: somebody at FROM sends
 ///   these bytes to TO
 /// - `call NAME N`, `caller N says HEX`, `caller N hears`, `callers go`: at a box's control socket
-/// - `control NAME`, `say NAME`, `mode NAME`: makes a control socket and lets it go; says a word; the folder's mode
-/// - `fail N`: rounds of a wire whose call N fails
-pub(crate) fn act<O: Write>(
+/// - `control NAME`, `say NAME`, `ask NAME`, `mode NAME`: makes a control socket and lets it go; says a word; asks how the
+///   box stands; the folder's mode
+/// - `NAME ..`: what a box does (`speak`)
+fn answer(
     rt: &HostRuntime,
     boxes: &mut Boxes,
-    words: &[&str],
-    output: &mut O,
+    given: &mut Given<'_>,
+    output: &mut String,
 ) -> Result<()> {
-    match words {
-        ["fail", number] => failures::rounds(boxes, number.parse::<u64>()?, output),
-        ["other", "open", inside, outside, link] => {
-            match boxes.open_other(rt, [*inside, *outside, *link])? {
-                Ok(()) => writeln!(output, "  opened")?,
-                Err(fault) => writeln!(output, "  {fault}")?,
-            }
-            Ok(())
-        }
-        ["stranger", from, to, text] => {
-            let bytes = bytes_of(rt.alloc(), text)?;
-            stranger(rt, from, to, 1, bytes.as_slice())
-        }
-        ["stranger", from, to, count, "times", text] => {
-            let bytes = bytes_of(rt.alloc(), text)?;
-            stranger(rt, from, to, count.parse::<usize>()?, bytes.as_slice())
-        }
-        ["stranger", from, to, count, "bytes", byte] => {
-            let bytes = vec![in rt.alloc(); byte.parse::<u8>()?; count.parse::<usize>()?]?;
-            stranger(rt, from, to, 1, bytes.as_slice())
-        }
-        ["call" | "caller" | "callers", ..] => call(rt, boxes, words, output),
-        ["control" | "say" | "mode", name] => control(rt, words[0], name, output),
-        [name, rest @ ..] => speak(rt, boxes, name, rest, output),
-        [] => bail!("no line of the cases"),
+    match given.word()? {
+        "fail" => failures::rounds(boxes.sockets.as_mut_slice(), given.number()?, output),
+        "stranger" => stranger(rt, given),
+        "call" => call(rt, &mut boxes.callers, given),
+        "caller" => caller(&mut boxes.callers, given, output),
+        "callers" => go(&mut boxes.callers),
+        "control" => open_control(rt, given.word()?, output),
+        "say" => say(rt, given.word()?, output),
+        "ask" => ask(rt, given.word()?, output),
+        "mode" => mode(rt, given.word()?, output),
+        name => speak(rt, boxes, name, given, output),
     }
 }
 
-/// What a box does or says.
-fn speak<O: Write>(
+/// - `other open INSIDE OUTSIDE LINK`: opens the box with these ways
+/// - `NAME bind`: opens the box's ports once more
+/// - all else is for the box's sockets (`handle`)
+fn speak(
     rt: &HostRuntime,
     boxes: &mut Boxes,
     name: &str,
-    words: &[&str],
-    output: &mut O,
+    given: &mut Given<'_>,
+    output: &mut String,
 ) -> Result<()> {
-    match words {
-        ["send", place, count, byte] => {
-            let bytes = vec![in rt.alloc(); byte.parse::<u8>()?; count.parse::<usize>()?]?;
-            match boxes
-                .named(name)?
-                .send(place_named(place)?, bytes.as_slice())
-            {
-                Ok(()) => writeln!(output, "  sent")?,
-                Err(WireFault) => writeln!(output, "  failed")?,
-            }
-        }
-        ["receive"] => receive(boxes.named(name)?, Duration::from_secs(PATIENCE), output)?,
-        ["look"] => receive(boxes.named(name)?, Duration::ZERO, output)?,
-        ["strangers", place] => {
-            let count = boxes.named(name)?.strangers(place_named(place)?);
-            writeln!(output, "  {count}")?;
-        }
-        ["failing", place] => {
-            let failing = boxes.named(name)?.is_failing(place_named(place)?);
-            writeln!(output, "  {failing}")?;
-        }
-        ["bind"] => match boxes::opened_again(rt, name)? {
-            Ok(_) => writeln!(output, "  bound")?,
-            Err(fault) => writeln!(output, "  {fault}")?,
+    match given.word()? {
+        "open" => match boxes.open_other(rt, given) {
+            Ok(()) => tell(output, "opened"),
+            Err(fault) => tell(output, &fault),
         },
+        "bind" => bind(rt, name, output),
+        verb => handle(boxes.named(name)?, verb, given, output),
+    }
+}
+
+fn bind(rt: &HostRuntime, name: &str, output: &mut String) -> Result<()> {
+    match on_loopback(rt, name, "again") {
+        Ok(_) => tell(output, "bound"),
+        Err(fault) => tell(output, &fault),
+    }
+}
+
+/// - `send PLACE COUNT BYTE`: the box sends so many of a byte
+/// - `receive`, `look`: the next datagram at the box, waited for or not
+/// - `answers HEX`, `answers N bytes BYTE`: answers who said the last word
+/// - `strangers PLACE`, `failing PLACE`, `losses PLACE`, `unanswered`: what the box says
+fn handle(
+    sockets: &mut Sockets,
+    verb: &str,
+    given: &mut Given<'_>,
+    output: &mut String,
+) -> Result<()> {
+    match verb {
+        "send" => send(sockets, given, output),
+        "receive" => receive(sockets, Duration::from_secs(PATIENCE), output),
+        "look" => receive(sockets, Duration::ZERO, output),
+        "answers" => answer_word(sockets, given),
+        "unanswered" => tell(output, sockets.unanswered()),
+        "losses" => tell_losses(output, sockets.losses(place(given)?)),
+        "strangers" => tell(output, sockets.strangers(place(given)?)),
+        "failing" => tell(output, sockets.is_failing(place(given)?)),
         _ => bail!("no line of the cases"),
     }
+}
+
+fn send(sockets: &mut Sockets, given: &mut Given<'_>, output: &mut String) -> Result<()> {
+    let place = place(given)?;
+    let count = given.count()?;
+    let bytes = repeated(given, count)?;
+    match sockets.send(place, bytes.as_slice()) {
+        Ok(()) => tell(output, "sent"),
+        Err(WireFault) => tell(output, "failed"),
+    }
+}
+
+fn answer_word(sockets: &mut Sockets, given: &mut Given<'_>) -> Result<()> {
+    let (_, bytes) = many(given)?;
+    sockets.answer(bytes.as_slice());
     Ok(())
+}
+
+/// The byte that the next word says, so many times.
+fn repeated(given: &mut Given<'_>, count: usize) -> Result<Vec<u8>> {
+    let byte = given.word()?.parse::<u8>()?;
+    Ok(vec![in given.alloc; byte; count]?)
 }
 
 /// What a call to receive answers.
-fn receive<O: Write>(wire: &mut Sockets, limit: Duration, output: &mut O) -> Result<()> {
+fn receive(sockets: &mut Sockets, limit: Duration, output: &mut String) -> Result<()> {
     let mut room = [0; LONGEST];
-    match wire.receive(limit, &mut room) {
+    match sockets.receive(limit, &mut room) {
         Ok(Some((place, count))) => {
             let byte = room.first().context("no room")?;
             writeln!(output, "  {place:?}: {count} bytes of {byte}")?;
-        }
-        Ok(None) => writeln!(output, "  nothing")?,
-        Err(WireFault) => writeln!(output, "  failed")?,
-    }
-    Ok(())
-}
-
-/// Somebody sends a datagram so many times, from an address and port that is free.
-fn stranger(rt: &HostRuntime, from: &str, to: &str, count: usize, bytes: &[u8]) -> Result<()> {
-    let socket = UdpSocket::bind(rt, from)?;
-    for _ in 0..count {
-        socket.send_to(bytes, to)?;
-    }
-    Ok(())
-}
-
-fn call<O: Write>(
-    rt: &HostRuntime,
-    boxes: &mut Boxes,
-    words: &[&str],
-    output: &mut O,
-) -> Result<()> {
-    match words {
-        ["call", name, count] => {
-            let path = socket_of(rt, name)?;
-            boxes
-                .callers
-                .call(rt, path.as_str(), count.parse::<usize>()?)
-        }
-        ["caller", number, "says", text] => {
-            let bytes = bytes_of(rt.alloc(), text)?;
-            boxes
-                .callers
-                .say(number.parse::<usize>()?, bytes.as_slice())
-        }
-        ["caller", number, "hears"] => boxes.callers.hear(number.parse::<usize>()?, output),
-        ["callers", "go"] => {
-            boxes.callers.go();
             Ok(())
         }
+        Ok(None) => tell(output, "nothing"),
+        Err(WireFault) => tell(output, "failed"),
+    }
+}
+
+/// Somebody sends, from an address and port that is free.
+fn stranger(rt: &HostRuntime, given: &mut Given<'_>) -> Result<()> {
+    let (from, to) = (given.word()?, given.word()?);
+    let (count, bytes) = many(given)?;
+    let socket = UdpSocket::bind(rt, from)?;
+    for _ in 0..count {
+        socket.send_to(bytes.as_slice(), to)?;
+    }
+    Ok(())
+}
+
+/// How many times something is sent, and its bytes.
+fn many(given: &mut Given<'_>) -> Result<(usize, Vec<u8>)> {
+    if given.left().len() == 1 {
+        return Ok((1, given.bytes()?));
+    }
+    let count = given.count()?;
+    match given.word()? {
+        "times" => Ok((count, given.bytes()?)),
+        "bytes" => Ok((1, repeated(given, count)?)),
         _ => bail!("no line of the cases"),
     }
 }
 
-fn socket_of(rt: &HostRuntime, name: &str) -> Result<String> {
-    Ok(format!(in rt.alloc(); "{name}.control/socket")?)
+fn call(rt: &HostRuntime, callers: &mut Callers, given: &mut Given<'_>) -> Result<()> {
+    let (name, count) = (given.word()?, given.count()?);
+    let path = format!(in given.alloc; "{name}.control/socket")?;
+    callers.call(rt, path.as_str(), count)
 }
 
-fn control<O: Write>(rt: &HostRuntime, verb: &str, name: &str, output: &mut O) -> Result<()> {
-    let path = ControlPath::beside(rt.alloc(), name)?;
-    match verb {
-        "control" => match Control::open(rt, &path) {
-            Ok(_) => writeln!(output, "  opened")?,
-            Err(fault) => writeln!(output, "  {fault}")?,
-        },
-        "say" => match say(rt, &path, b"NO\0\0\0\0\0\0\0\x07") {
-            Ok(()) => writeln!(output, "  heard")?,
-            Err(fault) => writeln!(output, "  {fault}")?,
-        },
-        _ => {
-            let folder = format!(in rt.alloc(); "{name}.control")?;
-            let mode = fs::metadata(rt, folder.as_str())?.permissions().mode() % 512;
-            writeln!(output, "  {mode:o}")?;
-        }
+fn caller(callers: &mut Callers, given: &mut Given<'_>, output: &mut String) -> Result<()> {
+    let number = given.count()?;
+    match given.word()? {
+        "says" => callers.say(number, given.bytes()?.as_slice()),
+        "hears" => callers.hear(number, output),
+        _ => bail!("no line of the cases"),
     }
+}
+
+fn go(callers: &mut Callers) -> Result<()> {
+    callers.go();
+    Ok(())
+}
+
+fn open_control(rt: &HostRuntime, name: &str, output: &mut String) -> Result<()> {
+    let path = ControlPath::beside(rt.alloc(), name)?;
+    match Control::open(rt, &path) {
+        Ok(_) => tell(output, "opened"),
+        Err(fault) => tell(output, fault),
+    }
+}
+
+fn say(rt: &HostRuntime, name: &str, output: &mut String) -> Result<()> {
+    let path = ControlPath::beside(rt.alloc(), name)?;
+    match control::say(rt, &path, b"NO\0\0\0\0\0\0\0\x07") {
+        Ok(()) => tell(output, "heard"),
+        Err(fault) => tell(output, fault),
+    }
+}
+
+fn ask(rt: &HostRuntime, name: &str, output: &mut String) -> Result<()> {
+    let path = ControlPath::beside(rt.alloc(), name)?;
+    let mut room = [0; LONGEST];
+    match control::ask(rt, &path, &spelled_status(), &mut room) {
+        Ok(count) => {
+            writeln!(output, "  {count} bytes")?;
+            Ok(())
+        }
+        Err(fault) => tell(output, fault),
+    }
+}
+
+fn mode(rt: &HostRuntime, name: &str, output: &mut String) -> Result<()> {
+    let folder = format!(in rt.alloc(); "{name}.control")?;
+    let mode = fs::metadata(rt, folder.as_str())?.permissions().mode() % 512;
+    writeln!(output, "  {mode:o}")?;
     Ok(())
 }

@@ -1,87 +1,89 @@
-//! Texts: of ways, of control paths, of words.
+//! Texts: of ways, of control paths, of words and answers.
 
-use anyhow::{Result, bail};
-use control::{ControlPath, spelled_side, spelled_word, word_of};
-use nat_types::Side;
-use sockets::{Way, Ways};
+use crate::boxes::way_in;
+use crate::telling::tell;
+use anyhow::{Context, Result, bail};
+use cases_words::{Given, words_of};
+use control::{
+    Answer, ControlPath, PeerOffRefusal, spelled_known_off, spelled_off, spelled_pairs,
+    spelled_pairs_after, spelled_refusal, spelled_side, spelled_status, word_of,
+};
+use sockets::{Ends, Way, Ways};
 use std::alloc::Global;
-use std::io::Write;
 
 /// Does what a line says.
-///
+pub(crate) fn act(alloc: Global, line: &str, output: &mut String) -> Result<()> {
+    let words = words_of(alloc, line)?;
+    answer(&mut Given::new(alloc, words.as_slice()), output)
+}
+
 /// - `way TEXT`: the way that a text writes
 /// - `inherit INSIDE OUTSIDE LINK`: takes the descriptors of three ways
 /// - `path TEXT`, `path N`: the control path beside a boot file with this name, or with one of so many bytes
 /// - `word HEX`: the word that bytes spell
-/// - `off N`, `side SIDE UP CARRIER`: the bytes of a word
-pub(crate) fn act<O: Write>(alloc: Global, line: &str, output: &mut O) -> Result<()> {
-    let words = line.split(' ').collect::<Vec<&str>>(alloc)?;
-    match words.as_slice() {
-        ["way", text] => way(text, output),
-        ["inherit", inside, outside, link] => inherit(inside, outside, link, output),
-        ["path", text] => path(alloc, text, output),
-        ["word", text] => word(alloc, text, output),
-        ["off", boot] => {
-            let text = hex::encode(alloc, spelled_word(boot.parse::<u64>()?).as_slice())?;
-            writeln!(output, "  {text}")?;
-            Ok(())
-        }
-        ["side", side, up, carrier] => {
-            let bytes = spelled_side(side_named(side)?, *up == "up", *carrier == "carrier");
-            let text = hex::encode(alloc, bytes.as_slice())?;
-            writeln!(output, "  {text}")?;
-            Ok(())
-        }
+/// - `off N`, `off N forced`, `off known`, `side SIDE UP CARRIER`, `status`, `pairs`, `pairs PROTOCOL PORT`: the bytes of
+///   a word
+/// - `answer HEX`: the answer that bytes spell
+/// - `refusal N`: the bytes of a refusal, and its text
+fn answer(given: &mut Given<'_>, output: &mut String) -> Result<()> {
+    match given.word()? {
+        "way" => way(given.word()?, output),
+        "inherit" => inherit(given, output),
+        "path" => path(given, output),
+        "word" => word(given, output),
+        "off" => off(given, output),
+        "side" => side(given, output),
+        "status" => tell_hex(given.alloc, &spelled_status(), output),
+        "pairs" => pairs(given, output),
+        "answer" => read_answer(given, output),
+        "refusal" => refusal(given, output),
         _ => bail!("no line of the cases"),
     }
 }
 
-fn side_named(name: &str) -> Result<Side> {
-    match name {
-        "inside" => Ok(Side::Inside),
-        "outside" => Ok(Side::Outside),
-        _ => bail!("no side of that name"),
+fn way(text: &str, output: &mut String) -> Result<()> {
+    match way_in(text) {
+        Some(Way::Loopback) => tell(output, "loopback"),
+        Some(Way::Udp(ends)) => {
+            write!(output, "  udp")?;
+            tell_ends(&ends, output)?;
+            writeln!(output, "")?;
+            Ok(())
+        }
+        Some(Way::Vxlan(ends, network)) => {
+            write!(output, "  vxlan")?;
+            tell_ends(&ends, output)?;
+            writeln!(output, " {}", network.number)?;
+            Ok(())
+        }
+        Some(Way::Descriptor(number)) => {
+            writeln!(output, "  descriptor {number}")?;
+            Ok(())
+        }
+        None => tell(output, "none"),
     }
 }
 
-fn way<O: Write>(text: &str, output: &mut O) -> Result<()> {
-    match Way::read(text) {
-        Some(Way::Loopback) => writeln!(output, "  loopback")?,
-        Some(Way::Udp(ends)) => writeln!(
-            output,
-            "  udp {}:{} {}:{}",
-            ends.own.address, ends.own.port, ends.other.address, ends.other.port
-        )?,
-        Some(Way::Vxlan(ends, network)) => writeln!(
-            output,
-            "  vxlan {}:{} {}:{} {}",
-            ends.own.address, ends.own.port, ends.other.address, ends.other.port, network.number
-        )?,
-        Some(Way::Descriptor(number)) => writeln!(output, "  descriptor {number}")?,
-        None => writeln!(output, "  none")?,
-    }
+fn tell_ends(ends: &Ends, output: &mut String) -> Result<()> {
+    let (own, other) = (ends.own, ends.other);
+    write!(output, " {}:{}", own.address, own.port)?;
+    write!(output, " {}:{}", other.address, other.port)?;
     Ok(())
 }
 
-fn inherit<O: Write>(inside: &str, outside: &str, link: &str, output: &mut O) -> Result<()> {
-    let (Some(inside), Some(outside), Some(link)) = (
-        Way::read(inside),
-        Way::read(outside),
-        Way::read(link),
-    ) else {
-        bail!("no way");
-    };
-    match (Ways {
+fn inherit(given: &mut Given<'_>, output: &mut String) -> Result<()> {
+    let inside = way_in(given.word()?).context("no way")?;
+    let outside = way_in(given.word()?).context("no way")?;
+    let link = way_in(given.word()?).context("no way")?;
+    let ways = Ways {
         inside,
         outside,
         link,
-    })
-    .inherit()
-    {
-        Ok(()) => writeln!(output, "  inherited")?,
-        Err(fault) => writeln!(output, "  {fault}")?,
+    };
+    match ways.inherit() {
+        Ok(()) => tell(output, "inherited"),
+        Err(fault) => tell(output, fault),
     }
-    Ok(())
 }
 
 /// A name of so many bytes, or the text itself.
@@ -96,29 +98,75 @@ fn name_of(alloc: Global, text: &str) -> Result<String> {
     Ok(name)
 }
 
-fn path<O: Write>(alloc: Global, text: &str, output: &mut O) -> Result<()> {
-    let name = name_of(alloc, text)?;
-    match ControlPath::beside(alloc, name.as_str()) {
-        Ok(path) if name.len() < 20 => writeln!(output, "  {path:?}")?,
-        Ok(_) => writeln!(output, "  a path")?,
-        Err(fault) => writeln!(output, "  {fault}")?,
+fn path(given: &mut Given<'_>, output: &mut String) -> Result<()> {
+    let name = name_of(given.alloc, given.word()?)?;
+    match ControlPath::beside(given.alloc, name.as_str()) {
+        Ok(path) if name.len() < 20 => {
+            writeln!(output, "  {path:?}")?;
+            Ok(())
+        }
+        Ok(_) => tell(output, "a path"),
+        Err(fault) => tell(output, fault),
     }
-    Ok(())
 }
 
-/// The bytes that pairs of hexadecimal digits spell, or none for `-`.
-pub(crate) fn bytes_of(alloc: Global, text: &str) -> Result<Vec<u8>> {
-    if text == "-" {
-        return Ok(Vec::new(alloc));
-    }
-    Ok(hex::decode(alloc, text)?)
-}
-
-fn word<O: Write>(alloc: Global, text: &str, output: &mut O) -> Result<()> {
-    let bytes = bytes_of(alloc, text)?;
+fn word(given: &mut Given<'_>, output: &mut String) -> Result<()> {
+    let bytes = given.bytes()?;
     match word_of(bytes.as_slice()) {
-        Some(word) => writeln!(output, "  {word:?}")?,
-        None => writeln!(output, "  none")?,
+        Some(word) => {
+            writeln!(output, "  {word:?}")?;
+            Ok(())
+        }
+        None => tell(output, "none"),
     }
+}
+
+fn off(given: &mut Given<'_>, output: &mut String) -> Result<()> {
+    let alloc = given.alloc;
+    match given.word()? {
+        "known" => tell_hex(alloc, &spelled_known_off(), output),
+        number => {
+            let forced = given.left().len() == 1;
+            let bytes = spelled_off(number.parse::<u64>()?, forced);
+            tell_hex(alloc, &bytes, output)
+        }
+    }
+}
+
+fn pairs(given: &mut Given<'_>, output: &mut String) -> Result<()> {
+    let alloc = given.alloc;
+    if given.left().is_empty() {
+        return tell_hex(alloc, &spelled_pairs(), output);
+    }
+    tell_hex(alloc, &spelled_pairs_after(given.key()?), output)
+}
+
+fn read_answer(given: &mut Given<'_>, output: &mut String) -> Result<()> {
+    let bytes = given.bytes()?;
+    match Answer::read(bytes.as_slice()) {
+        Some(answer) => {
+            writeln!(output, "  {answer:?}")?;
+            Ok(())
+        }
+        None => tell(output, "none"),
+    }
+}
+
+fn refusal(given: &mut Given<'_>, output: &mut String) -> Result<()> {
+    let number = given.word()?.parse::<u8>()?;
+    let refusal = PeerOffRefusal::numbered(number).context("no refusal")?;
+    let text = hex::encode(given.alloc, spelled_refusal(refusal).as_slice())?;
+    writeln!(output, "  {text} {refusal}")?;
     Ok(())
+}
+
+fn tell_hex(alloc: Global, bytes: &[u8], output: &mut String) -> Result<()> {
+    tell(output, hex::encode(alloc, bytes)?.as_str())
+}
+
+fn side(given: &mut Given<'_>, output: &mut String) -> Result<()> {
+    let side = given.side()?;
+    let up = given.word()? == "up";
+    let carrier = given.word()? == "carrier";
+    tell_hex(given.alloc, &spelled_side(side, up, carrier), output)
 }

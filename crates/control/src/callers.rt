@@ -1,31 +1,44 @@
 //! The end at which words are heard.
-ghost use Rattle.std.specs.Prelude.{◌≡◌, ◌≤◌, ◌<◌, length, vec_len, IfSome};
+ghost use Rattle.std.specs.Prelude.{◌≡◌, ◌≤◌, ◌<◌, ◌||◌, true, false, length, vec_len, is_some, IfOk, IfSome, IsNone};
 ghost use Rattle.control.specs.Heard.{IsWord};
 ghost use Rattle.control.specs.Saying.{Says};
 
-use crate::saying::HEARD;
 use crate::{ControlPath, NoSocket, word_of};
 use mio::net::{UnixListener, UnixStream};
 use mio::{Interest, Registry, Token};
 use std::fs::Files;
 use std::io::{self, ErrorKind, Read, Write};
+use std::marker::Model;
 use std::net::Net;
 
 /// How many callers are waited for at once. Who calls when all are waited for takes the place of the one that was
 /// waited for longest.
 const CALLERS: usize = 8;
 
-/// How many are taken in one call at most, so that a flood of callers ends none.
-const MOST: usize = 64;
-
 /// The control socket of a box, in a folder that only the box's own user may enter.
 #[derive(Drop)]
 pub struct Control {
     listener: UnixListener,
     callers: Vec<UnixStream>,
+    /// Whose word was handed on, until it is answered.
+    speaker: Option<UnixStream>,
     /// Somebody may have called, or said something. It is set when a wait reports the listener or a caller.
     ready: bool,
     refused: u64,
+    unanswered: u64,
+}
+
+impl Model for Control {
+    ghost use Rattle.std.specs.Prelude.{is_some};
+    ghost use Rattle.control.specs.Attending.{Attending};
+
+    ghost Value = { Attending };
+
+    ghost view = { λ c. record {
+      awaits = is_some c.speaker;
+      refused = c.refused;
+      unanswered = c.unanswered;
+    } };
 }
 
 /// What a caller has said.
@@ -49,55 +62,92 @@ impl Control {
     pub fn open<R: Files + Net + AllocGlobal>(
         rt: &R,
         path: &ControlPath,
-    ) -> Result<Control, NoSocket> {
+    ) -> Result<Control, NoSocket>
+        ensures { IfOk result (λ c. c ≡ record { awaits = false; refused = 0; unanswered = 0 }) }
+    {
         let _is_there = rt.create_dir_with_mode(path.folder(), 0o700);
         check(os::chmod(path.folder().as_bytes(), 0o700))?;
         let _missing = rt.remove_file(path.socket());
         Ok(Control {
             listener: UnixListener::bind(rt, path.socket())?,
             callers: Vec::new(rt.alloc()),
+            speaker: None,
             ready: true,
             refused: 0,
+            unanswered: 0,
         })
     }
 
     /// Has a wait report who calls, and who says something, under a token.
-    pub fn register(&mut self, registry: &Registry, token: Token) -> io::Result<()> {
+    pub fn register(&mut self, registry: &Registry, token: Token) -> io::Result<()>
+        ensures { self.new ≡ self.old }
+    {
         registry.register(&mut self.listener, token, Interest::READABLE)
     }
 
     /// A wait has reported its token.
-    pub fn wake(&mut self) {
+    pub fn wake(&mut self)
+        ensures { self.new ≡ self.old }
+    {
         self.ready = true;
     }
 
-    /// Whether there may be somebody to hear, as far as is known.
-    pub fn is_ready(&self) -> bool {
-        self.ready
+    /// Whether there may be somebody to hear, as far as is known: nobody is while an answer is awaited.
+    pub fn is_ready(&self) -> bool
+        ensures { self.now.awaits ≡ true → result ≡ false }
+    {
+        self.ready && self.speaker.is_none()
     }
 
     /// How many callers said what is no word, or nothing at all until others took their place.
-    pub fn refused(&self) -> u64 {
+    pub fn refused(&self) -> u64
+        ensures { result ≡ self.now.refused }
+    {
         self.refused
     }
 
-    /// A word that somebody says, if one is there: how many bytes of the room it has. Who said it is told that it was
-    /// heard. Before None everybody was looked at who calls or is waited for; after very many callers `is_ready` still
-    /// says that there may be more.
+    /// How many callers weren't there any more for their answer, or had no room for it.
+    pub fn unanswered(&self) -> u64
+        ensures { result ≡ self.now.unanswered }
+    {
+        self.unanswered
+    }
+
+    /// A word that somebody says, if one is there: how many bytes of the room it has. Who said it awaits its answer, and
+    /// nobody else is heard before that. Before None everybody was looked at who is waited for, unless an answer is
+    /// awaited, and one who calls was let in: no more of them a call, so that a flood of callers holds up nothing else.
+    /// While somebody was let in, `is_ready` says that there may be more.
     pub fn take(&mut self, registry: &Registry, token: Token, room: &mut [u8]) -> Option<usize>
         ensures within { IfSome result (λ count. count ≤ length room.new) }
         ensures words { IfSome result (λ count. IsWord count room.new) }
+        ensures one_by_one { self.old.awaits ≡ true → IsNone result }
+        ensures awaits { self.new.awaits ≡ (is_some result || self.old.awaits) }
     {
-        for _ in 0..MOST {
-            if !self.ready {
-                return None;
-            }
-            if let Some(count) = self.hear(room) {
-                return Some(count);
-            }
-            self.ready = self.accept(registry, token);
+        if !self.is_ready() {
+            return None;
         }
+        if let Some(count) = self.hear(room) {
+            return Some(count);
+        }
+        self.ready = self.accept(registry, token);
         None
+    }
+
+    /// Answers who awaits it, by one write that doesn't wait, and lets him go. One who isn't there any more, or has no
+    /// room for the whole answer, is let go without it, and counted.
+    pub fn answer(&mut self, bytes: &[u8])
+        ensures { self.new.awaits ≡ false }
+    {
+        let Some(mut speaker) = self.speaker.take() else {
+            return;
+        };
+        let is_told = match speaker.write(bytes) {
+            Ok(count) => count == bytes.len(),
+            Err(_) => false,
+        };
+        if !is_told {
+            self.unanswered = self.unanswered.saturating_add(1);
+        }
     }
 
     /// A word of those who are waited for, one after the other. Who said it, who said something else and who has gone
@@ -105,6 +155,7 @@ impl Control {
     fn hear(&mut self, room: &mut [u8]) -> Option<usize>
         ensures within { IfSome result (λ count. count ≤ length room.new) }
         ensures words { IfSome result (λ count. IsWord count room.new) }
+        ensures awaits { self.new.awaits ≡ (is_some result || self.old.awaits) }
     {
         let mut at = 0;
         for _ in 0..CALLERS {
@@ -112,11 +163,10 @@ impl Control {
             match asked(caller, room) {
                 Said::Nothing => at += 1,
                 Said::Word(count) => {
-                    let _gone = caller.write(HEARD);
-                    self.callers.remove(at);
+                    self.speaker = Some(self.callers.remove(at));
                     return Some(count);
                 }
-                Said::NoWord => self.refuse(at),
+                Said::NoWord => refuse(&mut self.callers, at, &mut self.refused),
             }
         }
         None
@@ -124,12 +174,14 @@ impl Control {
 
     /// Takes who calls next, and says whether somebody did. Where too many are waited for, who was waited for longest
     /// is refused.
-    fn accept(&mut self, registry: &Registry, token: Token) -> bool {
+    fn accept(&mut self, registry: &Registry, token: Token) -> bool
+        ensures { self.new.awaits ≡ self.old.awaits }
+    {
         let Ok((mut caller, _)) = self.listener.accept() else {
             return false;
         };
         if self.callers.len() >= CALLERS {
-            self.refuse(0);
+            refuse(&mut self.callers, 0, &mut self.refused);
         }
         let interest = Interest::READABLE;
         if registry.register(&mut caller, token, interest).is_ok() {
@@ -137,14 +189,14 @@ impl Control {
         }
         true
     }
+}
 
-    /// A caller is no longer waited for, and has no answer.
-    fn refuse(&mut self, at: usize)
-        requires { at < vec_len self.old.callers }
-    {
-        self.callers.remove(at);
-        self.refused = self.refused.saturating_add(1);
-    }
+/// A caller is no longer waited for, and has no answer.
+fn refuse(callers: &mut Vec<UnixStream>, at: usize, refused: &mut u64)
+    requires { at < vec_len callers.old }
+{
+    callers.remove(at);
+    *refused = refused.saturating_add(1);
 }
 
 /// What a caller has said by now.

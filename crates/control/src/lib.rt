@@ -1,13 +1,20 @@
 //! Where a box is told what no frame and no datagram may tell it: its control socket, the words that
-//! are said there, and both ends of it.
+//! are said there, what it answers, and both ends of it.
 #![tactic(auto)]
 
+mod answers;
 mod callers;
 mod paths;
 mod saying;
 mod words;
 
+pub use answers::{
+    Answer, PeerOffRefusal, begun_page, begun_report, spelled_heard, spelled_refusal,
+};
 pub use callers::Control;
 pub use paths::{ControlPath, LONGEST_PATH, PathFault};
-pub use saying::{NoSocket, say};
-pub use words::{LONGEST_WORD, Word, spelled_side, spelled_stop, spelled_word, word_of};
+pub use saying::{NoSocket, ask, say};
+pub use words::{
+    LONGEST_WORD, Word, spelled_known_off, spelled_off, spelled_pairs, spelled_pairs_after,
+    spelled_side, spelled_status, spelled_stop, word_of,
+};

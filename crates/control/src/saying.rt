@@ -1,17 +1,14 @@
 //! The end at which a word is said.
-ghost use Rattle.std.specs.Prelude.{◌≡◌};
+ghost use Rattle.std.specs.Prelude.{◌≡◌, ◌≤◌, length, IfOk};
 
-use crate::ControlPath;
+use crate::{ControlPath, spelled_heard};
 use std::io::{self, Read, Write};
 use std::net::Net;
 use std::os::unix::net::UnixStream;
 use std::time::Duration;
 use thiserror::Error;
 
-/// What a box answers that has read a whole word and handed it on.
-pub(crate) const HEARD: &[u8; 5] = b"heard";
-
-/// How long a caller waits for that, in seconds.
+/// How long a caller waits for an answer, or for more of it, in seconds.
 const PATIENCE: u64 = 2;
 
 /// A control socket can't be had; or nobody hears there.
@@ -29,23 +26,66 @@ impl From<io::Error> for NoSocket {
     }
 }
 
-/// Says a word to the box whose control socket lies there, and waits until it is heard, at most 2 seconds.
+/// Says a word to the box whose control socket lies there, and waits until it is taken, at most 2 seconds.
 ///
 /// # Errors
 ///
-/// `NoSocket` where no box listens there, the caller may not speak to it, or it doesn't hear in time. Whether it took
-/// the word isn't known then.
+/// `NoSocket` where no box listens there, the caller may not speak to it, or it doesn't answer in time that the word is
+/// taken. Whether it took the word isn't known then.
 pub fn say<R: Net>(rt: &R, path: &ControlPath, word: &[u8]) -> Result<(), NoSocket> {
+    let heard = spelled_heard();
+    let mut answer = [0; 5];
+    let mut stream = said(rt, path, word)?;
+    stream.read_exact(&mut answer)?;
+    if answer == heard {
+        Ok(())
+    } else {
+        Err(NoSocket)
+    }
+}
+
+/// Says a word to the box whose control socket lies there, and waits for its answer, at most 2 seconds for each part that
+/// comes. It is so many bytes of the room; what has no place there is lost.
+///
+/// # Errors
+///
+/// `NoSocket` where no box listens there, the caller may not speak to it, or it answers nothing, or not in time. Whether
+/// it took the word isn't known then.
+pub fn ask<R: Net>(
+    rt: &R,
+    path: &ControlPath,
+    word: &[u8],
+    room: &mut [u8],
+) -> Result<usize, NoSocket>
+    ensures within { IfOk result (λ count. count ≤ length room.new) }
+{
+    let mut stream = said(rt, path, word)?;
+    match whole(&mut stream, room)? {
+        0 => Err(NoSocket),
+        count => Ok(count),
+    }
+}
+
+/// A word is said; at each end 2 seconds are waited at most.
+fn said<R: Net>(rt: &R, path: &ControlPath, word: &[u8]) -> io::Result<UnixStream> {
     let mut stream = UnixStream::connect(rt, path.socket())?;
     let patience = Some(Duration::from_secs(PATIENCE));
     stream.set_read_timeout(patience)?;
     stream.set_write_timeout(patience)?;
     stream.write_all(word)?;
-    let mut heard = [0; HEARD.len()];
-    stream.read_exact(&mut heard)?;
-    if heard == *HEARD {
-        Ok(())
-    } else {
-        Err(NoSocket)
+    Ok(stream)
+}
+
+/// How much is said until the other end is closed, as far as there is room.
+fn whole(stream: &mut UnixStream, room: &mut [u8]) -> io::Result<usize>
+    ensures { IfOk result (λ count. count ≤ length room.new) }
+{
+    let mut count = 0;
+    for _ in 0..room.len() {
+        match stream.read(&mut room[count..])? {
+            0 => return Ok(count),
+            more => count += more,
+        }
     }
+    Ok(count)
 }

@@ -1,14 +1,17 @@
 -- What a place hears.
 use Rattle.std.specs.Prelude.{ℕ, zero, suc, Bool, true, false, ◌≡◌, ◌+◌, ◌-◌, ◌^◌, min, List, [], ◌∷◌, ◌++◌, take, Option, Some, None, Result, Ok, Err}
 use Rattle.sockets.specs.declared.far_ends.FarEnd.{FarEnd}
+use Rattle.sockets.specs.declared.losses.Losses.{Losses}
 use Rattle.sockets.specs.FarEnds.{Arrival, all_heard, strangers_among}
 
--- what carries a place's bytes, whom it speaks with, how much of others came, and whether the last datagram failed
+-- what carries a place's bytes, whom it speaks with, how much of others came, whether the last datagram failed, and how many
+-- weren't sent
 pub record Attached (C : Type 0) : Type 0 where
   pub conduit : C
   pub far : FarEnd
   pub strangers : ℕ
   pub failing : Bool
+  pub losses : Losses
 
 -- the bytes that a receiver is told of
 abbrev pub told : {E : Type 0} → Result (Option ℕ) E → List ℕ → List (List ℕ)

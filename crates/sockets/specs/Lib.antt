@@ -9,6 +9,7 @@ pub mod FarEnds
 pub mod Rooms
 pub mod Traffic
 pub mod Kept
+pub mod Losses
 pub mod Hearing
 pub mod Bringing
 pub mod Boards

@@ -3,10 +3,11 @@ ghost use Rattle.std.specs.Prelude.{◌≡◌, ◌≤◌, ◌++◌, ◌∷◌, [
 ghost use Rattle.sockets.specs.Bringing.{IsHeardWithin, brought};
 ghost use Rattle.sockets.specs.Hearing.{Hears, counted, failing_after, told};
 ghost use Rattle.sockets.specs.FarEnds.{all_heard, head_of, strangers_among};
+ghost use Rattle.sockets.specs.Losses.{none_lost, with_loss};
 ghost use Rattle.sockets.specs.Rooms.{arrival};
 ghost use Rattle.sockets.specs.Traffic.{handed_on};
 
-use crate::{Arrived, Conduit, FarEnd, LONGEST, WireFault};
+use crate::{Arrived, Conduit, FarEnd, LONGEST, Losses, SendFault, WireFault};
 use std::marker::Model;
 
 /// How much from strangers is taken in one call at most, so that a flood of it ends none.
@@ -19,6 +20,7 @@ pub struct Attachment<C> {
     far: FarEnd,
     strangers: u64,
     failing: bool,
+    losses: Losses,
     /// There may be something to receive. It is set when a wait reports the conduit.
     ready: bool,
     /// What is sent next, as it is sent.
@@ -35,6 +37,7 @@ impl<C> Model for Attachment<C> {
       far = a.far;
       strangers = a.strangers;
       failing = a.failing;
+      losses = a.losses;
     } };
 }
 
@@ -57,6 +60,7 @@ impl<C: Conduit> Attachment<C> {
           far = far;
           strangers = 0;
           failing = false;
+          losses = none_lost;
         } }
     {
         Attachment {
@@ -64,6 +68,7 @@ impl<C: Conduit> Attachment<C> {
             far,
             strangers: 0,
             failing: false,
+            losses: Losses::none(),
             ready: true,
             room: [0; LONGEST],
         }
@@ -102,30 +107,40 @@ impl<C: Conduit> Attachment<C> {
         self.failing
     }
 
-    /// Sends bytes to the far end, for VXLAN behind its header. After an Err they are lost.
-    pub fn send(&mut self, bytes: &[u8]) -> Result<(), WireFault>
+    /// How many datagrams weren't sent.
+    pub fn losses(&self) -> Losses
+        ensures { result ≡ self.now.losses }
+    {
+        self.losses
+    }
+
+    /// Sends bytes to the far end, for VXLAN behind its header. After an Err they are lost, and counted.
+    pub fn send(&mut self, bytes: &[u8]) -> Result<(), SendFault>
         ensures sent { C.sent self.new.conduit ≡ C.sent self.old.conduit
             ++ handed_on result (head_of self.old.far ++ bytes.now) }
         ensures came { C.came self.new.conduit ≡ C.came self.old.conduit }
         ensures far { self.new.far ≡ self.old.far }
         ensures strangers { self.new.strangers ≡ self.old.strangers }
         ensures failing { self.new.failing ≡ is_err result }
+        ensures losses { self.new.losses ≡ with_loss result self.old.losses }
     {
         let result = self.hand_on(bytes);
         self.failing = result.is_err();
+        self.losses.count(result);
         result
     }
 
-    fn hand_on(&mut self, bytes: &[u8]) -> Result<(), WireFault>
+    fn hand_on(&mut self, bytes: &[u8]) -> Result<(), SendFault>
         ensures sent { C.sent self.new.conduit ≡ C.sent self.old.conduit
             ++ handed_on result (head_of self.old.far ++ bytes.now) }
         ensures came { C.came self.new.conduit ≡ C.came self.old.conduit }
         ensures far { self.new.far ≡ self.old.far }
         ensures strangers { self.new.strangers ≡ self.old.strangers }
+        ensures losses { self.new.losses ≡ self.old.losses }
     {
         match self.far.lay(bytes, &mut self.room) {
             Some(count) => self.conduit.send(&self.room, count),
-            None => Err(WireFault),
+            None => Err(SendFault::TooLong),
         }
     }
 
@@ -136,6 +151,7 @@ impl<C: Conduit> Attachment<C> {
         ensures hears { Hears C.came self.old self.new (told result room.new) }
         ensures sent { C.sent self.new.conduit ≡ C.sent self.old.conduit }
         ensures failing { self.new.failing ≡ failing_after result self.old.failing }
+        ensures losses { self.new.losses ≡ self.old.losses }
     {
         let result = self.look(room);
         self.failing = match result {
@@ -151,6 +167,7 @@ impl<C: Conduit> Attachment<C> {
         ensures hears { Hears C.came self.old self.new (told result room.new) }
         ensures sent { C.sent self.new.conduit ≡ C.sent self.old.conduit }
         ensures failing { self.new.failing ≡ self.old.failing }
+        ensures losses { self.new.losses ≡ self.old.losses }
     {
         for _ in 0..MOST {
             match self.next(room) {
@@ -170,6 +187,7 @@ impl<C: Conduit> Attachment<C> {
         ensures hears { Hears C.came self.old self.new (brought result room.new) }
         ensures sent { C.sent self.new.conduit ≡ C.sent self.old.conduit }
         ensures failing { self.new.failing ≡ self.old.failing }
+        ensures losses { self.new.losses ≡ self.old.losses }
     {
         if !self.ready {
             return Brought::Nothing;
@@ -199,6 +217,7 @@ impl<C: Conduit> Attachment<C> {
         ensures conduit { self.new.conduit ≡ self.old.conduit }
         ensures far { self.new.far ≡ self.old.far }
         ensures failing { self.new.failing ≡ self.old.failing }
+        ensures losses { self.new.losses ≡ self.old.losses }
     {
         match self.far.hears(arrived.sender, arrived.count, room) {
             Some(count) => Brought::Heard(count),

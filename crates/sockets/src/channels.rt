@@ -3,7 +3,7 @@ ghost use Rattle.std.specs.Prelude.{◌≡◌, ◌≤◌, ◌++◌, IfOk, IfSome
 ghost use Rattle.sockets.specs.Kept.{nothing_yet};
 
 use crate::traffic::Traffic;
-use crate::{Arrived, Conduit, End, Ends, LONGEST, Sender, Way, WireFault};
+use crate::{Arrived, Conduit, End, Ends, LONGEST, SendFault, Sender, Way, WireFault};
 use mio::net::UdpSocket;
 use mio::unix::SourceFd;
 use mio::{Interest, Registry, Token};
@@ -63,8 +63,8 @@ impl Conduit for Channel {
 
     ghost sent = { λ c. c.traffic.sent };
 
-    fn send(&mut self, room: &[u8; LONGEST], count: usize) -> Result<(), WireFault> {
-        let result = self.socket.send(&room[..count]).map_err(|_| WireFault);
+    fn send(&mut self, room: &[u8; LONGEST], count: usize) -> Result<(), SendFault> {
+        let result = self.socket.send(&room[..count]).map_err(|e| fault_of(&e));
         self.traffic.sent(result, room, count);
         result
     }
@@ -73,6 +73,17 @@ impl Conduit for Channel {
         let result = settled(self.socket.receive(room));
         self.traffic.received(result, room);
         result
+    }
+}
+
+/// The system's number for a datagram that is too long (Linux).
+const EMSGSIZE: i32 = 90;
+
+/// Why a datagram wasn't sent.
+fn fault_of(error: &io::Error) -> SendFault {
+    match error.raw_os_error() {
+        Some(EMSGSIZE) => SendFault::TooLong,
+        _ => SendFault::Failed,
     }
 }
 

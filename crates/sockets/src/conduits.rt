@@ -3,7 +3,7 @@ ghost use Rattle.std.specs.Prelude.{◌≡◌, ◌≤◌, ◌++◌, List, ℕ, t
 ghost use Rattle.sockets.specs.FarEnds.{Arrival};
 ghost use Rattle.sockets.specs.Traffic.{arrived, handed_on};
 
-use crate::{LONGEST, Sender, WireFault};
+use crate::{LONGEST, SendFault, Sender, WireFault};
 
 /// Bytes that came: how many of the receiver's room, and who sent them.
 #[derive(Clone, Copy, Debug, PartialEq, Eq)]
@@ -21,7 +21,7 @@ pub trait Conduit {
     ghost sent: { Self → List (List ℕ) };
 
     /// Sends the first bytes of a room. After an Err they are lost, and nothing else is.
-    fn send(&mut self, room: &[u8; LONGEST], count: usize) -> Result<(), WireFault>
+    fn send(&mut self, room: &[u8; LONGEST], count: usize) -> Result<(), SendFault>
         requires { count ≤ 4096 }
         ensures sent { sent self.new ≡ sent self.old ++ handed_on result (take count room.now) }
         ensures came { came self.new ≡ came self.old };

@@ -5,7 +5,7 @@ ghost use Rattle.sockets.specs.Hearing.{told};
 
 use crate::channels::Channel;
 use crate::wire::{LONGEST, Wire, WireFault};
-use crate::{Answers, Attachment, Place, Ports, Way, Ways};
+use crate::{Answers, Attachment, Losses, Place, Ports, SendFault, Way, Ways};
 use control::Control;
 use mio::{Events, Poll, Token};
 use nat_types::Side;
@@ -102,14 +102,14 @@ impl Board {
         }
     }
 
-    fn send(&mut self, to: Place, bytes: &[u8]) -> Result<(), WireFault>
+    fn send(&mut self, to: Place, bytes: &[u8]) -> Result<(), SendFault>
         ensures { SendsAt self.old self.new to result bytes.now }
     {
         match to {
             Place::Link => self.link.send(bytes),
             Place::Side(Side::Inside) => self.inside.send(bytes),
             Place::Side(Side::Outside) => self.outside.send(bytes),
-            Place::Operator => Err(WireFault),
+            Place::Operator => Err(SendFault::Failed),
         }
     }
 
@@ -298,13 +298,22 @@ impl Sockets {
     pub fn strangers(&self, place: Place) -> u64 {
         self.board.strangers(place)
     }
+
+    /// How many callers weren't there any more for their answer, or had no room for it. It stays at its greatest number.
+    pub fn unanswered(&self) -> u64 {
+        self.board.control.unanswered()
+    }
 }
 
 impl Wire for Sockets {
     ghost answers = { λ s. s.answers };
 
     fn send(&mut self, to: Place, bytes: &[u8]) -> Result<(), WireFault> {
-        self.board.send(to, bytes)
+        self.board.send(to, bytes).map_err(|_| WireFault)
+    }
+
+    fn answer(&mut self, bytes: &[u8]) {
+        self.board.control.answer(bytes);
     }
 
     fn receive(
@@ -321,6 +330,16 @@ impl Wire for Sockets {
         match self.board.attachment(place) {
             Some(attachment) => attachment.is_failing(),
             None => false,
+        }
+    }
+
+    fn losses(&self, place: Place) -> Losses {
+        match self.board.attachment(place) {
+            Some(attachment) => attachment.losses(),
+            None => Losses {
+                too_long: 0,
+                failed: self.board.control.unanswered(),
+            },
         }
     }
 }

@@ -3,7 +3,7 @@ ghost use Rattle.std.specs.Prelude.{◌≡◌, ◌++◌};
 ghost use Rattle.sockets.specs.Traffic.{arrived, handed_on};
 ghost use Rattle.sockets.specs.Kept.{nothing_yet, with_passed};
 
-use crate::{Arrived, LONGEST, WireFault};
+use crate::{Arrived, LONGEST, SendFault, WireFault};
 use std::marker::Model;
 use std::snapshot::Snapshot;
 
@@ -52,7 +52,7 @@ impl Traffic {
     }
 
     /// A sender of the first bytes of this room was answered so.
-    pub fn sent(&mut self, done: Result<(), WireFault>, room: &[u8; LONGEST], count: usize)
+    pub fn sent(&mut self, done: Result<(), SendFault>, room: &[u8; LONGEST], count: usize)
         ensures { self.new
             ≡ record self.old { sent = self.old.sent ++ handed_on done (take count room.now) } }
     {

@@ -2,7 +2,7 @@
 ghost use Rattle.std.specs.Prelude.{◌≡◌, ◌≤◌, ◌++◌, ◌∷◌, [], ◌-◌, ◌==◌, List, IfOk, IfSome};
 ghost use Rattle.sockets.specs.Letters.{Polled, answer_of};
 
-use crate::{Answers, Place};
+use crate::{Answers, Losses, Place};
 use std::marker::Model;
 use std::time::Duration;
 
@@ -23,6 +23,11 @@ pub trait Wire {
     fn send(&mut self, to: Place, bytes: &[u8]) -> Result<(), WireFault>
         ensures answers { answers self.new ≡ answers self.old };
 
+    /// Answers who said the last word, and lets him go; where he isn't there any more, or has no room for the whole
+    /// answer, without it. It never waits. Before that no other word comes.
+    fn answer(&mut self, bytes: &[u8])
+        ensures answers { answers self.new ≡ answers self.old };
+
     /// The next datagram of any place: where it came from, and how many bytes of `room` it has. Where none is there, one
     /// is waited for until `limit` has passed; a limit of 0 doesn't wait. After an Err nothing was received.
     fn receive(
@@ -37,10 +42,13 @@ pub trait Wire {
     /// Whether the last datagram of a place failed: it couldn't be sent, or to receive it failed. It is so until one
     /// is sent or comes.
     fn is_failing(&self, place: Place) -> bool;
+
+    /// How many datagrams of a place weren't sent; of the operator's place, how many answers.
+    fn losses(&self, place: Place) -> Losses;
 }
 
-/// A wire whose call with a given number, counted from 1 over both its calls, fails; all others are those of the
-/// wire below it. It is for tests of what stands on a wire.
+/// A wire whose call with a given number, counted from 1 over what it sends and receives, fails; all others are those of
+/// the wire below it. It is for tests of what stands on a wire.
 #[derive(Drop)]
 pub struct Failing<'a, W> {
     wire: &'a mut W,
@@ -104,6 +112,10 @@ impl<W: Wire> Wire for Failing<'_, W> {
         self.wire.send(to, bytes)
     }
 
+    fn answer(&mut self, bytes: &[u8]) {
+        self.wire.answer(bytes);
+    }
+
     fn receive(
         &mut self,
         limit: Duration,
@@ -117,5 +129,10 @@ impl<W: Wire> Wire for Failing<'_, W> {
     /// As the wire below says: a call that fails here doesn't reach it.
     fn is_failing(&self, place: Place) -> bool {
         self.wire.is_failing(place)
+    }
+
+    /// As the wire below says.
+    fn losses(&self, place: Place) -> Losses {
+        self.wire.losses(place)
     }
 }

@@ -19,4 +19,5 @@ loop-preserved g c = record {
   hears = hears_on g.C.Conduit.came _ _ _ _ c.loop.invariant.hears c.in-Stranger.ensures.hears;
   sent = c.next.ensures.sent ∙ c.loop.invariant.sent;
   failing = c.next.ensures.failing ∙ c.loop.invariant.failing;
+  losses = c.next.ensures.losses ∙ c.loop.invariant.losses;
 }

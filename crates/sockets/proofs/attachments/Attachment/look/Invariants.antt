@@ -7,4 +7,5 @@ invariant-loop g l = record {
   hears : Hears g.C.Conduit.came l.fn.self l.self [];
   sent : g.C.Conduit.sent l.self.conduit ≡ g.C.Conduit.sent l.fn.self.conduit;
   failing : l.self.failing ≡ l.fn.self.failing;
+  losses : l.self.losses ≡ l.fn.self.losses;
 }

@@ -1,0 +1,111 @@
+//! What a box answers to a word.
+ghost use Rattle.std.specs.Prelude.{◌≡◌, ◌++◌, List, ℕ, Some, option_map};
+ghost use Rattle.control.specs.Answers.{answer_of, content_of, refusal_number, refusal_numbered, refused_answer};
+ghost use Rattle.control.specs.Answers.{heard, refused, report, page};
+
+use thiserror::Error;
+
+/// Why a box doesn't take the word that a boot of the other is off: the first of these that holds.
+#[derive(Clone, Copy, Debug, PartialEq, Eq, Error)]
+pub enum PeerOffRefusal {
+    /// Its own table isn't loaded.
+    #[error("peer-off 1 NotSynced")]
+    NotSynced,
+    /// It knows no boot of the other.
+    #[error("peer-off 2 NoPeer")]
+    NoPeer,
+    /// The boot is below the known one.
+    #[error("peer-off 3 PastBoot")]
+    PastBoot,
+    /// It is above the known one, and the word isn't forced.
+    #[error("peer-off 4 UnknownBoot")]
+    UnknownBoot,
+    /// The other was heard at most 300 centiseconds ago.
+    #[error("peer-off 5 PeerHeard")]
+    PeerHeard,
+}
+
+impl PeerOffRefusal {
+    /// Its number, from 1 to 5.
+    pub fn number(self) -> u8
+        ensures { result ≡ refusal_number self }
+    {
+        match self {
+            PeerOffRefusal::NotSynced => 1,
+            PeerOffRefusal::NoPeer => 2,
+            PeerOffRefusal::PastBoot => 3,
+            PeerOffRefusal::UnknownBoot => 4,
+            PeerOffRefusal::PeerHeard => 5,
+        }
+    }
+
+    /// The one with a number, if there is one.
+    pub fn numbered(number: u8) -> Option<PeerOffRefusal>
+        ensures { result ≡ refusal_numbered number }
+    {
+        match number {
+            1 => Some(PeerOffRefusal::NotSynced),
+            2 => Some(PeerOffRefusal::NoPeer),
+            3 => Some(PeerOffRefusal::PastBoot),
+            4 => Some(PeerOffRefusal::UnknownBoot),
+            5 => Some(PeerOffRefusal::PeerHeard),
+            _ => None,
+        }
+    }
+}
+
+/// What a box answers.
+#[derive(Clone, Copy, Debug)]
+pub enum Answer<'a> {
+    /// It has taken the word.
+    Heard,
+    /// It doesn't take the word that the other is off.
+    Refused(PeerOffRefusal),
+    /// How it stands, as the bytes of a report.
+    Report(&'a [u8]),
+    /// Some of its pairs, as the bytes of a page.
+    Page(&'a [u8]),
+}
+
+impl<'a> Answer<'a> {
+    /// The answer that bytes spell, if they spell one.
+    pub fn read(bytes: &'a [u8]) -> Option<Answer<'a>>
+        ensures { option_map content_of result ≡ answer_of bytes.now }
+    {
+        match bytes {
+            [b'h', b'e', b'a', b'r', b'd'] => Some(Answer::Heard),
+            [b'N', b'R', number] => Some(Answer::Refused(PeerOffRefusal::numbered(*number)?)),
+            [b'N', b'I', report @ ..] => Some(Answer::Report(report)),
+            [b'N', b'L', page @ ..] => Some(Answer::Page(page)),
+            _ => None,
+        }
+    }
+}
+
+/// The answer to a word that is taken: `heard`.
+pub fn spelled_heard() -> [u8; 5]
+    ensures { answer_of result ≡ Some heard }
+{
+    [b'h', b'e', b'a', b'r', b'd']
+}
+
+/// The answer to the word that the other is off where it isn't taken: `NR`, and the refusal's number.
+pub fn spelled_refusal(refusal: PeerOffRefusal) -> [u8; 3]
+    ensures { answer_of result ≡ Some (refused refusal) }
+{
+    [b'N', b'R', refusal.number()]
+}
+
+/// What stands before the bytes of a report: `NI`.
+pub fn begun_report() -> [u8; 2]
+    ensures { (bytes : List ℕ) → answer_of (result ++ bytes) ≡ Some (report bytes) }
+{
+    [b'N', b'I']
+}
+
+/// What stands before the bytes of a page: `NL`.
+pub fn begun_page() -> [u8; 2]
+    ensures { (bytes : List ℕ) → answer_of (result ++ bytes) ≡ Some (page bytes) }
+{
+    [b'N', b'L']
+}
