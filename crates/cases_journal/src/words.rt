@@ -95,6 +95,7 @@ pub(crate) fn entry_of(words: &[&str]) -> Result<Entry> {
         ["peer-silent"] => Ok(Entry::PeerSilent),
         ["fails", origin] => Ok(Entry::Fails(origin_of(origin)?)),
         ["works", origin] => Ok(Entry::Works(origin_of(origin)?)),
+        ["too-long", origin] => Ok(Entry::TooLong(origin_of(origin)?)),
         _ => bail!("no entry"),
     }
 }

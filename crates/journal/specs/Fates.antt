@@ -14,3 +14,9 @@ abbrev pub left_after : Fate → ℕ → ℕ
 left_after Written before = 0
 left_after LeftOut before = min (suc before) most
 left_after ToldAndLeftOut before = 1
+
+-- how many ever were left out, after one more line with this fate
+abbrev pub all_after : Fate → ℕ → ℕ
+all_after Written before = before
+all_after LeftOut before = min (suc before) most
+all_after ToldAndLeftOut before = min (suc before) most

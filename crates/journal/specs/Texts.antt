@@ -56,6 +56,7 @@ words_of entry.PeerHeard = codes "peer heard"
 words_of entry.PeerSilent = codes "peer silent"
 words_of (entry.Fails origin) = codes "fails"
 words_of (entry.Works origin) = codes "works"
+words_of (entry.TooLong origin) = codes "takes less than a frame"
 
 -- the moment, and what it tells
 abbrev pub text_of : ℕ → Entry → List ℕ

@@ -43,6 +43,8 @@ pub enum Entry {
     /// Nothing is received or sent there.
     Fails(Origin),
     Works(Origin),
+    /// Something that was to be sent there is longer than what goes there: an interface takes less than a frame.
+    TooLong(Origin),
 }
 
 impl Entry {
@@ -59,6 +61,7 @@ impl Entry {
             Entry::PeerSilent => Origin::Link,
             Entry::Fails(origin) => origin,
             Entry::Works(origin) => origin,
+            Entry::TooLong(origin) => origin,
             _ => Origin::Own,
         }
     }
@@ -71,6 +74,7 @@ impl Entry {
             Entry::First(_, cause) => cause.level(),
             Entry::Others(_, cause, _) => cause.level(),
             Entry::Fails(_) => Level::Warn,
+            Entry::TooLong(_) => Level::Warn,
             _ => Level::Info,
         }
     }

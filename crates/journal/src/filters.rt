@@ -39,7 +39,8 @@ pub fn filter_of<'a>(
         ≡ or_errors (rules_of (text_of option.entry environment.entry))) }
     ensures valid { IfOk result
         (λ filter. invalid_spec (text_of option.entry environment.entry) ≡ None) }
-    ensures refused { IfErr result (λ fault. IsRefused (text_of option.entry environment.entry) fault) }
+    ensures refused { IfErr result
+        (λ fault. IsRefused (text_of option.entry environment.entry) fault) }
 {
     let text = option.or(environment).unwrap_or("");
     let Ok(usual) = Builder::new(alloc).filter_level(LevelFilter::Info) else {

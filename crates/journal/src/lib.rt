@@ -22,6 +22,6 @@ pub use lines::Format;
 pub use notes::Note;
 pub use origins::Origin;
 pub use outlets::{Outlet, StandardError};
-pub use sink::Unhindered;
+pub use sink::{Journal, Unhindered};
 pub use tally::Tally;
 pub use telling::{tell, tell_end, tell_loss, tell_turn};

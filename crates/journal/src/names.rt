@@ -63,5 +63,6 @@ pub(crate) fn event_name(entry: &Entry) -> &str
         Entry::PeerSilent => "peer-silent",
         Entry::Fails(_) => "fails",
         Entry::Works(_) => "works",
+        Entry::TooLong(_) => "too-long",
     }
 }

@@ -36,6 +36,7 @@ impl Display for Note {
             Entry::PeerSilent => f.write_str("peer silent"),
             Entry::Fails(_) => f.write_str("fails"),
             Entry::Works(_) => f.write_str("works"),
+            Entry::TooLong(_) => f.write_str("takes less than a frame"),
         }
     }
 }

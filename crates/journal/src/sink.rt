@@ -1,14 +1,16 @@
 //! A sink that never waits.
 ghost use Rattle.std.specs.Prelude.{◌≡◌, ◌<◌, true, [], Some, if◌then◌else◌};
-ghost use Rattle.journal.specs.Fates.{left_after, left_told};
+ghost use Rattle.journal.specs.Fates.{all_after, left_after, left_told};
 ghost use Rattle.journal.specs.declared.sink.Fate.TheVariants as fates;
 
 use crate::lines::{Format, LeftOutLines, Shown};
 use crate::origins::Origin;
 use crate::outlets::Outlet;
+use log::filter::FilteredLog;
 use log::kv::{Source, With};
 use log::span::Spans;
 use log::{Level, Log, Metadata, Record};
+use std::alloc::Allocator;
 use std::cell::RefCell;
 use std::fmt::Display;
 
@@ -23,12 +25,13 @@ pub(crate) enum Fate {
     ToldAndLeftOut,
 }
 
-/// An outlet, and how many lines were left out that stand in no line of it yet.
+/// An outlet, how many lines were left out that stand in no line of it yet, and how many ever were.
 #[derive(Drop)]
 struct Desk<O> {
     outlet: O,
     format: Format,
     left_out: u64,
+    all: u64,
 }
 
 impl<O: Outlet> Desk<O> {
@@ -36,16 +39,19 @@ impl<O: Outlet> Desk<O> {
     fn offer<D: Display + Drop>(&mut self, line: D) -> Fate
         ensures left { self.new.left_out ≡ left_after result self.old.left_out }
         ensures told { result ≡ fates.ToldAndLeftOut → 0 < self.old.left_out }
+        ensures all { self.new.all ≡ all_after result self.old.all }
     {
         let owed = 0 < self.left_out;
         if !self.tell_left_out() {
             self.left_out = self.left_out.saturating_add(1);
+            self.all = self.all.saturating_add(1);
             return Fate::LeftOut;
         }
         if self.put(line) {
             return Fate::Written;
         }
         self.left_out = 1;
+        self.all = self.all.saturating_add(1);
         if owed {
             Fate::ToldAndLeftOut
         } else {
@@ -55,7 +61,8 @@ impl<O: Outlet> Desk<O> {
 
     /// Writes how many lines were left out, if any were and there is room; and says whether all were told.
     fn tell_left_out(&mut self) -> bool
-        ensures { self.new.left_out ≡ left_told result self.old.left_out }
+        ensures left { self.new.left_out ≡ left_told result self.old.left_out }
+        ensures all { self.new.all ≡ self.old.all }
     {
         let left_out = self.left_out;
         if left_out == 0 {
@@ -82,7 +89,8 @@ impl<O: Outlet> Desk<O> {
 
     /// Writes a line if there is room, and says whether it was written.
     fn put<D: Display + Drop>(&mut self, line: D) -> bool
-        ensures { self.new.left_out ≡ self.old.left_out }
+        ensures left { self.new.left_out ≡ self.old.left_out }
+        ensures all { self.new.all ≡ self.old.all }
     {
         self.outlet.has_room() && self.outlet.write(line).is_ok()
     }
@@ -104,6 +112,7 @@ impl<O: Outlet> Unhindered<O> {
                 outlet,
                 format,
                 left_out: 0,
+                all: 0,
             }),
             format,
         }
@@ -133,5 +142,26 @@ impl<O: Outlet> Log for Unhindered<O> {
 
     fn target(&self) -> &str {
         ""
+    }
+}
+
+/// A log that says how much of it was left out.
+pub trait Journal: Log {
+    /// How many lines were left out so far. It stays at its greatest number.
+    fn lines_left_out(&self) -> u64;
+}
+
+impl<O: Outlet> Journal for Unhindered<O> {
+    fn lines_left_out(&self) -> u64 {
+        match self.desk.try_borrow() {
+            Ok(desk) => desk.all,
+            Err(_) => 0,
+        }
+    }
+}
+
+impl<L: Journal, A: Allocator> Journal for FilteredLog<L, A> {
+    fn lines_left_out(&self) -> u64 {
+        self.inner().lines_left_out()
     }
 }
