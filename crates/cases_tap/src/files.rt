@@ -1,0 +1,74 @@
+//! Captures to a file, and to a stream that nobody reads for a while.
+
+use anyhow::{Result, bail};
+use captures::{Direction, Interface, Packet};
+use nat_types::{GatewayId, Side};
+use std::fs;
+use std::io::{ErrorKind, Read};
+use std::os::unix::fs::PermissionsExt;
+use std::os::unix::net::UnixStream;
+use tap::{CaptureFile, Reel, open};
+
+/// A frame of 60 bytes that came to the outside of gateway 1 two seconds after its start.
+const FRAME: Packet<'static> = Packet {
+    interface: Interface::Side(GatewayId::One, Side::Outside),
+    direction: Direction::Inbound,
+    moment: 200,
+    bytes: &[0x5a; 60],
+};
+
+/// How many bytes its block has, and the head of a capture.
+const BLOCK: usize = 104;
+
+const HEAD: usize = 324;
+
+/// Captures the frame to a file, and prints the file's mode and bytes.
+pub(crate) fn capture_to_file(rt: &HostRuntime, path: &str) -> Result<()> {
+    let mut reel = Reel::begin(rt.alloc(), open(rt, path)?)?;
+    let is_kept = reel.keep(&FRAME);
+    let mode = fs::metadata(rt, path)?.permissions().mode() % 0o1000;
+    let bytes = hex::encode(rt.alloc(), &fs::read(rt, path)?)?;
+    println!(rt; "  kept {is_kept}, mode {mode:o}")?;
+    println!(rt; "  file {bytes}")?;
+    Ok(())
+}
+
+/// Captures so many frames to a stream that nobody reads, and prints whether some were left out; then reads all of it,
+/// and prints whether these were the head and whole blocks, those of all that were kept.
+pub(crate) fn fill_stream(rt: &HostRuntime, packets: u64) -> Result<()> {
+    let (own, other) = UnixStream::pair(rt)?;
+    other.set_nonblocking(true)?;
+    let mut reel = Reel::begin(rt.alloc(), CaptureFile::new(own))?;
+    let mut kept: usize = 0;
+    for _ in 0..packets {
+        if reel.keep(&FRAME) {
+            kept = kept.saturating_add(1);
+        }
+    }
+    println!(rt; "  left out some: {}", 0 < reel.left_out())?;
+    let wanted = kept.saturating_mul(BLOCK).saturating_add(HEAD);
+    let mut come = all_of(&other)?;
+    if !reel.settle() {
+        bail!("the last block is owed");
+    }
+    come = come.saturating_add(all_of(&other)?);
+    println!(rt; "  whole: {}", come == wanted)?;
+    println!(rt; "  goes on: {}", reel.keep(&FRAME))?;
+    Ok(())
+}
+
+/// How many bytes wait in a stream.
+fn all_of(stream: &UnixStream) -> Result<usize> {
+    let mut reader = stream;
+    let mut room = [0; 4096];
+    let mut total: usize = 0;
+    for _ in 0..100_000u32 {
+        match reader.read(&mut room) {
+            Ok(0) => return Ok(total),
+            Ok(count) => total = total.saturating_add(count),
+            Err(error) if error.kind() == ErrorKind::WouldBlock => return Ok(total),
+            Err(error) => bail!("{error}"),
+        }
+    }
+    bail!("it has no end")
+}

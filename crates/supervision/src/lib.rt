@@ -1,0 +1,10 @@
+//! What a service manager is told of a box: that it is up, that it goes on, and that it ends.
+#![tactic(auto)]
+
+mod managers;
+mod notices;
+mod supervisors;
+
+pub use managers::{Manager, NotOpen};
+pub use notices::Notice;
+pub use supervisors::{Supervisor, Unsupervised};

@@ -1,0 +1,74 @@
+//! A service manager at the other end of a descriptor.
+ghost use Rattle.std.specs.Prelude.{◌≡◌, IfErr, MatchOption};
+ghost use Rattle.supervision.specs.Managers.{IsManagerText, IsNoManagerText, manager_of};
+
+use crate::Supervisor;
+use crate::notices::{Notice, laid_out};
+use sockets::Way;
+use std::os::fd::RawFd;
+use thiserror::Error;
+
+/// A service manager at the other end of an open descriptor, which the box inherits: each notice is a write.
+#[derive(Clone, Copy, Debug, PartialEq, Eq)]
+pub struct Manager {
+    pub descriptor: u16,
+}
+
+/// The manager that is reached by a way, if that is a descriptor.
+fn manager_by(way: Option<Way>) -> Option<Manager>
+    ensures { result ≡ manager_of way }
+{
+    match way? {
+        Way::Descriptor(descriptor) => Some(Manager { descriptor }),
+        Way::Loopback | Way::Udp(_) | Way::Vxlan(_, _) => None,
+    }
+}
+
+/// A descriptor that isn't open.
+#[derive(Clone, Copy, Debug, PartialEq, Eq, Error)]
+#[error("notify 2 NoDescriptor {0}")]
+pub struct NotOpen(pub u16);
+
+impl Manager {
+    /// The manager that a text writes: `descriptor:3`, or a greater one.
+    pub fn read(text: &str) -> Option<Manager>
+        ensures { MatchOption result (IsNoManagerText text.now) (IsManagerText text.now) }
+    {
+        manager_by(Way::read(text))
+    }
+
+    /// Makes the descriptor one that never waits. It comes before anything is opened: else what the box opens itself
+    /// could be taken for the one that it inherits.
+    ///
+    /// # Errors
+    ///
+    /// It isn't open.
+    pub fn inherit(&self) -> Result<(), NotOpen>
+        ensures { IfErr result (λ fault. fault.0 ≡ self.now.descriptor) }
+    {
+        if os::set_nonblocking(RawFd::from(self.descriptor), true) < 0 {
+            return Err(NotOpen(self.descriptor));
+        }
+        Ok(())
+    }
+
+    /// Tells it something, by one write that doesn't wait. One that fails is lost.
+    fn tell(&self, notice: Notice) {
+        let text = laid_out(notice);
+        let _lost = os::write_no_sigpipe(RawFd::from(self.descriptor), text.as_str().as_bytes());
+    }
+}
+
+impl Supervisor for Manager {
+    fn ready(&self, boot: u64) {
+        self.tell(Notice::Ready(boot));
+    }
+
+    fn alive(&self) {
+        self.tell(Notice::Alive);
+    }
+
+    fn ending(&self) {
+        self.tell(Notice::Ending);
+    }
+}

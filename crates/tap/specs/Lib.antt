@@ -1,0 +1,2 @@
+pub mod Reels
+pub mod Taps

@@ -1,0 +1,15 @@
+//! A wire whose packets are captured: what a box takes and sends, as a file for Wireshark and tcpdump that nothing waits
+//! for.
+#![tactic(auto)]
+
+mod laws;
+mod moments;
+mod outlets;
+mod reels;
+mod taps;
+
+pub use laws::capture_law;
+pub use moments::{Moments, SinceFirst};
+pub use outlets::{CaptureFile, Outlet, open};
+pub use reels::Reel;
+pub use taps::Tapped;

@@ -1,0 +1,164 @@
+//! A capture that is being written.
+ghost use Rattle.std.specs.Prelude.{◌≡◌, ◌≤◌, [], drop, take, length, IfOk, IsTrue, MatchBool};
+ghost use Rattle.std.specs.Io.KnownBytes.{Appends, Keeps};
+ghost use Rattle.captures.specs.Captures.{captured_of, packet_block};
+ghost use Rattle.tap.specs.Reels.{Adds, Begins, LeavesOut, whole};
+
+use crate::Outlet;
+use captures::{Packet, write_head, write_packet};
+use std::alloc::Global;
+use std::io::{self, ErrorKind};
+use std::marker::Model;
+
+/// The room for a block, in bytes: that of a packet of 4,096 bytes behind an Ethernet header has no more.
+const ROOM: usize = 4_160;
+
+/// How many bytes are written at once at most.
+const MOST: usize = 4_096;
+
+/// A capture that is being written, block by block: none waits for its outlet, and a packet that finds no room is left
+/// out and counted. A block of which a part was taken is owed the rest, and nothing is written before that.
+#[derive(Drop)]
+pub struct Reel<O> {
+    outlet: O,
+    left_out: u64,
+    /// How many bytes of the last block were taken.
+    begun: usize,
+    block: Vec<u8>,
+}
+
+impl<O> Model for Reel<O> {
+    ghost use Rattle.std.specs.Prelude.{drop};
+    ghost use Rattle.tap.specs.Reels.{Reeled};
+
+    ghost Value = { Reeled O };
+
+    ghost view = { λ r. record {
+      outlet = r.outlet;
+      owed = drop r.begun r.block.items;
+      left_out = r.left_out;
+    } };
+}
+
+impl<O: Outlet + Drop> Reel<O> {
+    /// Begins a capture: its head is written.
+    ///
+    /// # Errors
+    ///
+    /// `WouldBlock` where the outlet has no room for it, the outlet's own where it refuses it, and `WriteZero` where it
+    /// takes nothing; `OutOfMemory`.
+    pub fn begin(alloc: Global, mut outlet: O) -> io::Result<Reel<O>>
+        ensures { IfOk result (Begins O.contents outlet) }
+    {
+        let mut block = Vec::with_capacity(alloc, ROOM)?;
+        write_head(&mut block)?;
+        let begun = open_with(&mut outlet, &block)?;
+        Ok(Reel {
+            outlet,
+            left_out: 0,
+            begun,
+            block,
+        })
+    }
+}
+
+impl<O: Outlet> Reel<O> {
+    /// Adds a packet, and says whether it could; if not, it is left out and counted. The count stays at its greatest
+    /// number.
+    pub fn keep(&mut self, packet: &Packet<'_>) -> bool
+        ensures { MatchBool result
+            (Adds O.contents self.old self.new (captured_of packet.now))
+            (LeavesOut O.contents self.old self.new) }
+    {
+        let is_kept = self.settle() && self.lay(packet);
+        if !is_kept {
+            self.left_out = self.left_out.saturating_add(1);
+        }
+        is_kept
+    }
+
+    /// Hands on what is owed of the last block, and says whether nothing is owed any more.
+    pub fn settle(&mut self) -> bool
+        ensures settled { IsTrue result → self.new.owed ≡ [] }
+        ensures kept { Keeps (whole O.contents self.old) (whole O.contents self.new) }
+        ensures left_out { self.new.left_out ≡ self.old.left_out }
+    {
+        if self.begun < self.block.len() {
+            self.hand_on();
+        }
+        self.block.len() <= self.begun
+    }
+
+    /// How many packets were left out.
+    pub fn left_out(&self) -> u64
+        ensures { result ≡ self.now.left_out }
+    {
+        self.left_out
+    }
+
+    /// Lays a packet's block out and hands on as much of it as is taken; where nothing is, none is owed.
+    fn lay(&mut self, packet: &Packet<'_>) -> bool
+        requires { self.old.owed ≡ [] }
+        ensures laid { MatchBool result
+            (Appends (whole O.contents self.old) (whole O.contents self.new)
+            (packet_block (captured_of packet.now)))
+            (Keeps (whole O.contents self.old) (whole O.contents self.new)) }
+        ensures left_out { self.new.left_out ≡ self.old.left_out }
+    {
+        self.block.clear();
+        self.begun = 0;
+        if write_packet(&mut self.block, packet).is_err() {
+            self.block.clear();
+            return false;
+        }
+        if self.hand_on() == 0 {
+            self.block.clear();
+            return false;
+        }
+        true
+    }
+
+    /// Hands on some of what is owed, and says how many bytes were taken.
+    fn hand_on(&mut self) -> usize
+        ensures taken { Appends (O.contents self.old.outlet) (O.contents self.new.outlet)
+            (take result self.old.owed) }
+        ensures owed { self.new.owed ≡ drop result self.old.owed }
+        ensures left_out { self.new.left_out ≡ self.old.left_out }
+    {
+        let owed = &self.block[self.begun.min(self.block.len())..];
+        let count = pour(&mut self.outlet, &owed[..owed.len().min(MOST)]);
+        self.begun = self.begun.saturating_add(count);
+        count
+    }
+}
+
+/// Hands on as much as is taken of the bytes with which a capture begins, and says how many were.
+///
+/// # Errors
+///
+/// Nothing is taken.
+fn open_with<O: Outlet>(outlet: &mut O, bytes: &[u8]) -> io::Result<usize>
+    ensures { IfOk result (λ count.
+        Appends (O.contents outlet.old) (O.contents outlet.new) (take count bytes.now)) }
+{
+    if !outlet.has_room() {
+        return Err(io::Error::from(ErrorKind::WouldBlock));
+    }
+    match outlet.write(&bytes[..bytes.len().min(MOST)])? {
+        0 => Err(io::Error::from(ErrorKind::WriteZero)),
+        count => Ok(count),
+    }
+}
+
+/// Hands bytes on where there is room, and says how many were taken.
+fn pour<O: Outlet>(outlet: &mut O, bytes: &[u8]) -> usize
+    requires { length bytes.now ≤ 4096 }
+    ensures bound { result ≤ length bytes.now }
+    ensures taken { Appends (O.contents outlet.old) (O.contents outlet.new)
+        (take result bytes.now) }
+{
+    if !outlet.has_room() {
+        return 0;
+    }
+    outlet.write(bytes).unwrap_or(0)
+}
