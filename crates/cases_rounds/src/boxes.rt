@@ -1,6 +1,6 @@
 //! The two boxes, whose links lead to each other.
 
-use crate::memory::{Letter, Outage};
+use crate::memory::{Letter, Limit, Outage};
 use crate::stations::{Orders, Station};
 use anyhow::{Context, Result, bail};
 use nat_types::{GatewayId, Side};
@@ -100,6 +100,14 @@ impl Boxes {
         Ok(())
     }
 
+    /// A place of a box takes at most so many bytes at once from now on.
+    pub(crate) fn limit(&mut self, id: &str, place: &str, most: usize) -> Result<()> {
+        let place = place_named(place)?;
+        let station = self.station(id)?;
+        station.wire.limit = Some(Limit { place, most });
+        Ok(())
+    }
+
     /// A box that is there.
     fn station(&mut self, id: &str) -> Result<&mut Station> {
         let station = match id_named(id)? {
@@ -135,6 +143,7 @@ impl Boxes {
         let station = self.station(id)?;
         let lines = station.serve(orders)?;
         let letters = told_by(station, lines, output)?;
+        station.alive.show(output)?;
         self.pass_on(id, letters)
     }
 

@@ -2,11 +2,13 @@
 //! box sends and writes.
 #![tactic(auto)]
 
+mod answers;
 mod boxes;
 mod failures;
 mod memory;
 mod pages;
 mod stations;
+mod supervisors;
 
 use anyhow::{Result, bail};
 use boxes::Boxes;
@@ -22,6 +24,7 @@ use std::io::{self, BufWriter, Write};
 /// - `I off`: box I isn't there any more
 /// - `I come PLACE HEX`, `I come PLACE HEX N`: a datagram comes to box I, or comes N times
 /// - `I fails PLACE N M`: a place of box I fails in the rounds N to M of the next line of rounds
+/// - `I takes PLACE N`: a place of box I takes at most N bytes at once from now on
 /// - `I rounds N M`, `I rounds N M untracked`: box I runs N rounds, at each of which M centiseconds more have passed; it
 ///   tracks the carriers of its interfaces, or doesn't
 /// - `I serves N M`, `I serves - M`, with `told K` behind: box I has N such rounds, or any number of them, until it is told,
@@ -60,6 +63,7 @@ fn happen<O: Write>(
         ["fails", place, first, last] => {
             boxes.fail(id, place, first.parse::<u32>()?, last.parse::<u32>()?)
         }
+        ["takes", place, most] => boxes.limit(id, place, most.parse::<usize>()?),
         ["rounds", count, pace, tracking @ ..] => {
             let track = tracking.is_empty();
             boxes.run(

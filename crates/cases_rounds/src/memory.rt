@@ -2,10 +2,12 @@
 
 ghost use Rattle.std.specs.Prelude.{◌≡◌, ◌≤◌, IfSome};
 
+use crate::answers::show_answer;
 use anyhow::Result as Checked;
+use control::word_of;
 use nat_types::Side;
 use rounds::Clockwork;
-use sockets::{Answers, LONGEST, Place, Wire, WireFault};
+use sockets::{Answers, LONGEST, Losses, Place, SendFault, Wire, WireFault};
 use std::alloc::Global;
 use std::io::{self, Write};
 use std::time::Duration;
@@ -31,6 +33,13 @@ impl Outage {
     }
 }
 
+/// A place takes no more bytes than these at once.
+#[derive(Clone, Copy, Debug, PartialEq, Eq)]
+pub(crate) struct Limit {
+    pub(crate) place: Place,
+    pub(crate) most: usize,
+}
+
 /// What is to come by a wire, and what was sent by it.
 #[derive(Drop)]
 pub(crate) struct Memory {
@@ -43,6 +52,11 @@ pub(crate) struct Memory {
     pub(crate) outages: Vec<Outage>,
     /// How often nothing more was there, which is once a round.
     round: u32,
+    /// The place that takes less than it is sent, if one does, and how much it lost.
+    pub(crate) limit: Option<Limit>,
+    losses: Losses,
+    /// Who said the last word waits for his answer. Before that nobody else is heard.
+    awaits: bool,
     pub(crate) sent: Vec<Letter>,
 }
 
@@ -55,6 +69,9 @@ impl Memory {
             answers: Answers::none(),
             outages: Vec::new(alloc),
             round: 0,
+            limit: None,
+            losses: Losses::none(),
+            awaits: false,
             sent: Vec::new(alloc),
         }
     }
@@ -84,9 +101,29 @@ impl Memory {
         ensures answers { self.new.answers ≡ self.old.answers }
     {
         let letter = self.coming.get(self.come)?;
+        let is_said = letter.place == Place::Operator;
+        if is_said && self.awaits {
+            return None;
+        }
         self.come = self.come.saturating_add(1);
         let count = copied(letter.bytes.as_slice(), room);
+        self.awaits = self.awaits || (is_said && word_of(&room[..count]).is_some());
         Some((letter.place, count))
+    }
+
+    /// Keeps what is sent, where its place takes as much.
+    fn keep(&mut self, to: Place, bytes: &[u8]) -> Result<(), SendFault>
+        ensures { self.new.answers ≡ self.old.answers }
+    {
+        if let Some(limit) = self.limit
+            && limit.place == to
+            && limit.most < bytes.len()
+        {
+            return Err(SendFault::TooLong);
+        }
+        let bytes = Vec::from_slice(self.alloc, bytes).map_err(|_| SendFault::Failed)?;
+        let letter = Letter { place: to, bytes };
+        self.sent.push(letter).map_err(|_| SendFault::Failed)
     }
 
     /// These datagrams come, after those that are to come already.
@@ -100,7 +137,7 @@ impl Memory {
     /// Prints what was sent, and how many datagrams are still to come, if any.
     pub(crate) fn show<O: Write>(&self, output: &mut O) -> io::Result<()> {
         for letter in &self.sent {
-            show_letter(letter, output)?;
+            show_letter(self.alloc, letter, output)?;
         }
         match self.coming.len().saturating_sub(self.come) {
             0 => Ok(()),
@@ -129,8 +166,11 @@ fn name_of(place: Place) -> &'static str {
     }
 }
 
-fn show_letter<O: Write>(letter: &Letter, output: &mut O) -> io::Result<()> {
+fn show_letter<O: Write>(alloc: Global, letter: &Letter, output: &mut O) -> io::Result<()> {
     let name = name_of(letter.place);
+    if letter.place == Place::Operator {
+        return show_answer(alloc, letter.bytes.as_slice(), output);
+    }
     write!(output, "  {name} ")?;
     for byte in &letter.bytes {
         write!(output, "{byte:02x}")?;
@@ -142,9 +182,14 @@ impl Wire for Memory {
     ghost answers = { λ m. m.answers };
 
     fn send(&mut self, to: Place, bytes: &[u8]) -> Result<(), WireFault> {
-        let bytes = Vec::from_slice(self.alloc, bytes).map_err(|_| WireFault)?;
-        let letter = Letter { place: to, bytes };
-        self.sent.push(letter).map_err(|_| WireFault)
+        let done = self.keep(to, bytes);
+        self.losses.count(done);
+        done.map_err(|_| WireFault)
+    }
+
+    fn answer(&mut self, bytes: &[u8]) {
+        self.awaits = false;
+        let _no_memory = self.keep(Place::Operator, bytes);
     }
 
     fn receive(
@@ -168,6 +213,13 @@ impl Wire for Memory {
             }
         }
         false
+    }
+
+    fn losses(&self, place: Place) -> Losses {
+        match self.limit {
+            Some(limit) if limit.place == place => self.losses,
+            _ => Losses::none(),
+        }
     }
 }
 

@@ -2,23 +2,28 @@
 
 use crate::memory::{Letter, Memory, Steps};
 use crate::pages::{Page, Patience};
+use crate::supervisors::Alive;
 use anyhow::{Result, bail};
 use gateway::{Gateway, Hashers};
-use journal::{Format, Unhindered};
-use log::Log;
+use journal::{Format, Journal, Unhindered};
 use nat_types::GatewayId;
-use rounds::{run_rounds, serve};
+use rounds::{Identity, run_rounds, serve};
 use settings::Settings;
 use sockets::{Failing, Place, Wire};
 use std::alloc::Global;
 use std::cell::RefCell;
 use std::io::{self, Write};
 
-/// A gateway with its wire and its clock. It is let go by `end` alone.
+/// Of the settings, as far as a box in memory is asked.
+const DIGEST: u64 = 7;
+
+/// A gateway with its wire and its clock, and who sees to it. It is let go by `end` alone.
 pub(crate) struct Station {
     gateway: Gateway,
+    identity: Identity,
     pub(crate) wire: Memory,
     clock: Steps,
+    pub(crate) alive: Alive,
 }
 
 impl Station {
@@ -33,10 +38,13 @@ impl Station {
         let gateway = begun(alloc, settings, id, boot, found)?;
         let wire = Memory::new(alloc);
         let clock = Steps { moment: 0, pace: 0 };
+        let digest = DIGEST;
         Ok(Station {
             gateway,
+            identity: Identity { id, boot, digest },
             wire,
             clock,
+            alive: Alive::new(),
         })
     }
 
@@ -44,12 +52,15 @@ impl Station {
     pub(crate) fn end(self) {
         let Station {
             gateway,
+            identity: _,
             wire,
             clock,
+            alive,
         } = self;
         gateway.end();
         drop(wire);
         drop(clock);
+        drop(alive);
     }
 
     /// A datagram comes.
@@ -91,12 +102,15 @@ impl Station {
     ) -> io::Result<()> {
         self.clock.pace = orders.pace;
         self.wire.begin();
+        self.alive.begin();
         let log = Unhindered::new(Page { lines, is_shut }, Format::Text);
         served(
             self.wire.alloc,
             &mut self.gateway,
             &mut self.wire,
             &mut self.clock,
+            self.identity,
+            &self.alive,
             orders,
             output,
             &log,
@@ -143,6 +157,8 @@ fn run_on(station: &mut Station, rounds: u32, track: bool, lines: &RefCell<Vec<u
         &Patience::new(None),
         Some(rounds),
         track,
+        station.identity,
+        &station.alive,
         &log,
     );
 }
@@ -167,6 +183,8 @@ fn serve_failing(
         &mut station.gateway,
         &mut wire,
         &mut station.clock,
+        station.identity,
+        &station.alive,
         orders,
         output,
         &log,
@@ -190,11 +208,13 @@ fn begun(
 }
 
 /// A box is run to its end. It says nothing of the gateway either.
-fn served<W: Wire, O: Write, L: Log>(
+fn served<W: Wire, O: Write, L: Journal>(
     alloc: Global,
     gateway: &mut Gateway,
     wire: &mut W,
     clock: &mut Steps,
+    identity: Identity,
+    alive: &Alive,
     orders: Orders,
     output: &mut O,
     log: &L,
@@ -202,7 +222,7 @@ fn served<W: Wire, O: Write, L: Log>(
     let until = Patience::new(orders.told);
     let rounds = orders.rounds;
     serve(
-        alloc, gateway, wire, clock, &until, rounds, true, output, log,
+        alloc, gateway, wire, clock, &until, rounds, true, identity, alive, output, log,
     )?;
     Ok(())
 }

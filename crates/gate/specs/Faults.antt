@@ -1,12 +1,10 @@
 -- The faults of a box, as those of its parts are told.
 use Rattle.std.specs.Prelude.{◌≡◌}
-use Rattle.boot_file.specs.declared.faults.FileFault.{FileFault}
-use Rattle.boot_file.specs.declared.faults.FileFault.TheVariants as file
 use Rattle.boot_store.specs.declared.faults.BootFault.{BootFault}
 use Rattle.boot_store.specs.declared.faults.BootFault.TheVariants as boot
 use Rattle.control.specs.declared.paths.PathFault.{PathFault}
 use Rattle.control.specs.declared.paths.PathFault.TheVariants as path
-use Rattle.faults.specs.declared.faults.Fault.TheVariants.{NoFile, Exists, NotWritten, NoMemory}
+use Rattle.faults.specs.declared.faults.Fault.TheVariants.{NoMemory}
 use Rattle.gate.specs.declared.refusals.BoxFault.{BoxFault}
 use Rattle.gate.specs.declared.refusals.BoxFault.TheVariants as fault
 
@@ -15,14 +13,6 @@ abbrev pub of_path : PathFault → BoxFault
 of_path path.LongPath = fault.LongPath
 of_path path.NoMemory = fault.Run NoMemory
 
--- of a boot file that can't be had
-abbrev pub of_file : FileFault → BoxFault
-of_file file.NoFile = fault.Run NoFile
-of_file file.Exists = fault.Run Exists
-of_file file.NotWritten = fault.Run NotWritten
-of_file file.InUse = fault.InUse
-of_file file.NotLocked = fault.Device
-
 -- of a boot number that can't be had
 abbrev pub of_boot : BootFault → BoxFault
 of_boot boot.Device = fault.Device
@@ -30,7 +20,20 @@ of_boot boot.Damaged = fault.Damaged
 of_boot boot.BootsUsedUp = fault.BootsUsedUp
 of_boot boot.FoundTwice = fault.FoundTwice
 
--- it is of settings, of output or of memory
+-- it is of a boot file that can't be had: of the file, its lock, or memory
+abbrev pub IsOfBootFile : BoxFault → Type 0
+IsOfBootFile (fault.Run why) = Unit {0}
+IsOfBootFile fault.Device = Unit {0}
+IsOfBootFile fault.InUse = Unit {0}
+IsOfBootFile other = ⊥
+
+-- it is of a control socket, or of memory
+abbrev pub IsOfSocket : BoxFault → Type 0
+IsOfSocket (fault.NoControl path) = Unit {0}
+IsOfSocket (fault.Run why) = Unit {0}
+IsOfSocket other = ⊥
+
+-- it is of settings, of a file, of output or of memory
 abbrev pub IsOfRun : BoxFault → Type 0
 IsOfRun (fault.Run why) = Unit {0}
 IsOfRun other = ⊥

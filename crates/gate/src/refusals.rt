@@ -1,17 +1,21 @@
 //! Why a box ends without its work done.
 ghost use Rattle.std.specs.Prelude.{◌≡◌};
-ghost use Rattle.gate.specs.Faults.{IsOfFilter};
+ghost use Rattle.gate.specs.Faults.{IsOfBootFile, IsOfFilter, IsOfNoWay, IsOfRun, IsOfSocket};
 
+use crate::ends::Refused;
 use boot_file::FileFault;
 use boot_store::BootFault;
-use control::{NoSocket, PathFault};
-use faults::Fault;
+use control::{PathFault, PeerOffRefusal};
+use faults::{Fault, Refusal};
 use journal::FilterFault;
 use nat_types::{NoMemory, Side};
+use reports::ReadFault;
 use settings_file::SettingFault;
-use sockets::{NoDescriptor, SocketFault};
-use std::alloc::Global;
-use std::io::{self, Write};
+use sockets::NoDescriptor;
+use std::alloc::{AllocError, Global};
+use std::fmt;
+use std::io::{self, ErrorKind, Write};
+use supervision::NotOpen;
 use thiserror::Error;
 
 /// Why a box doesn't run, or couldn't say that it has ended.
@@ -29,9 +33,18 @@ pub(crate) enum BoxFault {
     /// A descriptor isn't open.
     #[error("{0}")]
     NoDescriptor(NoDescriptor),
-    /// A socket can't be had; or nobody hears at the control socket.
+    /// What stands for the service manager's descriptor writes none.
+    #[error("notify 1 NoWay")]
+    NoManager,
+    /// The service manager's descriptor isn't open.
     #[error("{0}")]
-    Socket(SocketFault),
+    NotOpen(NotOpen),
+    /// A socket can't be had: this one.
+    #[error("socket 1 NoSocket{0}")]
+    NoSocket(Refused),
+    /// The control socket at this path can't be had, or nobody hears there.
+    #[error("socket 1 NoSocket {0}")]
+    NoControl(String),
     /// The path of the control socket is too long for one.
     #[error("socket 2 LongPath")]
     LongPath,
@@ -53,6 +66,32 @@ pub(crate) enum BoxFault {
     /// This part of what is to choose the lines is no directive.
     #[error("log 1 NoFilter {0}")]
     NoFilter(String),
+    /// The box doesn't take the word that a boot of the other is off.
+    #[error("{0}")]
+    PeerOff(Explained),
+    /// What the box answers is no report, or no page.
+    #[error("status 1 NoReport: {0}")]
+    NoReport(ReadFault),
+    /// The box isn't synced.
+    #[error("status 2 NotSynced")]
+    NotSynced,
+}
+
+/// Why a box doesn't take the word that a boot of the other is off: by its number and name, and in words.
+#[derive(Clone, Copy, Debug, PartialEq, Eq)]
+pub(crate) struct Explained(pub(crate) PeerOffRefusal);
+
+impl fmt::Display for Explained {
+    fn fmt<W: fmt::Write>(&self, f: &mut fmt::Formatter<W>) -> fmt::Result {
+        let words = match self.0 {
+            PeerOffRefusal::NotSynced => "the box isn't synced",
+            PeerOffRefusal::NoPeer => "it knows no boot of the other box",
+            PeerOffRefusal::PastBoot => "the other box has started anew since that boot",
+            PeerOffRefusal::UnknownBoot => "it knows no such boot; --force takes it all the same",
+            PeerOffRefusal::PeerHeard => "the other box was heard within the last 3 seconds",
+        };
+        write!(f, "{}: {words}", self.0)
+    }
 }
 
 impl BoxFault {
@@ -66,6 +105,44 @@ impl BoxFault {
                 Err(_) => BoxFault::Run(Fault::NoMemory),
             },
             FilterFault::NoMemory => BoxFault::Run(Fault::NoMemory),
+        }
+    }
+
+    /// Nobody hears at the control socket beside this boot file, or it can't be had.
+    pub(crate) fn no_control(alloc: Global, boot_file: &str) -> BoxFault
+        ensures kind { IsOfSocket result }
+        ensures no_way { IsOfNoWay result }
+    {
+        match format!(in alloc; "{boot_file}.control/socket") {
+            Ok(path) => BoxFault::NoControl(path),
+            Err(_) => BoxFault::Run(Fault::NoMemory),
+        }
+    }
+
+    /// Of a boot file that can't be had.
+    pub(crate) fn of_boot_file(alloc: Global, path: &str, fault: FileFault) -> BoxFault
+        ensures kind { IsOfBootFile result }
+        ensures no_way { IsOfNoWay result }
+    {
+        let (refusal, cause) = match fault {
+            FileFault::NoFile(cause) => (Refusal::NoFile, Some(cause)),
+            FileFault::Exists => (Refusal::Exists, None),
+            FileFault::NotWritten => (Refusal::NotWritten, None),
+            FileFault::InUse => return BoxFault::InUse,
+            FileFault::NotLocked => return BoxFault::Device,
+            FileFault::NoMemory => return BoxFault::Run(Fault::NoMemory),
+        };
+        BoxFault::Run(Fault::of_file(alloc, refusal, path, cause))
+    }
+
+    /// Of the file of a capture that can't be made or written.
+    pub(crate) fn of_capture(alloc: Global, path: &str, error: &io::Error) -> BoxFault
+        ensures kind { IsOfRun result }
+        ensures no_way { IsOfNoWay result }
+    {
+        match error.kind() {
+            ErrorKind::OutOfMemory => BoxFault::Run(Fault::NoMemory),
+            cause => BoxFault::Run(Fault::of_file(alloc, Refusal::NotWritten, path, Some(cause))),
         }
     }
 
@@ -102,17 +179,6 @@ impl From<SettingFault> for BoxFault {
     }
 }
 
-impl From<SocketFault> for BoxFault {
-    ghost use Rattle.std.specs.Prelude.{◌≡◌};
-    ghost use Rattle.gate.specs.declared.refusals.BoxFault.TheVariants as faults;
-
-    ghost from_gives = { λ fault gives. gives ≡ faults.Socket fault };
-
-    fn from(fault: SocketFault) -> BoxFault {
-        BoxFault::Socket(fault)
-    }
-}
-
 impl From<NoDescriptor> for BoxFault {
     ghost use Rattle.std.specs.Prelude.{◌≡◌};
     ghost use Rattle.gate.specs.declared.refusals.BoxFault.TheVariants as faults;
@@ -138,35 +204,6 @@ impl From<PathFault> for BoxFault {
     }
 }
 
-impl From<NoSocket> for BoxFault {
-    ghost use Rattle.std.specs.Prelude.{◌≡◌};
-    ghost use Rattle.sockets.specs.declared.sockets.SocketFault.TheVariants as socket;
-    ghost use Rattle.gate.specs.declared.refusals.BoxFault.TheVariants as faults;
-
-    ghost from_gives = { λ _ gives. gives ≡ faults.Socket socket.NoSocket };
-
-    fn from(_: NoSocket) -> BoxFault {
-        BoxFault::Socket(SocketFault::NoSocket)
-    }
-}
-
-impl From<FileFault> for BoxFault {
-    ghost use Rattle.std.specs.Prelude.{◌≡◌};
-    ghost use Rattle.gate.specs.Faults.{of_file};
-
-    ghost from_gives = { λ fault gives. gives ≡ of_file fault };
-
-    fn from(fault: FileFault) -> BoxFault {
-        match fault {
-            FileFault::NoFile => BoxFault::Run(Fault::NoFile),
-            FileFault::Exists => BoxFault::Run(Fault::Exists),
-            FileFault::NotWritten => BoxFault::Run(Fault::NotWritten),
-            FileFault::InUse => BoxFault::InUse,
-            FileFault::NotLocked => BoxFault::Device,
-        }
-    }
-}
-
 impl From<BootFault> for BoxFault {
     ghost use Rattle.std.specs.Prelude.{◌≡◌};
     ghost use Rattle.gate.specs.Faults.{of_boot};
@@ -180,6 +217,40 @@ impl From<BootFault> for BoxFault {
             BootFault::BootsUsedUp => BoxFault::BootsUsedUp,
             BootFault::FoundTwice => BoxFault::FoundTwice,
         }
+    }
+}
+
+impl From<NotOpen> for BoxFault {
+    ghost use Rattle.std.specs.Prelude.{◌≡◌};
+    ghost use Rattle.gate.specs.declared.refusals.BoxFault.TheVariants as faults;
+
+    ghost from_gives = { λ fault gives. gives ≡ faults.NotOpen fault };
+
+    fn from(fault: NotOpen) -> BoxFault {
+        BoxFault::NotOpen(fault)
+    }
+}
+
+impl From<ReadFault> for BoxFault {
+    ghost use Rattle.std.specs.Prelude.{◌≡◌};
+    ghost use Rattle.gate.specs.declared.refusals.BoxFault.TheVariants as faults;
+
+    ghost from_gives = { λ fault gives. gives ≡ faults.NoReport fault };
+
+    fn from(fault: ReadFault) -> BoxFault {
+        BoxFault::NoReport(fault)
+    }
+}
+
+impl From<AllocError> for BoxFault {
+    ghost use Rattle.std.specs.Prelude.{◌≡◌};
+    ghost use Rattle.faults.specs.declared.faults.Fault.TheVariants as reasons;
+    ghost use Rattle.gate.specs.declared.refusals.BoxFault.TheVariants as faults;
+
+    ghost from_gives = { λ _ gives. gives ≡ faults.Run reasons.NoMemory };
+
+    fn from(_: AllocError) -> BoxFault {
+        BoxFault::Run(Fault::NoMemory)
     }
 }
 

@@ -8,38 +8,44 @@ ghost use Rattle.gate.specs.Faults.{IsOfFilter, IsOfNoWay, IsOfRun};
 ghost use Rattle.gate.specs.Served.{AreHeld, HasRounds, HasRun, HasServed};
 ghost use Rattle.gate.specs.Starts.{Refuses};
 
+use crate::ends::refused_end;
 use crate::refusals::BoxFault;
 use crate::saying::control_path;
 use crate::ways::{WayTexts, ways_of};
 use boot_file::{Lockable, Uncached};
 use boot_store::{Disk, next_boot};
+use checks::digest;
 use control::{Control, ControlPath};
-use faults::text_of;
+use faults::{Fault, text_of};
 use gateway::{Gateway, Hashers};
-use journal::{Entry, Format, StandardError, Unhindered, environment, filter_of, tell};
-use log::Log;
+use journal::{Entry, Format, Journal, StandardError, Unhindered, environment, filter_of, tell};
 use log::filter::FilteredLog;
+use log::{Log, warn};
 use nat_types::{GatewayId, NoMemory};
-use rounds::{InputEnd, Stopwatch, serve};
+use rounds::{Identity, InputEnd, Stopwatch, serve};
 use settings::Settings;
-use sockets::{Sockets, Ways, Wire, ports_of};
+use settings_file::{OnLoopback, SettingFault, port_clash};
+use sockets::{SocketFault, Sockets, Way, Ways, Wire, ports_of};
 use std::alloc::Global;
 use std::fs::Files;
 use std::io::Write;
 use std::net::Net;
+use std::os::fd::AsRawFd;
 use std::random::RandomSource;
 use std::rt::{Clock, Env};
+use supervision::{Manager, Supervisor};
+use tap::{CaptureFile, Reel, SinceFirst, Tapped};
 
 /// Makes the boot file of a box. The answer is the exit status: 0, or 1 for a fault, which is told
 /// on `errors`.
-pub fn init<R: Files, E: Write>(rt: &R, file: &str, errors: &mut E) -> u8
+pub fn init<R: Files + AllocGlobal, E: Write>(rt: &R, file: &str, errors: &mut E) -> u8
 where
     R::File: Uncached,
     ensures status { (result ≡ 0) ⊎ (result ≡ 1) }
 {
     match boot_file::create(rt, file) {
         Ok(()) => 0,
-        Err(fault) => BoxFault::from(fault).tell(errors),
+        Err(fault) => BoxFault::of_boot_file(rt.alloc(), file, fault).tell(errors),
     }
 }
 
@@ -65,6 +71,10 @@ pub struct Start<'a> {
     pub log: Option<&'a str>,
     /// How it writes them.
     pub format: Format,
+    /// The file of the capture of what it takes and sends, where it is captured.
+    pub capture: Option<&'a str>,
+    /// The service manager's descriptor as a way, where one watches it.
+    pub notify: Option<&'a str>,
 }
 
 /// Runs one gateway until it is told to end, or has had its rounds; only gateway 0 founds a pair. The boot number is
@@ -76,7 +86,7 @@ pub fn gate<
     E: Write,
 >(rt: &R, start: &Start<'_>, output: &mut O, errors: &mut E) -> u8
 where
-    R::File: Uncached + Lockable,
+    R::File: Uncached + Lockable + AsRawFd,
     requires found { IsTrue start.now.found → start.now.id ≡ Zero }
     ensures status { (result ≡ 0) ⊎ (result ≡ 1) }
     ensures served { result ≡ 0 → HasServed start.now.id start.now.rounds start.now.found
@@ -88,8 +98,9 @@ where
     }
 }
 
-/// Faults are found in this order: the settings' file, the settings, the ways, their descriptors, the control socket's
-/// path, the boot file and its lock, the control socket, the sockets, the filter of the records, the seed of the table's
+/// Faults are found in this order: the settings' file, the settings, the ways, their descriptors, the service manager's
+/// descriptor, ports of the loopback address that can't be had together, the control socket's path, the boot file and its
+/// lock, the control socket, the sockets, the filter of the records, the file of the capture, the seed of the table's
 /// hashers, the boot number. So a start that is refused for one of the others takes no number, and one on a box that runs
 /// already touches none of its sockets.
 fn served<R: Files + Net + Clock + RandomSource + Eprint + Env + Input + AllocGlobal, O: Write>(
@@ -98,7 +109,7 @@ fn served<R: Files + Net + Clock + RandomSource + Eprint + Env + Input + AllocGl
     output: &mut O,
 ) -> Result<(), BoxFault>
 where
-    R::File: Uncached + Lockable,
+    R::File: Uncached + Lockable + AsRawFd,
     requires found { IsTrue start.now.found → start.now.id ≡ Zero }
     ensures ok { OnOk result (HasServed start.now.id start.now.rounds start.now.found
         start.now.track start.now.until_eof (O.contents output.old) (O.contents output.new)) }
@@ -107,7 +118,59 @@ where
     let settings = settings_at(rt, start.settings)?;
     let ways = ways_of(start.ways)?;
     ways.inherit()?;
-    locked(rt, start, &settings, &ways, output)
+    watched(rt, start, &settings, &ways, output)
+}
+
+/// Takes over the service manager's descriptor, and looks whether the ports of the places on loopback can be had together.
+fn watched<R: Files + Net + Clock + RandomSource + Eprint + Env + Input + AllocGlobal, O: Write>(
+    rt: &R,
+    start: &Start<'_>,
+    settings: &Settings,
+    ways: &Ways,
+    output: &mut O,
+) -> Result<(), BoxFault>
+where
+    R::File: Uncached + Lockable + AsRawFd,
+    requires found { IsTrue start.now.found → start.now.id ≡ Zero }
+    ensures ok { OnOk result (HasRun settings.now start.now.id start.now.rounds start.now.found
+        start.now.track start.now.until_eof (O.contents output.old) (O.contents output.new)) }
+    ensures err { IfErr result IsOfNoWay }
+{
+    let manager = manager_of(start.notify)?;
+    without_clash(settings, start.id, ways)?;
+    locked(rt, start, settings, ways, &manager, output)
+}
+
+/// The service manager whose descriptor a text writes, if there is one.
+fn manager_of(text: Option<&str>) -> Result<Option<Manager>, BoxFault>
+    ensures err { IfErr result IsOfNoWay }
+{
+    let Some(text) = text else {
+        return Ok(None);
+    };
+    let Some(manager) = Manager::read(text) else {
+        return Err(BoxFault::NoManager);
+    };
+    manager.inherit()?;
+    Ok(Some(manager))
+}
+
+/// Looks whether the ports of the places that are on loopback can be had together.
+fn without_clash(settings: &Settings, id: GatewayId, ways: &Ways) -> Result<(), BoxFault>
+    ensures err { IfErr result IsOfNoWay }
+{
+    let on = OnLoopback {
+        inside: ways.inside == Way::Loopback,
+        outside: ways.outside == Way::Loopback,
+        link: ways.link == Way::Loopback,
+    };
+    match port_clash(settings, id, on) {
+        Some(key) => {
+            let fault = SettingFault::CantWork(key);
+            Err(BoxFault::Run(Fault::Setting(fault)))
+        }
+        None => Ok(()),
+    }
 }
 
 /// Opens and locks the boot file, for as long as the gateway runs. The control socket's path is made before.
@@ -116,21 +179,25 @@ fn locked<R: Files + Net + Clock + RandomSource + Eprint + Env + Input + AllocGl
     start: &Start<'_>,
     settings: &Settings,
     ways: &Ways,
+    manager: &Option<Manager>,
     output: &mut O,
 ) -> Result<(), BoxFault>
 where
-    R::File: Uncached + Lockable,
+    R::File: Uncached + Lockable + AsRawFd,
     requires found { IsTrue start.now.found → start.now.id ≡ Zero }
     ensures ok { OnOk result (HasRun settings.now start.now.id start.now.rounds start.now.found
         start.now.track start.now.until_eof (O.contents output.old) (O.contents output.new)) }
     ensures err { IfErr result IsOfNoWay }
 {
     let path = control_path(rt.alloc(), settings, start.id)?;
-    let mut disk = boot_file::open(rt, settings.gateway(start.id).boot_file.as_str())?;
-    connected(rt, start, settings, ways, &path, &mut disk, output)
+    let boot_file = settings.gateway(start.id).boot_file.as_str();
+    match boot_file::open(rt, boot_file) {
+        Ok(mut disk) => connected(rt, start, settings, ways, &path, manager, &mut disk, output),
+        Err(fault) => Err(BoxFault::of_boot_file(rt.alloc(), boot_file, fault)),
+    }
 }
 
-/// Opens the control socket, and the sockets that the ways need.
+/// Opens the control socket, the sockets that the ways need, and the file of the capture.
 fn connected<
     R: Files + Net + Clock + RandomSource + Eprint + Env + Input + AllocGlobal,
     D: Disk,
@@ -141,19 +208,88 @@ fn connected<
     settings: &Settings,
     ways: &Ways,
     path: &ControlPath,
+    manager: &Option<Manager>,
     disk: &mut D,
     output: &mut O,
 ) -> Result<(), BoxFault>
+where
+    R::File: AsRawFd,
     requires found { IsTrue start.now.found → start.now.id ≡ Zero }
     ensures ok { OnOk result (HasRun settings.now start.now.id start.now.rounds start.now.found
         start.now.track start.now.until_eof (O.contents output.old) (O.contents output.new)) }
     ensures err { IfErr result IsOfNoWay }
 {
-    let control = Control::open(rt, path)?;
+    let Ok(control) = Control::open(rt, path) else {
+        let boot_file = settings.gateway(start.id).boot_file.as_str();
+        return Err(BoxFault::no_control(rt.alloc(), boot_file));
+    };
     let ports = ports_of(settings, start.id);
-    let wire = Sockets::open(rt, rt.alloc(), ways, ports, control)?;
+    let mut wire = match Sockets::open(rt, rt.alloc(), ways, ports, control) {
+        Ok(wire) => wire,
+        Err(SocketFault::NoMemory) => return Err(BoxFault::from(NoMemory)),
+        Err(SocketFault::NoSocket) => return Err(BoxFault::NoSocket(refused_end(rt, ways, ports))),
+    };
     let log = log_of(rt, start.log, start.format)?;
-    run(rt, start, settings, disk, wire, output, &log)
+    match start.capture {
+        Some(file) => tapped(rt, start, settings, manager, disk, file, wire, output, &log),
+        None => run(rt, start, settings, manager, disk, &mut wire, output, &log),
+    }
+}
+
+/// Runs the gateway on a wire whose packets are captured in a file. At the end a record says how many were left out.
+fn tapped<
+    R: Files + Clock + RandomSource + Input + AllocGlobal,
+    D: Disk,
+    W: Wire + Drop,
+    O: Write,
+    L: Journal,
+>(
+    rt: &R,
+    start: &Start<'_>,
+    settings: &Settings,
+    manager: &Option<Manager>,
+    disk: &mut D,
+    file: &str,
+    wire: W,
+    output: &mut O,
+    log: &L,
+) -> Result<(), BoxFault>
+where
+    R::File: AsRawFd,
+    requires found { IsTrue start.now.found → start.now.id ≡ Zero }
+    requires unasked { W.answers wire ≡ [] }
+    ensures ok { OnOk result (HasRun settings.now start.now.id start.now.rounds start.now.found
+        start.now.track start.now.until_eof (O.contents output.old) (O.contents output.new)) }
+    ensures err { IfErr result IsOfNoWay }
+{
+    let reel = reel_at(rt, file)?;
+    let mut wire = Tapped::new(wire, start.id, SinceFirst::new(rt), reel);
+    let ended = run(rt, start, settings, manager, disk, &mut wire, output, log);
+    wire.end();
+    let packets = wire.left_out();
+    if 0 < packets {
+        warn!(log; target: "natpair::capture", packets; "capture left out {packets} packets");
+    }
+    ended
+}
+
+/// A capture that is begun in the file at a path.
+fn reel_at<R: Files + AllocGlobal>(
+    rt: &R,
+    path: &str,
+) -> Result<Reel<CaptureFile<R::File>>, BoxFault>
+where
+    R::File: AsRawFd,
+    ensures err { IfErr result IsOfNoWay }
+{
+    let begun = match tap::open(rt, path) {
+        Ok(file) => Reel::begin(rt.alloc(), file),
+        Err(error) => Err(error),
+    };
+    match begun {
+        Ok(reel) => Ok(reel),
+        Err(error) => Err(BoxFault::of_capture(rt.alloc(), path, &error)),
+    }
 }
 
 /// The box's records, on the standard error.
@@ -196,33 +332,52 @@ fn filtered<'a, R: Eprint + AllocGlobal>(
 }
 
 /// Starts the gateway and runs its rounds, on a wire that wasn't asked yet.
-fn run<R: Clock + RandomSource + Input + AllocGlobal, D: Disk, W: Wire + Drop, O: Write, L: Log>(
+fn run<R: Clock + RandomSource + Input + AllocGlobal, D: Disk, W: Wire, O: Write, L: Journal>(
     rt: &R,
     start: &Start<'_>,
     settings: &Settings,
+    manager: &Option<Manager>,
     disk: &mut D,
-    mut wire: W,
+    wire: &mut W,
     output: &mut O,
     log: &L,
 ) -> Result<(), BoxFault>
     requires found { IsTrue start.now.found → start.now.id ≡ Zero }
-    requires unasked { W.answers wire ≡ [] }
+    requires unasked { W.answers wire.old ≡ [] }
     ensures ok { OnOk result (HasRun settings.now start.now.id start.now.rounds start.now.found
         start.now.track start.now.until_eof (O.contents output.old) (O.contents output.new)) }
     ensures err { IfErr result IsOfNoWay }
 {
-    let mut gateway = started(rt, disk, settings, start.id, start.found, output, log)?;
-    let ended = rounds_of(rt, &mut gateway, &mut wire, start, output, log);
+    let digest = digest(rt.alloc(), settings)?;
+    let (boot, mut gateway) = started(rt, disk, settings, start.id, start.found, output, log)?;
+    manager.ready(boot);
+    let identity = Identity {
+        id: start.id,
+        boot,
+        digest,
+    };
+    let ended = rounds_of(
+        rt,
+        &mut gateway,
+        wire,
+        start,
+        identity,
+        manager,
+        output,
+        log,
+    );
     gateway.end();
     ended
 }
 
 /// Runs a gateway until it is told to end, or has had its rounds. After an Err it was run too, and `end` isn't written.
-fn rounds_of<R: Clock + Input + AllocGlobal, W: Wire, O: Write, L: Log>(
+fn rounds_of<R: Clock + Input + AllocGlobal, W: Wire, O: Write, L: Journal>(
     rt: &R,
     gateway: &mut Gateway,
     wire: &mut W,
     start: &Start<'_>,
+    identity: Identity,
+    manager: &Option<Manager>,
     output: &mut O,
     log: &L,
 ) -> Result<(), BoxFault>
@@ -242,6 +397,8 @@ fn rounds_of<R: Clock + Input + AllocGlobal, W: Wire, O: Write, L: Log>(
         &until,
         start.rounds,
         start.track,
+        identity,
+        manager,
         output,
         log,
     )?;
@@ -269,10 +426,10 @@ fn started<R: RandomSource + AllocGlobal, D: Disk, O: Write, L: Log>(
     found: bool,
     output: &mut O,
     log: &L,
-) -> Result<Gateway, BoxFault>
+) -> Result<(u64, Gateway), BoxFault>
     requires found { IsTrue found → id ≡ Zero }
-    ensures start { IfOk result (HasStarted settings.now id found
-        (O.contents output.old) (O.contents output.new)) }
+    ensures start { IfOk result (λ begun. HasStarted settings.now id found
+        (O.contents output.old) (O.contents output.new) begun.1) }
     ensures err { IfErr result IsOfNoWay }
 {
     let hashers = drawn(rt)?;
@@ -280,7 +437,7 @@ fn started<R: RandomSource + AllocGlobal, D: Disk, O: Write, L: Log>(
     match announced(output, boot) {
         Ok(()) => {
             tell(log, 0, Entry::Boot(boot));
-            Ok(gateway)
+            Ok((boot, gateway))
         }
         Err(fault) => {
             gateway.end();

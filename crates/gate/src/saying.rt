@@ -1,11 +1,14 @@
 //! The words that an operator says to a running box.
-ghost use Rattle.std.specs.Prelude.{◌≡◌, ◌⊎◌, ◌<◌, IfOk, IsErrOf, string_bytes};
-ghost use Rattle.control.specs.Paths.{IsBeside, socket_of};
+ghost use Rattle.std.specs.Prelude.{◌≡◌, ◌⊎◌, IfOk, string_bytes};
+ghost use Rattle.control.specs.Paths.{IsBeside};
 ghost use Rattle.settings.specs.Parts.{gateway_of};
 
-use crate::refusals::BoxFault;
+use crate::asking::asked;
+use crate::refusals::{BoxFault, Explained};
 use crate::running::settings_at;
-use control::{ControlPath, PathFault, say, spelled_side, spelled_stop, spelled_word};
+use control::{
+    Answer, ControlPath, PathFault, say, spelled_known_off, spelled_off, spelled_side, spelled_stop,
+};
 use nat_types::{GatewayId, Side};
 use settings::Settings;
 use std::alloc::Global;
@@ -13,20 +16,43 @@ use std::fs::Files;
 use std::io::Write;
 use std::net::Net;
 
-/// Tells a running gateway that this boot of the other is off. The answer is the exit status: 0 once the gateway has
-/// heard it, or 1 for a fault, which is told on `errors`.
+/// Tells a running box that a boot of the other is off: this one, or where there is none that which the box knows. Where it
+/// is forced the boot may be above the known one. The answer is the exit status: 0 once the box has taken it, or 1 where it
+/// refuses it or for a fault, which is told on `errors`.
 pub fn peer_off<R: Files + Net + AllocGlobal, E: Write>(
     rt: &R,
     settings: &str,
     id: GatewayId,
-    boot: u64,
+    boot: Option<u64>,
+    forced: bool,
     errors: &mut E,
 ) -> u8
     ensures status { (result ≡ 0) ⊎ (result ≡ 1) }
 {
-    match said(rt, settings, id, &spelled_word(boot)) {
+    let taken = match boot {
+        Some(boot) => said_off(rt, settings, id, &spelled_off(boot, forced)),
+        None => said_off(rt, settings, id, &spelled_known_off()),
+    };
+    match taken {
         Ok(()) => 0,
         Err(fault) => fault.tell(errors),
+    }
+}
+
+/// Says a word that the box may refuse.
+fn said_off<R: Files + Net + AllocGlobal>(
+    rt: &R,
+    settings: &str,
+    id: GatewayId,
+    word: &[u8],
+) -> Result<(), BoxFault> {
+    let line = line_to(rt, settings, id)?;
+    let mut room = [0; 4_096];
+    let count = asked(rt, &line, word, &mut room)?;
+    match Answer::read(&room[..count]) {
+        Some(Answer::Heard) => Ok(()),
+        Some(Answer::Refused(refusal)) => Err(BoxFault::PeerOff(Explained(refusal))),
+        _ => Err(line.unheard(rt.alloc())),
     }
 }
 
@@ -71,10 +97,37 @@ fn said<R: Files + Net + AllocGlobal>(
     id: GatewayId,
     word: &[u8],
 ) -> Result<(), BoxFault> {
+    let line = line_to(rt, settings, id)?;
+    match say(rt, &line.path, word) {
+        Ok(()) => Ok(()),
+        Err(_) => Err(line.unheard(rt.alloc())),
+    }
+}
+
+/// Where a box is spoken to: its control socket, beside its boot file.
+#[derive(Drop)]
+pub(crate) struct Line {
+    pub(crate) path: ControlPath,
+    boot_file: String,
+}
+
+impl Line {
+    /// Nobody hears there.
+    pub(crate) fn unheard(&self, alloc: Global) -> BoxFault {
+        BoxFault::no_control(alloc, self.boot_file.as_str())
+    }
+}
+
+/// Where the gateway of the settings at a path is spoken to.
+pub(crate) fn line_to<R: Files + AllocGlobal>(
+    rt: &R,
+    settings: &str,
+    id: GatewayId,
+) -> Result<Line, BoxFault> {
     let settings = settings_at(rt, settings)?;
     let path = control_path(rt.alloc(), &settings, id)?;
-    say(rt, &path, word)?;
-    Ok(())
+    let boot_file = String::from_str(rt.alloc(), settings.gateway(id).boot_file.as_str())?;
+    Ok(Line { path, boot_file })
 }
 
 /// Where the gateway's control socket lies: beside its boot file.

@@ -8,13 +8,14 @@ use Rattle.sockets.specs.declared.wire.WireFault.{WireFault}
 use Rattle.spec_step.specs.declared.events.Event.{Event}
 use Rattle.rounds.specs.Rounds.{AreAllRounds, AreRounds, Box, Brings, IsRound, Reads, State, TakesAny, TakesAll, TakesNew, ends_by}
 use Rattle.rounds.specs.Polls.{Asks, HasAsked, HasPolled}
+use Rattle.rounds.specs.Views.{seen}
 
 -- ---- what an answer brings
 
 -- a letter came, so many bytes of a receiver's room, and was taken
 pub one_came : (track : Bool) (b b2 : Box) (place : Place) (count : ℕ) (room : List ℕ) (found : Option (Place × ℕ)) (event : Option Event)
     → found ≡ Some (place, count) → b2.answers ≡ b.answers ++ answer_of {E = WireFault} (Ok found) room ∷ []
-    → Brings track (record { place = place; bytes = take count room }) event
+    → Brings track (seen b.state.shown) (record { place = place; bytes = take count room }) event
     → TakesAny (ends_by b.state place (take count room)) event b2.state → Asks track b true b2
 one_came track b b2 place count room found event is new brings takes = record {
   answer = came (record { place = place; bytes = take count room });

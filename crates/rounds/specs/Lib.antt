@@ -1,5 +1,6 @@
-pub mod Letters
 pub mod Views
+pub mod Judging
+pub mod Letters
 pub mod Rounds
 pub mod LeftOut
 pub mod Polls

@@ -11,6 +11,8 @@ use Rattle.spec_step.specs.declared.events.Event.TheVariants.{Stop, Tick}
 use Rattle.spec_step.specs.Shown.{Shown, scene}
 use Rattle.spec_step.specs.Steps.{IsStepOn}
 use Rattle.rounds.specs.Letters.{event_of, is_end}
+use Rattle.rounds.specs.Views.{seen}
+use Rattle.rounds.specs.declared.views.View.{View}
 
 -- what a letter changes: a gateway, how many events were left out, and whether the box is to end
 pub record State : Type 0 where
@@ -29,11 +31,11 @@ pub record Box : Type 0 where
 abbrev pub box : Shown → List Polled → ℕ → Bool → Box
 box g answers left_out ending = record { state = state g left_out ending; answers = answers }
 
--- the event that a letter is to a gateway, or that it is none; carriers are tracked or not
-pub record Brings (track : Bool) (letter : ReceivedDatagram) (event : Option Event) : Type 0 where
+-- the event that a letter is to a gateway that stands so, or that it is none; carriers are tracked or not
+pub record Brings (track : Bool) (view : View) (letter : ReceivedDatagram) (event : Option Event) : Type 0 where
   pub bytes : Bor (List ℕ)
   pub whole : bytes.now ≡ letter.bytes
-  pub is : event ≡ event_of track letter.place bytes
+  pub is : event ≡ event_of track view letter.place bytes
 
 -- an event is taken by a step; or memory was refused, nothing has changed, and one event more was left out
 abbrev pub Takes : State → Event → State → Type 0
@@ -50,10 +52,10 @@ TakesAny s None s2 = s2 ≡ s
 abbrev pub ends_by : State → Place → List ℕ → State
 ends_by s place bytes = record s { ending = s.ending || is_end place bytes }
 
--- a letter may say that the box is to end; and is taken as its event, if it is one
+-- a letter may say that the box is to end; and is taken as its event, if it is one to the gateway as it stands
 pub record TakesLetter (track : Bool) (s : State) (letter : ReceivedDatagram) (s2 : State) : Type 0 where
   pub event : Option Event
-  pub brings : Brings track letter event
+  pub brings : Brings track (seen s.shown) letter event
   pub taken : TakesAny (ends_by s letter.place letter.bytes) event s2
 
 -- letters are taken one after the other

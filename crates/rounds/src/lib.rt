@@ -3,17 +3,22 @@
 #![tactic(auto)]
 
 mod clocks;
+mod desk;
+mod judging;
 mod left;
 mod letters;
 mod logs;
 mod outages;
+mod replies;
 mod rounds;
 mod told;
 mod views;
 
 pub use clocks::{Clockwork, Stopwatch};
+pub use desk::Identity;
+pub use judging::{Question, Reply, judged, reply_of};
 pub use left::LeftOut;
-pub use letters::{event_of, is_end};
+pub use letters::{event_of, is_end, reply_at};
 pub use outages::PATIENCE;
 pub use rounds::{MOST, WAIT, run_rounds, serve};
 pub use told::{InputEnd, Told};

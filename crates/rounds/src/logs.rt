@@ -35,7 +35,7 @@ pub(crate) fn tell_step<L: Log>(
 }
 
 /// Why nothing came of an event, if nothing did.
-fn cause_of(outcome: Result<Outcome, NoMemory>) -> Option<Cause> {
+pub(crate) fn cause_of(outcome: Result<Outcome, NoMemory>) -> Option<Cause> {
     match outcome {
         Ok(Outcome::Dropped(reason)) => Some(Cause::Dropped(reason)),
         Ok(_) => None,
@@ -44,7 +44,7 @@ fn cause_of(outcome: Result<Outcome, NoMemory>) -> Option<Cause> {
 }
 
 /// Where an event came from: the box itself, of its clock and of its operator's words.
-fn origin_of(event: &Event<'_>) -> Origin {
+pub(crate) fn origin_of(event: &Event<'_>) -> Origin {
     match event {
         Event::Frame(side, _) => Origin::of(*side),
         Event::Datagram(_) => Origin::Link,

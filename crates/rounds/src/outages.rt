@@ -48,43 +48,79 @@ impl Mark {
     }
 }
 
+/// What was told of a place.
+#[derive(Clone, Copy, Debug, PartialEq, Eq)]
+struct Watched {
+    mark: Mark,
+    /// That it takes less than was to be sent there.
+    is_short: bool,
+}
+
+impl Watched {
+    /// It works, and nothing was told.
+    fn new() -> Watched {
+        Watched {
+            mark: Mark::new(),
+            is_short: false,
+        }
+    }
+
+    /// Tells of the place where it has failed for a while, or works again for as long; and once that it takes less than
+    /// was to be sent there.
+    fn tell<W: Wire, L: Log>(
+        &mut self,
+        wire: &W,
+        place: Place,
+        origin: Origin,
+        moment: u64,
+        log: &L,
+    ) {
+        let fails = wire.is_failing(place);
+        if self.mark.look(fails, moment) {
+            tell(log, moment, turn_of(origin, fails));
+        }
+        if !self.is_short && 0 < wire.losses(place).too_long {
+            self.is_short = true;
+            tell(log, moment, Entry::TooLong(origin));
+        }
+    }
+}
+
+/// That a place fails, or works again.
+fn turn_of(origin: Origin, fails: bool) -> Entry {
+    if fails {
+        Entry::Fails(origin)
+    } else {
+        Entry::Works(origin)
+    }
+}
+
 /// What was told of each place that datagrams come from and go to.
 #[derive(Drop)]
 pub(crate) struct Outages {
-    inside: Mark,
-    outside: Mark,
-    link: Mark,
+    inside: Watched,
+    outside: Watched,
+    link: Watched,
 }
 
 impl Outages {
     /// Each works.
     pub(crate) fn none() -> Outages {
         Outages {
-            inside: Mark::new(),
-            outside: Mark::new(),
-            link: Mark::new(),
+            inside: Watched::new(),
+            outside: Watched::new(),
+            link: Watched::new(),
         }
     }
 
-    /// Tells of each place that has failed for a while, or works again for as long.
+    /// Tells of each place that has failed for a while, or works again for as long; and once of each that takes less
+    /// than was to be sent there.
     pub(crate) fn tell<W: Wire, L: Log>(&mut self, wire: &W, moment: u64, log: &L) {
-        let inside = wire.is_failing(Place::Side(Side::Inside));
-        tell_place(&mut self.inside, Origin::Inside, inside, moment, log);
-        let outside = wire.is_failing(Place::Side(Side::Outside));
-        tell_place(&mut self.outside, Origin::Outside, outside, moment, log);
-        let link = wire.is_failing(Place::Link);
-        tell_place(&mut self.link, Origin::Link, link, moment, log);
+        let inside = Place::Side(Side::Inside);
+        self.inside.tell(wire, inside, Origin::Inside, moment, log);
+        let outside = Place::Side(Side::Outside);
+        self.outside
+            .tell(wire, outside, Origin::Outside, moment, log);
+        self.link.tell(wire, Place::Link, Origin::Link, moment, log);
     }
-}
-
-fn tell_place<L: Log>(mark: &mut Mark, origin: Origin, fails: bool, moment: u64, log: &L) {
-    if !mark.look(fails, moment) {
-        return;
-    }
-    let entry = if fails {
-        Entry::Fails(origin)
-    } else {
-        Entry::Works(origin)
-    };
-    tell(log, moment, entry);
 }

@@ -2,22 +2,25 @@
 ghost use Rattle.std.specs.Prelude.{◌≡◌, ◌⊎◌, ◌||◌, Bool, true, false, OnOk, codes};
 ghost use Rattle.std.specs.Io.KnownBytes.{Appends};
 ghost use Rattle.rounds.specs.Letters.{event_of, is_end};
+ghost use Rattle.rounds.specs.Views.{seen};
 ghost use Rattle.rounds.specs.Rounds.{AreAllRounds, IsRound, IsRun, RunsTo, Takes, TakesAny, box, most_rounds, state};
 ghost use Rattle.rounds.specs.Polls.{Asks, HasPolled};
 
+use crate::desk::{Desk, Identity};
 use crate::left::LeftOut;
-use crate::letters::{event_of, is_end};
+use crate::letters::{event_of, is_end, reply_at};
 use crate::logs::tell_step;
-use crate::outages::Outages;
-use crate::views::{View, view_of};
+use crate::replies::{answer_question, reply};
+use crate::views::view_of;
 use crate::{Clockwork, Told};
 use gateway::{Event, Gateway, Out};
-use journal::{Tally, tell_end, tell_turn};
-use log::Log;
+use journal::{Journal, Origin, tell_end, tell_turn};
+use reports::{Count, Counters};
 use sockets::{LONGEST, Place, Wire};
 use std::alloc::Global;
 use std::io::{self, Write};
 use std::time::Duration;
+use supervision::Supervisor;
 
 /// How many datagrams a round receives at most, so that a flood doesn't keep its tick back. What is
 /// left is there for the next round.
@@ -26,23 +29,13 @@ pub const MOST: usize = 256;
 /// How long a round waits for its first datagram, in milliseconds.
 pub const WAIT: u64 = 10;
 
-/// What the gateway has told in its last step, how it stood then, what was told of the places and of this second's
-/// drops, how many events were left out, and whether the box is to end.
-#[derive(Drop)]
-struct Desk {
-    out: Out,
-    view: View,
-    outages: Outages,
-    tally: Tally,
-    left: LeftOut,
-    ending: bool,
-}
-
 /// Runs a box until it is told to end, or has had so many rounds; stops its gateway, writes `end`, and is done. It is
 /// told by the word at its control socket, or by `until`. A round hands in what comes by the wire, and then one tick;
 /// what the gateway tells is sent at once, what it tells when it is stopped too. To `log` goes a record of each event
 /// that is dropped, as `journal` sums them up, and of each change that an operator watches for. What carriers tell of
-/// the sides counts where they are tracked.
+/// the sides counts where they are tracked. Who says a word is answered: that it is taken, or why it isn't, at once; how the
+/// box stands, which has this identity, at the round's end. The supervisor is told once a second that the box goes on, and
+/// then that it ends.
 ///
 /// A send that fails is a lost datagram; where to receive fails, nothing was received. An event for
 /// which memory is refused changes nothing: a frame or a datagram is lost then, what a tick was
@@ -52,7 +45,7 @@ struct Desk {
 /// # Errors
 ///
 /// Those of writing `end`. The whole run has been had then too.
-pub fn serve<W: Wire, C: Clockwork, T: Told, O: Write, L: Log>(
+pub fn serve<W: Wire, C: Clockwork, T: Told, S: Supervisor, O: Write, L: Journal>(
     alloc: Global,
     gateway: &mut Gateway,
     wire: &mut W,
@@ -60,6 +53,8 @@ pub fn serve<W: Wire, C: Clockwork, T: Told, O: Write, L: Log>(
     until: &T,
     rounds: Option<u32>,
     track: bool,
+    identity: Identity,
+    supervisor: &S,
     output: &mut O,
     log: &L,
 ) -> io::Result<LeftOut>
@@ -69,14 +64,16 @@ pub fn serve<W: Wire, C: Clockwork, T: Told, O: Write, L: Log>(
     ensures ended { OnOk result
         (Appends (O.contents output.old) (O.contents output.new) (codes "end\n")) }
 {
-    let left = run(alloc, gateway, wire, clock, until, rounds, track, log);
+    let left = run(
+        alloc, gateway, wire, clock, until, rounds, track, identity, supervisor, log,
+    );
     output.write_all(b"end\n")?;
     output.flush()?;
     Ok(left)
 }
 
 /// The rounds of `serve` alone: the gateway isn't stopped and can go on. It says how many events were left out.
-pub fn run_rounds<W: Wire, C: Clockwork, T: Told, L: Log>(
+pub fn run_rounds<W: Wire, C: Clockwork, T: Told, S: Supervisor, L: Journal>(
     alloc: Global,
     gateway: &mut Gateway,
     wire: &mut W,
@@ -84,20 +81,24 @@ pub fn run_rounds<W: Wire, C: Clockwork, T: Told, L: Log>(
     until: &T,
     rounds: Option<u32>,
     track: bool,
+    identity: Identity,
+    supervisor: &S,
     log: &L,
 ) -> LeftOut
     ensures { (ending : Bool) × AreAllRounds track C.reads (most_rounds rounds) (T.tells until.now)
         (box gateway.old (W.answers wire.old) 0 false) clock.old
         (box gateway.new (W.answers wire.new) result ending) clock.new }
 {
-    let mut desk = desk_of(alloc, gateway);
-    all_rounds(gateway, wire, clock, until, rounds, track, &mut desk, log);
+    let mut desk = Desk::new(alloc, gateway, identity);
+    all_rounds(
+        gateway, wire, clock, until, rounds, track, supervisor, &mut desk, log,
+    );
     tell_end(log, &desk.tally, gateway.moment());
     desk.left
 }
 
 /// Runs the rounds, stops the gateway, and says how many events were left out.
-fn run<W: Wire, C: Clockwork, T: Told, L: Log>(
+fn run<W: Wire, C: Clockwork, T: Told, S: Supervisor, L: Journal>(
     alloc: Global,
     gateway: &mut Gateway,
     wire: &mut W,
@@ -105,42 +106,33 @@ fn run<W: Wire, C: Clockwork, T: Told, L: Log>(
     until: &T,
     rounds: Option<u32>,
     track: bool,
+    identity: Identity,
+    supervisor: &S,
     log: &L,
 ) -> LeftOut
     ensures { IsRun track C.reads (most_rounds rounds) (T.tells until.now)
         (box gateway.old (W.answers wire.old) 0 false) clock.old
         gateway.new (W.answers wire.new) result clock.new }
 {
-    let mut desk = desk_of(alloc, gateway);
-    all_rounds(gateway, wire, clock, until, rounds, track, &mut desk, log);
+    let mut desk = Desk::new(alloc, gateway, identity);
+    all_rounds(
+        gateway, wire, clock, until, rounds, track, supervisor, &mut desk, log,
+    );
+    supervisor.ending();
     hand_in(gateway, Event::Stop, wire, &mut desk, log);
     tell_end(log, &desk.tally, gateway.moment());
     desk.left
 }
 
-/// Nothing was told or left out yet.
-fn desk_of(alloc: Global, gateway: &Gateway) -> Desk
-    ensures left { result.left ≡ 0 }
-    ensures ending { result.ending ≡ false }
-{
-    Desk {
-        out: Out::new(alloc),
-        view: view_of(gateway),
-        outages: Outages::none(),
-        tally: Tally::new(gateway.moment()),
-        left: LeftOut::none(),
-        ending: false,
-    }
-}
-
 /// Runs rounds until the box is to end, or has had so many.
-fn all_rounds<W: Wire, C: Clockwork, T: Told, L: Log>(
+fn all_rounds<W: Wire, C: Clockwork, T: Told, S: Supervisor, L: Journal>(
     gateway: &mut Gateway,
     wire: &mut W,
     clock: &mut C,
     until: &T,
     rounds: Option<u32>,
     track: bool,
+    supervisor: &S,
     desk: &mut Desk,
     log: &L,
 )
@@ -155,6 +147,7 @@ fn all_rounds<W: Wire, C: Clockwork, T: Told, L: Log>(
             return;
         }
         round(gateway, wire, clock, track, &mut room, desk, log);
+        desk.tell_alive(gateway, supervisor);
     }
 }
 
@@ -176,8 +169,9 @@ fn is_over<T: Told>(desk: &Desk, until: &T) -> bool
     desk.ending || until.is_told()
 }
 
-/// Hands in what comes, and then the clock's moment; and tells which places fail, and what a second that has ended owes.
-fn round<W: Wire, C: Clockwork, L: Log>(
+/// Hands in what comes, and then the clock's moment; answers a question; and tells which places fail, and what a second that
+/// has ended owes.
+fn round<W: Wire, C: Clockwork, L: Journal>(
     gateway: &mut Gateway,
     wire: &mut W,
     clock: &mut C,
@@ -194,12 +188,14 @@ fn round<W: Wire, C: Clockwork, L: Log>(
     take_what_comes(gateway, wire, track, room, desk, log);
     let tick = Event::Tick(clock.moment());
     hand_in(gateway, tick, wire, desk, log);
+    desk.sides.look(gateway);
+    answer_question(gateway, wire, room, desk, log);
     desk.outages.tell(wire, gateway.moment(), log);
     tell_turn(log, &mut desk.tally, gateway.moment());
 }
 
 /// Waits for a datagram, and hands in what is there.
-fn take_what_comes<W: Wire, L: Log>(
+fn take_what_comes<W: Wire, L: Journal>(
     gateway: &mut Gateway,
     wire: &mut W,
     track: bool,
@@ -221,7 +217,7 @@ fn take_what_comes<W: Wire, L: Log>(
 }
 
 /// Hands in the next datagram, and says whether there may be more. Where one is lost, there may.
-fn take_next<W: Wire, L: Log>(
+fn take_next<W: Wire, L: Journal>(
     gateway: &mut Gateway,
     wire: &mut W,
     limit: Duration,
@@ -243,8 +239,9 @@ fn take_next<W: Wire, L: Log>(
     }
 }
 
-/// Hands in what came at a place, if it is an event; and keeps whether it says that the box is to end.
-fn take_letter<W: Wire, L: Log>(
+/// Hands in what came at a place, if it is an event; keeps whether it says that the box is to end; and answers a word, or
+/// keeps the question.
+fn take_letter<W: Wire, L: Journal>(
     gateway: &mut Gateway,
     place: Place,
     bytes: &[u8],
@@ -255,25 +252,45 @@ fn take_letter<W: Wire, L: Log>(
 )
     ensures taken { TakesAny
         (state gateway.old desk.old.left (desk.old.ending || is_end place bytes.now))
-        (event_of track place bytes.entry)
+        (event_of track (seen gateway.old) place bytes.entry)
         (state gateway.new desk.new.left desk.new.ending) }
     ensures answers { W.answers wire.new ≡ W.answers wire.old }
 {
+    desk.count_letter(place);
     desk.ending = desk.ending || is_end(place, bytes);
-    match event_of(place, bytes, track) {
+    let owed = reply_at(gateway, place, bytes);
+    let event = event_of(gateway, place, bytes, track);
+    let is_done = take_event(gateway, event, wire, desk, log);
+    reply(owed, is_done, wire, desk);
+}
+
+/// Hands an event in, if it is one, and says whether that is done: it isn't where memory was refused.
+fn take_event<W: Wire, L: Journal>(
+    gateway: &mut Gateway,
+    event: Option<Event<'_>>,
+    wire: &mut W,
+    desk: &mut Desk,
+    log: &L,
+) -> bool
+    ensures taken { TakesAny (state gateway.old desk.old.left desk.old.ending) event.entry
+        (state gateway.new desk.new.left desk.new.ending) }
+    ensures answers { W.answers wire.new ≡ W.answers wire.old }
+{
+    match event {
         Some(event) => hand_in(gateway, event, wire, desk, log),
-        None => {}
+        None => true,
     }
 }
 
-/// Hands an event in, sends what the gateway tells, and tells the operator of it.
-fn hand_in<W: Wire, L: Log>(
+/// Hands an event in, sends what the gateway tells, and tells the operator of it. It says whether that is done: it isn't
+/// where memory was refused.
+fn hand_in<W: Wire, L: Journal>(
     gateway: &mut Gateway,
     event: Event<'_>,
     wire: &mut W,
     desk: &mut Desk,
     log: &L,
-)
+) -> bool
     ensures taken { Takes (state gateway.old desk.old.left desk.old.ending) event.entry
         (state gateway.new desk.new.left desk.new.ending) }
     ensures answers { W.answers wire.new ≡ W.answers wire.old }
@@ -283,20 +300,26 @@ fn hand_in<W: Wire, L: Log>(
     if let Err(refusal) = outcome {
         desk.left.count(refusal);
     }
-    send_all(wire, &desk.out);
+    send_all(wire, &desk.out, &mut desk.counters);
     let view = view_of(gateway);
     tell_step(log, &mut desk.tally, &event, outcome, &desk.view, &view);
+    desk.count_outcome(&event, outcome);
     desk.view = view;
+    outcome.is_ok()
 }
 
-/// Sends what was told: the frames by the wires of their sides, the datagrams by the link.
-fn send_all<W: Wire>(wire: &mut W, out: &Out)
+/// Sends what was told: the frames by the wires of their sides, the datagrams by the link. What was sent is counted.
+fn send_all<W: Wire>(wire: &mut W, out: &Out, counters: &mut Counters)
     ensures { W.answers wire.new ≡ W.answers wire.old }
 {
     for frame in out.frames() {
-        let _lost = wire.send(Place::Side(frame.side), frame.bytes);
+        if wire.send(Place::Side(frame.side), frame.bytes).is_ok() {
+            counters.count(Origin::of(frame.side), Count::Sent);
+        }
     }
     for datagram in out.datagrams() {
-        let _lost = wire.send(Place::Link, datagram);
+        if wire.send(Place::Link, datagram).is_ok() {
+            counters.count(Origin::Link, Count::Sent);
+        }
     }
 }

@@ -7,7 +7,8 @@ returns-then-is_over g c =
     all_told _ _ _ _ _ _ _ _ _ c.loop.invariant (omega arith) (c.is_over.ensures.ends (search rules))
 
 pub loop-preserved : goal.loop-preserved
-loop-preserved g c = one_round_more _ _ _ _ _ _ _ _ _ c.loop.invariant c.round.ensures
+loop-preserved g c =
+    rw (c.tell_alive.ensures.left, c.tell_alive.ensures.ending) (one_round_more _ _ _ _ _ _ _ _ _ c.loop.invariant c.round.ensures)
 
 pub returns : goal.returns
 returns g c = all_had _ _ _ _ _ _ _ _ _ c.loop.invariant (omega arith)

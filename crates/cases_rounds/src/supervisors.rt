@@ -1,0 +1,45 @@
+//! What a box tells whoever sees to it.
+
+use std::cell::Cell;
+use std::io::{self, Write};
+use supervision::Supervisor;
+
+/// Counts what it is told.
+#[derive(Drop)]
+pub(crate) struct Alive {
+    alive: Cell<u64>,
+    endings: Cell<u64>,
+}
+
+impl Alive {
+    pub(crate) fn new() -> Alive {
+        Alive {
+            alive: Cell::new(0),
+            endings: Cell::new(0),
+        }
+    }
+
+    /// Nothing was told yet.
+    pub(crate) fn begin(&self) {
+        self.alive.set(0);
+        self.endings.set(0);
+    }
+
+    /// Prints how often it was told that the box goes on, and that it ends.
+    pub(crate) fn show<O: Write>(&self, output: &mut O) -> io::Result<()> {
+        let (alive, endings) = (self.alive.get(), self.endings.get());
+        writeln!(output, "  alive {alive} ending {endings}")
+    }
+}
+
+impl Supervisor for Alive {
+    fn ready(&self, _boot: u64) {}
+
+    fn alive(&self) {
+        self.alive.set(self.alive.get().saturating_add(1));
+    }
+
+    fn ending(&self) {
+        self.endings.set(self.endings.get().saturating_add(1));
+    }
+}

@@ -1,0 +1,107 @@
+//! What a box has on its desk while it runs.
+ghost use Rattle.std.specs.Prelude.{◌≡◌, false};
+
+use crate::judging::Question;
+use crate::left::LeftOut;
+use crate::logs::{cause_of, origin_of};
+use crate::outages::Outages;
+use crate::views::{View, view_of};
+use gateway::{Event, Gateway, Out, Outcome};
+use journal::{Origin, Tally};
+use nat_types::{GatewayId, NoMemory};
+use reports::{Count, Counters, Sides};
+use sockets::Place;
+use std::alloc::Global;
+use supervision::Supervisor;
+
+/// Who a box is, to those who ask how it stands.
+#[derive(Clone, Copy, Debug, PartialEq, Eq)]
+pub struct Identity {
+    pub id: GatewayId,
+    /// The number of its start.
+    pub boot: u64,
+    /// Of those settings that have to be equal on both boxes.
+    pub digest: u64,
+}
+
+/// What the gateway has told in its last step, how it stood then, what was told of the places and of this second's
+/// drops, what was counted, what is asked and not answered yet, how many events were left out, and whether the box is to
+/// end.
+#[derive(Drop)]
+pub(crate) struct Desk {
+    pub(crate) alloc: Global,
+    pub(crate) identity: Identity,
+    pub(crate) out: Out,
+    pub(crate) view: View,
+    pub(crate) outages: Outages,
+    pub(crate) tally: Tally,
+    pub(crate) counters: Counters,
+    pub(crate) sides: Sides,
+    pub(crate) question: Option<Question>,
+    /// The last second in which the supervisor was told that the box goes on.
+    pub(crate) second: u64,
+    pub(crate) left: LeftOut,
+    pub(crate) ending: bool,
+}
+
+impl Desk {
+    /// Nothing was told, counted, asked or left out yet.
+    pub(crate) fn new(alloc: Global, gateway: &Gateway, identity: Identity) -> Desk
+        ensures left { result.left ≡ 0 }
+        ensures ending { result.ending ≡ false }
+    {
+        Desk {
+            alloc,
+            identity,
+            out: Out::new(alloc),
+            view: view_of(gateway),
+            outages: Outages::none(),
+            tally: Tally::new(gateway.moment()),
+            counters: Counters::new(),
+            sides: Sides::of(gateway),
+            question: None,
+            second: 0,
+            left: LeftOut::none(),
+            ending: false,
+        }
+    }
+
+    /// Counts what came at a place.
+    pub(crate) fn count_letter(&mut self, place: Place)
+        ensures left { self.new.left ≡ self.old.left }
+        ensures ending { self.new.ending ≡ self.old.ending }
+    {
+        self.counters.count(origin_at(place), Count::Received);
+    }
+
+    /// Counts an event of which nothing came.
+    pub(crate) fn count_outcome(&mut self, event: &Event<'_>, outcome: Result<Outcome, NoMemory>)
+        ensures left { self.new.left ≡ self.old.left }
+        ensures ending { self.new.ending ≡ self.old.ending }
+    {
+        if let Some(cause) = cause_of(outcome) {
+            self.counters.count(origin_of(event), Count::Lost(cause));
+        }
+    }
+
+    /// Tells the supervisor once a second that the box goes on.
+    pub(crate) fn tell_alive<S: Supervisor>(&mut self, gateway: &Gateway, supervisor: &S)
+        ensures left { self.new.left ≡ self.old.left }
+        ensures ending { self.new.ending ≡ self.old.ending }
+    {
+        let second = gateway.moment() / 100;
+        if self.second < second {
+            self.second = second;
+            supervisor.alive();
+        }
+    }
+}
+
+/// Where what comes at a place belongs.
+pub(crate) fn origin_at(place: Place) -> Origin {
+    match place {
+        Place::Side(side) => Origin::of(side),
+        Place::Link => Origin::Link,
+        Place::Operator => Origin::Own,
+    }
+}
