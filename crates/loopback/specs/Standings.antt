@@ -1,7 +1,7 @@
 -- How a passage through sockets stands.
 use Rattle.std.specs.Prelude.{◌≡◌}
 use Rattle.settings.specs.declared.whole.Settings.{Settings}
-use Rattle.sockets.specs.declared.sockets.SocketFault.{SocketFault}
+use Rattle.loopback.specs.declared.ports.PortFault.{PortFault}
 use Rattle.loopback.specs.declared.passage.Passed.{Passed}
 use Rattle.loopback.specs.declared.passage.Passed.TheVariants.{Lost}
 
@@ -9,7 +9,7 @@ use Rattle.loopback.specs.declared.passage.Passed.TheVariants.{Lost}
 pub data Standing : Type 0 where
   unasked : Standing
   bound : Settings → Standing
-  refused : SocketFault → Standing
+  refused : PortFault → Standing
 
 -- what may become of a parcel: without ports it is lost
 abbrev pub MayBe : Standing → Passed → Type 0

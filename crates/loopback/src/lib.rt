@@ -4,6 +4,8 @@
 
 mod loopback;
 mod passage;
+mod ports;
 
 pub use loopback::{LIMIT, Loopback};
 pub use passage::{Channel, Passed};
+pub use ports::PortFault;

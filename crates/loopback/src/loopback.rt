@@ -1,12 +1,12 @@
 //! A passage through UDP sockets on the loopback address.
 ghost use Rattle.std.specs.Prelude.{◌≤◌, IfOk, IfSome};
 
-use crate::{Channel, Passed};
+use crate::{Channel, Passed, PortFault};
 use mio::net::UdpSocket;
 use mio::{Events, Interest, Poll, Token};
 use nat_types::{GatewayId, Side};
 use settings::{GatewaySettings, Settings};
-use sockets::{LONGEST, Place, SocketFault};
+use sockets::{LONGEST, Place};
 use std::alloc::Global;
 use std::io::{self, ErrorKind};
 use std::marker::Model;
@@ -28,13 +28,23 @@ struct Port {
 }
 
 impl Port {
-    fn bind<R: Net>(net: &R, alloc: Global, number: u16) -> Result<Port, SocketFault> {
+    fn bind<R: Net>(net: &R, alloc: Global, number: u16) -> Result<Port, PortFault> {
+        let Ok(events) = Events::with_capacity(alloc, 1) else {
+            return Err(PortFault::NoMemory);
+        };
+        match Port::open(net, events, number) {
+            Ok(port) => Ok(port),
+            Err(_) => Err(PortFault::NoPort(number)),
+        }
+    }
+
+    fn open<R: Net>(net: &R, events: Events<Global>, number: u16) -> io::Result<Port> {
         let own = SocketAddr::V4(SocketAddrV4::new(Ipv4Addr::LOCALHOST, number));
         let mut port = Port {
             socket: UdpSocket::bind(net, own)?,
             own,
             poll: Poll::new(net)?,
-            events: Events::with_capacity(alloc, 1)?,
+            events,
         };
         let registry = port.poll.registry();
         registry.register(&mut port.socket, Token(0), Interest::READABLE)?;
@@ -81,7 +91,7 @@ struct Ports {
 }
 
 impl Ports {
-    fn bind<R: Net>(net: &R, alloc: Global, own: &GatewaySettings) -> Result<Ports, SocketFault> {
+    fn bind<R: Net>(net: &R, alloc: Global, own: &GatewaySettings) -> Result<Ports, PortFault> {
         Ok(Ports {
             link: Port::bind(net, alloc, own.link)?,
             inside: Port::bind(net, alloc, own.inside_port)?,
@@ -108,7 +118,7 @@ struct Both {
 }
 
 impl Both {
-    fn bind<R: Net>(net: &R, alloc: Global, settings: &Settings) -> Result<Both, SocketFault> {
+    fn bind<R: Net>(net: &R, alloc: Global, settings: &Settings) -> Result<Both, PortFault> {
         Ok(Both {
             zero: Ports::bind(net, alloc, settings.gateway(GatewayId::Zero))?,
             one: Ports::bind(net, alloc, settings.gateway(GatewayId::One))?,
@@ -129,7 +139,7 @@ enum Hold {
     Unasked,
     /// They are had, and these settings gave them.
     Bound(Both, Snapshot<Settings>),
-    Refused(SocketFault),
+    Refused(PortFault),
 }
 
 /// The own UDP ports of both gateways on the loopback address. Where they aren't had, all is lost.
@@ -174,7 +184,7 @@ impl<R: Net + Clock + AllocGlobal> Channel for Loopback<'_, R> {
     ghost passes = { λ before _ fate after. MayBe before fate × (after ≡ before) };
 
     /// After an Err it has no ports, also where it had some before.
-    fn open(&mut self, settings: &Settings) -> Result<(), SocketFault> {
+    fn open(&mut self, settings: &Settings) -> Result<(), PortFault> {
         match Both::bind(self.rt, self.rt.alloc(), settings) {
             Ok(both) => {
                 self.hold = Hold::Bound(both, Snapshot::of(settings));

@@ -3,11 +3,12 @@ ghost use Rattle.std.specs.Prelude.{OnOk, IfErr};
 ghost use Rattle.settings.specs.declared.whole.Settings.{Settings as Set};
 ghost use Rattle.loopback.specs.Parcels.{Message, parcel_of};
 ghost use Rattle.loopback.specs.declared.passage.Passed.{Passed as Fate};
-ghost use Rattle.sockets.specs.declared.sockets.SocketFault.{SocketFault as Want};
+ghost use Rattle.loopback.specs.declared.ports.PortFault.{PortFault as Want};
 
+use crate::PortFault;
 use nat_types::GatewayId;
 use settings::Settings;
-use sockets::{Place, SocketFault};
+use sockets::Place;
 
 /// What became of bytes that were sent.
 #[derive(Clone, Copy, Debug, PartialEq, Eq)]
@@ -30,7 +31,7 @@ pub trait Channel {
     ghost passes: { Self → Message → Fate → Self → Type 0 };
 
     /// Takes the ports that settings give the two. It comes before the first `pass`.
-    fn open(&mut self, settings: &Settings) -> Result<(), SocketFault>
+    fn open(&mut self, settings: &Settings) -> Result<(), PortFault>
         ensures opens { OnOk result (opens self.old settings.now self.new) }
         ensures refuses { IfErr result
             (λ fault. refuses self.old settings.now fault self.new) };

@@ -3,16 +3,16 @@ use Rattle.std.proofs.Common.{◌≡◌, ◌∙◌, ◌+◌, ◌≤◌, ◌⊎�
 use Rattle.std.proofs.lemmas.List.{take_all}
 use Rattle.settings.specs.declared.whole.Settings.{Settings}
 use Rattle.nat_types.specs.declared.events.WorldEvent.{WorldEvent}
-use Rattle.sockets.specs.declared.sockets.SocketFault.{SocketFault}
-use Rattle.sockets.specs.declared.sockets.SocketFault.TheVariants as sockets
+use Rattle.loopback.specs.declared.ports.PortFault.{PortFault}
+use Rattle.loopback.specs.declared.ports.PortFault.TheVariants as ports
 use Rattle.frame_sim.specs.World.{World}
 use Rattle.faults.specs.Faults.{of_print}
 use Rattle.faults.specs.declared.faults.Fault.{Fault}
-use Rattle.faults.specs.declared.faults.Fault.TheVariants.{Words, Setting, BadLine, NoFile, Exists, NotWritten, NotText, NoSocket, NoMemory}
+use Rattle.faults.specs.declared.faults.Fault.TheVariants.{Words, Setting, BadLine, File, NotWritten, NotText, NoSocket, NoMemory}
 use Rattle.faults.specs.declared.prints.PrintFault.{PrintFault}
 use Rattle.faults.specs.declared.prints.PrintFault.TheVariants as prints
 use Rattle.frame_sim.specs.Status.{IsNew}
-use Rattle.loopback_run.specs.Turns.{AreTurns, HasTurned, Passes, of_socket}
+use Rattle.loopback_run.specs.Turns.{AreTurns, HasTurned, Passes, of_port}
 use Rattle.loopback_run.specs.Stops.{HaveBegun, HaveEnded, IsRefused, IsStopped, Leaves, Opens, Refuses, Stops, StopsLoop}
 
 -- ---- events that run
@@ -82,10 +82,9 @@ loop_stops passes settings w p es p2 o o2 NoMemory new h = inr (record {
 loop_stops passes settings w p es p2 o o2 Words new h = absurd h
 loop_stops passes settings w p es p2 o o2 (Setting fault) new h = absurd h
 loop_stops passes settings w p es p2 o o2 (BadLine n) new h = absurd h
-loop_stops passes settings w p es p2 o o2 NoFile new h = absurd h
-loop_stops passes settings w p es p2 o o2 Exists new h = absurd h
+loop_stops passes settings w p es p2 o o2 (File fault) new h = absurd h
 loop_stops passes settings w p es p2 o o2 NotText new h = absurd h
-loop_stops passes settings w p es p2 o o2 NoSocket new h = absurd h
+loop_stops passes settings w p es p2 o o2 (NoSocket port) new h = absurd h
 
 -- what holds of the error of a result holds by what follows from it
 pub in_err : {T E : Type 0} {P Q : E → Type 0} (r : Result T E) → ((e : E) → P e → Q e) → IfErr r P → IfErr r Q
@@ -99,11 +98,11 @@ loops_stop r passes settings w p es p2 o o2 new h = in_err r (λ e s. loop_stops
 -- ---- a script's run
 
 -- ports that were refused
-pub leaves_refused : {P O : Type 0} (opens : Opens P) (refuses : Refuses P) (passes : Passes P) (text script : List ℕ) (before after : P) (output printed : O) (want : SocketFault)
+pub leaves_refused : {P O : Type 0} (opens : Opens P) (refuses : Refuses P) (passes : Passes P) (text script : List ℕ) (before after : P) (output printed : O) (want : PortFault)
     → IsRefused refuses text script before after output printed want
-    → Leaves opens refuses passes text script before after output printed (of_socket want)
-leaves_refused opens refuses passes text script before after output printed sockets.NoSocket h = h
-leaves_refused opens refuses passes text script before after output printed sockets.NoMemory h = inr (inl h)
+    → Leaves opens refuses passes text script before after output printed (of_port want)
+leaves_refused opens refuses passes text script before after output printed (ports.NoPort port) h = h
+leaves_refused opens refuses passes text script before after output printed ports.NoMemory h = inr (inl h)
 
 -- a fault of the run
 pub leaves_stopped : {P O : Type 0} (opens : Opens P) (refuses : Refuses P) (passes : Passes P) (text script : List ℕ) (before after : P) (output printed : O) (fault : Fault)
@@ -114,10 +113,9 @@ leaves_stopped opens refuses passes text script before after output printed NoMe
 leaves_stopped opens refuses passes text script before after output printed Words h = absurd h.stopped
 leaves_stopped opens refuses passes text script before after output printed (Setting fault) h = absurd h.stopped
 leaves_stopped opens refuses passes text script before after output printed (BadLine n) h = absurd h.stopped
-leaves_stopped opens refuses passes text script before after output printed NoFile h = absurd h.stopped
-leaves_stopped opens refuses passes text script before after output printed Exists h = absurd h.stopped
+leaves_stopped opens refuses passes text script before after output printed (File fault) h = absurd h.stopped
 leaves_stopped opens refuses passes text script before after output printed NotText h = absurd h.stopped
-leaves_stopped opens refuses passes text script before after output printed NoSocket h = absurd h.stopped
+leaves_stopped opens refuses passes text script before after output printed (NoSocket port) h = absurd h.stopped
 
 -- a fault's status is none of a run's
 pub isnt_1 : {A : Type 0} (n : ℕ) → n ≡ 1 → (n ≡ 0) ⊎ (n ≡ 3) → A

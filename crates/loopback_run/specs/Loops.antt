@@ -1,12 +1,16 @@
 -- A run in which what each event hands in is first sent through a passage.
-use Rattle.std.specs.Prelude.{◌≡◌, ℕ, List, None}
+use Rattle.std.specs.Prelude.{◌≡◌, ◌⊎◌, ℕ, List, None, Some}
 use Rattle.toml.specs.Parse.{parse_document}
 use Rattle.settings.specs.declared.whole.Settings.{Settings}
-use Rattle.settings_file.specs.Settings.{IsReadFrom}
+use Rattle.settings_file.specs.Clashes.{clash_of_both}
+use Rattle.settings_file.specs.Settings.{IsReadFrom, Tells}
+use Rattle.settings_file.specs.declared.faults.SettingFault.{SettingFault}
+use Rattle.settings_file.specs.declared.faults.SettingFault.TheVariants.{CantWork}
+use Rattle.settings_file.specs.declared.keys.Key.{Key}
 use Rattle.nat_types.specs.declared.events.WorldEvent.{WorldEvent}
 use Rattle.frame_sim.specs.World.{founding}
 use Rattle.faults.specs.declared.faults.Fault.{Fault}
-use Rattle.faults.specs.declared.faults.Fault.TheVariants.{NoSocket}
+use Rattle.faults.specs.declared.faults.Fault.TheVariants.{NoSocket, Setting}
 use Rattle.faults.specs.declared.jobs.Job.{Job}
 use Rattle.scripts.specs.Script.{first_bad_line}
 use Rattle.faults.specs.Jobs.{IsJobOf, TellsRun}
@@ -29,8 +33,21 @@ pub record LoopsScript {P : Type 0} (opens : P → Settings → P → Type 0) (p
   pub opened : opens before job.settings open_passage
   pub run : IsLoop passes job.settings job.events.items open_passage after status
 
--- why a script isn't run so to its end: as without a passage; or ports aren't had, where both texts are good
+-- both texts are good, and the ports of these settings can't be had together: that of this key is the first that stands twice
+pub record ClashAt (text script : List ℕ) (key : Key) : Type 0 where
+  pub settings : Settings
+  pub held : IsReadFrom (parse_document text) settings
+  pub good : first_bad_line script ≡ None
+  pub clash : clash_of_both settings ≡ Some key
+
+abbrev pub Clash : List ℕ → List ℕ → SettingFault → Type 0
+Clash text script (CantWork key) = ClashAt text script key
+Clash text script other = ⊥
+
+-- why a script isn't run so to its end: as without a passage; or, where both texts are good, the ports of the settings
+-- can't be had together, or one isn't had
 abbrev pub TellsLoop : List ℕ → List ℕ → Fault → Type 0
-TellsLoop text script NoSocket =
+TellsLoop text script (Setting fault) = Tells (parse_document text) fault ⊎ Clash text script fault
+TellsLoop text script (NoSocket port) =
     ((settings : Settings) × IsReadFrom (parse_document text) settings) × (first_bad_line script ≡ None)
 TellsLoop text script fault = TellsRun text script fault

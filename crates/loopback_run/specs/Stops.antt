@@ -2,8 +2,8 @@
 use Rattle.std.specs.Prelude.{◌≡◌, ◌⊎◌, ◌<◌, ℕ, List, None, take}
 use Rattle.settings.specs.declared.whole.Settings.{Settings}
 use Rattle.nat_types.specs.declared.events.WorldEvent.{WorldEvent}
-use Rattle.sockets.specs.declared.sockets.SocketFault.{SocketFault}
-use Rattle.sockets.specs.declared.sockets.SocketFault.TheVariants as sockets
+use Rattle.loopback.specs.declared.ports.PortFault.{PortFault}
+use Rattle.loopback.specs.declared.ports.PortFault.TheVariants as ports
 use Rattle.frame_sim.specs.World.{World, founding}
 use Rattle.faults.specs.declared.faults.Fault.{Fault}
 use Rattle.faults.specs.declared.faults.Fault.TheVariants.{Setting, BadLine, NotWritten, NoSocket, NoMemory}
@@ -60,10 +60,10 @@ abbrev pub Opens : Type 0 → Type 1
 Opens P = P → Settings → P → Type 0
 
 abbrev pub Refuses : Type 0 → Type 1
-Refuses P = P → Settings → SocketFault → P → Type 0
+Refuses P = P → Settings → PortFault → P → Type 0
 
 -- both texts are good, and the passage was refused the ports of those settings for this; nothing is written
-pub record IsRefused {P O : Type 0} (refuses : Refuses P) (text script : List ℕ) (before after : P) (output printed : O) (want : SocketFault) : Type 0 where
+pub record IsRefused {P O : Type 0} (refuses : Refuses P) (text script : List ℕ) (before after : P) (output printed : O) (want : PortFault) : Type 0 where
   pub texts : HoldJob text script
   pub refused : refuses before texts.job.settings want after
   pub unwritten : printed ≡ output
@@ -80,13 +80,13 @@ pub record IsStopped {P O : Type 0} (opens : Opens P) (passes : Passes P) (text 
 abbrev pub Leaves : {P O : Type 0} → Opens P → Refuses P → Passes P → List ℕ → List ℕ → P → P → O → O → Fault → Type 0
 Leaves opens refuses passes text script before after output printed (Setting fault) = Untouched before after output printed
 Leaves opens refuses passes text script before after output printed (BadLine n) = Untouched before after output printed
-Leaves opens refuses passes text script before after output printed NoSocket =
-    IsRefused refuses text script before after output printed sockets.NoSocket
+Leaves opens refuses passes text script before after output printed (NoSocket port) =
+    IsRefused refuses text script before after output printed (ports.NoPort port)
 Leaves opens refuses passes text script before after output printed NotWritten =
     IsStopped opens passes text script before after output printed NotWritten
 Leaves opens refuses passes text script before after output printed NoMemory =
     Untouched before after output printed
-    ⊎ (IsRefused refuses text script before after output printed sockets.NoMemory
+    ⊎ (IsRefused refuses text script before after output printed ports.NoMemory
     ⊎ IsStopped opens passes text script before after output printed NoMemory)
 Leaves opens refuses passes text script before after output printed others = ⊥
 

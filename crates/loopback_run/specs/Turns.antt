@@ -2,8 +2,6 @@
 use Rattle.std.specs.Prelude.{◌≡◌, ℕ, if◌then◌else◌, Bool, true, false, List, [], ◌∷◌, Option, Some, None, is_err, option_map}
 use Rattle.std.specs.List.{filter_map}
 use Rattle.sockets.specs.declared.places.Place.TheVariants.{Link, Side}
-use Rattle.sockets.specs.declared.sockets.SocketFault.{SocketFault}
-use Rattle.sockets.specs.declared.sockets.SocketFault.TheVariants as sockets
 use Rattle.output.specs.Output.{none_told}
 use Rattle.frame_sim.specs.declared.events.Step.{Step}
 use Rattle.nat_types.specs.declared.events.WorldEvent.{WorldEvent}
@@ -14,14 +12,16 @@ use Rattle.frame_sim.specs.Runs.{Answers}
 use Rattle.faults.specs.declared.faults.Fault.{Fault}
 use Rattle.faults.specs.declared.faults.Fault.TheVariants as faults
 use Rattle.frame_sim.specs.Status.{has_refusal}
+use Rattle.loopback.specs.declared.ports.PortFault.{PortFault}
+use Rattle.loopback.specs.declared.ports.PortFault.TheVariants as ports
 use Rattle.loopback.specs.declared.passage.Passed.{Passed}
 use Rattle.loopback.specs.declared.passage.Passed.TheVariants.{Received, Lost}
 use Rattle.loopback.specs.Parcels.{Message, parcel_of}
 
 -- the fault of ports that aren't had
-abbrev pub of_socket : SocketFault → Fault
-of_socket sockets.NoSocket = faults.NoSocket
-of_socket sockets.NoMemory = faults.NoMemory
+abbrev pub of_port : PortFault → Fault
+of_port (ports.NoPort number) = faults.NoSocket number
+of_port ports.NoMemory = faults.NoMemory
 
 -- what an event hands in: a frame, or a datagram that was sent
 abbrev pub handed : World → WorldEvent → Option Message

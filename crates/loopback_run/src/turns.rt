@@ -5,19 +5,20 @@ ghost use Rattle.frame_sim.specs.Runs.{Answers};
 ghost use Rattle.faults.specs.Faults.{status_of};
 ghost use Rattle.scripts.specs.Script.{first_bad_line};
 ghost use Rattle.faults.specs.declared.faults.Fault.TheVariants as faults;
-ghost use Rattle.loopback_run.specs.Turns.{HasSent, HasTurned, TakesTurn, TakesTurns, handed, is_lost, is_refusal, of_socket};
+ghost use Rattle.loopback_run.specs.Turns.{HasSent, HasTurned, TakesTurn, TakesTurns, handed, is_lost, is_refusal, of_port};
 ghost use Rattle.loopback_run.specs.Loops.{IsLoop, LoopsScript, TellsLoop};
 ghost use Rattle.loopback_run.specs.Stops.{FailsScript, HaveBegun, HoldJob, Leaves, Stops, StopsLoop, Untouched};
 
 use faults::{Fault, job_of};
 use frame_sim::{Step, World};
 use gateway::Out;
-use loopback::{Channel, Passed};
+use loopback::{Channel, Passed, PortFault};
 use nat_types::WorldEvent;
 use printing::Printer;
 use recording::{Tape, Untaped};
 use settings::Settings;
-use sockets::{Place, SocketFault};
+use settings_file::{SettingFault, port_clash_of_both};
+use sockets::Place;
 use std::alloc::Global;
 use std::io::{self, Write};
 
@@ -54,8 +55,8 @@ pub fn run_loop<P: Channel, O: Write, E: Write>(
 ///
 /// # Errors
 ///
-/// The settings' fault, else the script's first bad line: after both nothing was sent and nothing is
-/// written. Else `NoSocket` where the passage is refused its ports: then nothing is written. Else
+/// The settings' fault, else the script's first bad line, else the first key whose port stands twice in the settings
+/// (`CantWork`): after these nothing was sent and nothing is written. Else `NoSocket` where the passage is refused its ports: then nothing is written. Else
 /// `NotWritten` where output is refused: part of it may be written, and what the events up to there
 /// hand in was sent. `NoMemory` may come at each.
 pub fn loop_script<P: Channel, O: Write>(
@@ -104,6 +105,9 @@ pub fn loop_captured<P: Channel, T: Tape, O: Write>(
         → Untouched passage.old passage.new output.old output.new }
 {
     let job = job_of(alloc, settings, script)?;
+    if let Some(key) = port_clash_of_both(&job.settings) {
+        return Err(Fault::Setting(SettingFault::CantWork(key)));
+    }
     match passage.open(&job.settings) {
         Ok(()) => play(
             alloc,
@@ -113,16 +117,16 @@ pub fn loop_captured<P: Channel, T: Tape, O: Write>(
             tape,
             output,
         ),
-        Err(fault) => Err(of_socket(fault)),
+        Err(fault) => Err(of_port(fault)),
     }
 }
 
-fn of_socket(fault: SocketFault) -> Fault
-    ensures { result ≡ of_socket fault }
+fn of_port(fault: PortFault) -> Fault
+    ensures { result ≡ of_port fault }
 {
     match fault {
-        SocketFault::NoSocket => Fault::NoSocket,
-        SocketFault::NoMemory => Fault::NoMemory,
+        PortFault::NoPort(number) => Fault::NoSocket(number),
+        PortFault::NoMemory => Fault::NoMemory,
     }
 }
 

@@ -1,16 +1,24 @@
-use Rattle.std.proofs.Common.{List, refl, subst}
+use Rattle.std.proofs.Common.{List, inr, refl, subst, sym}
 use Rattle.nat_types.specs.declared.events.WorldEvent.{WorldEvent}
 use Rattle.loopback_run.specs.Loops.{IsLoop}
 use Rattle.loopback_run.specs.Stops.{StopsLoop}
 use Rattle.loopback_run.proofs.Looping.{in_ok}
 use Rattle.loopback_run.proofs.Stopping.{in_err, leaves_refused, leaves_stopped}
-use Rattle.loopback_run.proofs.Telling.{told_socket}
+use Rattle.loopback_run.proofs.Telling.{told_port}
 use Rattle.loopback_run.proofs.turns.loop_captured.Goals as goal
+
+pub returns-in-Some-clause-told : goal.returns-in-Some-clause-told
+returns-in-Some-clause-told g c = inr (record {
+  settings = c.in_ok-job.job.settings;
+  held = c.in_ok-job.ensures.job.held;
+  good = c.in_ok-job.ensures.good;
+  clash = sym c.in-Some.ensures;
+})
 
 pub returns-clause-told : goal.returns-clause-told
 returns-clause-told g c =
     let job = c.in_ok-job.ensures in
-    rw c.of_socket.ensures (told_socket c.args.settings.now c.args.script.now _ (c.in_ok-job.job.settings, job.job.held) job.good)
+    rw c.of_port.ensures (told_port c.args.settings.now c.args.script.now _ (c.in_ok-job.job.settings, job.job.held) job.good)
 
 pub returns-in-Ok-clause-run : goal.returns-in-Ok-clause-run
 returns-in-Ok-clause-run g c = in_ok c.play.result (λ n h. record {
@@ -22,7 +30,7 @@ returns-in-Ok-clause-run g c = in_ok c.play.result (λ n h. record {
 }) c.play.ensures.run
 
 pub returns-clause-leaves : goal.returns-clause-leaves
-returns-clause-leaves g c = rw c.of_socket.ensures (leaves_refused _ _ _ _ _ _ _ _ _ c.in-Err.fault (record {
+returns-clause-leaves g c = rw c.of_port.ensures (leaves_refused _ _ _ _ _ _ _ _ _ c.in-Err.fault (record {
   texts = record { job = c.in_ok-job.job; is = c.in_ok-job.ensures.job; good = c.in_ok-job.ensures.good };
   refused = c.in-Err.ensures.refuses;
   unwritten = refl;
