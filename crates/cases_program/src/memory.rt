@@ -1,9 +1,9 @@
 //! A passage in memory.
 
-use loopback::{Channel, Passed};
+use loopback::{Channel, Passed, PortFault};
 use nat_types::GatewayId;
 use settings::Settings;
-use sockets::{Place, SocketFault};
+use sockets::Place;
 
 /// A passage that loses each of so many, and receives all others.
 #[derive(Drop)]
@@ -27,7 +27,7 @@ impl Channel for Memory {
 
     ghost passes = { λ _ _ _ _. Unit {0} };
 
-    fn open(&mut self, _settings: &Settings) -> Result<(), SocketFault> {
+    fn open(&mut self, _settings: &Settings) -> Result<(), PortFault> {
         Ok(())
     }
 

@@ -1,5 +1,5 @@
--- Words that clap takes enter one of the seven commands.
-use Rattle.std.proofs.Common.{◌≡◌, ◌&&◌, Bool, true, false, not, List, [], ◌∷◌, Option, Some, None, is_some, refl, inl, inr, subst, codes}
+-- Words that clap takes enter one of the commands.
+use Rattle.std.proofs.Common.{◌≡◌, ◌&&◌, Bool, true, false, not, List, [], ◌∷◌, Option, Some, None, is_some, refl, subst}
 use Rattle.std.specs.Prelude.{find}
 use Rattle.std.specs.List.{list_any}
 use Rattle.clap.specs.Facts.{explicit_source}
@@ -9,7 +9,7 @@ use Rattle.clap.specs.Walk.{Held, Row, Text, answers_to, finished, nothing_held,
 use Rattle.clap.specs.Simple.{App, Shape, argument_words, built, entered, label_of, names_of}
 use Rattle.clap.specs.Faults.{built_fault, check_fault, defaults_fault, entered_fault, settle_fault, walk_fault}
 use Rattle.command_line.specs.Line.{Takes, entered_by, line_app}
-use Rattle.command_line.specs.Tasks.{Enters, IsNamed}
+use Rattle.command_line.specs.Tasks.{Enters, is_named}
 
 -- neither of two has a kind
 pub neither : (a b : Kinds) → or_else a b ≡ [] → (a ≡ []) × (b ≡ [])
@@ -28,22 +28,28 @@ named_at s rows has is e =
     named_there (s.arg_required_else_help && not (list_any (λ r. explicit_source r.source) rows)) has
     (not (s.subcommand_negates_reqs && has) && list_any (λ a. a.required && not (is_given a.id rows)) s.rules) s.subcommand_required is e
 
-abbrev AllNamed : List Shape → Type 0
-AllNamed [] = Unit {0}
-AllNamed (s ∷ rest) = IsNamed s.name × AllNamed rest
+-- a fact of each of a list
+abbrev pub Each : {X : Type 0} → (X → Type 0) → List X → Type 0
+Each P [] = Unit {0}
+Each P (x ∷ xs) = P x × Each P xs
 
-found_named : (p : Shape → Bool) (xs : List Shape) (s : Shape) → AllNamed xs → find p xs ≡ Some s → IsNamed s.name
-found_named p [] s all e = cc
-found_named p (x ∷ xs) s all e = go (p x) refl (λ rest. found_named p xs s all.1 rest)
+-- which then holds of one that is found in it
+pub found_each : {X : Type 0} (P : X → Type 0) (p : X → Bool) (xs : List X) (x : X) → Each P xs → find p xs ≡ Some x → P x
+found_each P p [] x all e = cc
+found_each P p (y ∷ ys) x all e = go (p y) refl (λ rest. found_each P p ys x all.1 rest)
   where
-    go : (b : Bool) → p x ≡ b → (find p xs ≡ Some s → IsNamed s.name) → IsNamed s.name
+    go : (b : Bool) → p y ≡ b → (find p ys ≡ Some x → P x) → P x
     go true t later =
-        let same : Some x ≡ Some s = rw t at e in
-        let is : x ≡ s = cc in
-        subst (λ (y : Shape). IsNamed y.name) is all.0
+        let same : Some y ≡ Some x = rw t at e in
+        let is : y ≡ x = cc in
+        subst P is all.0
     go false t later = later (rw t at e)
 
-entered_named : (a : App) (stop : Option (Text × List Text)) → AllNamed a.subs → is_some (entered a stop) ≡ true → Enters (entered a stop)
+-- the command has a name of ours
+abbrev IsOurs : Shape → Type 0
+IsOurs s = is_named s.name ≡ true
+
+entered_named : (a : App) (stop : Option (Text × List Text)) → Each IsOurs a.subs → is_some (entered a stop) ≡ true → Enters (entered a stop)
 entered_named a None all has = cc
 entered_named a (Some p) all has = go (find (λ s. answers_to p.0 (label_of s)) a.subs) refl
   where
@@ -51,9 +57,9 @@ entered_named a (Some p) all has = go (find (λ s. answers_to p.0 (label_of s)) 
     go None e =
         let bad : false ≡ true = rw e at has in
         cc
-    go (Some s) e = rw e (found_named (λ x. answers_to p.0 (label_of x)) a.subs s all e)
+    go (Some s) e = rw e (found_each IsOurs (λ x. answers_to p.0 (label_of x)) a.subs s all e)
 
-enters_of : (a : App) (h : Held) (words : List Text) → a.top.subcommand_required ≡ true → AllNamed a.subs → built_fault a h words ≡ []
+enters_of : (a : App) (h : Held) (words : List Text) → a.top.subcommand_required ≡ true → Each IsOurs a.subs → built_fault a h words ≡ []
     → Enters (entered a (walk a.top.rules (names_of a) h words).stopped)
 enters_of a h words required all none =
     let end = walk a.top.rules (names_of a) h words in
@@ -66,13 +72,8 @@ enters_of a h words required all none =
 required : (built line_app).top.subcommand_required ≡ true
 required = refl
 
-all_named : AllNamed (built line_app).subs
-all_named =
-    let gate : IsNamed (codes "gate") = inr (inr (inr (inl refl))) in
-    let stop : IsNamed (codes "stop") = inr (inr (inr (inr (inl refl)))) in
-    let peer_off : IsNamed (codes "peer-off") = inr (inr (inr (inr (inr (inl refl))))) in
-    let side : IsNamed (codes "side") = inr (inr (inr (inr (inr (inr refl))))) in
-    (inl refl, (inr (inl refl), (inr (inr (inl refl)), (gate, (stop, (peer_off, (side, tt)))))))
+all_ours : Each IsOurs (built line_app).subs
+all_ours = (refl, (refl, (refl, (refl, (refl, (refl, (refl, (refl, (refl, (refl, tt))))))))))
 
 pub enters : (words : List Text) → Takes words → Enters (entered_by words)
-enters words taken = enters_of (built line_app) nothing_held (argument_words line_app words) required all_named taken
+enters words taken = enters_of (built line_app) nothing_held (argument_words line_app words) required all_ours taken

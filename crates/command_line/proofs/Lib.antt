@@ -1,4 +1,6 @@
+mod Beneath
 mod Entering
 mod Numbers
 mod Passing
 mod Readings
+mod Texts

@@ -1,4 +1,4 @@
--- Words that clap takes give `gate` and `peer-off` the numbers that they want.
+-- Words that clap takes give each command the numbers that it wants.
 use Rattle.std.proofs.Common.{◌≡◌, ◌∙◌, ◌⊎◌, ◌^◌, ◌<◌, ◌≤◌, ◌==◌, ℕ, zero, suc, Bool, true, false, cond, List, [], ◌∷◌, drop, Option, Some, None, refl, sym, ap, subst, inl, inr, arith, codes}
 use Rattle.std.specs.Prelude.{find, pos, unwrap_or}
 use Rattle.std.specs.Option.{option_map_or}
@@ -8,17 +8,19 @@ use Rattle.std.proofs.lemmas.Bool.{ne_eqb}
 use Rattle.std.proofs.lemmas.Int.{ints}
 use Rattle.std.proofs.lemmas.Str.Parse.{digit_from_value}
 use Rattle.clap.specs.Lexer.{without_minus}
-use Rattle.clap.specs.Values.{Accepts, IsSignedIn, read_as, reading_of}
-use Rattle.clap.specs.Walk.{Held, Text, answers_to, nothing_held, one_of, rows_after, walk, walk_from}
+use Rattle.clap.specs.Values.{Accepts, IsSignedIn, IsUnsignedIn, read_as, reading_of}
+use Rattle.clap.specs.Walk.{Held, Rule, Text, answers_to, nothing_held, one_of, rows_after, walk, walk_from}
 use Rattle.clap.specs.Simple.{App, Shape, argument_words, built, entered, label_of, names_of}
 use Rattle.clap.specs.Faults.{built_fault, entered_fault, level_fault, walk_fault}
+use Rattle.clap.specs.declared.builder.value_parser.ValueParser.{ValueParser}
 use Rattle.clap.specs.declared.builder.value_parser.ValueParser.TheVariants.{Signed, Unsigned}
 use Rattle.nat_types.specs.declared.gateways.GatewayId.{GatewayId}
 use Rattle.nat_types.specs.declared.gateways.GatewayId.TheVariants.{Zero, One}
 use Rattle.command_line.specs.Line.{Takes, entered_by, line_app}
-use Rattle.command_line.specs.Tasks.{HasId, HasNumber, HasNumberIf, HasNumbers, IsRead, IsReadFrom, IsReadIf, Numbered, number_of}
-use Rattle.command_line.proofs.Entering.{neither}
-use Rattle.command_line.proofs.Passing.{AllFit, Wants, level_reads, level_reads_if}
+use Rattle.command_line.specs.Tasks.{HasNumbers, Numbered, wants_id}
+use Rattle.command_line.specs.Values.{HasId, HasIdIf, HasNumberIf, IsRead, IsReadFrom, IsReadIf, number_of}
+use Rattle.command_line.proofs.Entering.{Each, found_each, neither}
+use Rattle.command_line.proofs.Passing.{AllFit, IsOption, RuleFits, Wants, level_reads, level_reads_if}
 
 -- ---- texts that passed
 
@@ -67,153 +69,182 @@ gateway_of zero least = (Zero, refl)
 gateway_of (suc zero) least = (One, refl)
 gateway_of (suc (suc n)) least = absurd (omega arith)
 
+-- the same of a parser of natural numbers
+unsigned_number : (bits least most : ℕ) (t : Text) → most < 2 ^ bits → IsUnsignedIn least most t → (n : ℕ) × IsRead bits (without_leading_plus t) n
+unsigned_number bits least most t fits passed =
+    let highest : digits_value 10 (without_leading_plus t) ≤ most = passed.3 in
+    let below : digits_value 10 (without_leading_plus t) < 2 ^ bits = omega arith in
+    (digits_value 10 (without_leading_plus t), ((passed.0, below), refl))
+
 -- ---- the numbers of a level
 
-module _ (s : Shape) (words : List Text) (none : level_fault s [] nothing_held words false [] ≡ []) where
-  id_there : AllFit (codes "id") (Signed (pos 0) (pos 1)) s.rules → Wants (codes "id") s.rules → HasId (rows_after s.rules [] words)
-  id_there all wants =
-      let got = level_reads (codes "id") (Signed (pos 0) (pos 1)) s all wants words none in
-      let one : 1 < 2 ^ 8 = omega arith in
-      let read = signed_number 8 1 got.0 one got.2 in
-      let id = gateway_of read.0 read.2 in
-      let at : IsReadFrom 8 (Some (without_minus got.0)) (number_of id.0) = subst (IsRead 8 (without_leading_plus (without_minus got.0))) id.1 read.1 in
-      (id.0, subst (λ o. IsReadFrom 8 o (number_of id.0)) (sym got.1) at)
+-- the parser of `--id`
+abbrev one_bit : ValueParser
+one_bit = Signed (pos 0) (pos 1)
 
-  rounds_there : AllFit (codes "rounds") (Signed (pos 0) (pos 4294967295)) s.rules → HasNumberIf 32 (codes "rounds") (rows_after s.rules [] words)
-  rounds_there all = go (level_reads_if (codes "rounds") (Signed (pos 0) (pos 4294967295)) s all words none)
+-- what passes a parser is read as a number of so many bits
+abbrev ReadBy : ℕ → ValueParser → Type 0
+ReadBy bits q = (t : Text) → Accepts false q t → (n : ℕ) × IsReadFrom bits (Some (read_as (reading_of q) t)) n
+
+module _ (s : Shape) (words : List Text) (none : level_fault s [] nothing_held words false [] ≡ []) where
+  number_there : (bits : ℕ) (name : Text) (q : ValueParser) → ReadBy bits q → AllFit name q s.rules → HasNumberIf bits name (rows_after s.rules [] words)
+  number_there bits name q reads all = go (level_reads_if name q s all words none)
     where
       at : Option Text
-      at = one_of (codes "rounds") (rows_after s.rules [] words)
+      at = one_of name (rows_after s.rules [] words)
 
-      go : (at ≡ None) ⊎ ((v : Text) × (at ≡ Some (read_as (reading_of (Signed (pos 0) (pos 4294967295))) v))
-          × Accepts false (Signed (pos 0) (pos 4294967295)) v)
-          → HasNumberIf 32 (codes "rounds") (rows_after s.rules [] words)
-      go (inl left_out) = (None, subst (λ o. IsReadIf 32 o None) (sym left_out) tt)
+      go : (at ≡ None) ⊎ ((v : Text) × (at ≡ Some (read_as (reading_of q) v)) × Accepts false q v) → HasNumberIf bits name (rows_after s.rules [] words)
+      go (inl left_out) = (None, subst (λ o. IsReadIf bits o None) (sym left_out) tt)
       go (inr got) =
-          let most : 4294967295 < 2 ^ 32 = omega arith in
-          let read = signed_number 32 4294967295 got.0 most got.2 in
-          (Some read.0, subst (λ o. IsReadIf 32 o (Some read.0)) (sym got.1) read.1)
+          let read = reads got.0 got.2 in
+          (Some read.0, subst (λ o. IsReadIf bits o (Some read.0)) (sym got.1) read.1)
 
-  boot_there : AllFit (codes "boot") (Unsigned 0 18446744073709551615) s.rules → Wants (codes "boot") s.rules
-      → HasNumber 64 (codes "boot") (rows_after s.rules [] words)
-  boot_there all wants =
-      let got = level_reads (codes "boot") (Unsigned 0 18446744073709551615) s all wants words none in
-      let n = digits_value 10 (without_leading_plus got.0) in
-      let read : IsRead 64 (without_leading_plus got.0) n = ((got.2.0, got.2.1), refl) in
-      (n, subst (λ o. IsReadFrom 64 o n) (sym got.1) read)
+  -- the gateway of a text that passed
+  gateway_read : (v : Text) → Accepts false one_bit v → (id : GatewayId) × IsReadFrom 8 (Some (without_minus v)) (number_of id)
+  gateway_read v passed =
+      let one : 1 < 2 ^ 8 = omega arith in
+      let read = signed_number 8 1 v one passed in
+      let id = gateway_of read.0 read.2 in
+      (id.0, subst (IsRead 8 (without_leading_plus (without_minus v))) id.1 read.1)
 
--- ---- the commands
+  id_there : AllFit (codes "id") one_bit s.rules → Wants (codes "id") s.rules → HasId (rows_after s.rules [] words)
+  id_there all wants =
+      let got = level_reads (codes "id") one_bit s all wants words none in
+      let id = gateway_read got.0 got.2 in
+      (id.0, subst (λ o. IsReadFrom 8 o (number_of id.0)) (sym got.1) id.1)
 
--- texts that differ
-apart : {A : Type 0} (xs ys : Text) → bytes_eq xs ys ≡ false → bytes_eq ys ys ≡ true → xs ≡ ys → A
-apart xs ys others itself same =
-    let bad : false ≡ true = sym others ∙ ap (λ zs. bytes_eq zs ys) same ∙ itself in
-    cc
+  id_there_if : AllFit (codes "id") one_bit s.rules → HasIdIf (rows_after s.rules [] words)
+  id_there_if all = go (level_reads_if (codes "id") one_bit s all words none)
+    where
+      at : Option Text
+      at = one_of (codes "id") (rows_after s.rules [] words)
+
+      go : (at ≡ None) ⊎ ((v : Text) × (at ≡ Some (read_as (reading_of one_bit) v)) × Accepts false one_bit v) → HasIdIf (rows_after s.rules [] words)
+      go (inl left_out) = (None, left_out)
+      go (inr got) =
+          let id = gateway_read got.0 got.2 in
+          (Some id.0, subst (λ o. IsReadFrom 8 o (number_of id.0)) (sym got.1) id.1)
+
+-- ---- the options of a command
+
+-- the parsers of the other numbers
+abbrev rounds_parser : ValueParser
+rounds_parser = Signed (pos 0) (pos 4294967295)
+
+abbrev boot_parser : ValueParser
+boot_parser = Unsigned 0 18446744073709551615
+
+abbrev seconds_parser : ValueParser
+seconds_parser = Unsigned 0 4294967295
+
+abbrev port_parser : ValueParser
+port_parser = Unsigned 1 65535
+
+read_rounds : ReadBy 32 rounds_parser
+read_rounds t passed =
+    let most : 4294967295 < 2 ^ 32 = omega arith in
+    let read = signed_number 32 4294967295 t most passed in
+    (read.0, read.1)
+
+read_boot : ReadBy 64 boot_parser
+read_boot t passed =
+    let most : 18446744073709551615 < 2 ^ 64 = omega arith in
+    unsigned_number 64 0 18446744073709551615 t most passed
+
+read_seconds : ReadBy 32 seconds_parser
+read_seconds t passed =
+    let most : 4294967295 < 2 ^ 32 = omega arith in
+    unsigned_number 32 0 4294967295 t most passed
+
+read_port : ReadBy 16 port_parser
+read_port t passed =
+    let most : 65535 < 2 ^ 16 = omega arith in
+    unsigned_number 16 1 65535 t most passed
+
+-- the rules of a name
+abbrev named : Text → List Rule → List Rule
+named k [] = []
+named k (a ∷ rest) = cond (bytes_eq a.id k) (a ∷ named k rest) (named k rest)
+
+-- where they all are options of a parser, each rule fits it
+fits_named : (k : Text) (q : ValueParser) (rules : List Rule) → Each (IsOption q) (named k rules) → AllFit k q rules
+fits_named k q [] all = tt
+fits_named k q (a ∷ rest) all = go (bytes_eq a.id k) refl all (λ others. fits_named k q rest others)
+  where
+    go : (b : Bool) → bytes_eq a.id k ≡ b → Each (IsOption q) (cond b (a ∷ named k rest) (named k rest))
+        → (Each (IsOption q) (named k rest) → AllFit k q rest) → RuleFits k q a × AllFit k q rest
+    go true e all later = (λ _. all.0, later all.1)
+    go false e all later = (λ is. let bad : false ≡ true = sym e ∙ is in cc, later all)
 
 -- what a level gives a command
 abbrev Gives : Shape → Type 0
-Gives s = (words : List Text) → level_fault s [] nothing_held words false [] ≡ [] → HasNumbers s.name (rows_after s.rules [] words)
+Gives s = (words : List Text) → level_fault s [] nothing_held words false [] ≡ []
+    → HasNumbers (rows_after s.rules [] words) × (wants_id s.name ≡ true → HasId (rows_after s.rules [] words))
 
-abbrev AllGive : List Shape → Type 0
-AllGive [] = Unit {0}
-AllGive (s ∷ rest) = Gives s × AllGive rest
+-- a command with these options, of which it may want `--id`
+gives : (s : Shape) → Each (IsOption one_bit) (named (codes "id") s.rules) → Each (IsOption rounds_parser) (named (codes "rounds") s.rules)
+    → Each (IsOption boot_parser) (named (codes "boot") s.rules) → Each (IsOption seconds_parser) (named (codes "seconds") s.rules)
+    → Each (IsOption port_parser) (named (codes "port") s.rules) → (wants_id s.name ≡ true → Wants (codes "id") s.rules) → Gives s
+gives s ids rounds boots seconds ports wants words none =
+    let id = fits_named (codes "id") one_bit s.rules ids in (
+      record {
+        id = id_there_if s words none id;
+        rounds = number_there s words none 32 (codes "rounds") rounds_parser read_rounds (fits_named (codes "rounds") rounds_parser s.rules rounds);
+        boot = number_there s words none 64 (codes "boot") boot_parser read_boot (fits_named (codes "boot") boot_parser s.rules boots);
+        seconds = number_there s words none 32 (codes "seconds") seconds_parser read_seconds (fits_named (codes "seconds") seconds_parser s.rules seconds);
+        port = number_there s words none 16 (codes "port") port_parser read_port (fits_named (codes "port") port_parser s.rules ports);
+      },
+      λ is. id_there s words none id (wants is),
+    )
 
--- a command that wants no number
-gives_none : (s : Shape) → bytes_eq s.name (codes "gate") ≡ false → bytes_eq s.name (codes "peer-off") ≡ false → bytes_eq s.name (codes "side") ≡ false
-    → bytes_eq s.name (codes "stop") ≡ false → Gives s
-gives_none s gate peer_off side stop words none = (
-  λ is. apart s.name (codes "gate") gate refl is,
-  λ is. apart s.name (codes "peer-off") peer_off refl is,
-  λ is. apart s.name (codes "side") side refl is,
-  λ is. apart s.name (codes "stop") stop refl is,
+-- what no command is asked
+never : {A : Type 0} → false ≡ true → A
+never e = cc
+
+all_give : Each Gives (built line_app).subs
+all_give = (
+  gives _ tt tt tt tt tt (λ e. never e),
+  (
+    gives _ (record { parser = refl; ignore_case = refl; action = refl; least = refl; defaults = refl }, tt) tt tt tt tt (λ e. never e),
+    (
+      gives _ (record { parser = refl; ignore_case = refl; action = refl; least = refl; defaults = refl }, tt)
+          (record { parser = refl; ignore_case = refl; action = refl; least = refl; defaults = refl }, tt) tt tt tt (λ _. inr (inl (refl, refl))),
+      (
+        gives _ (record { parser = refl; ignore_case = refl; action = refl; least = refl; defaults = refl }, tt) tt tt
+            (record { parser = refl; ignore_case = refl; action = refl; least = refl; defaults = refl }, tt) tt (λ _. inr (inl (refl, refl))),
+        (
+          gives _ (record { parser = refl; ignore_case = refl; action = refl; least = refl; defaults = refl }, tt) tt tt tt
+              (record { parser = refl; ignore_case = refl; action = refl; least = refl; defaults = refl }, tt) (λ _. inr (inl (refl, refl))),
+          (
+            gives _ (record { parser = refl; ignore_case = refl; action = refl; least = refl; defaults = refl }, tt) tt tt tt tt (λ _. inr (inl (refl, refl))),
+            (
+              gives _ (record { parser = refl; ignore_case = refl; action = refl; least = refl; defaults = refl }, tt) tt
+                  (record { parser = refl; ignore_case = refl; action = refl; least = refl; defaults = refl }, tt) tt tt (λ _. inr (inl (refl, refl))),
+              (
+                gives _ (record { parser = refl; ignore_case = refl; action = refl; least = refl; defaults = refl }, tt) tt tt tt tt (λ _. inr (inl (refl, refl))),
+                (
+                  gives _ tt tt tt tt tt (λ e. never e),
+                  (gives _ tt tt tt tt tt (λ e. never e), tt),
+                ),
+              ),
+            ),
+          ),
+        ),
+      ),
+    ),
+  ),
 )
 
--- `gate` wants one, and may have another
-gives_gate : (s : Shape) → bytes_eq s.name (codes "peer-off") ≡ false → bytes_eq s.name (codes "side") ≡ false → bytes_eq s.name (codes "stop") ≡ false
-    → AllFit (codes "id") (Signed (pos 0) (pos 1)) s.rules → Wants (codes "id") s.rules
-    → AllFit (codes "rounds") (Signed (pos 0) (pos 4294967295)) s.rules → Gives s
-gives_gate s peer_off side stop ids id rounds words none = (
-  λ _. (id_there s words none ids id, rounds_there s words none rounds),
-  λ is. apart s.name (codes "peer-off") peer_off refl is,
-  λ is. apart s.name (codes "side") side refl is,
-  λ is. apart s.name (codes "stop") stop refl is,
-)
-
--- `peer-off` wants two
-gives_peer_off : (s : Shape) → bytes_eq s.name (codes "gate") ≡ false → bytes_eq s.name (codes "side") ≡ false → bytes_eq s.name (codes "stop") ≡ false
-    → AllFit (codes "id") (Signed (pos 0) (pos 1)) s.rules → Wants (codes "id") s.rules
-    → AllFit (codes "boot") (Unsigned 0 18446744073709551615) s.rules → Wants (codes "boot") s.rules → Gives s
-gives_peer_off s gate side stop ids id boots boot words none = (
-  λ is. apart s.name (codes "gate") gate refl is,
-  λ _. (id_there s words none ids id, boot_there s words none boots boot),
-  λ is. apart s.name (codes "side") side refl is,
-  λ is. apart s.name (codes "stop") stop refl is,
-)
-
--- `side` wants one
-gives_side : (s : Shape) → bytes_eq s.name (codes "gate") ≡ false → bytes_eq s.name (codes "peer-off") ≡ false → bytes_eq s.name (codes "stop") ≡ false
-    → AllFit (codes "id") (Signed (pos 0) (pos 1)) s.rules → Wants (codes "id") s.rules → Gives s
-gives_side s gate peer_off stop ids id words none = (
-  λ is. apart s.name (codes "gate") gate refl is,
-  λ is. apart s.name (codes "peer-off") peer_off refl is,
-  λ _. id_there s words none ids id,
-  λ is. apart s.name (codes "stop") stop refl is,
-)
-
--- `stop` too
-gives_stop : (s : Shape) → bytes_eq s.name (codes "gate") ≡ false → bytes_eq s.name (codes "peer-off") ≡ false → bytes_eq s.name (codes "side") ≡ false
-    → AllFit (codes "id") (Signed (pos 0) (pos 1)) s.rules → Wants (codes "id") s.rules → Gives s
-gives_stop s gate peer_off side ids id words none = (
-  λ is. apart s.name (codes "gate") gate refl is,
-  λ is. apart s.name (codes "peer-off") peer_off refl is,
-  λ is. apart s.name (codes "side") side refl is,
-  λ _. id_there s words none ids id,
-)
-
--- what two names that differ would give
-differs : {A : Type 0} → false ≡ true → A
-differs e = cc
-
-all_give : AllGive (built line_app).subs
-all_give =
-    let gate = gives_gate _ refl refl refl
-    ((λ is. differs is), ((λ _. record { parser = refl; ignore_case = refl; action = refl; least = refl; defaults = refl }), ((λ is. differs is), ((λ is. differs is), ((λ is. differs is), ((λ is. differs is), ((λ is. differs is), ((λ is. differs is), ((λ is. differs is), ((λ is. differs is), ((λ is. differs is), ((λ is. differs is), tt))))))))))))
-    (inr (inl (refl, refl)))
-    ((λ is. differs is), ((λ is. differs is), ((λ _. record { parser = refl; ignore_case = refl; action = refl; least = refl; defaults = refl }), ((λ is. differs is), ((λ is. differs is), ((λ is. differs is), ((λ is. differs is), ((λ is. differs is), ((λ is. differs is), ((λ is. differs is), ((λ is. differs is), ((λ is. differs is), tt)))))))))))) in
-    let stop = gives_stop _ refl refl refl
-    ((λ is. differs is), ((λ _. record { parser = refl; ignore_case = refl; action = refl; least = refl; defaults = refl }), ((λ is. differs is), tt)))
-    (inr (inl (refl, refl))) in
-    let peer_off = gives_peer_off _ refl refl refl
-    ((λ is. differs is), ((λ _. record { parser = refl; ignore_case = refl; action = refl; least = refl; defaults = refl }), ((λ is. differs is), ((λ is. differs is), tt))))
-    (inr (inl (refl, refl)))
-    ((λ is. differs is), ((λ is. differs is), ((λ _. record { parser = refl; ignore_case = refl; action = refl; least = refl; defaults = refl }), ((λ is. differs is), tt))))
-    (inr (inr (inl (refl, refl)))) in
-    let side = gives_side _ refl refl refl
-    ((λ is. differs is), ((λ _. record { parser = refl; ignore_case = refl; action = refl; least = refl; defaults = refl }), ((λ is. differs is), ((λ is. differs is), ((λ is. differs is), tt)))))
-    (inr (inl (refl, refl))) in
-    (gives_none _ refl refl refl refl, (gives_none _ refl refl refl refl, (gives_none _ refl refl refl refl, (gate, (stop, (peer_off, (side, tt)))))))
-
-found_gives : (p : Shape → Bool) (xs : List Shape) (s : Shape) → AllGive xs → find p xs ≡ Some s → Gives s
-found_gives p [] s all e = cc
-found_gives p (x ∷ xs) s all e = go (p x) refl (λ rest. found_gives p xs s all.1 rest)
-  where
-    go : (b : Bool) → p x ≡ b → (find p xs ≡ Some s → Gives s) → Gives s
-    go true t later =
-        let same : Some x ≡ Some s = rw t at e in
-        let is : x ≡ s = cc in
-        subst Gives is all.0
-    go false t later = later (rw t at e)
-
-entered_gives : (a : App) (stop : Option (Text × List Text)) → AllGive a.subs → entered_fault a stop ≡ [] → Numbered (entered a stop)
+entered_gives : (a : App) (stop : Option (Text × List Text)) → Each Gives a.subs → entered_fault a stop ≡ [] → Numbered (entered a stop)
 entered_gives a None all none = tt
 entered_gives a (Some p) all none = go (find (λ s. answers_to p.0 (label_of s)) a.subs) refl none
   where
     go : (o : Option Shape) → find (λ s. answers_to p.0 (label_of s)) a.subs ≡ o → option_map_or (λ s. level_fault s [] nothing_held p.1 false []) o [] ≡ []
         → Numbered (entered a (Some p))
     go None e fault = rw e tt
-    go (Some s) e fault = rw e (found_gives (λ x. answers_to p.0 (label_of x)) a.subs s all e p.1 fault)
+    go (Some s) e fault = rw e (found_each Gives (λ x. answers_to p.0 (label_of x)) a.subs s all e p.1 fault)
 
-numbers_of : (a : App) (h : Held) (words : List Text) → AllGive a.subs → built_fault a h words ≡ []
+numbers_of : (a : App) (h : Held) (words : List Text) → Each Gives a.subs → built_fault a h words ≡ []
     → Numbered (entered a (walk a.top.rules (names_of a) h words).stopped)
 numbers_of a h words all none =
     let end = walk a.top.rules (names_of a) h words in

@@ -6,7 +6,8 @@ use Rattle.std.specs.Str.Parse.{ParsesUnsigned}
 use Rattle.clap.specs.Words.{ReadsOne, Row, Text, one_of, one_text, rows_of}
 use Rattle.clap.specs.declared.parser.matches.Found.{Found}
 use Rattle.clap.proofs.WalkLemmas.{one_text-rows}
-use Rattle.command_line.specs.Tasks.{HasNumberIf, IsReadFrom, IsReadIf, ReadsNumber}
+use Rattle.nat_types.specs.declared.gateways.GatewayId.{GatewayId}
+use Rattle.command_line.specs.Values.{HasIdIf, HasNumberIf, IsIdIf, IsReadFrom, IsReadIf, ReadsId, ReadsNumber}
 
 -- the text of a value, or of a default
 pub text_or : (o : Option (Bor Text)) (d : Bor Text) (x : Option Text) → option_map (λ s. s.now) o ≡ x → (unwrap_or o d).now ≡ unwrap_or x d.now
@@ -54,3 +55,9 @@ read_if bits name rows r has reads = go (one_of name rows) r has (from_rows bits
     go (Some t) (Some n) there is = is
     go (Some t) None (None, bad) is = bad
     go (Some t) None (Some n, number) is = is n number
+
+-- the gateway that is read where one is named, or where `--id` is left out
+pub id_if : (rows : List Row) (r : Option GatewayId) → HasIdIf rows → ReadsId rows r → IsIdIf rows r
+id_if rows (Some id) there is = is
+id_if rows None (None, left_out) none = left_out
+id_if rows None (Some id, is) none = absurd (none id is)

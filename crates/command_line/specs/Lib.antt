@@ -1,3 +1,5 @@
 pub mod Line
+pub mod Values
+pub mod Filters
 pub mod Tasks
 pub mod Faults

@@ -3,18 +3,32 @@ use std::alloc::AllocError;
 use std::io::{self, Write};
 use thiserror::Error;
 
-/// Why words are no command line of the program.
-#[derive(Debug, Drop, Error)]
-pub enum LineFault {
-    /// `clap` refuses the words, or they ask for help: its text is what the user is shown.
-    #[error("{0}")]
-    Refused(clap::Error),
+/// What is wrong with the values of a command, each of which `clap` takes.
+#[derive(Clone, Copy, Debug, PartialEq, Eq, Error)]
+pub enum ValueFault {
     /// `--found` stands beside `--id 1`: only gateway 0 founds the pair.
     #[error("found needs id 0")]
     FoundNeedsIdZero,
     /// The words of `side` name no side, or don't say whether its cable is in or out.
     #[error("side needs inside or outside, and up or down")]
     NoSide,
+    /// `status` is to be written in two forms, or waited for until something else than `synced`.
+    #[error("status takes json or prometheus, and until synced")]
+    NoStatus,
+    /// The words of `pairs` are no protocol, no address or no state.
+    #[error("pairs takes udp or tcp, an IPv4 address, and a state as in --state held")]
+    NoFilter,
+}
+
+/// Why words are no command line of the program.
+#[derive(Debug, Drop, Error)]
+pub enum LineFault {
+    /// `clap` refuses the words, or they ask for help: its text is what the user is shown.
+    #[error("{0}")]
+    Refused(clap::Error),
+    /// `clap` takes them, but a command's values don't go together.
+    #[error("{0}")]
+    Values(ValueFault),
     #[error("memory 1 NoMemory")]
     NoMemory,
 }

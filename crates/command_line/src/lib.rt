@@ -3,9 +3,16 @@
 
 mod commands;
 mod faults;
+mod filters;
 mod options;
 mod tasks;
 mod values;
+mod versions;
+mod words;
 
-pub use faults::LineFault;
-pub use tasks::{GateWords, RunWords, Task, WayWords, command};
+pub use faults::{LineFault, ValueFault};
+pub use tasks::{Task, command};
+pub use versions::{KIT, VERSION};
+pub use words::{
+    CheckWords, Form, GateWords, PairsWords, PeerOffWords, RunWords, StatusWords, WayWords,
+};

@@ -1,69 +1,41 @@
 //! The task that words ask for.
-ghost use Rattle.std.specs.Prelude.{◌≡◌, codes, string_bytes, map, option_map, IfOk, IfErr};
+ghost use Rattle.std.specs.Prelude.{◌≡◌, ◌⊎◌, codes, string_bytes, map, option_map, true, Err, Ok, IfOk, IfErr, OnOk};
 ghost use Rattle.clap.specs.Words.{found_of, rows_of, subcommand_rows_of};
-ghost use Rattle.command_line.specs.Line.{Takes, entered_by};
-ghost use Rattle.command_line.specs.Tasks.{IsTask, Asks, AreFiles, AreWays, FoundsAtZero, IsGate, IsId, IsNamed, Enters, HasId, HasNumbersOfGate, HasNumbersOfPeerOff, HasNumbers, Numbered, RefusesGate, RefusesSide, RefusesValues, RefusesEntered, RefusesWords, Refuses};
+ghost use Rattle.command_line.specs.Line.{AskVersion, Takes, entered_by};
+ghost use Rattle.command_line.specs.Values.{HasId, IsId};
+ghost use Rattle.command_line.specs.Tasks.{AreFiles, AreWays, AreWrong, Asks, Enters, FoundsAtZero, HasNumbers, IsAnswer, IsEnteredFaulty, IsFaulty, IsGate, IsTask, Numbered, Refuses, RefusesAs, RefusesEntered, RefusesValues, RefusesWords, is_named, wants_id};
+ghost use Rattle.command_line.specs.declared.faults.LineFault.TheVariants as faults;
+ghost use Rattle.command_line.specs.declared.faults.ValueFault.{ValueFault as Why};
+ghost use Rattle.command_line.specs.declared.faults.ValueFault.TheVariants.{FoundNeedsIdZero, NoFilter, NoSide, NoStatus};
+ghost use Rattle.command_line.specs.declared.tasks.Task.TheVariants as tasks;
 
-use crate::faults::LineFault;
-use crate::{commands, values};
+use crate::faults::{LineFault, ValueFault};
+use crate::words::{
+    CheckWords, GateWords, PairsWords, PeerOffWords, RunWords, StatusWords, WayWords,
+};
+use crate::{commands, filters, values};
 use clap::ArgMatches;
 use clap::error::ErrorKind;
 use nat_types::{GatewayId, Side};
 use std::alloc::{AllocError, Global};
-
-/// The files of a run. Files are paths.
-#[derive(Debug, Drop)]
-pub struct RunWords {
-    pub settings: String,
-    pub script: String,
-    /// The run is captured in this file.
-    pub capture: Option<String>,
-}
-
-/// The ways of a gateway's places, as they are written.
-#[derive(Debug, Drop)]
-pub struct WayWords {
-    pub inside: String,
-    pub outside: String,
-    pub link: String,
-}
-
-/// How a gateway is to be run. Files are paths.
-#[derive(Debug, Drop)]
-pub struct GateWords {
-    pub settings: String,
-    pub id: GatewayId,
-    /// For so many rounds; or until it is told to end.
-    pub rounds: Option<u32>,
-    /// The end of its standard input tells it to end.
-    pub until_eof: bool,
-    /// It founds the pair.
-    pub found: bool,
-    /// Its places are reached by these.
-    pub ways: WayWords,
-    /// It gives way by the carrier of its interfaces.
-    pub track: bool,
-    /// Which records it writes, as a filter's text.
-    pub log: Option<String>,
-    /// It writes them as keys and values.
-    pub pairs: bool,
-}
 
 /// What a command line asks for. Files are paths.
 #[derive(Debug, Drop)]
 pub enum Task {
     /// Create a boot file.
     Init(String),
-    /// Run a script with settings and print it.
-    Sim(RunWords),
-    /// The same, with frames and datagrams sent through loopback sockets.
-    Loop(RunWords),
+    /// Say what is wrong with settings.
+    Check(CheckWords),
     /// Run one gateway with settings.
     Gate(GateWords),
+    /// Write what a running gateway says of itself.
+    Status(StatusWords),
+    /// List the pairs of a running gateway.
+    Pairs(PairsWords),
     /// Tell a running gateway to end.
     Stop(String, GatewayId),
-    /// Tell a running gateway that this boot of its peer has ended for good.
-    PeerOff(String, GatewayId, u64),
+    /// Tell a running gateway that a boot of its peer has ended for good.
+    PeerOff(PeerOffWords),
     /// Tell a running gateway that a side is up, or that it is down.
     Side {
         settings: String,
@@ -71,6 +43,12 @@ pub enum Task {
         side: Side,
         up: bool,
     },
+    /// Run a script with settings and print it.
+    Sim(RunWords),
+    /// The same, with frames and datagrams sent through loopback sockets.
+    Loop(RunWords),
+    /// Say the program's version.
+    Version,
 }
 
 fn init(alloc: Global, matches: &ArgMatches<'_>) -> Result<Task, AllocError>
@@ -78,6 +56,192 @@ fn init(alloc: Global, matches: &ArgMatches<'_>) -> Result<Task, AllocError>
 {
     let file = values::word(alloc, matches, "FILE")?;
     Ok(Task::Init(file))
+}
+
+fn check(alloc: Global, matches: &ArgMatches<'_>) -> Result<Task, AllocError>
+    requires { HasNumbers (rows_of (found_of matches.now)) }
+    ensures { IfOk result (IsTask (codes "check") (rows_of (found_of matches.now))) }
+{
+    let words = CheckWords {
+        settings: values::word(alloc, matches, "SETTINGS")?,
+        other: values::word_if(alloc, matches, "OTHER")?,
+        id: values::id_if(matches),
+        strict: values::flag(matches, "strict"),
+        inside: values::word_if(alloc, matches, "inside")?,
+        outside: values::word_if(alloc, matches, "outside")?,
+        link: values::word_if(alloc, matches, "link")?,
+    };
+    Ok(Task::Check(words))
+}
+
+fn ways(alloc: Global, matches: &ArgMatches<'_>) -> Result<WayWords, AllocError>
+    ensures { IfOk result (AreWays (rows_of (found_of matches.now))) }
+{
+    Ok(WayWords {
+        inside: values::word(alloc, matches, "inside")?,
+        outside: values::word(alloc, matches, "outside")?,
+        link: values::word(alloc, matches, "link")?,
+    })
+}
+
+/// The gateway to run: only gateway 0 founds the pair.
+fn gate(alloc: Global, matches: &ArgMatches<'_>) -> Result<Task, LineFault>
+    requires numbers { HasNumbers (rows_of (found_of matches.now)) }
+    requires id { HasId (rows_of (found_of matches.now)) }
+    ensures ok { IfOk result (IsTask (codes "gate") (rows_of (found_of matches.now))) }
+    ensures zero { IfOk result FoundsAtZero }
+    ensures sound { OnOk result (¬ (AreWrong (rows_of (found_of matches.now)) FoundNeedsIdZero)) }
+    ensures err { IfErr result (RefusesAs FoundNeedsIdZero (rows_of (found_of matches.now))) }
+{
+    let Some(id) = values::id(matches) else {
+        unreachable!()
+    };
+    let found = values::flag(matches, "found");
+    if found && id == GatewayId::One {
+        return Err(LineFault::Values(ValueFault::FoundNeedsIdZero));
+    }
+    let gate = gate_words(alloc, matches, id)?;
+    Ok(Task::Gate(gate))
+}
+
+/// What the words say of the gateway to run.
+fn gate_words(
+    alloc: Global,
+    matches: &ArgMatches<'_>,
+    id: GatewayId,
+) -> Result<GateWords, AllocError>
+    requires numbers { HasNumbers (rows_of (found_of matches.now)) }
+    requires id { IsId (rows_of (found_of matches.now)) id }
+    ensures words { IfOk result (IsGate (rows_of (found_of matches.now))) }
+    ensures id { IfOk result (λ gate. gate.id ≡ id) }
+{
+    Ok(GateWords {
+        settings: values::word(alloc, matches, "SETTINGS")?,
+        id,
+        rounds: values::short_if(matches, "rounds"),
+        until_eof: values::flag(matches, "until-eof"),
+        found: values::flag(matches, "found"),
+        ways: ways(alloc, matches)?,
+        track: !values::flag(matches, "no-track"),
+        log: values::word_if(alloc, matches, "log")?,
+        pairs: values::flag(matches, "log-pairs"),
+        capture: values::word_if(alloc, matches, "capture")?,
+        notify: values::word_if(alloc, matches, "notify")?,
+    })
+}
+
+/// What is asked of a gateway's state: in one form, and until nothing but `synced`.
+fn status(alloc: Global, matches: &ArgMatches<'_>) -> Result<Task, LineFault>
+    requires numbers { HasNumbers (rows_of (found_of matches.now)) }
+    requires id { HasId (rows_of (found_of matches.now)) }
+    ensures ok { IfOk result (IsTask (codes "status") (rows_of (found_of matches.now))) }
+    ensures zero { IfOk result FoundsAtZero }
+    ensures sound { OnOk result (¬ (AreWrong (rows_of (found_of matches.now)) NoStatus)) }
+    ensures err { IfErr result (RefusesAs NoStatus (rows_of (found_of matches.now))) }
+{
+    let Some(id) = values::id(matches) else {
+        unreachable!()
+    };
+    let Some(form) = filters::form(matches) else {
+        return Err(LineFault::Values(ValueFault::NoStatus));
+    };
+    let Some(until_synced) = filters::until_synced(matches) else {
+        return Err(LineFault::Values(ValueFault::NoStatus));
+    };
+    let settings = values::word(alloc, matches, "SETTINGS")?;
+    Ok(Task::Status(StatusWords {
+        settings,
+        id,
+        form,
+        until_synced,
+        seconds: values::short_if(matches, "seconds"),
+    }))
+}
+
+/// Which pairs are listed.
+fn pairs(alloc: Global, matches: &ArgMatches<'_>) -> Result<Task, LineFault>
+    requires numbers { HasNumbers (rows_of (found_of matches.now)) }
+    requires id { HasId (rows_of (found_of matches.now)) }
+    ensures ok { IfOk result (IsTask (codes "pairs") (rows_of (found_of matches.now))) }
+    ensures zero { IfOk result FoundsAtZero }
+    ensures sound { OnOk result (¬ (AreWrong (rows_of (found_of matches.now)) NoFilter)) }
+    ensures err { IfErr result (RefusesAs NoFilter (rows_of (found_of matches.now))) }
+{
+    let Some(id) = values::id(matches) else {
+        unreachable!()
+    };
+    let Some(protocol) = filters::protocol(matches) else {
+        return Err(LineFault::Values(ValueFault::NoFilter));
+    };
+    let Some(address) = filters::address(matches) else {
+        return Err(LineFault::Values(ValueFault::NoFilter));
+    };
+    let Some(state) = filters::state(matches) else {
+        return Err(LineFault::Values(ValueFault::NoFilter));
+    };
+    let settings = values::word(alloc, matches, "SETTINGS")?;
+    Ok(Task::Pairs(PairsWords {
+        settings,
+        id,
+        protocol,
+        address,
+        port: filters::port(matches),
+        state,
+    }))
+}
+
+/// The gateway that is to end.
+fn stop(alloc: Global, matches: &ArgMatches<'_>) -> Result<Task, AllocError>
+    requires { HasId (rows_of (found_of matches.now)) }
+    ensures { IfOk result (IsTask (codes "stop") (rows_of (found_of matches.now))) }
+{
+    let Some(id) = values::id(matches) else {
+        unreachable!()
+    };
+    let settings = values::word(alloc, matches, "SETTINGS")?;
+    Ok(Task::Stop(settings, id))
+}
+
+fn peer_off(alloc: Global, matches: &ArgMatches<'_>) -> Result<Task, AllocError>
+    requires numbers { HasNumbers (rows_of (found_of matches.now)) }
+    requires id { HasId (rows_of (found_of matches.now)) }
+    ensures { IfOk result (IsTask (codes "peer-off") (rows_of (found_of matches.now))) }
+{
+    let Some(id) = values::id(matches) else {
+        unreachable!()
+    };
+    let words = PeerOffWords {
+        settings: values::word(alloc, matches, "SETTINGS")?,
+        id,
+        boot: values::long_if(matches, "boot"),
+        force: values::flag(matches, "force"),
+    };
+    Ok(Task::PeerOff(words))
+}
+
+fn side(alloc: Global, matches: &ArgMatches<'_>) -> Result<Task, LineFault>
+    requires { HasId (rows_of (found_of matches.now)) }
+    ensures ok { IfOk result (IsTask (codes "side") (rows_of (found_of matches.now))) }
+    ensures zero { IfOk result FoundsAtZero }
+    ensures sound { OnOk result (¬ (AreWrong (rows_of (found_of matches.now)) NoSide)) }
+    ensures err { IfErr result (RefusesAs NoSide (rows_of (found_of matches.now))) }
+{
+    let Some(id) = values::id(matches) else {
+        unreachable!()
+    };
+    let Some(side) = values::side(matches) else {
+        return Err(LineFault::Values(ValueFault::NoSide));
+    };
+    let Some(up) = values::state(matches) else {
+        return Err(LineFault::Values(ValueFault::NoSide));
+    };
+    let settings = values::word(alloc, matches, "SETTINGS")?;
+    Ok(Task::Side {
+        settings,
+        id,
+        side,
+        up,
+    })
 }
 
 fn files(alloc: Global, matches: &ArgMatches<'_>) -> Result<RunWords, AllocError>
@@ -104,108 +268,6 @@ fn repeat(alloc: Global, matches: &ArgMatches<'_>) -> Result<Task, AllocError>
     Ok(Task::Loop(files))
 }
 
-fn ways(alloc: Global, matches: &ArgMatches<'_>) -> Result<WayWords, AllocError>
-    ensures { IfOk result (AreWays (rows_of (found_of matches.now))) }
-{
-    Ok(WayWords {
-        inside: values::word(alloc, matches, "inside")?,
-        outside: values::word(alloc, matches, "outside")?,
-        link: values::word(alloc, matches, "link")?,
-    })
-}
-
-/// The gateway to run: only gateway 0 founds the pair.
-fn gate(alloc: Global, matches: &ArgMatches<'_>) -> Result<Task, LineFault>
-    requires { HasNumbersOfGate (rows_of (found_of matches.now)) }
-    ensures ok { IfOk result (IsTask (codes "gate") (rows_of (found_of matches.now))) }
-    ensures zero { IfOk result FoundsAtZero }
-    ensures err { IfErr result (RefusesGate (rows_of (found_of matches.now))) }
-{
-    let Some(id) = values::id(matches) else {
-        unreachable!()
-    };
-    let found = values::flag(matches, "found");
-    if found && id == GatewayId::One {
-        return Err(LineFault::FoundNeedsIdZero);
-    }
-    let gate = gate_words(alloc, matches, id)?;
-    Ok(Task::Gate(gate))
-}
-
-/// What the words say of the gateway to run.
-fn gate_words(
-    alloc: Global,
-    matches: &ArgMatches<'_>,
-    id: GatewayId,
-) -> Result<GateWords, AllocError>
-    requires numbers { HasNumbersOfGate (rows_of (found_of matches.now)) }
-    requires id { IsId (rows_of (found_of matches.now)) id }
-    ensures words { IfOk result (IsGate (rows_of (found_of matches.now))) }
-    ensures id { IfOk result (λ gate. gate.id ≡ id) }
-{
-    Ok(GateWords {
-        settings: values::word(alloc, matches, "SETTINGS")?,
-        id,
-        rounds: values::short_if(matches, "rounds"),
-        until_eof: values::flag(matches, "until-eof"),
-        found: values::flag(matches, "found"),
-        ways: ways(alloc, matches)?,
-        track: !values::flag(matches, "no-track"),
-        log: values::word_if(alloc, matches, "log")?,
-        pairs: values::flag(matches, "log-pairs"),
-    })
-}
-
-/// The gateway that is to end.
-fn stop(alloc: Global, matches: &ArgMatches<'_>) -> Result<Task, AllocError>
-    requires { HasId (rows_of (found_of matches.now)) }
-    ensures { IfOk result (IsTask (codes "stop") (rows_of (found_of matches.now))) }
-{
-    let Some(id) = values::id(matches) else {
-        unreachable!()
-    };
-    let settings = values::word(alloc, matches, "SETTINGS")?;
-    Ok(Task::Stop(settings, id))
-}
-
-fn peer_off(alloc: Global, matches: &ArgMatches<'_>) -> Result<Task, AllocError>
-    requires { HasNumbersOfPeerOff (rows_of (found_of matches.now)) }
-    ensures { IfOk result (IsTask (codes "peer-off") (rows_of (found_of matches.now))) }
-{
-    let Some(id) = values::id(matches) else {
-        unreachable!()
-    };
-    let Some(boot) = values::long(matches, "boot") else {
-        unreachable!()
-    };
-    let settings = values::word(alloc, matches, "SETTINGS")?;
-    Ok(Task::PeerOff(settings, id, boot))
-}
-
-fn side(alloc: Global, matches: &ArgMatches<'_>) -> Result<Task, LineFault>
-    requires { HasId (rows_of (found_of matches.now)) }
-    ensures ok { IfOk result (IsTask (codes "side") (rows_of (found_of matches.now))) }
-    ensures zero { IfOk result FoundsAtZero }
-    ensures err { IfErr result (RefusesSide (rows_of (found_of matches.now))) }
-{
-    let Some(id) = values::id(matches) else {
-        unreachable!()
-    };
-    let Some(side) = values::side(matches) else {
-        return Err(LineFault::NoSide);
-    };
-    let Some(up) = values::state(matches) else {
-        return Err(LineFault::NoSide);
-    };
-    let settings = values::word(alloc, matches, "SETTINGS")?;
-    Ok(Task::Side {
-        settings,
-        id,
-        side,
-        up,
-    })
-}
-
 /// The command that a line entered, and its values.
 fn entered<'m, 'a>(matches: &'m ArgMatches<'a>) -> Option<(&'a str, &'m ArgMatches<'a>)>
     ensures { option_map (λ p. (p.0.now, rows_of (found_of p.1.now))) result
@@ -215,20 +277,26 @@ fn entered<'m, 'a>(matches: &'m ArgMatches<'a>) -> Option<(&'a str, &'m ArgMatch
 }
 
 fn named(alloc: Global, name: &str, matches: &ArgMatches<'_>) -> Result<Task, LineFault>
-    requires named { IsNamed name.now }
-    requires numbers { HasNumbers name.now (rows_of (found_of matches.now)) }
+    requires named { is_named name.now ≡ true }
+    requires numbers { HasNumbers (rows_of (found_of matches.now)) }
+    requires id { wants_id name.now ≡ true → HasId (rows_of (found_of matches.now)) }
     ensures ok { IfOk result (IsTask name.now (rows_of (found_of matches.now))) }
     ensures zero { IfOk result FoundsAtZero }
+    ensures sound { OnOk result ((why : Why)
+        → ¬ (IsFaulty name.now (rows_of (found_of matches.now)) why)) }
     ensures err { IfErr result (RefusesValues name.now (rows_of (found_of matches.now))) }
 {
     match name {
         "init" => Ok(init(alloc, matches)?),
-        "sim" => Ok(sim(alloc, matches)?),
-        "loop" => Ok(repeat(alloc, matches)?),
+        "check" => Ok(check(alloc, matches)?),
         "gate" => gate(alloc, matches),
+        "status" => status(alloc, matches),
+        "pairs" => pairs(alloc, matches),
         "stop" => Ok(stop(alloc, matches)?),
         "peer-off" => Ok(peer_off(alloc, matches)?),
         "side" => side(alloc, matches),
+        "sim" => Ok(sim(alloc, matches)?),
+        "loop" => Ok(repeat(alloc, matches)?),
         _ => unreachable!(),
     }
 }
@@ -238,6 +306,8 @@ fn of_matches(alloc: Global, matches: &ArgMatches<'_>) -> Result<Task, LineFault
     requires numbers { Numbered (subcommand_rows_of matches.now) }
     ensures ok { IfOk result (Asks (subcommand_rows_of matches.now)) }
     ensures zero { IfOk result FoundsAtZero }
+    ensures sound { OnOk result ((why : Why)
+        → ¬ (IsEnteredFaulty (subcommand_rows_of matches.now) why)) }
     ensures err { IfErr result (RefusesEntered (subcommand_rows_of matches.now)) }
 {
     match entered(matches) {
@@ -266,15 +336,21 @@ fn parse<'a>(alloc: Global, words: &'a [String]) -> Result<ArgMatches<'a>, LineF
 /// The task that the words of a command line ask for, the program's name first.
 ///
 /// # Errors
-/// What `clap` refuses, a request for help too, is `Refused` with its text; of what it takes, `--found`
-/// beside `--id 1` is `FoundNeedsIdZero`, and words of `side` that name none are `NoSide`. A number that
-/// is missing or beyond its limits `clap` refuses.
+/// What `clap` refuses, a request for help too, is `Refused` with its text; only where it would tell the
+/// version that is the task. Of what it takes, values that don't go together are `Values`. A number that is
+/// missing or beyond its limits `clap` refuses.
 pub fn command(alloc: Global, words: &[String]) -> Result<Task, LineFault>
-    ensures taken { IfOk result (λ _. Takes (map string_bytes words.now)) }
-    ensures task { IfOk result (Asks (entered_by (map string_bytes words.now))) }
+    ensures task { IfOk result (IsAnswer (map string_bytes words.now)) }
     ensures found { IfOk result FoundsAtZero }
     ensures refused { IfErr result (Refuses (map string_bytes words.now)) }
+    ensures version { AskVersion (map string_bytes words.now)
+        → (result ≡ Ok tasks.Version) ⊎ (result ≡ Err faults.NoMemory) }
 {
-    let matches = parse(alloc, words)?;
-    of_matches(alloc, &matches)
+    match parse(alloc, words) {
+        Ok(matches) => of_matches(alloc, &matches),
+        Err(LineFault::Refused(error)) if error.kind() == ErrorKind::DisplayVersion => {
+            Ok(Task::Version)
+        }
+        Err(fault) => Err(fault),
+    }
 }

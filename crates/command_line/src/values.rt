@@ -1,17 +1,25 @@
 //! The values that clap gives the options of a command.
 ghost use Rattle.std.specs.Prelude.{◌≡◌, option_map, string_bytes, IfOk};
 ghost use Rattle.clap.specs.Words.{first_of, found_of, one_of, rows_of};
-ghost use Rattle.command_line.specs.Tasks.{word_of, flag_of, side_in, state_in, HasNumberIf, IsReadIf, ReadsNumber, ReadsId};
+ghost use Rattle.command_line.specs.Values.{word_of, flag_of, side_in, state_in, HasIdIf, HasNumberIf, IsIdIf, IsReadIf, ReadsNumber, ReadsId};
 
 use clap::ArgMatches;
 use nat_types::{GatewayId, Side};
 use std::alloc::{AllocError, Global};
 
+/// The text at a name, if one stands there.
+pub(crate) fn text_if<'a>(matches: &ArgMatches<'a>, name: &str) -> Option<&'a str>
+    ensures { option_map (λ text. text.now) result
+        ≡ first_of name.now (rows_of (found_of matches.now)) }
+{
+    matches.get_str(name)
+}
+
 /// The text at a name; an empty one where none stands there.
 fn text<'a>(matches: &ArgMatches<'a>, name: &str) -> &'a str
     ensures { result.now ≡ word_of name.now (rows_of (found_of matches.now)) }
 {
-    matches.get_str(name).unwrap_or("")
+    text_if(matches, name).unwrap_or("")
 }
 
 /// The word at a name.
@@ -35,7 +43,7 @@ pub(crate) fn word_if(
     ensures { IfOk result (λ o. option_map string_bytes o
         ≡ first_of name.now (rows_of (found_of matches.now))) }
 {
-    match matches.get_str(name) {
+    match text_if(matches, name) {
         Some(text) => {
             let word = String::from_str(alloc, text)?;
             Ok(Some(word))
@@ -48,7 +56,7 @@ pub(crate) fn word_if(
 pub(crate) fn flag(matches: &ArgMatches<'_>, name: &str) -> bool
     ensures { result ≡ flag_of name.now (rows_of (found_of matches.now)) }
 {
-    match matches.get_str(name) {
+    match text_if(matches, name) {
         Some(text) => text == "true",
         None => false,
     }
@@ -61,24 +69,26 @@ fn byte(matches: &ArgMatches<'_>, name: &str) -> Option<u8>
     matches.get_one::<u8>(name)
 }
 
+/// The number of 16 bits at an option that may be left out.
+pub(crate) fn port_if(matches: &ArgMatches<'_>, name: &str) -> Option<u16>
+    requires { HasNumberIf 16 name.now (rows_of (found_of matches.now)) }
+    ensures { IsReadIf 16 (one_of name.now (rows_of (found_of matches.now))) result }
+{
+    matches.get_one::<u16>(name)
+}
+
 /// The number of 32 bits at an option that may be left out.
 pub(crate) fn short_if(matches: &ArgMatches<'_>, name: &str) -> Option<u32>
     requires { HasNumberIf 32 name.now (rows_of (found_of matches.now)) }
     ensures { IsReadIf 32 (one_of name.now (rows_of (found_of matches.now))) result }
 {
-    short(matches, name)
-}
-
-/// The number of 32 bits at a name.
-fn short(matches: &ArgMatches<'_>, name: &str) -> Option<u32>
-    ensures { ReadsNumber 32 name.now (rows_of (found_of matches.now)) result }
-{
     matches.get_one::<u32>(name)
 }
 
-/// The number of 64 bits at a name.
-pub(crate) fn long(matches: &ArgMatches<'_>, name: &str) -> Option<u64>
-    ensures { ReadsNumber 64 name.now (rows_of (found_of matches.now)) result }
+/// The number of 64 bits at an option that may be left out.
+pub(crate) fn long_if(matches: &ArgMatches<'_>, name: &str) -> Option<u64>
+    requires { HasNumberIf 64 name.now (rows_of (found_of matches.now)) }
+    ensures { IsReadIf 64 (one_of name.now (rows_of (found_of matches.now))) result }
 {
     matches.get_one::<u64>(name)
 }
@@ -92,6 +102,14 @@ pub(crate) fn id(matches: &ArgMatches<'_>) -> Option<GatewayId>
         Some(1) => Some(GatewayId::One),
         _ => None,
     }
+}
+
+/// The gateway that `--id` names, where it may be left out.
+pub(crate) fn id_if(matches: &ArgMatches<'_>) -> Option<GatewayId>
+    requires { HasIdIf (rows_of (found_of matches.now)) }
+    ensures { IsIdIf (rows_of (found_of matches.now)) result }
+{
+    id(matches)
 }
 
 /// The side that the word SIDE names.

@@ -1,7 +1,7 @@
 -- What an exit status says of what was done.
-use Rattle.std.specs.Prelude.{◌≡◌, ℕ, List, Option}
-use Rattle.command_line.specs.Line.{entered_by}
-use Rattle.command_line.specs.Tasks.{Asks}
+use Rattle.std.specs.Prelude.{◌≡◌, ℕ, List, Option, codes}
+use Rattle.std.specs.Io.KnownBytes.{Appends}
+use Rattle.command_line.specs.Tasks.{IsAnswer}
 use Rattle.command_line.specs.declared.tasks.Task.{Task}
 use Rattle.command_line.specs.declared.tasks.Task.TheVariants as task
 use Rattle.settings.specs.declared.whole.Settings.{Settings}
@@ -32,19 +32,27 @@ pub record HasLoop (status : ℕ) : Type 0 where
   pub last : Standing
   pub run : LoopsScript has_ports may_pass text script unasked last status
 
+-- the line that tells the version
+abbrev pub version_line : List ℕ
+version_line = codes "natpair 0.1.0 (rattle-kit-13b logic dac8208d650f15bf)\n"
+
 -- The status with which a task is done, and what was printed until then: that of such a run for `sim` and `loop`, 0 for
--- the others; and for `gate` there are a start and its rounds.
+-- the others; for `gate` there are a start and its rounds, and of the version just its line is printed.
 abbrev pub Ends : Option (List ℕ) → Option (List ℕ) → Task → ℕ → Type 0
 Ends before after (task.Init file) status = status ≡ 0
+Ends before after (task.Check words) status = status ≡ 0
+Ends before after (task.Gate gate) status = (status ≡ 0) × HasServed gate.id gate.rounds gate.found gate.track gate.until_eof before after
+Ends before after (task.Status words) status = status ≡ 0
+Ends before after (task.Pairs words) status = status ≡ 0
+Ends before after (task.Stop settings id) status = status ≡ 0
+Ends before after (task.PeerOff words) status = status ≡ 0
+Ends before after (task.Side settings id side up) status = status ≡ 0
 Ends before after (task.Sim files) status = HasRun status
 Ends before after (task.Loop files) status = HasLoop status
-Ends before after (task.Gate gate) status = (status ≡ 0) × HasServed gate.id gate.rounds gate.found gate.track gate.until_eof before after
-Ends before after (task.Stop settings id) status = status ≡ 0
-Ends before after (task.PeerOff settings id boot) status = status ≡ 0
-Ends before after (task.Side settings id side up) status = status ≡ 0
+Ends before after task.Version status = (status ≡ 0) × Appends before after version_line
 
 -- the words ask for a task that is done with this status
 pub record AreDone (words : List (List ℕ)) (before after : Option (List ℕ)) (status : ℕ) : Type 0 where
-  pub task : Task
-  pub asked : Asks (entered_by words) task
-  pub ends : Ends before after task status
+  pub asked : Task
+  pub answer : IsAnswer words asked
+  pub ends : Ends before after asked status

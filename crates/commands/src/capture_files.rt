@@ -2,8 +2,9 @@
 ghost use Rattle.std.specs.Prelude.{◌≡◌, ◌⊎◌, Ok, IfErr, IfOk};
 ghost use Rattle.faults.specs.Faults.{status_of};
 
-use faults::Fault;
+use faults::{Fault, Refusal};
 use recording::Capture;
+use std::alloc::Global;
 use std::fs::{Files, OpenOptions};
 use std::io::{self, BufWriter, ErrorKind, Write};
 
@@ -24,18 +25,20 @@ pub(crate) fn capture_at<R: Files + AllocGlobal>(
     Capture::begin(BufWriter::new(rt.alloc(), file)?)
 }
 
-/// Tells why a capture couldn't be begun, and gives the exit status.
-pub(crate) fn unmade<E: Write>(error: io::Error, path: &str, errors: &mut E) -> u8
+/// Tells why a capture couldn't be made or written, and gives the exit status.
+pub(crate) fn unmade<E: Write>(alloc: Global, error: &io::Error, path: &str, errors: &mut E) -> u8
     ensures { result ≡ 1 }
 {
-    match error.kind() {
-        ErrorKind::OutOfMemory => Fault::NoMemory.tell(errors),
-        _ => unwritten(path, errors),
-    }
+    let fault = match error.kind() {
+        ErrorKind::OutOfMemory => Fault::NoMemory,
+        cause => Fault::of_file(alloc, Refusal::NotWritten, path, Some(cause)),
+    };
+    fault.tell(errors)
 }
 
 /// The exit status of a run, whose fault is told: that its capture couldn't be written comes before others.
 pub(crate) fn ended<E: Write>(
+    alloc: Global,
     run: Result<u8, Fault>,
     written: io::Result<()>,
     path: &str,
@@ -46,20 +49,11 @@ pub(crate) fn ended<E: Write>(
     ensures status { (result ≡ 0) ⊎ ((result ≡ 1) ⊎ (result ≡ 3)) }
     ensures run { (result ≡ 0) ⊎ (result ≡ 3) → run ≡ Ok result }
 {
-    if written.is_err() {
-        return unwritten(path, errors);
+    if let Err(error) = written {
+        return unmade(alloc, &error, path, errors);
     }
     match run {
         Ok(status) => status,
         Err(fault) => fault.tell(errors),
     }
-}
-
-/// Tells that the file of a capture couldn't be made or written, and gives the exit status.
-fn unwritten<E: Write>(path: &str, errors: &mut E) -> u8
-    ensures { result ≡ 1 }
-{
-    let fault = Fault::NotWritten;
-    let _untold = writeln!(errors, "natpair: {fault} {path}");
-    1
 }

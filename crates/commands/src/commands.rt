@@ -1,17 +1,21 @@
 //! The commands.
 ghost use Rattle.std.specs.Prelude.{◌≡◌, ◌⊎◌, ◌≤◌, map, string_bytes};
+ghost use Rattle.command_line.specs.Line.{AskVersion, MayAskVersion};
 ghost use Rattle.command_line.specs.Tasks.{FoundsAtZero};
 ghost use Rattle.commands.specs.Words.{AreRefused};
 ghost use Rattle.commands.specs.Ends.{AreDone, Ends};
 
+use crate::asking::{look_at, pairs_of, state_of};
 use crate::runs::{repeat, sim};
+use crate::versions::tell_version;
 use boot_file::{Lockable, Uncached};
-use command_line::{Task, WayWords, command};
+use command_line::{GateWords, Task, WayWords, command};
 use gate::{Start, WayTexts, gate, init, peer_off, side, stop};
 use journal::Format;
 use std::fs::Files;
 use std::io::Write;
 use std::net::Net;
+use std::os::fd::AsRawFd;
 use std::random::RandomSource;
 use std::rt::{Clock, Env};
 
@@ -30,10 +34,12 @@ pub fn act<
     E: Write,
 >(rt: &R, words: &[String], is_watched: bool, output: &mut O, errors: &mut E) -> u8
 where
-    R::File: Uncached + Lockable,
+    R::File: Uncached + Lockable + AsRawFd,
     ensures usage { result ≡ 2 → AreRefused (map string_bytes words.now) }
     ensures refused { AreRefused (map string_bytes words.now)
-        → (result ≡ 1) ⊎ (result ≡ 2) }
+        → ¬ (MayAskVersion (map string_bytes words.now)) → (result ≡ 1) ⊎ (result ≡ 2) }
+    ensures version { AskVersion (map string_bytes words.now)
+        → (result ≡ 0) ⊎ (result ≡ 1) }
     ensures done { (result ≡ 0) ⊎ (result ≡ 3) → AreDone (map string_bytes words.now)
         (O.contents output.old) (O.contents output.new) result }
     ensures most { result ≤ 3 }
@@ -51,7 +57,7 @@ fn done<
     E: Write,
 >(rt: &R, task: &Task, is_watched: bool, output: &mut O, errors: &mut E) -> u8
 where
-    R::File: Uncached + Lockable,
+    R::File: Uncached + Lockable + AsRawFd,
     requires found { FoundsAtZero task.now }
     ensures status { (result ≡ 0) ⊎ ((result ≡ 1) ⊎ (result ≡ 3)) }
     ensures done { (result ≡ 0) ⊎ (result ≡ 3)
@@ -59,37 +65,54 @@ where
 {
     match task {
         Task::Init(file) => init(rt, file.as_str(), errors),
-        Task::Sim(files) => sim(rt, files, is_watched, output, errors),
-        Task::Loop(files) => repeat(rt, files, output, errors),
-        Task::Gate(words) => {
-            let start = Start {
-                settings: words.settings.as_str(),
-                id: words.id,
-                rounds: words.rounds,
-                found: words.found,
-                ways: texts_of(&words.ways),
-                track: words.track,
-                until_eof: words.until_eof,
-                log: filter_of(&words.log),
-                format: format_of(words.pairs),
-            };
-            gate(rt, &start, output, errors)
-        }
+        Task::Check(words) => look_at(rt, words, output, errors),
+        Task::Gate(words) => gate(rt, &start_of(words), output, errors),
+        Task::Status(words) => state_of(rt, words, output, errors),
+        Task::Pairs(words) => pairs_of(rt, words, output, errors),
         Task::Stop(settings, id) => stop(rt, settings.as_str(), *id, errors),
-        Task::PeerOff(settings, id, boot) => peer_off(rt, settings.as_str(), *id, *boot, errors),
+        Task::PeerOff(words) => {
+            let settings = words.settings.as_str();
+            peer_off(rt, settings, words.id, words.boot, words.force, errors)
+        }
         Task::Side {
             settings,
             id,
             side: told,
             up,
         } => side(rt, settings.as_str(), *id, *told, *up, errors),
+        Task::Sim(files) => sim(rt, files, is_watched, output, errors),
+        Task::Loop(files) => repeat(rt, files, output, errors),
+        Task::Version => tell_version(output, errors),
     }
 }
 
-/// The text of a filter.
-fn filter_of(log: &Option<String>) -> Option<&str> {
-    match log {
-        Some(filter) => Some(filter.as_str()),
+/// How the gateway of these words is run.
+fn start_of(words: &GateWords) -> Start<'_>
+    ensures id { result.id ≡ words.now.id }
+    ensures rounds { result.rounds ≡ words.now.rounds }
+    ensures found { result.found ≡ words.now.found }
+    ensures track { result.track ≡ words.now.track }
+    ensures until_eof { result.until_eof ≡ words.now.until_eof }
+{
+    Start {
+        settings: words.settings.as_str(),
+        id: words.id,
+        rounds: words.rounds,
+        found: words.found,
+        ways: texts_of(&words.ways),
+        track: words.track,
+        until_eof: words.until_eof,
+        log: text_of(&words.log),
+        format: format_of(words.pairs),
+        capture: text_of(&words.capture),
+        notify: text_of(&words.notify),
+    }
+}
+
+/// The text of an option, where it has one.
+pub(crate) fn text_of(option: &Option<String>) -> Option<&str> {
+    match option {
+        Some(text) => Some(text.as_str()),
         None => None,
     }
 }

@@ -1,9 +1,11 @@
 //! What `natpair` does for the words of its command line.
 #![tactic(auto)]
 
+mod asking;
 mod capture_files;
 mod commands;
 mod meters;
 mod runs;
+mod versions;
 
 pub use commands::act;

@@ -104,9 +104,9 @@ fn sim_captured<R: Files + Clock + AllocGlobal, O: Write, E: Write>(
                 output,
                 errors,
             );
-            ended(run, capture.end(), path, errors)
+            ended(rt.alloc(), run, capture.end(), path, errors)
         }
-        Err(error) => unmade(error, path, errors),
+        Err(error) => unmade(rt.alloc(), &error, path, errors),
     }
 }
 
@@ -187,9 +187,9 @@ fn repeat_captured<R: Files + Net + Clock + AllocGlobal, O: Write, E: Write>(
     match capture_at(rt, path) {
         Ok(mut capture) => {
             let run = looped(rt, settings, script, &mut capture, output);
-            ended(run, capture.end(), path, errors)
+            ended(rt.alloc(), run, capture.end(), path, errors)
         }
-        Err(error) => unmade(error, path, errors),
+        Err(error) => unmade(rt.alloc(), &error, path, errors),
     }
 }
 

@@ -1,11 +1,13 @@
-use Rattle.std.proofs.Common.{◌≡◌, ◌∙◌, List, [], Option, ap, sym, subst, true, false, refl, inl, inr, map, string_bytes}
+use Rattle.std.proofs.Common.{◌≡◌, ◌∙◌, ◌⊎◌, List, [], ◌∷◌, Option, ap, sym, subst, true, false, refl, inl, inr, map, string_bytes}
 use Rattle.clap.specs.Kinds.{HasKind, IsAmong, Kinds}
 use Rattle.clap.specs.Values.{kind_of}
 use Rattle.clap.specs.declared.error.Error.{Error}
+use Rattle.clap.specs.declared.error.kind.ErrorKind.{ErrorKind}
 use Rattle.clap.specs.declared.error.kind.ErrorKind.TheVariants as kind
 use Rattle.clap.specs.Words.{App, Row, Text, fault_of, is_simple, is_simple_and_free, subcommand_of, subcommand_rows_of}
-use Rattle.command_line.specs.Line.{Takes, entered_by, line_app}
-use Rattle.command_line.specs.Tasks.{Enters, Numbered}
+use Rattle.command_line.specs.Line.{Takes, entered_by, faults_of, line_app}
+use Rattle.command_line.specs.Tasks.{Enters, Numbered, RefusesWords}
+use Rattle.command_line.specs.declared.faults.LineFault.TheVariants.{Refused}
 use Rattle.command_line.proofs.Entering.{enters}
 use Rattle.command_line.proofs.Numbers.{numbered}
 use Rattle.command_line.proofs.tasks.parse.Goals as goal
@@ -15,11 +17,6 @@ is_free = refl
 
 is_plain : is_simple line_app ≡ true
 is_plain = refl
-
--- an error of none of the kinds says that memory ran out
-out_of_memory : (kinds : Kinds) (e : Error) → kinds ≡ [] → HasKind kinds e → kind_of e ≡ kind.OutOfMemory
-out_of_memory kinds e none (inl memory) = memory
-out_of_memory kinds e none (inr among) = absurd (subst (IsAmong (kind_of e)) none among)
 
 pub returns-in-Ok-clause-taken : goal.returns-in-Ok-clause-taken
 returns-in-Ok-clause-taken c =
@@ -50,13 +47,38 @@ returns-in-Ok-clause-values c =
     let words = map string_bytes c.args.words.now in
     (c.in-Ok.ensures.matches (ap is_simple line ∙ is_plain)).1 ∙ ap (λ (a : App). subcommand_of a words) line
 
+-- an error of another kind than memory is among the kinds
+among : (kinds : Kinds) (e : Error) → HasKind kinds e → (kind_of e ≡ kind.OutOfMemory → ⊥) → IsAmong (kind_of e) kinds
+among kinds e (inl memory) others = absurd (others memory)
+among kinds e (inr is) others = is
+
+-- of one kind there is just that
+alone : (k : ErrorKind) (kinds : Kinds) → kinds ≡ kind.DisplayVersion ∷ [] → IsAmong k kinds → k ≡ kind.DisplayVersion
+alone k kinds is h = go (subst (IsAmong k) is h)
+  where
+    go : (k ≡ kind.DisplayVersion) ⊎ ⊥ → k ≡ kind.DisplayVersion
+    go (inl same) = same
+    go (inr none) = absurd none
+
+-- an error of one of the kinds that the words have, and not of memory, says why they are refused; so does another of its kind
+refuses : (words : List Text) (told e : Error) → kind_of told ≡ kind_of e → HasKind (faults_of words) e → (kind_of e ≡ kind.OutOfMemory → ⊥)
+    → RefusesWords words (Refused told)
+refuses words told e same kinds others =
+    let found = among (faults_of words) e kinds others in (
+      λ taken. subst (IsAmong (kind_of e)) taken found,
+      λ is. subst (λ (k : ErrorKind). IsAmong k (faults_of words)) (sym same ∙ is) found,
+      λ asked. same ∙ alone (kind_of e) (faults_of words) asked found,
+    )
+
 pub returns-in-Err-2-clause-err : goal.returns-in-Err-2-clause-err
-returns-in-Err-2-clause-err c taken =
+returns-in-Err-2-clause-err c =
     let line = c.in_ok-line.ensures in
     let words = map string_bytes c.args.words.now in
-    let none = ap (λ (a : App). fault_of a words) line ∙ taken in
-    let memory = out_of_memory _ c.in-Err-2.error none (c.in-Err-2.ensures.kinds (ap is_simple_and_free line ∙ is_free)) in
+    let kinds : HasKind (faults_of words) c.in-Err-2.error =
+    subst (λ (ks : Kinds). HasKind ks c.in-Err-2.error) (ap (λ (a : App). fault_of a words) line) (c.in-Err-2.ensures.kinds (ap is_simple_and_free line ∙ is_free)) in
+    let others : kind_of c.in-Err-2.error ≡ kind.OutOfMemory → ⊥ = λ memory.
     let is : c.kind.result ≡ kind.OutOfMemory = c.kind.ensures ∙ (ap kind_of c.in-Err-2.error-is ∙ memory) in
     let bad : c.eq.result ≡ true = c.eq.ensures ∙ rw is refl in
     let never : false ≡ true = sym c.if-eq.false ∙ bad in
-    cc
+    cc in
+    refuses words c.in-Err.error c.in-Err-2.error (ap kind_of c.in-Err-2.error-is) kinds others

@@ -1,15 +1,14 @@
 use Rattle.std.proofs.Common.{◌∙◌, ap, codes, false, Bool, Option}
 use Rattle.std.specs.Option.{option_map_or}
 use Rattle.std.specs.Str.{bytes_eq}
-use Rattle.clap.specs.Words.{Text, found_of}
-use Rattle.clap.proofs.WalkLemmas.{first_value-rows}
+use Rattle.clap.specs.Words.{Text}
 use Rattle.command_line.proofs.values.flag.Goals as goal
 
 abbrev is_true : Option Text → Bool
 is_true o = option_map_or (λ text. bytes_eq text (codes "true")) o false
 
 pub returns-in-Some : goal.returns-in-Some
-returns-in-Some c = c.eq.ensures ∙ ap is_true (c.in-Some.ensures ∙ first_value-rows (found_of c.args.matches.now) c.args.name.now)
+returns-in-Some c = c.eq.ensures ∙ ap is_true c.in-Some.ensures
 
 pub returns-in-None : goal.returns-in-None
-returns-in-None c = ap is_true (c.in-None.ensures ∙ first_value-rows (found_of c.args.matches.now) c.args.name.now)
+returns-in-None c = ap is_true c.in-None.ensures

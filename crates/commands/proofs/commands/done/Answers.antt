@@ -4,10 +4,19 @@ use Rattle.commands.proofs.commands.done.Goals as goal
 pub returns-in-Init-clause-done : goal.returns-in-Init-clause-done
 returns-in-Init-clause-done g c h = rw c.in-Init.is (is_0 _ c.init.ensures.status h)
 
+pub returns-in-Check-clause-done : goal.returns-in-Check-clause-done
+returns-in-Check-clause-done g c h = rw c.in-Check.is (is_0 _ c.look_at.ensures.status h)
+
 pub returns-in-Gate-clause-done : goal.returns-in-Gate-clause-done
 returns-in-Gate-clause-done g c h =
     let none = is_0 _ c.gate.ensures.status h in
-    rw c.in-Gate.is (none, c.gate.ensures.served none)
+    rw c.in-Gate.is (none, rw (← c.start_of.ensures.id, ← c.start_of.ensures.rounds, ← c.start_of.ensures.found, ← c.start_of.ensures.track, ← c.start_of.ensures.until_eof) (c.gate.ensures.served none))
+
+pub returns-in-Status-clause-done : goal.returns-in-Status-clause-done
+returns-in-Status-clause-done g c h = rw c.in-Status.is (is_0 _ c.state_of.ensures.status h)
+
+pub returns-in-Pairs-clause-done : goal.returns-in-Pairs-clause-done
+returns-in-Pairs-clause-done g c h = rw c.in-Pairs.is (is_0 _ c.pairs_of.ensures.status h)
 
 pub returns-in-Stop-clause-done : goal.returns-in-Stop-clause-done
 returns-in-Stop-clause-done g c h = rw c.in-Stop.is (is_0 _ c.stop.ensures.status h)
@@ -17,3 +26,8 @@ returns-in-PeerOff-clause-done g c h = rw c.in-PeerOff.is (is_0 _ c.peer_off.ens
 
 pub returns-in-Side-clause-done : goal.returns-in-Side-clause-done
 returns-in-Side-clause-done g c h = rw c.in-Side.is (is_0 _ c.side.ensures.status h)
+
+pub returns-in-Version-clause-done : goal.returns-in-Version-clause-done
+returns-in-Version-clause-done g c h =
+    let none = is_0 _ c.tell_version.ensures.status h in
+    rw c.in-Version.is (none, c.tell_version.ensures.printed none)

@@ -1,0 +1,10 @@
+use Rattle.std.proofs.Common.{◌∙◌, ap₂, refl}
+use Rattle.std.proofs.lemmas.Result.{IfOk-weaker}
+use Rattle.clap.specs.Words.{with_rule}
+use Rattle.command_line.proofs.commands.with_ways.Goals as goal
+
+pub returns-clause-app : goal.returns-clause-app
+returns-clause-app c =
+    let one = c.in_ok-command.ensures.app ∙ ap₂ with_rule refl c.way-inside.ensures.rule in
+    let two = c.in_ok-command-2.ensures.app ∙ ap₂ with_rule one c.way-outside.ensures.rule in
+    IfOk-weaker c.with-3.result _ _ (λ a h. h ∙ ap₂ with_rule two c.way-link.ensures.rule) c.with-3.ensures.app
