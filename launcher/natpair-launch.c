@@ -22,6 +22,7 @@
 #include <signal.h>
 #include <stdarg.h>
 #include <stdbool.h>
+#include <stddef.h>
 #include <stdint.h>
 #include <stdio.h>
 #include <stdlib.h>
@@ -42,8 +43,11 @@ enum { INSIDE, OUTSIDE, SIDES };
 
 static const char *const NAMES[SIDES] = {"inside", "outside"};
 
-// The gate's descriptors: 3 and 4 for the sides, 5 for the link.
-enum { FIRST = 3, LINK = FIRST + SIDES, ABOVE = 10 };
+// The gate's descriptors: 3 and 4 for the sides, 5 for the link, 6 for the service manager.
+enum { FIRST = 3, LINK = FIRST + SIDES, MANAGER, ABOVE = 10 };
+
+// The longest packet of the two networks, behind its Ethernet header a frame of 1,514 bytes.
+enum { LONGEST_PACKET = 1500 };
 
 // The room for frames that wait, in bytes, and a frame counts about twice its length.
 enum { ROOM = 8 << 20 };
@@ -162,6 +166,16 @@ static int bind_to(int sock, int interface)
     return bind(sock, (struct sockaddr *)&place, sizeof place);
 }
 
+// Says where an interface takes fewer bytes than the longest frame has.
+static void look_at_length(int sock, const char *side, const char *interface)
+{
+    struct ifreq asked = {0};
+    strncpy(asked.ifr_name, interface, IFNAMSIZ - 1);
+    if (ioctl(sock, SIOCGIFMTU, &asked) == 0 && asked.ifr_mtu < LONGEST_PACKET)
+        say("natpair-launch: %s: %s has an MTU of %d and not %d: longer packets are lost there", side, interface,
+            asked.ifr_mtu, LONGEST_PACKET);
+}
+
 static int open_side(const char *side, const char *interface, int room)
 {
     int one = 1;
@@ -173,6 +187,7 @@ static int open_side(const char *side, const char *interface, int room)
     if (sock < 0)
         refuse("%s: no packet socket: %s", side, strerror(errno));
     sock = out_of_the_way(sock);
+    look_at_length(sock, side, interface);
     make_room(sock, side, room);
     // What this machine itself sends there isn't heard: a read can't tell it from what comes.
     if (setsockopt(sock, SOL_PACKET, PACKET_IGNORE_OUTGOING, &one, sizeof one) < 0 || pass_own_network(sock) < 0
@@ -218,6 +233,46 @@ static int open_link(const char *text, int room)
         || connect(sock, (struct sockaddr *)&other, sizeof other) < 0
         || setsockopt(sock, SOL_SOCKET, SO_DETACH_FILTER, &none, sizeof none) < 0)
         refuse("link: %s: %s", text, strerror(errno));
+    return sock;
+}
+
+// Where a service manager wants to be told: a path, or behind an @ a name of the abstract namespace. Gives the address's
+// length, or 0 for what is none.
+static socklen_t manager_at(const char *text, struct sockaddr_un *place)
+{
+    size_t length = strlen(text);
+    if ((text[0] != '/' && text[0] != '@') || length < 2 || length >= sizeof place->sun_path)
+        return 0;
+    place->sun_family = AF_UNIX;
+    memcpy(place->sun_path, text, length);
+    if (text[0] == '@')
+        place->sun_path[0] = '\0';
+    else
+        length++;
+    return (socklen_t)(offsetof(struct sockaddr_un, sun_path) + length);
+}
+
+// A datagram socket that is connected to the service manager, if there is one. A box that can't tell it anything runs all
+// the same.
+static int open_manager(void)
+{
+    struct sockaddr_un place = {0};
+    const char *text = getenv("NOTIFY_SOCKET");
+    if (text == NULL)
+        return -1;
+    socklen_t length = manager_at(text, &place);
+    int sock = length == 0 ? -1 : socket(AF_UNIX, SOCK_DGRAM | SOCK_CLOEXEC, 0);
+    if (length == 0)
+        errno = EAFNOSUPPORT;
+    if (sock >= 0)
+        sock = out_of_the_way(sock);
+    if (sock < 0 || connect(sock, (struct sockaddr *)&place, length) < 0) {
+        say("natpair-launch: NOTIFY_SOCKET %s: %s: nobody is told that the box is up", text, strerror(errno));
+        if (sock >= 0)
+            close(sock);
+        sock = -1;
+    }
+    unsetenv("NOTIFY_SOCKET");
     return sock;
 }
 
@@ -383,7 +438,7 @@ static void keep(struct keeper *keeper, int changes, int end)
 }
 
 // Leaves a keeper behind, as a child of the process that becomes the gate.
-static void leave_keeper(const struct options *options, const int *socks)
+static void leave_keeper(const struct options *options, const int *socks, int manager)
 {
     pid_t gate = getpid();
     int changes = bell();
@@ -406,6 +461,8 @@ static void leave_keeper(const struct options *options, const int *socks)
         snprintf(keeper.place.sun_path, sizeof keeper.place.sun_path, "%s.control/socket", options->boot_file);
     close(STDIN_FILENO);
     close(STDOUT_FILENO);
+    if (manager >= 0)
+        close(manager);
     if (getppid() == gate)
         keep(&keeper, changes, end);
     _exit(0);
@@ -454,19 +511,22 @@ static void check(const struct options *options)
         say("natpair-launch: without --boot-file the gate isn't told of its cables");
 }
 
-// The gate's words, and after them where its places are.
-static char **gate_words(const struct options *options)
+// The gate's words, and after them where its places are, and the service manager.
+static char **gate_words(char *const *gate, bool has_link, bool has_manager)
 {
     static char *const ways[] = {
-        "--inside", "descriptor:3", "--outside", "descriptor:4", "--link", "descriptor:5"};
-    int count = 0, more = options->link == NULL ? 4 : 6;
-    while (options->gate[count] != NULL)
+        "--inside", "descriptor:3", "--outside", "descriptor:4", "--link", "descriptor:5", "--notify", "descriptor:6"};
+    enum { PLACES = 4, MOST = sizeof ways / sizeof ways[0] };
+    int count = 0;
+    while (gate[count] != NULL)
         count++;
-    char **words = calloc(count + more + 1, sizeof *words);
+    char **words = calloc(count + MOST + 1, sizeof *words);
     if (words == NULL)
         refuse("no memory");
-    memcpy(words, options->gate, count * sizeof *words);
-    memcpy(words + count, ways, more * sizeof *words);
+    memcpy(words, gate, count * sizeof *words);
+    for (int next = 0; next < MOST; next++)
+        if (next < PLACES || (next < PLACES + 2 ? has_link : has_manager))
+            words[count++] = ways[next];
     return words;
 }
 
@@ -485,13 +545,16 @@ int main(int count, char **words)
     for (int number = 0; number < SIDES; number++)
         socks[number] = open_side(NAMES[number], options.interface[number], options.room);
     int link = options.link == NULL ? -1 : open_link(options.link, options.room);
+    int manager = open_manager();
     give_up_privileges(options.user);
-    leave_keeper(&options, socks);
+    leave_keeper(&options, socks, manager);
     for (int number = 0; number < SIDES; number++)
         put_at(socks[number], FIRST + number);
     if (link >= 0)
         put_at(link, LINK);
-    execvp(options.gate[0], gate_words(&options));
+    if (manager >= 0)
+        put_at(manager, MANAGER);
+    execvp(options.gate[0], gate_words(options.gate, link >= 0, manager >= 0));
     say("natpair-launch: %s: %s", options.gate[0], strerror(errno));
     return 127;
 }

@@ -2,8 +2,9 @@
 
     stand_in.py CONTROL [WORD..]
 
-It prints its words, what /proc says of its privileges, and a line for each frame (`frame DESCRIPTOR HEX`) and each word
-of the control socket (`word HEX`). A frame of the experimental EtherType 88b5 is written to the other side as it came.
+It prints its words, what /proc says of its privileges, whether NOTIFY_SOCKET is in its environment, and a line for each
+frame (`frame DESCRIPTOR HEX`) and each word of the control socket (`word HEX`). A frame of the experimental EtherType 88b5
+is written to the other side as it came. A service manager's descriptor (`--notify descriptor:N`) is told that it is ready.
 CONTROL is the folder of its control socket, or `-` for none.
 """
 
@@ -47,11 +48,20 @@ def take_word(listener):
         caller.sendall(b"heard")
 
 
+def descriptors():
+    """The descriptors that its words name, by the option before them."""
+    words = sys.argv[2:]
+    return {name: int(word.split(":")[1]) for name, word in zip(words, words[1:]) if word.startswith("descriptor:")}
+
+
 def main():
     say("words", *sys.argv[2:])
     tell_status()
+    say("environment", "has" if "NOTIFY_SOCKET" in os.environ else "hasn't", "NOTIFY_SOCKET")
     table = selectors.DefaultSelector()
-    for number in [int(word.split(":")[1]) for word in sys.argv[2:] if word.startswith("descriptor:")]:
+    opened = descriptors()
+    manager = opened.pop("--notify", None)
+    for number in opened.values():
         os.set_blocking(number, False)
         table.register(number, selectors.EVENT_READ, lambda number=number: take_frame(number))
     if sys.argv[1] != "-":
@@ -60,6 +70,8 @@ def main():
         listener.bind(f"{sys.argv[1]}/socket")
         listener.listen()
         table.register(listener, selectors.EVENT_READ, lambda: take_word(listener))
+    if manager is not None:
+        os.write(manager, b"READY=1\nSTATUS=boot 7\n")
     say("ready")
     while True:
         for key, _ in table.select():
