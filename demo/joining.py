@@ -8,8 +8,9 @@ what it writes stays its own. Each command of the page is run there, and has to 
 something else: `./build` (the program is there), `scp` (the package is copied), `apt-get` (the package is installed by
 dpkg, what it depends on has to be there), `sudo`, `systemctl` and `journalctl` (demo/machine: a machine has no systemd).
 Beside them hosts, a router and a server are made, as for demo/run; flows from a host stay open through all that the
-page does to the boxes, and what the page says of the journals is looked for. At last the package is removed and purged
-on both machines, and both boot files have to be there still.
+page does to the boxes, and what the page says of the journals is looked for. Then box 1 is stopped while the fence's unit
+runs at box 0, with a command that only says that it has switched a machine off: new flows have to go on. With --root box 1
+hangs besides, and its systemd has to start it again. At last the package is removed and purged on both machines, and both boot files have to be there still.
 
     --program FILE  the program, if it isn't crates/natpair/out/natpair
     --root FOLDER   a machine is a copy of this root of Debian, with its own systemd as its first process: of the
@@ -18,8 +19,8 @@ on both machines, and both boot files have to be there still.
     --wireguard     tries the link's tunnel too
     --list          prints the commands, and runs none
 
-It needs root, a C compiler, dpkg-deb, Python 3.11, and but for --root adduser, iproute2, ethtool, iputils-ping, and
-wireguard-tools and wireguard-go (or a kernel with WireGuard) for the tunnel.
+It needs root, a C compiler, dpkg-deb, Python 3.11, and but for --root adduser, iproute2, ethtool, iputils-ping,
+prometheus-node-exporter, and wireguard-tools and wireguard-go (or a kernel with WireGuard) for the tunnel.
 """
 
 import sys
@@ -66,6 +67,15 @@ SAID = {
         ("box 1", "natpair@1", [r"\bend$", "boot 2", "synced"]),
     ],
 }
+
+
+# A fence command for a machine that is off already. Of what it is handed it keeps a copy where the unit lets it write.
+FENCE = """#!/bin/sh
+read -r action
+{ echo "$action"; cat; } >> /var/lib/natpair-fence/calls
+[ "$action" = action=off ] || exit 2
+"""
+HANDED = "action=off\nplug=box1\naction=status\nplug=box1\n"
 
 
 class Block:
@@ -321,6 +331,14 @@ class Site:
         if moved or silent or held < FLOWS:
             raise SystemExit(f"joining: {when}: {moved} flows moved, {silent} are silent")
 
+    def expect_metrics(self):
+        """Each box's state is where node_exporter reads it."""
+        for number, machine in enumerate(self.machines.values()):
+            text = machine.do(f"cat /var/lib/prometheus/node-exporter/natpair{number}.prom")
+            for line in (f'natpair_box_answers{{box="{number}"}} 1', "natpair_synced 1", "natpair_peer_heard 1"):
+                if line not in text.splitlines():
+                    raise SystemExit(f"joining: box {number}: {line!r} isn't in its metrics:\n{text}")
+
     def expect_said(self, section):
         for name, unit, lines in SAID.get(section, []):
             journal = self.machines[name].do(f"journalctl -u {unit} -n 1000")
@@ -345,9 +363,41 @@ class Site:
                 self.expect_flows(block.section)
             if number + 1 == len(page) or page[number + 1].section != block.section:
                 self.expect_said(block.section)
+                if block.section.startswith("11."):
+                    self.expect_metrics()
                 if block.section.startswith("8."):
                     self.open_flows()
         self.open_flows()
+
+    def fence(self):
+        """Box 1 is stopped, and is silent as if it were dead: box 0 fences it, and is told that it is off."""
+        first = self.machines["box 0"]
+        first.write("/etc/natpair/fence-test", FENCE)
+        first.write("/etc/natpair/fence.conf", "SECONDS=5\nCOMMAND=/etc/natpair/fence-test\nplug=box1\n")
+        self.run("box 0", "chmod 755 /etc/natpair/fence-test")
+        self.run("box 0", "systemctl start natpair-fence@0")
+        self.run("box 1", "systemctl stop natpair@1")
+        self.rest(10)
+        journal = first.do("journalctl -u natpair-fence@0 -n 100")
+        if "is off, and this box is told so" not in journal:
+            raise SystemExit(f"joining: box 1 is off, and the fence says:\n{journal}")
+        if (handed := first.do("cat /var/lib/natpair-fence/calls")) != HANDED:
+            raise SystemExit(f"joining: the fence command was handed {handed!r}")
+        self.open_flows()
+        self.run("box 0", "systemctl stop natpair-fence@0")
+        self.run("box 1", "systemctl start natpair@1")
+        self.run("box 1", "natpair-box --id 1 status --until synced --seconds 60")
+        self.expect_flows("box 1 was fenced, and is back")
+
+    def hang(self):
+        """Box 1 hangs: its systemd ends it and starts it again."""
+        self.run("box 1", "systemctl kill --kill-who=main -s STOP natpair@1")
+        self.rest(14)
+        self.run("box 1", "natpair-box --id 1 status --until synced --seconds 60")
+        journal = self.machines["box 1"].do("journalctl -u natpair@1 -n 100")
+        if "Watchdog timeout" not in journal:
+            raise SystemExit(f"joining: box 1 hung, and its journal says:\n{journal}")
+        self.expect_flows("box 1 hung, and is back")
 
     def remove(self):
         """Removes and purges the package; both boot files stay as they are."""
@@ -397,6 +447,9 @@ def main():
     with contextlib.ExitStack() as stack:
         site = Site(options, stack)
         site.follow(page)
+        site.fence()
+        if options.root:
+            site.hang()
         site.remove()
     print("every command of the page ended well, no flow was lost, and the boot files are there")
     return 0

@@ -130,11 +130,23 @@ class Box:
         """Starts `natpair gate`, and waits until it has printed its boot number."""
         self.starts += 1
         line = (*self.words, *words)
-        with open(self.output, "wb") as output, open(self.log, "wb") as log:
+        with open(self.output, "wb") as output, self.lines() as log:
             self.gate = self.space.start(*line, user=self.starter, cwd=self.folder, stdout=output, stderr=log)
         wait_until(lambda: self.output.read_text().endswith("\n"), 10,
                    f"box {self.number} prints its boot: {self.log.read_text()}")
         self.boot = int(self.output.read_text().split()[1])
+
+    def lines(self):
+        """Where its lines go: to the file, or by a pipe to a program that writes the file and can be stopped."""
+        if not self.options.logger:
+            return open(self.log, "wb")
+        read, write = os.pipe2(os.O_CLOEXEC)
+        self.log.touch()
+        self.logger = self.space.start(*PYTHON, str(FOLDER / "logger.py"), str(self.log), stdin=read)
+        # The demo can fill the pipe, and doesn't wait itself.
+        self.filler = os.open(f"/proc/self/fd/{write}", os.O_WRONLY | os.O_NONBLOCK | os.O_CLOEXEC)
+        os.close(read)
+        return open(write, "wb")
 
     def records(self):
         """What the box has told since its last start: where it belongs, and what it is."""
