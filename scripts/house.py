@@ -89,9 +89,22 @@ def without_a_sign(top, crates):
             yield f"crates/README.md: no line for {name}"
 
 
+def other_versions(top):
+    told = (top / "crates" / "command_line" / "src" / "versions.rt").read_text(encoding="utf-8")
+    version, kit = (re.search(rf'const {name}: &str = "(.*)";', told)[1] for name in ("VERSION", "KIT"))
+    readme = (top / "README.md").read_text(encoding="utf-8")
+    for kits in sorted(set(re.findall(r"rattle-kit-\w+ logic \w+", readme)) - {kit}):
+        yield f"README.md: has {kits}, and the program says {kit}"
+    if f"says the version, {version}," not in readme:
+        yield f"README.md: hasn't the version {version}, which the program says"
+    packaged = (top / "packaging" / "deb" / "changelog").read_text(encoding="utf-8")
+    if not packaged.startswith(f"natpair ({version}-"):
+        yield f"packaging/deb/changelog: its newest version isn't {version}, which the program says"
+
+
 def faults(top):
     crates = crates_of(top)
-    return [*unused(top, crates), *past_the_door(top, crates), *without_a_sign(top, crates)]
+    return [*unused(top, crates), *past_the_door(top, crates), *without_a_sign(top, crates), *other_versions(top)]
 
 
 def copy_of(top, room):
@@ -116,13 +129,17 @@ def plant(top, fault):
         path = top / "crates" / "sums" / "proofs" / "Lib.antt"
         path.write_text(path.read_text() + "\npub mod Planted\n")
         return "crates/sums/proofs/Lib.antt: shows Planted"
+    if fault == "version":
+        path = top / "crates" / "command_line" / "src" / "versions.rt"
+        path.write_text(re.sub(r'KIT: &str = ".*"', 'KIT: &str = "another"', path.read_text()))
+        return "README.md: has rattle-kit"
     (top / "crates" / "planted").mkdir()
     return "crates/planted: no line"
 
 
 def self_test(top):
     """Each planted fault gives its own line and no other, also where the repository isn't in order yet."""
-    for fault in ("dependency", "lemma", "door", "folder"):
+    for fault in ("dependency", "lemma", "door", "version", "folder"):
         with tempfile.TemporaryDirectory(prefix="house-") as room:
             copy = copy_of(top, pathlib.Path(room))
             before = set(faults(copy))
