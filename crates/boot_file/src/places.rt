@@ -48,10 +48,7 @@ fn not_placed(error: io::Error) -> FileFault
 /// # Errors
 /// NoFile where the folder can't be opened or no file can be made there, Exists, NotWritten, also where other bytes are
 /// read back, NoMemory. After each of them nothing of that name was made.
-pub fn create<R: Files + AllocGlobal>(
-    rt: &R,
-    path: &str,
-) -> Result<FileDisk<R::File>, FileFault>
+pub fn create<R: Files + AllocGlobal>(rt: &R, path: &str) -> Result<FileDisk<R::File>, FileFault>
 where
     R::File: Blocks,
     ensures zero { IfOk result (λ d. ⟦<R::File as Blocks>⟧.honest d.file

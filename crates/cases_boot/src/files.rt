@@ -24,7 +24,12 @@ pub fn answer(alloc: Global, file: MemoryBlocks, words: &[&str]) -> Result<(Memo
         ["file", bytes] => file = MemoryBlocks::new(&octets::<32>(bytes)?, true),
         ["reads", most, folder] => file.set_limits(most.parse::<usize>()?, is_stuck(folder)?),
         ["trouble", calls, "short", bytes] => {
-            file.set_trouble(number(calls)?, Trouble::FailsOnce, true, &octets::<32>(bytes)?)
+            file.set_trouble(
+                number(calls)?,
+                Trouble::FailsOnce,
+                true,
+                &octets::<32>(bytes)?,
+            )
         }
         ["trouble", calls, kind, bytes] => {
             file.set_trouble(number(calls)?, trouble(kind)?, false, &octets::<32>(bytes)?)

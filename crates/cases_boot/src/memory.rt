@@ -1,5 +1,5 @@
 //! A file in memory, as honest blocks.
-ghost use Rattle.std.specs.Prelude.{IsTrue};
+ghost use Rattle.std.specs.Prelude.{◌≡◌, ◌⊎◌, ◌+◌, ◌≤◌, length, take, drop, IsTrue};
 
 use boot_file::Blocks;
 use boot_store::{Disk, ModelDisk, Trouble};
@@ -63,6 +63,29 @@ impl MemoryBlocks {
     }
 }
 
+/// How many bytes of 32 are read from a place on: at most so many, but one at least where there is one and room for it.
+fn part_length(room: usize, at: usize, most: usize) -> usize
+    ensures room { result ≤ room }
+    ensures within { at ≤ 32 → at + result ≤ 32 }
+    ensures end { result ≡ 0 → (room ≡ 0) ⊎ (32 ≤ at) }
+{
+    room.min(32_usize.saturating_sub(at)).min(most.max(1))
+}
+
+/// Copies bytes from a place on to the room's front, at most so many but one at least, and says how many.
+fn copy_part(bytes: &[u8; 32], at: usize, most: usize, room: &mut [u8]) -> usize
+    ensures count { result ≤ length room.old }
+    ensures bytes { take result room.new ≡ take result (drop at bytes.now) }
+    ensures end { result ≡ 0 → (length room.old ≡ 0) ⊎ (length bytes.now ≤ at) }
+{
+    if at >= bytes.len() {
+        return 0;
+    }
+    let count = part_length(room.len(), at, most);
+    room[..count].copy_from_slice(&bytes[at..at + count]);
+    count
+}
+
 impl Blocks for MemoryBlocks {
     ghost now = { λ b. ⟦<ModelDisk as Disk>⟧.now b.disk };
 
@@ -74,12 +97,7 @@ impl Blocks for MemoryBlocks {
 
     fn read_at(&mut self, at: usize, room: &mut [u8]) -> io::Result<usize> {
         let bytes = self.disk.bytes();
-        if at >= bytes.len() {
-            return Ok(0);
-        }
-        let count = room.len().min(bytes.len() - at).min(self.most.max(1));
-        room[..count].copy_from_slice(&bytes[at..at + count]);
-        Ok(count)
+        Ok(copy_part(&bytes, at, self.most, room))
     }
 
     fn write_at(&mut self, at: usize, bytes: &[u8]) -> io::Result<usize> {
