@@ -7,7 +7,7 @@ use cases_words::Given;
 use gateway::{Event, Gateway, Hashers, Out};
 use nat_types::{GatewayId, Key, Side};
 use report_texts::{Filter, write_pairs, write_people};
-use reports::{GatewayReport, Page, Sides, gateway_report};
+use reports::{GatewayReport, Page, Sides};
 use settings::Settings;
 use std::alloc::Global;
 use std::io::Write;
@@ -42,22 +42,22 @@ fn step(gateway: &mut Gateway, event: Event<'_>, out: &mut Out) -> Result<()> {
 
 /// The sides as they are seen first, of which nothing is said.
 fn sides_of(gateway: &Gateway) -> Sides {
-    Sides::of(gateway)
+    surveys::sides_of(gateway)
 }
 
 /// The sides are seen again, of which nothing is said.
 fn look(sides: &mut Sides, gateway: &Gateway) {
-    sides.look(gateway);
+    surveys::look_again(sides, gateway);
 }
 
 /// What a report says of the gateway, and nothing is said of that.
 fn state_of(gateway: &Gateway) -> Result<GatewayReport> {
-    Ok(gateway_report(gateway)?)
+    Ok(surveys::gateway_report(gateway)?)
 }
 
 /// The page behind a key, once it was written as bytes and read back; nothing is said of it.
 fn page_behind(alloc: Global, gateway: &Gateway, last: Option<Key>) -> Result<Page> {
-    let page = Page::behind(alloc, gateway, last)?;
+    let page = surveys::page_behind(alloc, gateway, last)?;
     let bytes = page.bytes();
     drop(page);
     read_page(alloc, bytes.as_slice())

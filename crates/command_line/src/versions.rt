@@ -4,4 +4,4 @@
 pub const VERSION: &str = "0.1.0";
 
 /// The kit with which it was proved and built, as `rt version` prints it.
-pub const KIT: &str = "rattle-kit-13b logic dac8208d650f15bf";
+pub const KIT: &str = "rattle-kit-13f logic dac8208d650f15bf";

@@ -4,5 +4,5 @@ mod Formats
 mod Loop
 mod Whole
 mod Listings
-mod Walks
 mod Fitted
+pub mod Offered

@@ -8,6 +8,9 @@ pub record Page : Type 0 where
   pub entries : List Entry
   pub more : Bool
 
+abbrev pub listing : List Entry → Bool → Page
+listing entries more = record { entries = entries; more = more }
+
 -- the key of the last one
 abbrev pub last_of : List Entry → Option Key
 last_of entries = option_map (λ e. e.pair.key) (slice_get entries (length entries - 1))

@@ -1,17 +1,9 @@
 //! What a report says of the gateway.
-ghost use Rattle.std.specs.Prelude.{◌≡◌, IfOk, is_none, length};
-ghost use Rattle.addresses.specs.declared.transport.Protocol.TheVariants.{Tcp, Udp};
-ghost use Rattle.bindings.specs.Ports.{is_free_in};
-ghost use Rattle.link.specs.Hearing.{peer_serves};
-ghost use Rattle.spec_binding.specs.Books.{is_synced};
-ghost use Rattle.waiting.specs.Packets.{hop_count, pair_count};
-ghost use Rattle.reports.specs.Gateways.{CountsEntries, ago as ago_in, free_among, free_of, owned_by, peer_seen};
+ghost use Rattle.std.specs.Prelude.{◌≡◌};
+ghost use Rattle.reports.specs.Gateways.{free_of};
 
 use crate::PairCounts;
-use addresses::{Port, Protocol};
-use bindings::Entry;
-use gateway::Gateway;
-use nat_types::{Key, NoMemory, Pair};
+use addresses::Protocol;
 
 /// The other gateway, as this one knows it.
 #[derive(Clone, Copy, Debug, PartialEq, Eq)]
@@ -70,119 +62,4 @@ impl PortCounts {
             Protocol::Udp => self.free_udp,
         }
     }
-}
-
-/// How long ago a moment was.
-fn ago(now: u64, moment: Option<u64>) -> Option<u64>
-    ensures { result ≡ ago_in now moment }
-{
-    match moment {
-        None => None,
-        Some(moment) => Some(now.saturating_sub(moment)),
-    }
-}
-
-fn peer_of(gateway: &Gateway) -> PeerReport
-    ensures { result ≡ peer_seen gateway.now }
-{
-    PeerReport {
-        boot: gateway.known_peer(),
-        heard: ago(gateway.moment(), gateway.heard()),
-        serves: gateway.peer_serves(),
-    }
-}
-
-fn key_of(pair: Pair) -> Key
-    ensures { result ≡ pair.key }
-{
-    pair.key
-}
-
-/// Its entries, counted by one pass over the table.
-fn pairs_of(gateway: &Gateway) -> PairCounts
-    ensures { CountsEntries gateway.now.ledger.book.entries result }
-{
-    let _most = gateway.entry_count();
-    let mut counts = PairCounts::none();
-    let mut last = None;
-    while let Some(entry) = gateway.entry_after(last) {
-        let Entry { pair, state } = entry;
-        let key = key_of(pair);
-        counts.count(key.protocol, state);
-        last = Some(key);
-    }
-    counts
-}
-
-fn is_free(gateway: &Gateway, protocol: Protocol, port: Port) -> bool
-    ensures { result ≡ is_free_in gateway.now.ledger.book.entries protocol port.0 }
-{
-    gateway.entry(Key { protocol, port }).is_none()
-}
-
-/// On how many of these ports no entry of a protocol stands.
-fn free_count(gateway: &Gateway, protocol: Protocol, ports: &[Port]) -> usize
-    ensures { result ≡ free_among ports.now protocol gateway.now.ledger.book.entries }
-{
-    ports
-        .iter()
-        .filter(|port| is_free(gateway, protocol, **port))
-        .count()
-}
-
-fn ports_of(gateway: &Gateway) -> Result<PortCounts, NoMemory>
-    ensures owned { IfOk result (λ r. r.owned ≡ length (owned_by gateway.now)) }
-    ensures tcp { IfOk result (λ r. r.free_tcp
-        ≡ free_among (owned_by gateway.now) Tcp gateway.now.ledger.book.entries) }
-    ensures udp { IfOk result (λ r. r.free_udp
-        ≡ free_among (owned_by gateway.now) Udp gateway.now.ledger.book.entries) }
-{
-    let ports = gateway.owned()?;
-    Ok(PortCounts {
-        owned: ports.len() as u64,
-        free_tcp: free_count(gateway, Protocol::Tcp, ports.as_slice()) as u64,
-        free_udp: free_count(gateway, Protocol::Udp, ports.as_slice()) as u64,
-    })
-}
-
-fn waiting_of(gateway: &Gateway) -> WaitingCounts
-    ensures pair { result.pair ≡ pair_count gateway.now.kept }
-    ensures next_hop { result.next_hop ≡ hop_count gateway.now.kept }
-{
-    WaitingCounts {
-        pair: gateway.waiting_for_pairs() as u64,
-        next_hop: gateway.waiting_for_hops() as u64,
-    }
-}
-
-/// A gateway's state. It goes once over the whole table, and once over the owned ports for each protocol; it takes
-/// memory for a list of these.
-///
-/// # Errors
-///
-/// Where that memory is refused.
-pub fn gateway_report(gateway: &Gateway) -> Result<GatewayReport, NoMemory>
-    ensures moment { IfOk result (λ r. r.moment ≡ gateway.now.moment) }
-    ensures synced { IfOk result (λ r. r.synced ≡ is_synced gateway.now.ledger.book.stage) }
-    ensures away { IfOk result (λ r. r.away ≡ gateway.now.away) }
-    ensures peer { IfOk result (λ r. r.peer ≡ peer_seen gateway.now) }
-    ensures pairs { IfOk result (λ r. CountsEntries gateway.now.ledger.book.entries r.pairs) }
-    ensures owned { IfOk result (λ r. r.ports.owned ≡ length (owned_by gateway.now)) }
-    ensures free_tcp { IfOk result (λ r. r.ports.free_tcp
-        ≡ free_among (owned_by gateway.now) Tcp gateway.now.ledger.book.entries) }
-    ensures free_udp { IfOk result (λ r. r.ports.free_udp
-        ≡ free_among (owned_by gateway.now) Udp gateway.now.ledger.book.entries) }
-    ensures waiting_pair { IfOk result (λ r. r.waiting.pair ≡ pair_count gateway.now.kept) }
-    ensures waiting_hop { IfOk result (λ r. r.waiting.next_hop ≡ hop_count gateway.now.kept) }
-{
-    let ports = ports_of(gateway)?;
-    Ok(GatewayReport {
-        moment: gateway.moment(),
-        synced: gateway.synced(),
-        away: gateway.is_away(),
-        peer: peer_of(gateway),
-        pairs: pairs_of(gateway),
-        ports,
-        waiting: waiting_of(gateway),
-    })
 }

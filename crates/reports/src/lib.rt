@@ -16,7 +16,7 @@ mod sides;
 pub use counters::{COUNTS, Count, Counters};
 pub use faults::{ReadFault, VERSION};
 pub use fields::{Bytes, LONGEST};
-pub use gateways::{GatewayReport, PeerReport, PortCounts, WaitingCounts, gateway_report};
+pub use gateways::{GatewayReport, PeerReport, PortCounts, WaitingCounts};
 pub use laws::counters_law;
 pub use pages::{MOST_ENTRIES, Page};
 pub use pairs::{PAIR_COUNTS, PROTOCOLS, PairCounts, STATES};

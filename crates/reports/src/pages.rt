@@ -1,10 +1,9 @@
 //! Pages of a gateway's entries.
-ghost use Rattle.std.specs.Prelude.{◌≡◌, ◌⊎◌, ◌+◌, ◌*◌, ◌≤◌, ◌<◌, ◌++◌, IfOk, IfErr, Ok, Err, Some, length, nat_lt, option_map, take, vec_len, vec_capacity};
+ghost use Rattle.std.specs.Prelude.{◌≡◌, ◌⊎◌, ◌+◌, ◌*◌, ◌≤◌, ◌++◌, IfOk, IfErr, Ok, Err, Some, length, option_map, vec_len, vec_capacity};
 ghost use Rattle.std.specs.List.{AllByRecursion, flat_map};
 ghost use Rattle.reports.specs.Fitting.{EntryFits, PageFits};
-ghost use Rattle.gateway.specs.Entries.{behind};
 ghost use Rattle.reports.specs.Formats.{alone as alone_in, many_at, reading, spelling};
-ghost use Rattle.reports.specs.Pages.{last_of};
+ghost use Rattle.reports.specs.Pages.{last_of, listing};
 ghost use Rattle.reports.specs.Parts.{state_numbered as state_of};
 ghost use Rattle.reports.specs.Reports.{entry, page, protocol, state};
 ghost use Rattle.reports.specs.declared.faults.ReadFault.TheVariants.{NoMemory as OutOfMemory};
@@ -20,8 +19,7 @@ use crate::pairs::state_place;
 use addresses::{Ip, Port, Protocol};
 use arrayvec::ArrayVec;
 use bindings::Entry;
-use gateway::Gateway;
-use nat_types::{EntryState, Key, NoMemory, Pair};
+use nat_types::{EntryState, Key, Pair};
 use std::alloc::Global;
 use std::marker::Model;
 
@@ -51,28 +49,6 @@ fn key_of(pair: Pair) -> Key
     ensures { result ≡ pair.key }
 {
     pair.key
-}
-
-/// Puts the entries behind a key into a list with room for 128, at most so many, and says whether others follow.
-fn list_behind(gateway: &Gateway, last: Option<Key>, entries: &mut Vec<Entry>) -> bool
-    requires empty { vec_len entries.old ≡ 0 }
-    requires room { MOST_ENTRIES ≤ vec_capacity entries.old }
-    ensures entries { entries.new.items
-        ≡ take MOST_ENTRIES (behind last gateway.now.ledger.book.entries) }
-    ensures more { result
-        ≡ nat_lt MOST_ENTRIES (length (behind last gateway.now.ledger.book.entries)) }
-    ensures few { length entries.new.items ≤ 128 }
-{
-    let mut last = last;
-    while let Some(next) = gateway.entry_after(last) {
-        if entries.len() == MOST_ENTRIES {
-            return true;
-        }
-        let Entry { pair, state } = next;
-        entries.push_reserved(Entry { pair, state });
-        last = Some(key_of(pair));
-    }
-    false
 }
 
 // ---- an entry as bytes
@@ -202,7 +178,7 @@ fn take_entries<'a>(entries: &mut Vec<Entry>, count: u8, bytes: &'a [u8]) -> Opt
 fn take_page<'a>(entries: &mut Vec<Entry>, bytes: &'a [u8]) -> Option<(bool, &'a [u8])>
     requires empty { vec_len entries.old ≡ 0 }
     requires room { MOST_ENTRIES ≤ vec_capacity entries.old }
-    ensures exact { option_map (λ x. (record { entries = entries.new.items; more = x.0 }, x.1.now)) result
+    ensures exact { option_map (λ x. (listing entries.new.items x.0, x.1.now)) result
         ≡ page.read bytes.now }
     ensures few { length entries.new.items ≤ 128 }
 {
@@ -241,21 +217,13 @@ fn read_whole(alloc: Global, bytes: &[u8]) -> Result<Page, ReadFault>
 }
 
 impl Page {
-    /// The next entries behind a key, or the first ones, whatever their state. A list that is read on from the last key
-    /// of each page has each entry that stays once. It looks at 129 entries at most.
-    ///
-    /// # Errors
-    ///
-    /// Where memory for 128 entries is refused.
-    pub fn behind(alloc: Global, gateway: &Gateway, last: Option<Key>) -> Result<Page, NoMemory>
-        ensures entries { IfOk result (λ p. p.entries
-            ≡ take MOST_ENTRIES (behind last gateway.now.ledger.book.entries)) }
-        ensures more { IfOk result (λ p. p.more
-            ≡ nat_lt MOST_ENTRIES (length (behind last gateway.now.ledger.book.entries))) }
+    /// These entries, at most 128, and whether others follow.
+    pub fn new(entries: Vec<Entry>, more: bool) -> Page
+        requires few { length entries.items ≤ MOST_ENTRIES }
+        ensures entries { result.entries ≡ entries.items }
+        ensures more { result.more ≡ more }
     {
-        let mut entries = Vec::with_capacity(alloc, MOST_ENTRIES)?;
-        let more = list_behind(gateway, last, &mut entries);
-        Ok(Page { entries, more })
+        Page { entries, more }
     }
 
     /// Its entries, at most 128.

@@ -1,11 +1,8 @@
 //! A box's sides, and since when each has been as it is.
 ghost use Rattle.std.specs.Prelude.{◌≡◌};
-ghost use Rattle.interfaces.specs.Cables.{is_in};
-ghost use Rattle.nat_types.specs.declared.gateways.Side.TheVariants.{Inside, Outside};
 ghost use Rattle.reports.specs.Gateways.{side_of};
 ghost use Rattle.reports.specs.Sides.{seen_again, seen_first, same_role};
 
-use gateway::Gateway;
 use nat_types::Side;
 use vrrp_states::State;
 
@@ -69,35 +66,6 @@ pub struct Sides {
 }
 
 impl Sides {
-    /// As a gateway has them when its box begins.
-    pub fn of(gateway: &Gateway) -> Sides
-        ensures inside { let station = gateway.now.inside in
-            result.inside ≡ seen_first station.router.state (is_in station.cable) }
-        ensures outside { let station = gateway.now.outside in
-            result.outside ≡ seen_first station.router.state (is_in station.cable) }
-    {
-        let (inside, outside) = (Side::Inside, Side::Outside);
-        Sides {
-            inside: SideReport::new(gateway.role(inside), gateway.is_in(inside)),
-            outside: SideReport::new(gateway.role(outside), gateway.is_in(outside)),
-        }
-    }
-
-    /// Looks at them again, at the gateway's moment: after each of its steps, or once a round.
-    pub fn look(&mut self, gateway: &Gateway)
-        ensures inside { let station = gateway.now.inside in self.new.inside
-            ≡ seen_again station.router.state (is_in station.cable) gateway.now.moment self.old.inside }
-        ensures outside { let station = gateway.now.outside in self.new.outside
-            ≡ seen_again station.router.state (is_in station.cable) gateway.now.moment self.old.outside }
-    {
-        let moment = gateway.moment();
-        let (inside, outside) = (Side::Inside, Side::Outside);
-        self.inside
-            .look(gateway.role(inside), gateway.is_in(inside), moment);
-        self.outside
-            .look(gateway.role(outside), gateway.is_in(outside), moment);
-    }
-
     /// One of them.
     pub fn side(&self, side: Side) -> &SideReport
         ensures { result.now ≡ side_of self.now side }

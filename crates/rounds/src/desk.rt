@@ -13,6 +13,7 @@ use reports::{Count, Counters, Sides};
 use sockets::Place;
 use std::alloc::Global;
 use supervision::Supervisor;
+use surveys::sides_of;
 
 /// Who a box is, to those who ask how it stands.
 #[derive(Clone, Copy, Debug, PartialEq, Eq)]
@@ -58,7 +59,7 @@ impl Desk {
             outages: Outages::none(),
             tally: Tally::new(gateway.moment()),
             counters: Counters::new(),
-            sides: Sides::of(gateway),
+            sides: sides_of(gateway),
             question: None,
             second: 0,
             left: LeftOut::none(),

@@ -7,8 +7,9 @@ use control::{begun_page, begun_report, spelled_heard, spelled_refusal};
 use gateway::Gateway;
 use journal::{Journal, Origin};
 use nat_types::{NoMemory, Side};
-use reports::{Count, Counters, Page, Report, gateway_report};
+use reports::{Count, Counters, Report};
 use sockets::{LONGEST, Place, Wire};
+use surveys::{gateway_report, page_behind};
 
 /// Answers a word at once, where a reply is owed; a question is kept for the round's end. A word that isn't done, for want
 /// of memory, has no answer: who said it doesn't hear that it was taken.
@@ -57,7 +58,7 @@ pub(crate) fn answer_question<W: Wire, L: Journal>(
             Ok(report) => lay(begun_report(), report.bytes().as_slice(), room),
             Err(NoMemory) => 0,
         },
-        Question::Pairs(after) => match Page::behind(desk.alloc, gateway, after) {
+        Question::Pairs(after) => match page_behind(desk.alloc, gateway, after) {
             Ok(page) => lay(begun_page(), page.bytes().as_slice(), room),
             Err(NoMemory) => 0,
         },

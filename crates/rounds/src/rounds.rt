@@ -21,6 +21,7 @@ use std::alloc::Global;
 use std::io::{self, Write};
 use std::time::Duration;
 use supervision::Supervisor;
+use surveys::look_again;
 
 /// How many datagrams a round receives at most, so that a flood doesn't keep its tick back. What is
 /// left is there for the next round.
@@ -188,7 +189,7 @@ fn round<W: Wire, C: Clockwork, L: Journal>(
     take_what_comes(gateway, wire, track, room, desk, log);
     let tick = Event::Tick(clock.moment());
     hand_in(gateway, tick, wire, desk, log);
-    desk.sides.look(gateway);
+    look_again(&mut desk.sides, gateway);
     answer_question(gateway, wire, room, desk, log);
     desk.outages.tell(wire, gateway.moment(), log);
     tell_turn(log, &mut desk.tally, gateway.moment());

@@ -1,4 +1,4 @@
-//! A service manager at the other end of a descriptor.
+//! A service manager at the other end of a socket.
 ghost use Rattle.std.specs.Prelude.{◌≡◌, IfErr, MatchOption};
 ghost use Rattle.supervision.specs.Managers.{IsManagerText, IsNoManagerText, manager_of};
 
@@ -8,7 +8,7 @@ use sockets::Way;
 use std::os::fd::RawFd;
 use thiserror::Error;
 
-/// A service manager at the other end of an open descriptor, which the box inherits: each notice is a write.
+/// A service manager at the other end of an open socket, which the box inherits: each notice is a message.
 #[derive(Clone, Copy, Debug, PartialEq, Eq)]
 pub struct Manager {
     pub descriptor: u16,
@@ -52,10 +52,11 @@ impl Manager {
         Ok(())
     }
 
-    /// Tells it something, by one write that doesn't wait. One that fails is lost.
+    /// Tells it something, by one message that doesn't wait. One that fails is lost.
     fn tell(&self, notice: Notice) {
         let text = laid_out(notice);
-        let _lost = os::write_no_sigpipe(RawFd::from(self.descriptor), text.as_str().as_bytes());
+        let bytes = text.as_str().as_bytes();
+        let _lost = os::sendv(RawFd::from(self.descriptor), [bytes, &[], &[], &[]]);
     }
 }
 

@@ -30,7 +30,7 @@ impl Display for Notice {
     }
 }
 
-/// The lines of a notice, laid out for one write.
+/// The lines of a notice, laid out for one message.
 pub(crate) fn laid_out(notice: Notice) -> ArrayString<64>
     ensures { result.bytes ≡ text_of notice }
 {

@@ -1,7 +1,7 @@
 use Rattle.std.proofs.Common.{length}
 use Rattle.gateway.specs.Entries.{behind}
-use Rattle.reports.proofs.Walks.{Counted}
-use Rattle.reports.proofs.gateways.pairs_of.Given as goal
+use Rattle.surveys.proofs.Walks.{Counted}
+use Rattle.surveys.proofs.standing.pairs_of.Given as goal
 
 abbrev pub invariant-loop-entry : goal.invariant-loop-entry
 invariant-loop-entry l = Counted l.counts (behind l.last l.gateway.ledger.book.entries) l.gateway.ledger.book.entries

@@ -1,6 +1,6 @@
 use Rattle.std.proofs.Common.{◌≤◌, length, arith}
-use Rattle.reports.proofs.Walks.{next-counted, start-counted}
-use Rattle.reports.proofs.gateways.pairs_of.Goals as goal
+use Rattle.surveys.proofs.Walks.{next-counted, start-counted}
+use Rattle.surveys.proofs.standing.pairs_of.Goals as goal
 
 pub loop-entry-init : goal.loop-entry-init
 loop-entry-init c = start-counted c.none-counts.result c.args.gateway.now.ledger.book.entries c.none-counts.ensures

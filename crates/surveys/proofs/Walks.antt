@@ -13,8 +13,8 @@ use Rattle.nat_types.specs.declared.pairs.Key.{Key}
 use Rattle.bindings.specs.declared.entries.Entry.{Entry}
 use Rattle.gateway.specs.Entries.{behind}
 use Rattle.reports.specs.Counts.{at_place, entry_place, more_at, most, pair_place, protocol_place, state_place}
-use Rattle.reports.specs.Gateways.{CountsEntries, entries_at}
-use Rattle.reports.proofs.Places.{more-at}
+use Rattle.surveys.specs.Gateways.{CountsEntries, entries_at}
+use Rattle.reports.proofs.Offered.{more-at}
 
 -- the counts so far, and the entries that are left, are the counts of all
 pub record Counted (counts : List ℕ) (left entries : List Entry) : Type 0 where

@@ -1,6 +1,6 @@
 use Rattle.std.proofs.Common.{◌≡◌, ◌≤◌, ◌++◌, length, vec_len, vec_capacity}
 use Rattle.gateway.specs.Entries.{behind}
-use Rattle.reports.proofs.pages.list_behind.Given as goal
+use Rattle.surveys.proofs.pages.list_behind.Given as goal
 
 -- those so far, and what is left
 abbrev pub invariant-loop-next : goal.invariant-loop-next

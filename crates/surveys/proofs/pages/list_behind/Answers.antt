@@ -1,7 +1,7 @@
 use Rattle.std.proofs.Common.{◌≡◌, length, arith}
 use Rattle.gateway.specs.Entries.{behind}
-use Rattle.reports.proofs.Walks.{full-page, last-page, none-from}
-use Rattle.reports.proofs.pages.list_behind.Goals as goal
+use Rattle.surveys.proofs.Walks.{full-page, last-page, none-from}
+use Rattle.surveys.proofs.pages.list_behind.Goals as goal
 
 pub returns-then-len-eq-MOST_ENTRIES-clause-entries : goal.returns-then-len-eq-MOST_ENTRIES-clause-entries
 returns-then-len-eq-MOST_ENTRIES-clause-entries c =
