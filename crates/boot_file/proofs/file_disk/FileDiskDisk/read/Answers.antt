@@ -1,5 +1,5 @@
 use Rattle.std.proofs.Common.{sym, ◌∙◌, ap, subst}
-use Rattle.boot_store.specs.Moment.{Moment, StillKept}
+use Rattle.boot_store.specs.Moment.{StillKept}
 use Rattle.boot_store.proofs.Offered.{read_keeps}
 use Rattle.boot_file.proofs.file_disk.FileDiskDisk.read.Goals as goal
 
