@@ -1,18 +1,18 @@
 // A boot file and its folder as the disk of boot_store.
-ghost use Rattle.std.specs.Prelude.{◌≡◌, ◌+◌, ◌≤◌, OnOk, OnErr, IfErr, IfOk, IfSome};
+ghost use Rattle.std.specs.Prelude.{◌≡◌, ◌+◌, ◌≤◌, ◌↔◌, ◌++◌, ◌∷◌, [], take, IfErr, IfOk, IfSome, OnErr, OnOk};
+ghost use Rattle.boot_store.specs.Moment.{StillKept, bytes_of, synced};
 ghost use Rattle.boot_file.specs.Locks.{IsLockFault};
 
 use crate::locks::not_locked;
-use crate::{FileFault, Lockable, Uncached};
+use crate::{Blocks, FileFault, Lockable};
 use boot_store::{DeviceFault, Disk, Failures};
-use std::fs::OpenFile;
-use std::io::{Read, Seek, SeekFrom, Write};
+use std::io;
 
 /// The length of a boot file, in bytes.
 const LENGTH: usize = 32;
 
-/// A boot file that is open, with its folder. No clause can say what a real file does, so it
-/// doesn't claim to be honest; a call of the system that fails is counted.
+/// A boot file that is open, with its folder. It is an honest disk where the file is honest blocks; a
+/// call of the system that fails is counted.
 #[derive(Drop)]
 pub struct FileDisk<F> {
     file: F,
@@ -20,10 +20,11 @@ pub struct FileDisk<F> {
     failures: Failures,
 }
 
-impl<F: Read + Write + Seek + OpenFile + Uncached + Drop> FileDisk<F> {
+impl<F: Blocks + Drop> FileDisk<F> {
     /// The file, and the folder that has its name.
     pub fn new(file: F, folder: F) -> Self
         ensures file { result.file ≡ file }
+        ensures folder { result.folder ≡ folder }
         ensures none_failed { result.failures ≡ 0 }
     {
         FileDisk {
@@ -42,6 +43,8 @@ impl<F: Read + Write + Seek + OpenFile + Uncached + Drop> FileDisk<F> {
     where
         F: Lockable,
         ensures locked { IfOk result (λ d. F.locked d.file) }
+        ensures file { IfOk result (λ d. d.file ≡ file) }
+        ensures folder { IfOk result (λ d. d.folder ≡ folder) }
         ensures err { IfErr result IsLockFault }
         ensures none_failed { IfOk result (λ d. d.failures ≡ 0) }
     {
@@ -49,42 +52,43 @@ impl<F: Read + Write + Seek + OpenFile + Uncached + Drop> FileDisk<F> {
         Ok(FileDisk::new(file, folder))
     }
 
+    /// The file.
+    pub fn into_file(self) -> F
+        ensures { result ≡ self.file }
+    {
+        let FileDisk {
+            file,
+            folder: _,
+            failures: _,
+        } = self;
+        file
+    }
+
     /// A call of the system failed.
     fn failed(&mut self) -> DeviceFault
-        ensures { self.new.failures ≡ self.old.failures + 1 }
+        ensures file { self.new.file ≡ self.old.file }
+        ensures failures { self.new.failures ≡ self.old.failures + 1 }
     {
         self.failures.count();
         DeviceFault
     }
-
-    /// The next read or write begins there.
-    fn seek_to(&mut self, at: usize) -> Result<(), DeviceFault>
-        ensures ok { OnOk result (self.new.failures ≡ self.old.failures) }
-        ensures failed { OnErr result (self.new.failures ≡ self.old.failures + 1) }
-    {
-        match self.file.seek(SeekFrom::Start(at as u64)) {
-            Ok(_) => Ok(()),
-            Err(_) => Err(self.failed()),
-        }
-    }
 }
 
-impl<F: Read + Write + Seek + OpenFile + Uncached + Drop> Disk for FileDisk<F> {
-    ghost use Rattle.std.specs.Prelude.{[]};
+impl<F: Blocks + Drop> Disk for FileDisk<F> {
+    ghost now = { λ d. F.now d.file };
 
-    ghost now = { λ _. [] };
-
-    ghost past = { λ _. [] };
+    ghost past = { λ d. F.past d.file };
 
     ghost failures = { λ d. d.failures };
 
-    ghost honest = { λ _. ⊥ };
+    ghost named = { λ d. F.named d.file };
+
+    ghost honest = { λ d. F.honest d.file };
 
     fn read(&mut self, room: &mut [u8; 32]) -> Result<usize, DeviceFault> {
-        if self.file.drop_cache().is_err() {
+        let Ok(()) = self.file.drop_cache() else {
             return Err(self.failed());
-        }
-        self.seek_to(0)?;
+        };
         match fill(&mut self.file, room) {
             Some(count) => Ok(count),
             None => Err(self.failed()),
@@ -92,28 +96,50 @@ impl<F: Read + Write + Seek + OpenFile + Uncached + Drop> Disk for FileDisk<F> {
     }
 
     fn write_at(&mut self, at: usize, bytes: &[u8]) -> Result<(), DeviceFault> {
-        self.seek_to(at)?;
-        match self.file.write_all(bytes) {
-            Ok(()) => Ok(()),
-            Err(_) => Err(self.failed()),
+        match self.file.write_at(at, bytes) {
+            Ok(count) if count == bytes.len() => Ok(()),
+            _ => Err(self.failed()),
         }
     }
 
     fn sync(&mut self) -> Result<(), DeviceFault> {
-        if self.file.sync_all().is_err() || self.folder.sync_all().is_err() {
-            return Err(self.failed());
+        match sync_both(&mut self.file, &self.folder) {
+            Ok(()) => Ok(()),
+            Err(_) => Err(self.failed()),
         }
-        Ok(())
     }
 }
 
+/// Syncs a file, and then the folder that has its name.
+fn sync_both<F: Blocks>(file: &mut F, folder: &F) -> io::Result<()>
+    ensures synced { F.honest file.old
+        → OnOk result (F.now file.new ≡ synced (F.now file.old)) }
+    ensures named { F.honest file.old → OnOk result (F.named file.new) }
+    ensures unsynced { F.honest file.old
+        → OnErr result (StillKept (F.now file.old) (F.now file.new)) }
+    ensures passes { F.honest file.old
+        → F.past file.new ≡ F.past file.old ++ F.now file.old ∷ [] }
+    ensures name { F.honest file.old → F.named file.old → F.named file.new }
+    ensures honesty { F.honest file.old ↔ F.honest file.new }
+{
+    file.sync()?;
+    file.sync_name(folder)?;
+    Ok(())
+}
+
 /// Fills the room as far as the file goes, and says how far; nothing where a read fails.
-fn fill<F: Read>(file: &mut F, room: &mut [u8; 32]) -> Option<usize>
+fn fill<F: Blocks>(file: &mut F, room: &mut [u8; 32]) -> Option<usize>
     ensures count { IfSome result (λ n. n ≤ 32) }
+    ensures filled { F.honest file.old
+        → IfSome result (λ n. take n room.new ≡ take 32 (bytes_of (F.now file.old))) }
+    ensures same { F.honest file.old → F.now file.new ≡ F.now file.old }
+    ensures passes { F.honest file.old → F.past file.new ≡ F.past file.old }
+    ensures name { F.honest file.old → F.named file.old → F.named file.new }
+    ensures honesty { F.honest file.old ↔ F.honest file.new }
 {
     let mut filled = 0;
-    for _ in 0..LENGTH {
-        match file.read(&mut room[filled..]) {
+    while filled < LENGTH {
+        match file.read_at(filled, &mut room[filled..]) {
             Ok(0) => return Some(filled),
             Ok(count) => filled += count,
             Err(_) => return None,

@@ -2,13 +2,14 @@
 //! past the kernel's cache, synced with its folder.
 #![tactic(auto)]
 
-mod cache;
+mod blocks;
 mod faults;
 mod file_disk;
+mod founding;
 mod locks;
 mod places;
 
-pub use cache::Uncached;
+pub use blocks::Blocks;
 pub use faults::FileFault;
 pub use file_disk::FileDisk;
 pub use locks::Lockable;

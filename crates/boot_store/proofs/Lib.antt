@@ -6,3 +6,4 @@ mod Loops
 mod Numbers
 mod Runs
 mod Stored
+pub mod Offered

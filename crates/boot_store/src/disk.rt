@@ -41,6 +41,9 @@ pub trait Disk {
     /// How often a call has failed.
     ghost failures: { Self → ℕ };
 
+    /// Its name outlasts a crash.
+    ghost named: { Self → Type 0 };
+
     /// Whether it does what the clauses say of an honest disk.
     ghost honest: { Self → Type 0 };
 
@@ -55,6 +58,7 @@ pub trait Disk {
             → OnErr result (StillKept (now self.old) (now self.new)) }
         ensures passes { honest self.old
             → past self.new ≡ past self.old ++ now self.old ∷ [] }
+        ensures name { honest self.old → named self.old → named self.new }
         ensures honesty { honest self.old ↔ honest self.new }
         ensures ok { OnOk result (failures self.new ≡ failures self.old) }
         ensures failed { OnErr result (failures self.new ≡ failures self.old + 1) };
@@ -69,18 +73,21 @@ pub trait Disk {
             → OnErr result (FailedWrite at (length bytes.now) (now self.old) (now self.new)) }
         ensures passes { honest self.old → past self.new ≡ past self.old
             ++ now self.old ∷ within_write at (length bytes.now) (now self.old) ∷ [] }
+        ensures name { honest self.old → named self.old → named self.new }
         ensures honesty { honest self.old ↔ honest self.new }
         ensures ok { OnOk result (failures self.new ≡ failures self.old) }
         ensures failed { OnErr result (failures self.new ≡ failures self.old + 1) };
 
-    /// Makes the bytes written since the last sync outlast a crash. Where it fails they may be
-    /// lost.
+    /// Makes the bytes written since the last sync outlast a crash, and the file's name. Where it
+    /// fails they may be lost.
     fn sync(&mut self) -> Result<(), DeviceFault>
         ensures synced { honest self.old → OnOk result (now self.new ≡ synced (now self.old)) }
+        ensures named { honest self.old → OnOk result (named self.new) }
         ensures unsynced { honest self.old
             → OnErr result (StillKept (now self.old) (now self.new)) }
         ensures passes { honest self.old
             → past self.new ≡ past self.old ++ now self.old ∷ [] }
+        ensures name { honest self.old → named self.old → named self.new }
         ensures honesty { honest self.old ↔ honest self.new }
         ensures ok { OnOk result (failures self.new ≡ failures self.old) }
         ensures failed { OnErr result (failures self.new ≡ failures self.old + 1) };

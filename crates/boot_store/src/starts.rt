@@ -20,6 +20,7 @@ pub fn init<D: Disk>(disk: &mut D) -> Result<(), BootFault>
         → OnOk result (D.now disk.new ≡ synced (written 0 zero_file (D.now disk.old))) }
     ensures passes { D.honest disk.old
         → OnOk result (D.past disk.new ≡ D.past disk.old ++ zero_past (D.now disk.old)) }
+    ensures named { D.honest disk.old → OnOk result (D.named disk.new) }
     ensures behind { D.honest disk.old
         → OnErr result (StillKept (drop 32 (D.now disk.old)) (drop 32 (D.now disk.new))) }
     ensures honesty { D.honest disk.old ↔ D.honest disk.new }
@@ -33,9 +34,9 @@ pub fn init<D: Disk>(disk: &mut D) -> Result<(), BootFault>
     Ok(())
 }
 
-/// Both slots of number 0.
+/// The 32 bytes of a boot file on which a gateway can be founded: both slots of number 0.
 #[tactic(auto, unfolding(crate::specs::BootFile::slot_bytes))]
-fn zero_file() -> [u8; 32]
+pub fn zero_file() -> [u8; 32]
     ensures { result ≡ zero_file }
 {
     let slot = slot_of(0);
@@ -82,6 +83,7 @@ fn store<D: Disk>(disk: &mut D, place: usize, boot: u64) -> Result<(), DeviceFau
     ensures passes { D.honest disk.old → OnOk result (D.past disk.new ≡ D.past disk.old
         ++ D.now disk.old ∷ within_write place 16 (D.now disk.old)
         ∷ written place (slot_bytes boot) (D.now disk.old) ∷ []) }
+    ensures named { D.honest disk.old → OnOk result (D.named disk.new) }
     ensures torn { D.honest disk.old
         → OnErr result (AfterWrite place (D.now disk.old) (D.now disk.new)) }
     ensures honesty { D.honest disk.old ↔ D.honest disk.new }
@@ -117,6 +119,7 @@ pub fn next_boot<D: Disk>(disk: &mut D, found: bool) -> Result<u64, BootFault>
         → D.past disk.new ≡ D.past disk.old ++ looked (D.now disk.old)) }
     ensures writes { D.honest disk.old → IfOk result (λ n. Since (D.past disk.old)
         (D.past disk.new) (WritesOnce (D.now disk.old) (D.now disk.new) n)) }
+    ensures named { D.honest disk.old → IfOk result (λ _. D.named disk.new) }
     ensures leaves { D.honest disk.old → IsErrOf result BootFault.Device
         → AfterFailure (D.now disk.old) (D.now disk.new) }
     ensures device { D.failures disk.old < D.failures disk.new → IsErrOf result BootFault.Device }

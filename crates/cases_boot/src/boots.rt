@@ -71,21 +71,21 @@ fn called(alloc: Global, disk: &mut ModelDisk, words: &[&str]) -> Result<String>
     Ok(String::from_str(alloc, "done")?)
 }
 
-fn made<D: Disk>(alloc: Global, disk: &mut D) -> Result<String> {
+pub fn made<D: Disk>(alloc: Global, disk: &mut D) -> Result<String> {
     match init(disk) {
         Ok(()) => Ok(String::from_str(alloc, "made")?),
         Err(fault) => Ok(format!(in alloc; "{fault}")?),
     }
 }
 
-fn started<D: Disk>(alloc: Global, disk: &mut D, found: bool) -> Result<String> {
+pub fn started<D: Disk>(alloc: Global, disk: &mut D, found: bool) -> Result<String> {
     match next_boot(disk, found) {
         Ok(boot) => Ok(format!(in alloc; "boot {boot}")?),
         Err(fault) => Ok(format!(in alloc; "{fault}")?),
     }
 }
 
-fn trouble(word: &str) -> Result<Trouble> {
+pub fn trouble(word: &str) -> Result<Trouble> {
     match word {
         "once" => Ok(Trouble::FailsOnce),
         "before" => Ok(Trouble::StopsBefore),

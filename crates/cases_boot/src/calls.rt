@@ -1,9 +1,7 @@
-use crate::device::{Device, Handle};
 use anyhow::{Result, bail};
-use boot_file::{FileDisk, create, open};
-use boot_store::{BootFault, init, next_boot};
+use boot_file::{create, open};
+use boot_store::{BootFault, next_boot};
 use cases_words::Given;
-use hex::FromHex;
 use std::fs;
 use std::os::unix::fs::PermissionsExt;
 
@@ -16,15 +14,13 @@ pub fn answer(rt: &HostRuntime, given: &mut Given) -> Result<String> {
         "start" => started(rt, given.word()?, false),
         "write" => written(rt, given.word()?, given.word()?),
         "remove" => removed(rt, given.word()?),
-        "crash-after-init" => crashed_after_init(rt),
-        "start-after-lost-sync" => started_after_lost_sync(rt, given.word()?),
         call => bail!("no call {call}"),
     }
 }
 
 fn made(rt: &HostRuntime, path: &str) -> Result<String> {
     match create(rt, path) {
-        Ok(()) => shown(rt, path, "made"),
+        Ok(_) => shown(rt, path, "made"),
         Err(fault) => bail!("{fault}"),
     }
 }
@@ -84,29 +80,4 @@ fn removed(rt: &HostRuntime, path: &str) -> Result<String> {
             "gone"
         }
     )?)
-}
-
-/// What a crash leaves of a file that `init` made on a modelled device.
-fn crashed_after_init(rt: &HostRuntime) -> Result<String> {
-    let device = Device::new();
-    let made = init(&mut FileDisk::new(Handle::file(&device), Handle::folder(&device)));
-    match (made, device.left_by_crash()) {
-        (Err(fault), _) => bail!("{fault}"),
-        (Ok(()), None) => Ok(format!(in rt.alloc(); "made; nothing is left")?),
-        (Ok(()), Some(file)) => {
-            let hex = hex::encode(rt.alloc(), file.as_slice())?;
-            Ok(format!(in rt.alloc(); "made; {hex}")?)
-        }
-    }
-}
-
-/// The start after one whose second sync failed, on a modelled device whose next sync succeeds without writing.
-fn started_after_lost_sync(rt: &HostRuntime, hex: &str) -> Result<String> {
-    let device = Device::with_file(&<[u8; 32] as FromHex>::from_hex(hex)?);
-    device.fail_sync(1);
-    let mut first = FileDisk::new(Handle::file(&device), Handle::folder(&device));
-    let failed = told(rt, next_boot(&mut first, false))?;
-    let mut second = FileDisk::new(Handle::file(&device), Handle::folder(&device));
-    let answer = told(rt, next_boot(&mut second, false))?;
-    Ok(format!(in rt.alloc(); "{failed}, then {answer}")?)
 }

@@ -14,6 +14,8 @@ impl Disk for Short {
 
     ghost failures = { λ _. 0 };
 
+    ghost named = { λ _. ⊥ };
+
     ghost honest = { λ _. ⊥ };
 
     fn read(&mut self, _room: &mut [u8; 32]) -> Result<usize, DeviceFault> {

@@ -1,6 +1,6 @@
 //! Boot files that `check` is shown.
 use anyhow::Result;
-use boot_file::Uncached;
+use boot_file::Blocks;
 use std::fs::{self, OpenFile, OpenOptions, Permissions};
 use std::io::Write;
 use std::os::unix::fs::PermissionsExt;
@@ -17,7 +17,7 @@ fn slot(number: u64) -> [u8; 16] {
 /// A boot file whose first slot has these bytes. Its mode is 0600, whatever the mask of new files is.
 fn made<R: Files + AllocGlobal>(rt: &R, path: &str, first: &[u8]) -> Result<R::File>
 where
-    R::File: Uncached,
+    R::File: Blocks,
 {
     boot_file::create(rt, path)?;
     let mut file = OpenOptions::new().write(true).open(rt, path)?;
@@ -28,7 +28,7 @@ where
 /// Makes the files that the cases name.
 pub(crate) fn make<R: Files + AllocGlobal>(rt: &R) -> Result<()>
 where
-    R::File: Uncached,
+    R::File: Blocks,
 {
     made(rt, "fresh", &slot(0))?;
     made(rt, "used", &slot(7))?;

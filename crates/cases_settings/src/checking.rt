@@ -1,7 +1,7 @@
 //! Cases of `check`, `compare` and the digest.
 use crate::edits::edited;
 use anyhow::{Context, Result};
-use boot_file::{Lockable, Uncached};
+use boot_file::{Blocks, Lockable};
 use checks::{Request, check, compare, digest};
 use nat_types::GatewayId;
 use std::fs;

@@ -8,7 +8,7 @@ ghost use Rattle.commands.specs.Ends.{AreDone, Ends};
 use crate::asking::{look_at, pairs_of, state_of};
 use crate::runs::{repeat, sim};
 use crate::versions::tell_version;
-use boot_file::{Lockable, Uncached};
+use boot_file::{Blocks, Lockable};
 use command_line::{GateWords, Task, WayWords, command};
 use gate::{Start, WayTexts, gate, init, peer_off, side, stop};
 use journal::Format;
@@ -34,7 +34,7 @@ pub fn act<
     E: Write,
 >(rt: &R, words: &[String], is_watched: bool, output: &mut O, errors: &mut E) -> u8
 where
-    R::File: Uncached + Lockable + AsRawFd,
+    R::File: Blocks + Lockable + AsRawFd,
     ensures usage { result ≡ 2 → AreRefused (map string_bytes words.now) }
     ensures refused { AreRefused (map string_bytes words.now)
         → ¬ (MayAskVersion (map string_bytes words.now)) → (result ≡ 1) ⊎ (result ≡ 2) }
@@ -57,7 +57,7 @@ fn done<
     E: Write,
 >(rt: &R, task: &Task, is_watched: bool, output: &mut O, errors: &mut E) -> u8
 where
-    R::File: Uncached + Lockable + AsRawFd,
+    R::File: Blocks + Lockable + AsRawFd,
     requires found { FoundsAtZero task.now }
     ensures status { (result ≡ 0) ⊎ ((result ≡ 1) ⊎ (result ≡ 3)) }
     ensures done { (result ≡ 0) ⊎ (result ≡ 3)

@@ -12,7 +12,7 @@ use crate::ends::refused_end;
 use crate::refusals::BoxFault;
 use crate::saying::control_path;
 use crate::ways::{WayTexts, ways_of};
-use boot_file::{Lockable, Uncached};
+use boot_file::{Blocks, Lockable};
 use boot_store::{Disk, next_boot};
 use checks::digest;
 use control::{Control, ControlPath};
@@ -40,11 +40,11 @@ use tap::{CaptureFile, Reel, SinceFirst, Tapped};
 /// on `errors`.
 pub fn init<R: Files + AllocGlobal, E: Write>(rt: &R, file: &str, errors: &mut E) -> u8
 where
-    R::File: Uncached,
+    R::File: Blocks,
     ensures status { (result ≡ 0) ⊎ (result ≡ 1) }
 {
     match boot_file::create(rt, file) {
-        Ok(()) => 0,
+        Ok(_) => 0,
         Err(fault) => BoxFault::of_boot_file(rt.alloc(), file, fault).tell(errors),
     }
 }
@@ -86,7 +86,7 @@ pub fn gate<
     E: Write,
 >(rt: &R, start: &Start<'_>, output: &mut O, errors: &mut E) -> u8
 where
-    R::File: Uncached + Lockable + AsRawFd,
+    R::File: Blocks + Lockable + AsRawFd,
     requires found { IsTrue start.now.found → start.now.id ≡ Zero }
     ensures status { (result ≡ 0) ⊎ (result ≡ 1) }
     ensures served { result ≡ 0 → HasServed start.now.id start.now.rounds start.now.found
@@ -109,7 +109,7 @@ fn served<R: Files + Net + Clock + RandomSource + Eprint + Env + Input + AllocGl
     output: &mut O,
 ) -> Result<(), BoxFault>
 where
-    R::File: Uncached + Lockable + AsRawFd,
+    R::File: Blocks + Lockable + AsRawFd,
     requires found { IsTrue start.now.found → start.now.id ≡ Zero }
     ensures ok { OnOk result (HasServed start.now.id start.now.rounds start.now.found
         start.now.track start.now.until_eof (O.contents output.old) (O.contents output.new)) }
@@ -130,7 +130,7 @@ fn watched<R: Files + Net + Clock + RandomSource + Eprint + Env + Input + AllocG
     output: &mut O,
 ) -> Result<(), BoxFault>
 where
-    R::File: Uncached + Lockable + AsRawFd,
+    R::File: Blocks + Lockable + AsRawFd,
     requires found { IsTrue start.now.found → start.now.id ≡ Zero }
     ensures ok { OnOk result (HasRun settings.now start.now.id start.now.rounds start.now.found
         start.now.track start.now.until_eof (O.contents output.old) (O.contents output.new)) }
@@ -183,7 +183,7 @@ fn locked<R: Files + Net + Clock + RandomSource + Eprint + Env + Input + AllocGl
     output: &mut O,
 ) -> Result<(), BoxFault>
 where
-    R::File: Uncached + Lockable + AsRawFd,
+    R::File: Blocks + Lockable + AsRawFd,
     requires found { IsTrue start.now.found → start.now.id ≡ Zero }
     ensures ok { OnOk result (HasRun settings.now start.now.id start.now.rounds start.now.found
         start.now.track start.now.until_eof (O.contents output.old) (O.contents output.new)) }

@@ -1,0 +1,23 @@
+-- A room that is filled part by part.
+use Rattle.std.proofs.Common.{◌≡◌, ℕ, ◌+◌, ◌-◌, ◌≤◌, List, ◌++◌, length, take, drop, sym, ◌∙◌, ap, arith}
+use Rattle.std.proofs.Math.Path.{ap₂}
+use Rattle.std.proofs.Math.Seq.{take-add, take-append-add}
+use Rattle.std.proofs.lemmas.List.{length-take, take_all, take-append-le}
+use Rattle.std.proofs.lemmas.Slice.{take-put_mid_below}
+use borrow.Rule.Slice.PartMut.{post_of, put_mid}
+
+-- k bytes more
+pub filled_more : (n k : ℕ) (room part bytes : List ℕ) → n ≤ length room → k ≤ length part → take n room ≡ take n bytes → take k part ≡ take k (drop n bytes) → take (n + k) (put_mid n (32 - n) room part) ≡ take (n + k) bytes
+filled_more n k room part bytes fits few front back =
+    let rest = part ++ post_of n (32 - n) room in
+    let size : length (take n room) ≡ n = omega (arith, length-take n room) in
+    ap (λ (m : ℕ). take (m + k) (take n room ++ rest)) (sym size)
+    ∙ take-append-add (take n room) rest k
+    ∙ ap (λ (l : List ℕ). take n room ++ l) (take-append-le k part (post_of n (32 - n) room) few)
+    ∙ ap₂ (λ (l m : List ℕ). l ++ m) front back
+    ∙ sym (take-add n k bytes)
+
+-- where the file ends
+pub filled_whole : (n : ℕ) (room part bytes : List ℕ) → n ≤ 32 → n ≤ length room → length bytes ≤ n → take n room ≡ take n bytes → take n (put_mid n (32 - n) room part) ≡ take 32 bytes
+filled_whole n room part bytes low fits ends front =
+    take-put_mid_below n (32 - n) room part n (omega arith) fits ∙ front ∙ take_all n bytes ends ∙ sym (take_all 32 bytes (omega arith))
