@@ -8,7 +8,7 @@ mod packets;
 mod queries;
 mod quoted;
 
-pub use errors::{ErrorView, ErrorViewMut, PROTOCOL, error_grammar};
+pub use errors::{ErrorView, ErrorViewMut, PROTOCOL, error_grammar, is_error_message};
 pub use faults::IcmpFault;
 pub use kinds::Kind;
 pub use packets::{ErrorFlow, ErrorPacket, error_packet_grammar, query_flow, query_packet, query_packet_grammar};

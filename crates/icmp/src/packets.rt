@@ -1,15 +1,16 @@
 //! What the first reading of an error or of a query finds out, so that nobody has to read it again.
-ghost use Rattle.std.specs.Prelude.{◌≡◌, ◌↔◌, IsOk, IfOk, None, List, ℕ};
+ghost use Rattle.std.specs.Prelude.{◌≡◌, ◌≤◌, ◌↔◌, length, IsOk, IfOk, None, List, ℕ};
 ghost use Rattle.std.specs.Result.{result_err};
 ghost use Rattle.ipv4.specs.Flow.{flow_of, packet_of};
 ghost use Rattle.ipv4.specs.Header.{header_of, payload_of};
 ghost use Rattle.icmp.specs.Packet.{IsErrorPacket, packet_refusal, error_flow, error_packet_of, is_about};
-ghost use Rattle.icmp.specs.Query.{IsQueryPacket, query_of, query_packet_refusal};
+ghost use Rattle.icmp.specs.Query.{IsQueryPacket, query_packet_refusal};
 ghost use Rattle.icmp.specs.declared.errors.TheConstants.{PROTOCOL as ICMP};
 ghost use Rattle.icmp.specs.declared.kinds.Kind.{Kind as KindValue};
 
+use crate::queries::identifier;
 use crate::{ErrorView, IcmpFault, Kind, PROTOCOL, QueryView};
-use addresses::{Ip, Port, Protocol};
+use addresses::{Ip, Protocol};
 use ipv4::{Flow, Ipv4View, Packet};
 
 /// From whom to whom an error goes, and the way of the packet that it is about.
@@ -94,25 +95,17 @@ pub fn query_packet(kind: Kind, view: &Ipv4View<'_>) -> Result<Packet, IcmpFault
     if view.protocol() != PROTOCOL {
         return Err(IcmpFault::NotQuery);
     }
-    let query = QueryView::parse(kind, view.payload())?;
-    Ok(Packet::going(view, query_going(view, query.identifier())))
+    QueryView::parse(kind, view.payload())?;
+    Ok(Packet::going(view, query_flow(view)))
 }
 
 /// The flow of a packet that carries a query: its identifier is both ports.
-pub fn query_flow(kind: Kind, view: &Ipv4View<'_>) -> Flow
-    requires { IsQueryPacket kind view.now.bytes.now }
-    ensures { result ≡ flow_of view.now.bytes.now }
-{
-    let bytes = view.payload();
-    query_going(view, QueryView { kind, bytes }.identifier())
-}
-
-/// The flow of a packet that carries a query with this identifier.
-fn query_going(view: &Ipv4View<'_>, identifier: Port) -> Flow
+pub fn query_flow(view: &Ipv4View<'_>) -> Flow
     requires protocol { (header_of view.now.bytes.now).protocol ≡ ICMP }
-    requires identifier { identifier.0 ≡ (query_of (payload_of view.now.bytes.now)).identifier }
+    requires long { 8 ≤ length (payload_of view.now.bytes.now) }
     ensures { result ≡ flow_of view.now.bytes.now }
 {
+    let identifier = identifier(view.payload());
     Flow {
         protocol: Protocol::Icmp,
         source: view.source(),

@@ -107,7 +107,7 @@ fn checksum(bytes: &[u8]) -> u16
     BigEndian::read_u16(&bytes[field::CHECKSUM])
 }
 
-fn identifier(bytes: &[u8]) -> Port
+pub(crate) fn identifier(bytes: &[u8]) -> Port
     requires { 8 ≤ length bytes.now }
     ensures { result.0 ≡ (query_of bytes.now).identifier }
 {

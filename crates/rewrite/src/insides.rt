@@ -4,16 +4,16 @@ ghost use Rattle.std.specs.Prelude.{◌≡◌, ◌≤◌, ◌+◌, length};
 ghost use Rattle.ipv4.specs.Header.{header_of};
 ghost use Rattle.icmp.specs.Quoted.{IsQuoted};
 ghost use Rattle.rewrite.specs.Translated.{with_word};
-ghost use Rattle.rewrite.specs.PassedOn.{with_long, checksummed, inside_header, ports_inside, moved_field, udp_inside, tcp_inside, behind_with, inside_with};
+ghost use Rattle.rewrite.specs.PassedOn.{with_long, checksummed, inside_header, ports_inside, moved_field, udp_inside, tcp_inside, query_inside, behind_with, inside_with};
 
 use crate::flows::update_flow;
-use crate::segments::udp_field;
+use crate::segments::{identifier_after, udp_field};
 use addresses::Protocol;
 use byteorder::{BigEndian, ByteOrder};
-use icmp::QuotedView;
+use icmp::{QueryViewMut, QuotedView};
 use ipv4::{Flow, Ipv4ViewMut, UdpViewMut};
 use std::ops::Range;
-use sums::sum;
+use sums::{sum, update};
 
 /// Where TCP's checksum lies.
 const TCP_CHECKSUM: Range<usize> = 16..18;
@@ -81,6 +81,7 @@ fn rewrite_behind(behind: &mut [u8], old: Flow, new: Flow)
     ensures { behind.new ≡ behind_with old.protocol old new behind.old }
 {
     match old.protocol {
+        Protocol::Icmp => rewrite_query_inside(behind, old, new),
         Protocol::Udp => rewrite_udp_inside(behind, old, new),
         Protocol::Tcp => rewrite_tcp_inside(behind, old, new),
     }
@@ -112,7 +113,18 @@ fn rewrite_tcp_inside(behind: &mut [u8], old: Flow, new: Flow)
     BigEndian::write_u16(&mut behind[TCP_CHECKSUM], sum);
 }
 
-/// Writes the ports of either protocol: a TCP header begins with them as UDP's does.
+fn rewrite_query_inside(behind: &mut [u8], old: Flow, new: Flow)
+    requires { 8 ≤ length behind.old }
+    ensures { behind.new ≡ query_inside old new behind.old }
+{
+    let identifier = identifier_after(old, new);
+    let mut view = QueryViewMut::new(behind);
+    let checksum = update(view.checksum() % 65535, old.source_port.0, identifier.0);
+    view.set_identifier(identifier);
+    view.set_checksum(checksum);
+}
+
+/// Writes the ports of UDP or TCP: a TCP header begins with them as UDP's does.
 fn write_ports(behind: &mut [u8], new: Flow)
     requires { 8 ≤ length behind.old }
     ensures ports { behind.new ≡ ports_inside new behind.old }
