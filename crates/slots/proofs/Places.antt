@@ -24,7 +24,6 @@ place_at c = by (nat_lt c 65536) (nat_lt c 131072) refl refl
     place x = 65536 * protocol_number x + (c - first_cell x)
 
     by : (a b : Bool) → nat_lt c 65536 ≡ a → nat_lt c 131072 ≡ b → IsPlace c (place (cond a Icmp (cond b Tcp Udp)))
-    unfolding IsPlace
     by true b e f = inl (ltb-true c 65536 e, omega arith)
     by false true e f = inr (inl (ltb-false c 65536 e, ltb-true c 131072 f, omega (arith, ltb-false c 65536 e)))
     by false false e f = inr (inr (ltb-false c 131072 f, omega (arith, ltb-false c 131072 f)))
