@@ -2,7 +2,7 @@
 use Rattle.std.specs.Prelude.{◌≡◌, ℕ, ◌-◌, ◌==◌, Option, Some, None, List, [], map, if◌then◌else◌}
 use Rattle.std.specs.List.{count_by}
 use Rattle.addresses.specs.declared.transport.Protocol.{Protocol}
-use Rattle.addresses.specs.declared.transport.Protocol.TheVariants.{Tcp, Udp}
+use Rattle.addresses.specs.declared.transport.Protocol.TheVariants.{Icmp, Tcp, Udp}
 use Rattle.addresses.specs.declared.transport.Port.{Port}
 use Rattle.nat_types.specs.declared.gateways.Side.{Side}
 use Rattle.nat_types.specs.declared.gateways.Side.TheVariants.{Inside, Outside}
@@ -50,5 +50,6 @@ abbrev pub owned_by : Shown → List Port
 owned_by g = if is_synced g.ledger.book.stage then map port_at g.ledger.book.owned else []
 
 abbrev pub free_of : PortCounts → Protocol → ℕ
+free_of ports Icmp = ports.free_icmp
 free_of ports Tcp = ports.free_tcp
 free_of ports Udp = ports.free_udp
