@@ -250,7 +250,7 @@ asks-then h h2 f g a b c x y =
       due = due-append a.shown (known_of c.shown) has x.askings z.askings
           (due-more (known_of c.shown) (MayGoBy a.shown x.notes) has more a.shown a.shown (λ side host t. t) (λ side host t. t) x.askings due1)
           (due-more (known_of c.shown) (MayGoBy b.shown z.notes) has then_has a.shown b.shown near_end again_end z.askings z.due);
-      others = filter-append (λ (f : Sent). is_other f.bytes) x.frames z.frames
+      others = filter-append (λ (f : Sent). is_other f.side f.bytes) x.frames z.frames
           ∙ ap (λ (fs : List Sent). fs ++ other_frames z.frames) x.others
           ∙ ap (λ (fs : List Sent). requests a.shown x.askings ++ fs) (z.others ∙ requests-same a.shown b.shown x.nets z.askings)
           ∙ sym (map-append (request_of a.shown) x.askings z.askings);
@@ -453,12 +453,12 @@ targets-there g flow (Hairpin own other) notes synced found = (target-there g fl
 
 -- what the plan says of a packet's next hop
 next-hop : (g : Shown) (side : Side) (bytes : List ℕ) (flow : Flow) (by : Translation) (hop : Ip) (notes : List Note) → IsRead g bytes flow
-    → direction_of g.networks side flow.source.0 flow.destination.0 ≡ Ok (way_of by) → AreFound g flow by → hop ≡ hop_by g by flow → IsNextHop (known_of g) (MayGoBy g notes) (at_hand side bytes) by (exit_by by) hop
+    → direction_of g.networks side flow.protocol flow.source.0 flow.destination.0 ≡ Ok (way_of by) → AreFound g flow by → hop ≡ hop_by g by flow → IsNextHop (known_of g) (MayGoBy g notes) (at_hand side bytes) by (exit_by by) hop
 next-hop g side bytes flow by hop notes read way found hop_is =
     record {
       goes = inl (record {
         passes = read.passes;
-        way = subst (λ (f : Flow). direction_of g.networks side f.source.0 f.destination.0 ≡ Ok (way_of by)) read.flow_is way;
+        way = subst (λ (f : Flow). direction_of g.networks side f.protocol f.source.0 f.destination.0 ≡ Ok (way_of by)) read.flow_is way;
         pairs = subst (λ (f : Flow). AreItsPairs f by) read.flow_is (its-pairs g flow by read.synced found);
       });
       target = targets-there g flow by notes read.synced found;

@@ -122,7 +122,7 @@ on-fits g flow way.Hairpin formed = at (target_pair g flow)
     at (Err reason) = tt
 
 pub plan-fits : (g : Shown) (side : Side) (flow : Flow) → IsWellFormedEndpoint (source_of flow) → PlanFits (plan_of g side flow)
-plan-fits g side flow formed = at (direction_of g.networks side flow.source.0 flow.destination.0)
+plan-fits g side flow formed = at (direction_of g.networks side flow.protocol flow.source.0 flow.destination.0)
   where
     at : (r : Result Direction Reason) → PlanFits (and_then r (plan_on g flow))
     at (Ok w) = on-fits g flow w formed
@@ -185,7 +185,7 @@ refusal-leaves P s flow HostLimit same wanted = same
 
 -- what is known of a frame by what it is read as
 abbrev pub Reads : Type 0
-Reads = (network : Network) (active up : Bool) (bytes : List ℕ) (reading : Reading) → reading_of network active up bytes ≡ Ok reading → Carries bytes reading
+Reads = (side : Side) (network : Network) (active up : Bool) (bytes : List ℕ) (reading : Reading) → reading_of side network active up bytes ≡ Ok reading → Carries side bytes reading
 
 module _ (letters : List Letter) (words : List ℕ) where
   pub wanted-goes : (s : GatewayAndOutput) (e : Endpoint) → IsWellFormedEndpoint e → Going letters words s (wanted_by s e)
