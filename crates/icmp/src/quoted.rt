@@ -36,11 +36,11 @@ mod field {
     /// The bytes of a header without options.
     pub const FIXED: usize = 20;
 
-    pub const SOURCE_PORT: usize = 0;
+    pub const SOURCE_PORT: Range<usize> = 0..2;
 
-    pub const DESTINATION_PORT: usize = 2;
+    pub const DESTINATION_PORT: Range<usize> = 2..4;
     /// Of a query it is both ports.
-    pub const IDENTIFIER: usize = 4;
+    pub const IDENTIFIER: Range<usize> = 4..6;
     /// The fewest bytes behind the header (RFC 792).
     pub const BEHIND: usize = 8;
 }
@@ -150,21 +150,14 @@ fn translated_protocol(bytes: &[u8]) -> Protocol
     }
 }
 
-fn port_at(place: usize, behind: &[u8]) -> Port
-    requires { place + 2 ≤ length behind.now }
-    ensures { result.0 ≡ word_at place behind.now }
-{
-    Port(BigEndian::read_u16(&behind[place..place + 2]))
-}
-
 /// The source port behind a header; of a query its identifier.
 fn source_port(protocol: Protocol, behind: &[u8]) -> Port
     requires { 8 ≤ length behind.now }
     ensures { result.0 ≡ word_at (source_place protocol) behind.now }
 {
     match protocol {
-        Protocol::Icmp => port_at(field::IDENTIFIER, behind),
-        Protocol::Tcp | Protocol::Udp => port_at(field::SOURCE_PORT, behind),
+        Protocol::Icmp => Port(BigEndian::read_u16(&behind[field::IDENTIFIER])),
+        Protocol::Tcp | Protocol::Udp => Port(BigEndian::read_u16(&behind[field::SOURCE_PORT])),
     }
 }
 
@@ -174,8 +167,8 @@ fn destination_port(protocol: Protocol, behind: &[u8]) -> Port
     ensures { result.0 ≡ word_at (destination_place protocol) behind.now }
 {
     match protocol {
-        Protocol::Icmp => port_at(field::IDENTIFIER, behind),
-        Protocol::Tcp | Protocol::Udp => port_at(field::DESTINATION_PORT, behind),
+        Protocol::Icmp => Port(BigEndian::read_u16(&behind[field::IDENTIFIER])),
+        Protocol::Tcp | Protocol::Udp => Port(BigEndian::read_u16(&behind[field::DESTINATION_PORT])),
     }
 }
 

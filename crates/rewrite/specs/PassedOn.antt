@@ -11,8 +11,8 @@ use Rattle.ipv4.specs.declared.flows.Flow.{Flow}
 use Rattle.icmp.specs.Packet.{error_flow}
 use Rattle.icmp.specs.Quoted.{behind}
 use Rattle.icmp.specs.declared.packets.ErrorFlow.{ErrorFlow}
-use Rattle.rewrite.specs.Sums.{flow_sum, new_identifier}
-use Rattle.rewrite.specs.Translated.{with_word, header_with, header_bytes, rest_of, moved_sum, udp_field}
+use Rattle.rewrite.specs.Sums.{flow_sum}
+use Rattle.rewrite.specs.Translated.{with_word, header_with, header_bytes, rest_of, moved_sum, query_moved, udp_field}
 
 -- bytes with another 32-bit number at a place
 abbrev pub with_long : ℕ → ℕ → List ℕ → List ℕ
@@ -50,15 +50,9 @@ tcp_inside old new bytes =
     then with_word 16 (moved_field old new (word_at 16 bytes)) (ports_inside new bytes)
     else ports_inside new bytes)
 
--- a query inside: its checksum counts the identifier alone, and 0 is a sum as any other
-abbrev pub query_inside : Flow → Flow → List ℕ → List ℕ
-query_inside old new bytes =
-    let identifier = new_identifier old new in
-    with_word 2 (moved_sum (word_at 2 bytes) old.source_port.0 identifier) (with_word 4 identifier bytes)
-
 -- what stands behind the header of the packet inside
 abbrev pub behind_with : Protocol → Flow → Flow → List ℕ → List ℕ
-behind_with Icmp = query_inside
+behind_with Icmp = query_moved
 behind_with Udp = udp_inside
 behind_with Tcp = tcp_inside
 

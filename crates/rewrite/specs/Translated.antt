@@ -103,6 +103,13 @@ abbrev pub query_checksum : Flow → Flow → List ℕ → ℕ
 query_checksum old new message =
     moved_sum (word_at 2 message) (query_sum message) (query_sum (query_identified old new message))
 
+-- the beginning of a query, its checksum moved from the identifier of `old` to that of `new`: the query
+-- may be cut, so that nothing else of it is asked
+abbrev pub query_moved : Flow → Flow → List ℕ → List ℕ
+query_moved old new message =
+    with_word 2 (moved_sum (word_at 2 message) old.source_port.0 (new_identifier old new))
+    (query_identified old new message)
+
 -- a query with that identifier and its checksum
 abbrev pub query_with : Flow → Flow → List ℕ → List ℕ
 query_with old new message =

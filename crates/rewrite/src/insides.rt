@@ -4,16 +4,16 @@ ghost use Rattle.std.specs.Prelude.{◌≡◌, ◌≤◌, ◌+◌, length};
 ghost use Rattle.ipv4.specs.Header.{header_of};
 ghost use Rattle.icmp.specs.Quoted.{IsQuoted};
 ghost use Rattle.rewrite.specs.Translated.{with_word};
-ghost use Rattle.rewrite.specs.PassedOn.{with_long, checksummed, inside_header, ports_inside, moved_field, udp_inside, tcp_inside, query_inside, behind_with, inside_with};
+ghost use Rattle.rewrite.specs.PassedOn.{with_long, checksummed, inside_header, ports_inside, moved_field, udp_inside, tcp_inside, behind_with, inside_with};
 
 use crate::flows::update_flow;
-use crate::segments::{identifier_after, udp_field};
+use crate::segments::{rewrite_identifier, udp_field};
 use addresses::Protocol;
 use byteorder::{BigEndian, ByteOrder};
-use icmp::{QueryViewMut, QuotedView};
+use icmp::QuotedView;
 use ipv4::{Flow, Ipv4ViewMut, UdpViewMut};
 use std::ops::Range;
-use sums::{sum, update};
+use sums::sum;
 
 /// Where TCP's checksum lies.
 const TCP_CHECKSUM: Range<usize> = 16..18;
@@ -81,7 +81,7 @@ fn rewrite_behind(behind: &mut [u8], old: Flow, new: Flow)
     ensures { behind.new ≡ behind_with old.protocol old new behind.old }
 {
     match old.protocol {
-        Protocol::Icmp => rewrite_query_inside(behind, old, new),
+        Protocol::Icmp => rewrite_identifier(behind, old, new),
         Protocol::Udp => rewrite_udp_inside(behind, old, new),
         Protocol::Tcp => rewrite_tcp_inside(behind, old, new),
     }
@@ -111,17 +111,6 @@ fn rewrite_tcp_inside(behind: &mut [u8], old: Flow, new: Flow)
     let sum = moved(checksum, old, new);
     write_ports(behind, new);
     BigEndian::write_u16(&mut behind[TCP_CHECKSUM], sum);
-}
-
-fn rewrite_query_inside(behind: &mut [u8], old: Flow, new: Flow)
-    requires { 8 ≤ length behind.old }
-    ensures { behind.new ≡ query_inside old new behind.old }
-{
-    let identifier = identifier_after(old, new);
-    let mut view = QueryViewMut::new(behind);
-    let checksum = update(view.checksum() % 65535, old.source_port.0, identifier.0);
-    view.set_identifier(identifier);
-    view.set_checksum(checksum);
 }
 
 /// Writes the ports of UDP or TCP: a TCP header begins with them as UDP's does.

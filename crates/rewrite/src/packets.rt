@@ -139,8 +139,8 @@ fn segment_length(protocol: Protocol, packet: &[u8]) -> usize
     requires ipv4 { IsIpv4 packet.now }
     requires translatable { IsTranslatable packet.now }
     requires protocol { protocol ≡ protocol_of packet.now }
-    ensures value { result ≡ length_in protocol (payload_of packet.now) }
-    ensures low { shortest protocol ≤ result }
+    ensures value { result ≡ length_in (protocol_of packet.now) (payload_of packet.now) }
+    ensures low { shortest (protocol_of packet.now) ≤ result }
     ensures high { result ≤ length (payload_of packet.now) }
 {
     let bytes = Ipv4View { bytes: packet }.payload();

@@ -5,7 +5,7 @@ ghost use Rattle.byteorder.specs.Endian.{big_number};
 ghost use Rattle.sums.specs.Sum.{IsUpdate};
 ghost use Rattle.ipv4.specs.Flow.{destination_place, source_place};
 ghost use Rattle.rewrite.specs.Sums.{shortest, flow_sum, new_identifier};
-ghost use Rattle.rewrite.specs.Translated.{udp_field, udp_with, tcp_with, query_with, segment_with};
+ghost use Rattle.rewrite.specs.Translated.{moved_sum, udp_field, udp_with, tcp_with, query_moved, query_with, segment_with};
 
 use crate::flows::update_flow;
 use addresses::{Port, Protocol};
@@ -72,17 +72,33 @@ pub(crate) fn identifier_after(old: Flow, new: Flow) -> Port
     }
 }
 
-/// Writes the identifier of a query, and lets the checksum follow: 0 is a sum as any other.
-pub(crate) fn rewrite_query(message: &mut [u8], old: Flow, new: Flow)
+/// A query's checksum after its identifier has changed from `old` to `new`.
+fn moved_by(checksum: u16, old: Port, new: Port) -> u16
+    ensures { result ≡ moved_sum checksum old.0 new.0 }
+{
+    update(checksum % 65535, old.0, new.0)
+}
+
+/// Writes the identifier of a query, of which 8 bytes are there at least, and lets the checksum follow:
+/// it counts nothing but the message, and 0 is a sum as any other.
+pub(crate) fn rewrite_identifier(message: &mut [u8], old: Flow, new: Flow)
+    requires { 8 ≤ length message.old }
+    ensures { message.new ≡ query_moved old new message.old }
+{
+    let identifier = identifier_after(old, new);
+    let mut view = QueryViewMut::new(message);
+    let checksum = moved_by(view.checksum(), old.source_port, identifier);
+    view.set_identifier(identifier);
+    view.set_checksum(checksum);
+}
+
+/// Writes the identifier of a whole query.
+fn rewrite_query(message: &mut [u8], old: Flow, new: Flow)
     requires long { 8 ≤ length message.old }
     requires identifier { old.source_port.0 ≡ big_number 2 (drop 4 message.old) }
     ensures { message.new ≡ query_with old new message.old }
 {
-    let identifier = identifier_after(old, new);
-    let mut view = QueryViewMut::new(message);
-    let checksum = update(view.checksum() % 65535, old.source_port.0, identifier.0);
-    view.set_identifier(identifier);
-    view.set_checksum(checksum);
+    rewrite_identifier(message, old, new);
 }
 
 /// The same for the protocol of the flow.
