@@ -209,5 +209,6 @@ pub record IsPassable (bytes : List ℕ) : Type 0 where
 abbrev pub Carries : Side → List ℕ → Reading → Type 0
 Carries side bytes (Arp packet) = length packet.sender_mac.0 ≡ 6
 Carries side bytes (Advert advert from) = (1 ≤ advert.interval) × (advert.interval ≤ 4095)
-Carries side bytes (Packet packet) = IsForwardable bytes × (packet ≡ packet_in bytes) × IsOfSide side bytes
+Carries side bytes (Packet packet) =
+    IsForwardable bytes × ((packet ≡ packet_in bytes) × IsOfSide side bytes)
 Carries side bytes (Error packet) = IsPassable bytes × (packet ≡ error_in bytes)

@@ -191,9 +191,9 @@ tells-unseen s s2 frames notes entries kept =
     tells-quietly s s2 [] frames (notes ∙ sym (append-nil s.told.notes)) refl kept (same-rooted s.shown.ledger.book.entries s2.shown.ledger.book.entries [] entries)
 
 -- a frame of another kind
-pub framed-tells : (s : GatewayAndOutput) (side : Side) (bytes : List ℕ) → is_other bytes ≡ true → Told [] s (framed s side bytes)
+pub framed-tells : (s : GatewayAndOutput) (side : Side) (bytes : List ℕ) → is_other side bytes ≡ true → Told [] s (framed s side bytes)
 framed-tells s side bytes other =
-    let none = other-none bytes other in
+    let none = other-none side bytes other in
     record {
       all = record {
         frames = record { side = side; bytes = bytes } ∷ [];
