@@ -9,28 +9,26 @@ use Rattle.nat_types.proofs.Offered.{key-false}
 use Rattle.slots.specs.Rows.{key_place}
 use Rattle.slots.specs.Cells.{first_cell, key_at}
 
--- a cell of this place, by its protocol: the blocks of cells are those of the protocols' numbers
-IsPlace : ℕ → ℕ → Type 0
+-- a cell has this place: the blocks of cells are moved to where their protocols' numbers stand
+abbrev IsPlace : ℕ → ℕ → Type 0
 IsPlace c place =
     ((c < 65536) × (place ≡ 65536 + c))
-    ⊎ (((65536 ≤ c) × (c < 131072) × (place ≡ 327680 + c)) ⊎ ((131072 ≤ c) × (place ≡ 983040 + c)))
+    ⊎ (((65536 ≤ c) × ((c < 131072) × (place ≡ 327680 + c))) ⊎ ((131072 ≤ c) × (place ≡ 983040 + c)))
+
+abbrev place_in : ℕ → Protocol → ℕ
+place_in c x = 65536 * protocol_number x + (c - first_cell x)
 
 -- the place of a cell's key
 place_at : (c : ℕ) → IsPlace c (key_place (key_at c))
-unfolding IsPlace
 place_at c = by (nat_lt c 65536) (nat_lt c 131072) refl refl
   where
-    place : Protocol → ℕ
-    place x = 65536 * protocol_number x + (c - first_cell x)
-
-    by : (a b : Bool) → nat_lt c 65536 ≡ a → nat_lt c 131072 ≡ b → IsPlace c (place (cond a Icmp (cond b Tcp Udp)))
+    by : (a b : Bool) → nat_lt c 65536 ≡ a → nat_lt c 131072 ≡ b → IsPlace c (place_in c (cond a Icmp (cond b Tcp Udp)))
     by true b e f = inl (ltb-true c 65536 e, omega arith)
-    by false true e f = inr (inl (ltb-false c 65536 e, ltb-true c 131072 f, omega (arith, ltb-false c 65536 e)))
+    by false true e f = inr (inl (ltb-false c 65536 e, (ltb-true c 131072 f, omega (arith, ltb-false c 65536 e))))
     by false false e f = inr (inr (ltb-false c 131072 f, omega (arith, ltb-false c 131072 f)))
 
 -- places rise with the cells
 rising : (c d p q : ℕ) → c < d → IsPlace c p → IsPlace d q → p < q
-unfolding IsPlace
 rising c d p q h (inl a) (inl b) = let e = a.1 in let f = b.1 in omega (arith, h, e, f)
 rising c d p q h (inl a) (inr (inl b)) = let e = a.1 in let f = b.1.1 in omega (arith, h, e, f)
 rising c d p q h (inl a) (inr (inr b)) = let e = a.1 in let f = b.1 in omega (arith, h, e, f)

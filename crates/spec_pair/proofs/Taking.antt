@@ -10,7 +10,7 @@ use Rattle.addresses.specs.declared.transport.Protocol.TheVariants.{Icmp, Tcp, U
 use Rattle.spec_pair.specs.Acts.{IsMisplaced, AreGot, Take, LoadOwner, LoadDone, LoadSkip, TakePorts, LosePorts}
 use Rattle.spec_pair.specs.Box.{Box, StandsNext, Letter}
 use Rattle.spec_pair.specs.Ownership.{has, Ranges, keyed}
-use Rattle.spec_pair.specs.RecordTable.{Absent, Proposed, Bound, Finding, Finds, Facts, AreFacts, is_free, key_of, accepted, refused, asked, agreed_to, denied, proposed, installed, is_senders, becomes_owned, act_at_synced, act_at_unsynced, act_unless_promised, act_by_table, put_in, DoesTake}
+use Rattle.spec_pair.specs.RecordTable.{Absent, Proposed, Bound, Finding, Finds, Facts, AreFacts, is_free, key_of, accepted, refused, asked, agreed_to, denied, proposed, installed, is_senders, becomes_owned, has_no_entry, act_at_synced, act_at_unsynced, act_unless_promised, act_by_table, put_in, DoesTake}
 use Rattle.spec_pair.specs.Talk.{Slot, Free, Pending, Doomed, Live, Closing, Held, MachineRecord, Install, Accept, Refuse, Ask, Yes, No, Begin, Put, Done, Want, Grant, Owner, Deed, Skip, Yield, Reject, held, MayDo, taken_by}
 
 free_is : (s : Slot) → is_free s ≡ true → s ≡ Free
