@@ -78,7 +78,10 @@ pub fn read_padded(interfaces: &Interfaces, given: &mut Given) -> Result<String>
     let length = given.number()?.min(2000) as usize;
     let mut bytes = given.bytes()?;
     bytes.resize(length, 0)?;
-    reading_text(given.alloc, station.read_frame(side, true, bytes.as_slice()))
+    reading_text(
+        given.alloc,
+        station.read_frame(side, true, bytes.as_slice()),
+    )
 }
 
 pub fn hear_advert(interfaces: &mut Interfaces, given: &mut Given) -> Result<String> {
@@ -170,13 +173,7 @@ pub fn send(interfaces: &Interfaces, given: &mut Given) -> Result<String> {
     match interfaces.at(side).read_frame(side, true, bytes.as_slice()) {
         Ok(Reading::Packet(packet)) => {
             let flow = packet.flow;
-            match direction_taken(
-                networks,
-                side,
-                flow.protocol,
-                flow.source,
-                flow.destination,
-            ) {
+            match direction_taken(networks, side, flow.protocol, flow.source, flow.destination) {
                 Ok(way) => {
                     let translation = translation(given, way, flow.protocol)?;
                     let hop = translation.next_hop(networks, flow.destination);

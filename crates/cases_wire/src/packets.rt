@@ -152,7 +152,10 @@ pub fn rewritten(given: &mut Given, call: &str) -> Result<String> {
     } else {
         (address, port)
     };
-    ensure!(is_translatable(bytes.as_slice()), "nothing that is translated");
+    ensure!(
+        is_translatable(bytes.as_slice()),
+        "nothing that is translated"
+    );
     let done = match call {
         "outward" => rewrite::outward(bytes.as_mut_slice(), address, port),
         "inward" => rewrite::inward(bytes.as_mut_slice(), address, port),

@@ -40,7 +40,5 @@ pub fn write_query(given: &mut Given) -> Result<String> {
     query.set_identifier(given.hex_port()?);
     query.set_checksum(given.short()?);
     let bytes = hex::encode(given.alloc, bytes.as_slice())?;
-    Ok(format!(in given.alloc;
-        "sum {sum:04x} identifier {identifier} number {number}: {bytes}"
-    )?)
+    Ok(format!(in given.alloc; "sum {sum:04x} identifier {identifier} number {number}: {bytes}")?)
 }

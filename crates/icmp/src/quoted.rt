@@ -168,7 +168,9 @@ fn destination_port(protocol: Protocol, behind: &[u8]) -> Port
 {
     match protocol {
         Protocol::Icmp => Port(BigEndian::read_u16(&behind[field::IDENTIFIER])),
-        Protocol::Tcp | Protocol::Udp => Port(BigEndian::read_u16(&behind[field::DESTINATION_PORT])),
+        Protocol::Tcp | Protocol::Udp => Port(BigEndian::read_u16(
+            &behind[field::DESTINATION_PORT],
+        )),
     }
 }
 

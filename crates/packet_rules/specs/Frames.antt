@@ -84,4 +84,4 @@ is_translation exit bytes =
     let protocol = (header_of packet).protocol in
     ((frame_of bytes).ethertype == 2048)
     && ((protocol == 6) || (protocol == 17)
-        || ((protocol == 1) && (slice_index (payload_of packet) 0 == kind_number (kind_leaving exit))))
+    || ((protocol == 1) && (slice_index (payload_of packet) 0 == kind_number (kind_leaving exit))))

@@ -50,7 +50,7 @@ pub fn frames_law()
         (next : MacValue) (bytes : List ℕ) → IsWired networks → length next.0 ≡ 6
         → IsForwardable bytes → IsOfSide side bytes → (let flow = flow_in bytes in
         direction_of networks side flow.protocol flow.source.0 flow.destination.0
-            ≡ Ok (way_of t))
+        ≡ Ok (way_of t))
         → is_translation (exit_of (way_of t)) (sent_frame networks t next bytes) ≡ true }
     ensures passed { (networks : NetworksValue) (t : TranslationValue) (next : MacValue)
         (bytes : List ℕ) → IsWired networks → length next.0 ≡ 6 → IsPassable bytes
