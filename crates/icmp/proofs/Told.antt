@@ -143,12 +143,12 @@ query-told kind message begins e =
     let q = query_of message in
     let first = begun (length message) q.kind (kind_number kind) q.code begins in
     let rest = identified (length message) q.identifier e in
-    record { long = rest.0; kind = first.0; code = first.1; identifier = rest.1 }
+    record { long = rest.0; type_is = first.0; code = first.1; identifier = rest.1 }
 
 pub told-begins : (kind : Kind) (message : List ℕ) → IsQuery kind message → begins_with kind message ≡ true
 told-begins kind message g =
     let q = query_of message in
-    begun-back (length message) q.kind (kind_number kind) q.code g.long g.kind g.code
+    begun-back (length message) q.kind (kind_number kind) q.code g.long g.type_is g.code
 
 pub told-identified : (kind : Kind) (message : List ℕ) → IsQuery kind message → has_no_identifier message ≡ false
 told-identified kind message g = identified-back (length message) (query_of message).identifier g.long g.identifier

@@ -44,7 +44,7 @@ query_data message = drop HEADER message
 -- a whole header of this kind, with code 0 and an identifier; whatever the checksum is
 pub record IsQuery (kind : Kind) (message : List ℕ) : Type 0 where
   pub long : HEADER ≤ length message
-  pub kind : (query_of message).kind ≡ kind_number kind
+  pub type_is : (query_of message).kind ≡ kind_number kind
   pub code : (query_of message).code ≡ 0
   pub identifier : 0 < (query_of message).identifier
 

@@ -133,7 +133,7 @@ query-passes g side bytes r size ipv4 is =
       ttl = leb-true 2 (header_of packet).ttl (none-passes _ TtlOver s3.0);
     } in
     let same : Packet (packet_read packet) ≡ r = cc in
-    subst (Carries side bytes) same (known, (refl, λ icmp. carried.query.kind))
+    subst (Carries side bytes) same (known, (refl, λ icmp. carried.query.type_is))
 
 error-passes : (g : Grammars) (side : Side) (bytes : List ℕ) (r : Reading) → size_refusal bytes ≡ None → IsIpv4 (frame_of bytes).body → error_reading side (frame_of bytes).body ≡ Ok r → Carries side bytes r
 unfolding error_reading error_refusal ttl_refusal error_flow_in
