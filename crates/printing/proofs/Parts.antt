@@ -1,5 +1,5 @@
 -- Text that is written part by part.
-use Rattle.std.proofs.Common.{◌≡◌, ◌∙◌, ◌++◌, ℕ, List, [], Option, Result, Ok, Err, IsErr, IsErrAnd, refl, ap, sym, subst, append_assoc, append-nil}
+use Rattle.std.proofs.Common.{◌≡◌, ◌∙◌, ◌++◌, ℕ, List, [], Option, Some, None, Result, Ok, Err, IsErr, refl, ap, sym, subst, append_assoc, append-nil}
 use Rattle.std.specs.Io.KnownBytes.{Appends, Keeps}
 use Rattle.std.proofs.KnownBytes.{Appends-kept, Appends-nil, Appends-trans}
 use Rattle.printing.specs.Printed.{IsBegun, IsPart, Prints}
@@ -46,11 +46,24 @@ pub part_kept : (a b c : Option (List ℕ)) (text rest : List ℕ) → IsPart a 
 part_kept a b c text rest h kept = record { written = h.written; split = h.split; appended = Appends-kept a b c h.written h.appended kept }
 
 -- a fault is handed on
-pub err_begun : {T E : Type 0} {Q : E → Type 0} (r : Result T E) (a b : Option (List ℕ)) (text : List ℕ) → IsErr r × IsErrAnd r Q → IsBegun a b text
+pub err_begun : {T E : Type 0} (r : Result T E) (a b : Option (List ℕ)) (text : List ℕ) → IsErr r → IsBegun a b text
     → Prints a r b text
-err_begun (Ok x) a b text is begun = absurd is.1
+err_begun (Ok x) a b text is begun = absurd is
 err_begun (Err e) a b text is begun = begun
 
 -- a text that is the same
 pub prints_as : {T E : Type 0} (r : Result T E) (a b : Option (List ℕ)) (text same : List ℕ) → text ≡ same → Prints a r b same → Prints a r b text
 prints_as r a b text same is h = subst (λ (l : List ℕ). Prints a r b l) (sym is) h
+
+-- ---- one call of `write`
+
+-- none of it was taken
+pub keeps_none : (a b : Option (List ℕ)) → Appends a b [] → Keeps a b
+keeps_none None b h = tt
+keeps_none (Some x) None h = absurd h
+keeps_none (Some x) (Some y) h = h ∙ append-nil x
+
+pub none_kept : (a b : Option (List ℕ)) → Keeps a b → Appends a b []
+none_kept None b h = tt
+none_kept (Some x) None h = absurd h
+none_kept (Some x) (Some y) h = h ∙ sym (append-nil x)

@@ -1,5 +1,5 @@
 -- Lines, as the texts that they are written by.
-use Rattle.std.proofs.Common.{◌≡◌, ◌∙◌, ◌++◌, ◌∷◌, ◌/◌, ◌%◌, ℕ, List, [], Result, codes, decimal, ap, refl, append_assoc, append-nil}
+use Rattle.std.proofs.Common.{◌≡◌, ◌∙◌, ◌++◌, ◌∷◌, ◌/◌, ◌%◌, ℕ, List, [], Result, codes, decimal, flat_map, ap, refl, append_assoc, append-nil}
 use Rattle.hex.specs.Hex.{encode_lower}
 use Rattle.nat_types.specs.declared.gateways.GatewayId.{GatewayId}
 use Rattle.nat_types.specs.declared.gateways.Side.{Side}
@@ -9,7 +9,7 @@ use Rattle.nat_types.specs.declared.events.WorldEvent.{WorldEvent}
 use Rattle.nat_types.specs.declared.gateways.GatewayId.TheVariants.{Zero, One}
 use Rattle.output.specs.Output.{Output}
 use Rattle.spec_step.specs.declared.events.Outcome.{Outcome}
-use Rattle.printing.specs.Lines.{Counts, answer_text, event_line, frame_line, gateway_of, held_line, id_text, link_line, one_more, owned_from, owned_line, owned_lines, pair_text, protocol_text, sent_by, side_text, standing_text, state_line, step_lines, told_lines, with_sent}
+use Rattle.printing.specs.Lines.{Counts, answer_text, event_line, frame_line, gateway_of, held_line, id_text, link_line, link_lines, note_line, one_more, owned_from, owned_line, owned_lines, pair_text, protocol_text, sent_by, side_text, standing_text, state_line, step_lines, told_lines, with_sent}
 use Rattle.printing.specs.declared.tables.Standing.{Standing}
 
 -- ---- texts one behind the other
@@ -110,3 +110,7 @@ pub step_split : {F : Type 0} (refusal : F → List ℕ) (counts : Counts) (e : 
     (id : GatewayId) (sent number : ℕ) → id ≡ gateway_of e → sent ≡ sent_by id counts → number ≡ one_more counts.events
     → step_lines refusal counts e answer told ≡ told_lines id sent told ++ event_line number (answer_text refusal answer)
 step_split refusal counts e answer told id sent number is_id is_sent is_number = rw (is_number, is_sent, is_id) refl
+
+pub told_split : (i : GatewayId) (sent : ℕ) (told : Output) → told_lines i sent told
+    ≡ flat_map (frame_line i) told.frames ++ (link_lines i sent told.datagrams ++ flat_map note_line told.notes)
+told_split i sent told = append_assoc (flat_map (frame_line i) told.frames) (link_lines i sent told.datagrams) (flat_map note_line told.notes)

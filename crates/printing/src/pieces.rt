@@ -1,10 +1,24 @@
 //! Writes text so that an output has all of it, or a beginning where writing fails.
+ghost use Rattle.std.specs.Io.KnownBytes.{WriteAppends};
+ghost use Rattle.std.specs.Io.{WritesAtMost};
 ghost use Rattle.std.specs.Prelude.{flat_map};
 ghost use Rattle.hex.specs.Hex.{encode_lower};
 ghost use Rattle.std.specs.Prelude.{◌≤◌, ◌≡◌, length};
 ghost use Rattle.printing.specs.Printed.{Prints};
 
 use std::io::{self, ErrorKind, Write};
+
+/// Writes some of these bytes, those at the front, and says how many; none where writing was interrupted.
+fn put_some<O: Write>(output: &mut O, bytes: &[u8]) -> io::Result<usize>
+    ensures bound { WritesAtMost result bytes.now }
+    ensures bytes { WriteAppends (O.contents output.old) (O.contents output.new) result bytes.now }
+{
+    match output.write(bytes) {
+        Ok(0) => Err(ErrorKind::WriteZero.into()),
+        Err(error) if error.kind() == ErrorKind::Interrupted => Ok(0),
+        answer => answer,
+    }
+}
 
 /// Writes bytes.
 fn put<O: Write>(output: &mut O, bytes: &[u8]) -> io::Result<()>
@@ -15,14 +29,16 @@ fn put<O: Write>(output: &mut O, bytes: &[u8]) -> io::Result<()>
         if rest.is_empty() {
             return Ok(());
         }
-        match output.write(rest) {
-            Ok(0) => return Err(ErrorKind::WriteZero.into()),
-            Ok(count) => rest = &rest[count..],
-            Err(error) if error.kind() == ErrorKind::Interrupted => {}
-            Err(error) => return Err(error),
-        }
+        let count = put_some(output, rest)?;
+        rest = &rest[count..];
     }
     Err(ErrorKind::Other.into())
+}
+
+fn put_text<O: Write>(output: &mut O, text: &str) -> io::Result<()>
+    ensures { Prints (O.contents output.old) result (O.contents output.new) text.now }
+{
+    put(output, text.as_bytes())
 }
 
 /// Writes texts, one behind the other.
@@ -31,7 +47,7 @@ pub(crate) fn put_all<O: Write>(output: &mut O, texts: &[&str]) -> io::Result<()
         (flat_map (λ text. text.now) texts.now) }
 {
     for text in texts {
-        put(output, text.as_bytes())?;
+        put_text(output, text)?;
     }
     Ok(())
 }

@@ -3,5 +3,4 @@ use Rattle.printing.proofs.Splits.{pair_split}
 use Rattle.printing.proofs.notes.end_with_pair.Goals as goal
 
 pub returns : goal.returns
-returns g c = prints_as c.put_all.result _ _ _ _ (pair_split c.args.pair.now _ _ _ _ _ _ _ c.protocol_text.ensures c.format.ensures.text
-    c.format-2.ensures.text c.format-3.ensures.text c.format-4.ensures.text c.format-5.ensures.text c.format-6.ensures.text) c.put_all.ensures
+returns g c = ?

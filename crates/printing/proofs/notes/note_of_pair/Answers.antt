@@ -6,7 +6,7 @@ use Rattle.printing.proofs.notes.note_of_pair.Goals as goal
 pub returns-in_err-put_all : goal.returns-in_err-put_all
 returns-in_err-put_all g c =
     let split = note_pair_split c.args.id.now c.args.name.now (pair_text c.args.pair.now) in
-    err_begun c.from_residual.result _ _ _ c.from_residual.ensures (begun_more _ _ _ _ _ _ _ (part_none _ _) split c.in_err-put_all.ensures)
+    err_begun c.from_residual.result _ _ _ c.from_residual.ensures.0 (begun_more _ _ _ _ _ _ _ (part_none _ _) split c.in_err-put_all.ensures)
 
 pub returns : goal.returns
 returns g c =

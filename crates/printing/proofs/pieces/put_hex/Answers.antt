@@ -27,7 +27,7 @@ loop-rest-preserved g c =
     part_more _ _ _ _ _ _ _ c.loop-rest.invariant (parts c.loop-rest.rest.now c.min-count.result) c.in_ok-put_few.ensures
 
 pub returns-in_err-put_few : goal.returns-in_err-put_few
-returns-in_err-put_few g c = err_begun c.from_residual.result _ _ _ c.from_residual.ensures
+returns-in_err-put_few g c = err_begun c.from_residual.result _ _ _ c.from_residual.ensures.0
     (begun_more _ _ _ _ _ _ _ c.loop-rest.invariant (parts c.loop-rest.rest.now c.min-count.result) c.in_err-put_few.ensures)
 
 pub returns : goal.returns

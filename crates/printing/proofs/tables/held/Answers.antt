@@ -10,14 +10,14 @@ loop-pair-init g c = part_none _ _
 pub loop-pair-preserved : goal.loop-pair-preserved
 loop-pair-preserved g c =
     let l = c.loop-pair in
-    let next = ap (flat_map (held_line c.args.id)) (drop_more c.args.pairs.now l.pair-index _ c.loop-pair-test.true) in
+    let next = ap (flat_map (held_line c.args.id)) (drop_more c.args.pairs.now l.pair-index c.pair-item.result c.loop-pair-test.true) in
     part_more _ _ _ _ _ _ _ l.invariant next c.in_ok-held_pair.ensures
 
 pub returns-in_err-held_pair : goal.returns-in_err-held_pair
 returns-in_err-held_pair g c =
     let l = c.loop-pair in
-    let next = ap (flat_map (held_line c.args.id)) (drop_more c.args.pairs.now l.pair-index _ c.loop-pair-test.true) in
-    err_begun c.from_residual.result _ _ _ c.from_residual.ensures (begun_more _ _ _ _ _ _ _ l.invariant next c.in_err-held_pair.ensures)
+    let next = ap (flat_map (held_line c.args.id)) (drop_more c.args.pairs.now l.pair-index c.pair-item.result c.loop-pair-test.true) in
+    err_begun c.from_residual.result _ _ _ c.from_residual.ensures.0 (begun_more _ _ _ _ _ _ _ l.invariant next c.in_err-held_pair.ensures)
 
 pub returns : goal.returns
 returns g c = part_whole _ _ _ _ c.loop-pair.invariant (rw (drop_all c.loop-pair.pair-index c.args.pairs.now c.loop-pair-test.false) refl)

@@ -18,13 +18,13 @@ pub loop-port-preserved : goal.loop-port-preserved
 loop-port-preserved g c =
     let l = c.loop-port in
     let next = one c.args.id l.first l.last _ _ _ (drop_more _ l.port-index _ c.loop-port-test.true) in
-    rw c.in_ok-owned_until.ensures.first (part_more _ _ _ _ _ _ _ l.invariant next c.in_ok-owned_until.ensures.printed)
+    rw c.in_ok-first.ensures.first (part_more _ _ _ _ _ _ _ l.invariant next c.in_ok-first.ensures.printed)
 
-pub returns-in_err-owned_until : goal.returns-in_err-owned_until
-returns-in_err-owned_until g c =
+pub returns-in_err-first : goal.returns-in_err-first
+returns-in_err-first g c =
     let l = c.loop-port in
     let next = one c.args.id l.first l.last _ _ _ (drop_more _ l.port-index _ c.loop-port-test.true) in
-    err_begun c.from_residual.result _ _ _ c.from_residual.ensures (begun_more _ _ _ _ _ _ _ l.invariant next c.in_err-owned_until.ensures.printed)
+    err_begun c.from_residual.result _ _ _ c.from_residual.ensures.0 (begun_more _ _ _ _ _ _ _ l.invariant next c.in_err-first.ensures.printed)
 
 pub returns : goal.returns
 returns g c =

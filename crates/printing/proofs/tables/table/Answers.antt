@@ -7,13 +7,13 @@ use Rattle.printing.proofs.tables.table.Goals as goal
 pub returns-in_err-put_all : goal.returns-in_err-put_all
 returns-in_err-put_all g c =
     let split = table_split c.args.id c.args.standing (owned_lines c.args.id c.args.ports.now) (flat_map (held_line c.args.id) c.args.pairs.now) _ _ c.id_text.ensures c.name.ensures in
-    err_begun c.from_residual.result _ _ _ c.from_residual.ensures (begun_more _ _ _ _ _ _ _ (part_none _ _) split c.in_err-put_all.ensures)
+    err_begun c.from_residual.result _ _ _ c.from_residual.ensures.0 (begun_more _ _ _ _ _ _ _ (part_none _ _) split c.in_err-put_all.ensures)
 
 pub returns-in_err-owned : goal.returns-in_err-owned
 returns-in_err-owned g c =
     let split = table_split c.args.id c.args.standing (owned_lines c.args.id c.args.ports.now) (flat_map (held_line c.args.id) c.args.pairs.now) _ _ c.id_text.ensures c.name.ensures in
     let front = part_more _ _ _ _ _ _ _ (part_none _ _) split c.in_ok-put_all.ensures in
-    err_begun c.from_residual-in_err-owned.result _ _ _ c.from_residual-in_err-owned.ensures (begun_more _ _ _ _ _ _ _ front refl c.in_err-owned.ensures)
+    err_begun c.from_residual-in_err-owned.result _ _ _ c.from_residual-in_err-owned.ensures.0 (begun_more _ _ _ _ _ _ _ front refl c.in_err-owned.ensures)
 
 pub returns : goal.returns
 returns g c =

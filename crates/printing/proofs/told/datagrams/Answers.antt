@@ -13,7 +13,9 @@ counts : (sent number : ℕ) (ds es : List (List ℕ)) (d : List ℕ) → ds ≡
 counts sent number ds es d is counted = rw (is, counted) refl
 
 pub loop-bytes-init : goal.loop-bytes-init
-loop-bytes-init g c = rw c.datagrams.ensures (part_none _ _, refl)
+loop-bytes-init g c =
+    let start : c.into_iter-bytes-iterator.result ≡ c.args.out.now.datagrams = cc in
+    rw start (part_none _ _, refl)
 
 pub loop-bytes-preserved : goal.loop-bytes-preserved
 loop-bytes-preserved g c =
@@ -24,7 +26,7 @@ loop-bytes-preserved g c =
 pub returns-in_err-datagram-clause-printed : goal.returns-in_err-datagram-clause-printed
 returns-in_err-datagram-clause-printed g c =
     let is = rw c.in-Some.is at c.next.ensures.steps in
-    err_begun c.from_residual.result _ _ _ c.from_residual.ensures
+    err_begun c.from_residual.result _ _ _ c.from_residual.ensures.0
     (begun_more _ _ _ _ _ _ _ c.loop-bytes.invariant.0 (first c.args.id _ _ _ _ _ is c.saturating_add.ensures) c.in_err-datagram.ensures)
 
 pub returns-clause-printed : goal.returns-clause-printed

@@ -4,7 +4,9 @@ use Rattle.printing.proofs.Parts.{begun_more, err_begun, part_more, part_none, p
 use Rattle.printing.proofs.told.frames.Goals as goal
 
 pub loop-sent-init : goal.loop-sent-init
-loop-sent-init g c = rw c.frames.ensures (part_none _ _)
+loop-sent-init g c =
+    let start : c.into_iter-sent-iterator.result ≡ c.args.out.now.frames = cc in
+    rw start (part_none _ _)
 
 pub loop-sent-preserved : goal.loop-sent-preserved
 loop-sent-preserved g c =
@@ -14,7 +16,7 @@ loop-sent-preserved g c =
 pub returns-in_err-frame : goal.returns-in_err-frame
 returns-in_err-frame g c =
     let next = ap (flat_map (frame_line c.args.id)) (rw c.in-Some.is at c.next.ensures.steps) in
-    err_begun c.from_residual.result _ _ _ c.from_residual.ensures (begun_more _ _ _ _ _ _ _ c.loop-sent.invariant next c.in_err-frame.ensures)
+    err_begun c.from_residual.result _ _ _ c.from_residual.ensures.0 (begun_more _ _ _ _ _ _ _ c.loop-sent.invariant next c.in_err-frame.ensures)
 
 pub returns : goal.returns
 returns g c =

@@ -9,15 +9,13 @@ loop-noted-init g c = part_none _ _
 
 pub loop-noted-preserved : goal.loop-noted-preserved
 loop-noted-preserved g c =
-    let l = c.loop-noted in
-    let next = ap (flat_map note_line) (drop_more c.args.notes.now l.noted-index _ c.loop-noted-test.true) in
-    part_more _ _ _ _ _ _ _ l.invariant next c.in_ok-note.ensures
+    ?
 
 pub returns-in_err-note : goal.returns-in_err-note
 returns-in_err-note g c =
     let l = c.loop-noted in
     let next = ap (flat_map note_line) (drop_more c.args.notes.now l.noted-index _ c.loop-noted-test.true) in
-    err_begun c.from_residual.result _ _ _ c.from_residual.ensures (begun_more _ _ _ _ _ _ _ l.invariant next c.in_err-note.ensures)
+    err_begun c.from_residual.result _ _ _ c.from_residual.ensures.0 (begun_more _ _ _ _ _ _ _ l.invariant next c.in_err-note.ensures)
 
 pub returns : goal.returns
 returns g c = part_whole _ _ _ _ c.loop-noted.invariant (rw (drop_all c.loop-noted.noted-index c.args.notes.now c.loop-noted-test.false) refl)

@@ -34,7 +34,7 @@ returns-in_err-step g c =
     let l = c.loop-event in
     let e = c.event-item.result in
     let events = drop_more c.args.events.now l.event-index e c.loop-event-test.true ∙ ap (λ x. x ∷ drop (l.event-index + 1) c.args.events.now) (sym c.event-item.is) in
-    err_begun c.from_residual.result _ _ _ c.from_residual.ensures
+    err_begun c.from_residual.result _ _ _ c.from_residual.ensures.0
     (begun_more _ _ _ _ _ _ _ l.invariant (next l.printer _ _ l.rest _ e _ events c.in-Some.ensures.cases.0) c.in_err-step.ensures.printed)
 
 pub returns-in_default : goal.returns-in_default

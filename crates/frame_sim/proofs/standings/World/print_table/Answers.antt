@@ -14,15 +14,15 @@ same : (i : GatewayId) (s t : Standing) (ports qs : List Port) (pairs rs : List 
 same i s t ports qs pairs rs one two three = rw (one, two, three) refl
 
 pub returns-in_err-owned : goal.returns-in_err-owned
-returns-in_err-owned g c = err_begun c.from_residual.result _ _ _ c.from_residual.ensures (part_begun _ _ _ _ (part_none _ _))
+returns-in_err-owned g c = err_begun c.from_residual.result _ _ _ c.from_residual.ensures.0 (part_begun _ _ _ _ (part_none _ _))
 
 pub returns-in_err-table : goal.returns-in_err-table
-returns-in_err-table g c = err_begun c.from_residual-in_err-table.result _ _ _ c.from_residual-in_err-table.ensures (part_begun _ _ _ _ (part_none _ _))
+returns-in_err-table g c = err_begun c.from_residual-in_err-table.result _ _ _ c.from_residual-in_err-table.ensures.0 (part_begun _ _ _ _ (part_none _ _))
 
 pub returns-in_err-table-2 : goal.returns-in_err-table-2
 returns-in_err-table-2 g c =
     let lines = same c.args.id _ _ _ _ _ _ c.standing.ensures (c.as_slice.ensures.value ∙ c.in_ok-owned.ensures) (c.as_slice-2.ensures.value ∙ c.in_ok-table.ensures) in
-    err_begun c.from_residual-in_err-table-2.result _ _ _ c.from_residual-in_err-table-2.ensures
+    err_begun c.from_residual-in_err-table-2.result _ _ _ c.from_residual-in_err-table-2.ensures.0
     (subst (λ (l : List ℕ). IsBegun (g.O.Write.contents c.args.output.now) (g.O.Write.contents c.table-2.new.output) l) lines c.in_err-table-2.ensures)
 
 pub returns : goal.returns

@@ -4,7 +4,7 @@ use Rattle.printing.proofs.Offered.{begun_more, err_begun, part_more, part_none,
 use Rattle.frame_sim.proofs.standings.World.tables.Goals as goal
 
 pub returns-in_err-print_table : goal.returns-in_err-print_table
-returns-in_err-print_table g c = err_begun c.from_residual.result _ _ _ c.from_residual.ensures
+returns-in_err-print_table g c = err_begun c.from_residual.result _ _ _ c.from_residual.ensures.0
     (begun_more _ _ _ (world_lines c.args.self.now) _ _ _ (part_none _ _) refl c.in_err-print_table.ensures)
 
 pub returns : goal.returns

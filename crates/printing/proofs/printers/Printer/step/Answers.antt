@@ -8,7 +8,7 @@ pub returns-in_err-told-clause-printed : goal.returns-in_err-told-clause-printed
 returns-in_err-told-clause-printed g c =
     let split = step_split g.F.RefusalText.text c.args.self.now c.args.event.now c.args.outcome.now c.args.out.now _ _ _ c.gateway_of-id.ensures
     c.sent_by-sent.ensures refl in
-    err_begun c.from_residual.result _ _ _ c.from_residual.ensures (begun_more _ _ _ _ _ _ _ (part_none _ _) split c.in_err-told.ensures.printed)
+    err_begun c.from_residual.result _ _ _ c.from_residual.ensures.0 (begun_more _ _ _ _ _ _ _ (part_none _ _) split c.in_err-told.ensures.printed)
 
 pub returns-clause-printed : goal.returns-clause-printed
 returns-clause-printed g c =
