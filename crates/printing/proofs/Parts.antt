@@ -1,6 +1,6 @@
 -- Text that is written part by part.
-use Rattle.std.proofs.Common.{◌≡◌, ◌∙◌, ◌++◌, ℕ, List, [], Option, Some, None, Result, Ok, Err, IsErr, refl, ap, sym, subst, append_assoc, append-nil}
-use Rattle.std.specs.Io.KnownBytes.{Appends, Keeps}
+use Rattle.std.proofs.Common.{◌≡◌, ◌∙◌, ◌++◌, ℕ, List, [], Option, Some, None, Result, Ok, Err, is_err, true, IfOk, OnErr, take, refl, ap, sym, subst, append_assoc, append-nil}
+use Rattle.std.specs.Io.KnownBytes.{Appends, Keeps, WriteAppends}
 use Rattle.std.proofs.KnownBytes.{Appends-kept, Appends-nil, Appends-trans}
 use Rattle.printing.specs.Printed.{IsBegun, IsPart, Prints}
 
@@ -46,9 +46,9 @@ pub part_kept : (a b c : Option (List ℕ)) (text rest : List ℕ) → IsPart a 
 part_kept a b c text rest h kept = record { written = h.written; split = h.split; appended = Appends-kept a b c h.written h.appended kept }
 
 -- a fault is handed on
-pub err_begun : {T E : Type 0} (r : Result T E) (a b : Option (List ℕ)) (text : List ℕ) → IsErr r → IsBegun a b text
+pub err_begun : {T E : Type 0} (r : Result T E) (a b : Option (List ℕ)) (text : List ℕ) → is_err r ≡ true → IsBegun a b text
     → Prints a r b text
-err_begun (Ok x) a b text is begun = absurd is
+err_begun (Ok x) a b text is begun = absurd (cc)
 err_begun (Err e) a b text is begun = begun
 
 -- a text that is the same
@@ -67,3 +67,9 @@ pub none_kept : (a b : Option (List ℕ)) → Keeps a b → Appends a b []
 none_kept None b h = tt
 none_kept (Some x) None h = absurd h
 none_kept (Some x) (Some y) h = h ∙ sym (append-nil x)
+
+-- the count that was told is the one that was taken; a fault is told where none was
+pub taken_as : {E : Type 0} (r : Result ℕ E) (a b : Option (List ℕ)) (bytes : List ℕ) (n : ℕ) → IfOk r (λ m. m ≡ n) → OnErr r (n ≡ 0)
+    → Appends a b (take n bytes) → WriteAppends a b r bytes
+taken_as (Ok m) a b bytes n same none h = subst (λ (k : ℕ). Appends a b (take k bytes)) (sym same) h
+taken_as (Err e) a b bytes n same none h = keeps_none a b (subst (λ (k : ℕ). Appends a b (take k bytes)) none h)

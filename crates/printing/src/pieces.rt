@@ -3,10 +3,21 @@ ghost use Rattle.std.specs.Io.KnownBytes.{WriteAppends};
 ghost use Rattle.std.specs.Io.{WritesAtMost};
 ghost use Rattle.std.specs.Prelude.{flat_map};
 ghost use Rattle.hex.specs.Hex.{encode_lower};
-ghost use Rattle.std.specs.Prelude.{◌≤◌, ◌≡◌, length};
+ghost use Rattle.std.specs.Prelude.{◌≤◌, ◌≡◌, IfOk, OnErr, length};
 ghost use Rattle.printing.specs.Printed.{Prints};
 
 use std::io::{self, ErrorKind, Write};
+
+/// How many bytes were taken, where any were.
+fn taken(count: usize) -> io::Result<usize>
+    ensures some { IfOk result (λ n. n ≡ count) }
+    ensures none { OnErr result (count ≡ 0) }
+{
+    if count == 0 {
+        return Err(ErrorKind::WriteZero.into());
+    }
+    Ok(count)
+}
 
 /// Writes some of these bytes, those at the front, and says how many; none where writing was interrupted.
 fn put_some<O: Write>(output: &mut O, bytes: &[u8]) -> io::Result<usize>
@@ -14,9 +25,9 @@ fn put_some<O: Write>(output: &mut O, bytes: &[u8]) -> io::Result<usize>
     ensures bytes { WriteAppends (O.contents output.old) (O.contents output.new) result bytes.now }
 {
     match output.write(bytes) {
-        Ok(0) => Err(ErrorKind::WriteZero.into()),
+        Ok(count) => taken(count),
         Err(error) if error.kind() == ErrorKind::Interrupted => Ok(0),
-        answer => answer,
+        Err(error) => Err(error),
     }
 }
 
