@@ -49,6 +49,47 @@ fn all_edited<R: AllocGlobal>(rt: &R, sample: &str, edits: &[&str]) -> Result<St
     Ok(text)
 }
 
+/// Writes the sample with all edits where it is checked.
+fn lay<R: Files + AllocGlobal>(rt: &R, sample: &str, edits: &[&str]) -> Result<()> {
+    let text = all_edited(rt, sample, edits)?;
+    fs::write(rt, EDITED, text.as_bytes())?;
+    Ok(())
+}
+
+/// What is said of the edited text, and the status.
+fn tell<R: Files + AllocGlobal, O: Write>(rt: &R, options: &str, output: &mut O) -> Result<()>
+where
+    R::File: Lockable,
+{
+    let mut errors = Vec::new(rt.alloc());
+    let status = if options == "compare" {
+        compare(rt, "S.toml", EDITED, output, &mut errors)
+    } else {
+        check(rt, &request(options), output, &mut errors)
+    };
+    output.write_all(errors.as_slice())?;
+    writeln!(output, "  status {status}")?;
+    Ok(())
+}
+
+fn try_case<R: Files + AllocGlobal, O: Write>(
+    rt: &R,
+    sample: &str,
+    case: &str,
+    output: &mut O,
+) -> Result<()>
+where
+    R::File: Lockable,
+{
+    let parts: Vec<&str> = case.split(';').collect(rt.alloc())?;
+    let [name, options, edits @ ..] = parts.as_slice() else {
+        return Ok(());
+    };
+    lay(rt, sample, edits)?;
+    writeln!(output, "{name}")?;
+    tell(rt, options, output)
+}
+
 /// A line is empty, a `#` comment, or `NAME;OPTIONS;OLD;NEW;OLD;NEW..`: what is said of the edited sample by `check`, or,
 /// where `compare` is the option, of it beside the sample.
 pub(crate) fn run<R: Files + AllocGlobal, O: Write>(
@@ -64,21 +105,7 @@ where
         if line.is_empty() || line.starts_with("#") {
             continue;
         }
-        let parts: Vec<&str> = line.split(';').collect(rt.alloc())?;
-        let [name, options, edits @ ..] = parts.as_slice() else {
-            continue;
-        };
-        let text = all_edited(rt, sample, edits)?;
-        fs::write(rt, EDITED, text.as_bytes())?;
-        writeln!(output, "{name}")?;
-        let mut errors = Vec::new(rt.alloc());
-        let status = if *options == "compare" {
-            compare(rt, "S.toml", EDITED, output, &mut errors)
-        } else {
-            check(rt, &request(options), output, &mut errors)
-        };
-        output.write_all(errors.as_slice())?;
-        writeln!(output, "  status {status}")?;
+        try_case(rt, sample, line, output)?;
     }
     Ok(())
 }

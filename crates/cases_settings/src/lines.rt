@@ -1,7 +1,7 @@
 //! Lines of words as command lines: what each asks for, or why it is refused.
 
 use anyhow::Result;
-use command_line::{LineFault, command};
+use command_line::{LineFault, Task, command};
 use std::alloc::Global;
 use std::io::{self, Write};
 
@@ -23,28 +23,45 @@ fn reason<O: Write>(fault: &LineFault, output: &mut O) -> io::Result<()> {
     }
 }
 
-/// What a line asks for.
-fn line<O: Write>(alloc: Global, words: &[String], output: &mut O) -> Result<()> {
-    match command(alloc, words) {
-        Ok(task) => writeln!(output, "  task {task:?}")?,
+/// What a line asks for. What a caller has to show stays small where this says nothing of it.
+fn asked(alloc: Global, words: &[String]) -> Result<Task, LineFault> {
+    command(alloc, words)
+}
+
+fn say<O: Write>(asked: &Result<Task, LineFault>, output: &mut O) -> io::Result<()> {
+    match asked {
+        Ok(task) => writeln!(output, "  task {task:?}"),
         Err(fault) => {
             write!(output, "  status {}: ", fault.status())?;
-            reason(&fault, output)?;
+            reason(fault, output)
         }
     }
-    Ok(())
+}
+
+fn tell<O: Write>(asked: &Result<Task, LineFault>, output: &mut O) -> io::Result<()> {
+    match asked {
+        Ok(_) => writeln!(output, "  taken"),
+        Err(fault) => {
+            let status = fault.tell(output);
+            writeln!(output, "  status {status}")
+        }
+    }
+}
+
+/// What a line asks for.
+fn line<O: Write>(alloc: Global, words: &[String], output: &mut O) -> Result<()> {
+    let asked = asked(alloc, words);
+    let said = say(&asked, output);
+    drop(asked);
+    Ok(said?)
 }
 
 /// What a user is told of a line that is refused.
 fn told<O: Write>(alloc: Global, words: &[String], output: &mut O) -> Result<()> {
-    match command(alloc, words) {
-        Ok(_) => writeln!(output, "  taken")?,
-        Err(fault) => {
-            let status = fault.tell(output);
-            writeln!(output, "  status {status}")?;
-        }
-    }
-    Ok(())
+    let asked = asked(alloc, words);
+    let said = tell(&asked, output);
+    drop(asked);
+    Ok(said?)
 }
 
 /// A line of the cases is empty, a `#` comment, words, or `? ` and words: then the whole text is printed.

@@ -1,4 +1,5 @@
 //! Cases with other lists of neighbours.
+use crate::edits::say_read;
 use anyhow::{Context, Result};
 use std::alloc::Global;
 use std::io::Write;
@@ -8,16 +9,28 @@ const NEIGHBOUR: &str =
 
 /// The sample's text up to its neighbours, with a line above it and so many neighbours below.
 fn listed(alloc: Global, sample: &str, count: usize, first: &str) -> Result<String> {
+    let mut text = String::from_str(alloc, first)?;
+    push_list(&mut text, sample, count)?;
+    Ok(text)
+}
+
+fn push_list(text: &mut String, sample: &str, count: usize) -> Result<()> {
     let (head, _) = sample
         .split_once("[[neighbour]]")
         .context("the sample has neighbours")?;
-    let mut text = String::from_str(alloc, first)?;
     text.push('\n')?;
     text.push_str(head)?;
     for _ in 0..count {
         text.push_str(NEIGHBOUR)?;
     }
-    Ok(text)
+    Ok(())
+}
+
+fn try_case<O: Write>(alloc: Global, sample: &str, case: &str, output: &mut O) -> Result<()> {
+    let (name, rest) = case.split_once(';').context("a case has a name")?;
+    let (count, first) = rest.split_once(';').context("a case has a count")?;
+    let text = listed(alloc, sample, count.parse()?, first)?;
+    say_read(alloc, name, text.as_str(), output)
 }
 
 /// A line is a `#` comment or `NAME;COUNT;LINE`.
@@ -31,13 +44,7 @@ pub(crate) fn run<O: Write>(
         if line.starts_with("#") {
             continue;
         }
-        let (name, rest) = line.split_once(';').context("a case has a name")?;
-        let (count, first) = rest.split_once(';').context("a case has a count")?;
-        let text = listed(alloc, sample, count.parse()?, first)?;
-        match settings_file::read(alloc, text.as_str()) {
-            Ok(_) => writeln!(output, "{name}: read")?,
-            Err(fault) => writeln!(output, "{name}: settings {fault}")?,
-        }
+        try_case(alloc, sample, line, output)?;
     }
     Ok(())
 }

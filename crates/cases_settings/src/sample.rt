@@ -43,12 +43,15 @@ fn interface<O: Write>(
 }
 
 fn gateway<O: Write>(output: &mut O, number: u8, it: &GatewaySettings) -> io::Result<()> {
+    writeln!(output, "\n[gateway_{number}]")?;
+    addresses(output, it)?;
+    election(output, it)?;
+    places(output, it)
+}
+
+fn addresses<O: Write>(output: &mut O, it: &GatewaySettings) -> io::Result<()> {
     let (inside_ip, inside_mac) = (it.inside_ip, it.inside_mac);
     let (outside_ip, outside_mac) = (it.outside_ip, it.outside_mac);
-    let (priority, interval, preempt) = (it.priority, it.interval, it.preempt);
-    let (file, link) = (it.boot_file.as_str(), it.link);
-    let (inside_port, outside_port) = (it.inside_port, it.outside_port);
-    writeln!(output, "\n[gateway_{number}]")?;
     writeln!(
         output,
         "inside_ip = \"{inside_ip}\"\ninside_mac = \"{inside_mac}\""
@@ -56,11 +59,20 @@ fn gateway<O: Write>(output: &mut O, number: u8, it: &GatewaySettings) -> io::Re
     writeln!(
         output,
         "outside_ip = \"{outside_ip}\"\noutside_mac = \"{outside_mac}\""
-    )?;
+    )
+}
+
+fn election<O: Write>(output: &mut O, it: &GatewaySettings) -> io::Result<()> {
+    let (priority, interval, preempt) = (it.priority, it.interval, it.preempt);
     writeln!(
         output,
         "priority = {priority}\ninterval = {interval}\npreempt = {preempt}"
-    )?;
+    )
+}
+
+fn places<O: Write>(output: &mut O, it: &GatewaySettings) -> io::Result<()> {
+    let (file, link) = (it.boot_file.as_str(), it.link);
+    let (inside_port, outside_port) = (it.inside_port, it.outside_port);
     writeln!(output, "boot_file = \"{file}\"\nlink = {link}")?;
     writeln!(
         output,
