@@ -1,5 +1,5 @@
 // A boot file and its name, as calls of the system find and leave them.
-ghost use Rattle.std.specs.Prelude.{◌≡◌, ◌⊎◌, ◌≤◌, ◌<◌, ◌+◌, ◌++◌, ◌∷◌, [], ◌↔◌, List, length, take, drop, IfOk, OnErr, OnOk};
+ghost use Rattle.std.specs.Prelude.{◌≡◌, ◌⊎◌, ◌≤◌, ◌<◌, ◌+◌, ◌++◌, ◌∷◌, [], ◌↔◌, ℕ, List, length, take, drop, IfOk, OnErr, OnOk};
 ghost use Rattle.boot_store.specs.Moment.{Moment, AfterRead, FailedWrite, StillKept, bytes_of, synced, within_write, written};
 
 use std::fs::File;
@@ -23,6 +23,9 @@ pub trait Blocks {
     /// Its name outlasts a crash.
     ghost named: { Self → Type 0 };
 
+    /// How many calls have failed, or done less than they were asked for.
+    ghost refused: { Self → ℕ };
+
     /// Whether it does what the clauses say of honest blocks.
     ghost honest: { Self → Type 0 };
 
@@ -36,6 +39,8 @@ pub trait Blocks {
             → IfOk result (λ n. n ≡ 0 → (length room.old ≡ 0) ⊎ (length (now self.old) ≤ at)) }
         ensures same { honest self.old → now self.new ≡ now self.old }
         ensures passes { honest self.old → past self.new ≡ past self.old }
+        ensures later { honest self.old → refused self.old ≤ refused self.new }
+        ensures cause { honest self.old → OnErr result (refused self.old < refused self.new) }
         ensures name { honest self.old → named self.old → named self.new }
         ensures honesty { honest self.old ↔ honest self.new };
 
@@ -48,11 +53,15 @@ pub trait Blocks {
             → now self.new ≡ written at bytes.now (now self.old)) }
         ensures short { honest self.old → IfOk result (λ n. n < length bytes.now
             → FailedWrite at (length bytes.now) (now self.old) (now self.new)) }
+        ensures short_cause { honest self.old → IfOk result (λ n. n < length bytes.now
+            → refused self.old < refused self.new) }
         ensures torn { honest self.old
             → OnErr result (FailedWrite at (length bytes.now) (now self.old) (now self.new)) }
         ensures count { IfOk result (λ n. n ≤ length bytes.now) }
         ensures passes { honest self.old → past self.new ≡ past self.old
             ++ now self.old ∷ within_write at (length bytes.now) (now self.old) ∷ [] }
+        ensures later { honest self.old → refused self.old ≤ refused self.new }
+        ensures cause { honest self.old → OnErr result (refused self.old < refused self.new) }
         ensures name { honest self.old → named self.old → named self.new }
         ensures honesty { honest self.old ↔ honest self.new };
 
@@ -63,6 +72,8 @@ pub trait Blocks {
             → OnErr result (StillKept (now self.old) (now self.new)) }
         ensures passes { honest self.old
             → past self.new ≡ past self.old ++ now self.old ∷ [] }
+        ensures later { honest self.old → refused self.old ≤ refused self.new }
+        ensures cause { honest self.old → OnErr result (refused self.old < refused self.new) }
         ensures name { honest self.old → named self.old → named self.new }
         ensures honesty { honest self.old ↔ honest self.new };
 
@@ -71,6 +82,8 @@ pub trait Blocks {
         ensures named { honest self.old → OnOk result (named self.new) }
         ensures same { honest self.old → now self.new ≡ now self.old }
         ensures passes { honest self.old → past self.new ≡ past self.old }
+        ensures later { honest self.old → refused self.old ≤ refused self.new }
+        ensures cause { honest self.old → OnErr result (refused self.old < refused self.new) }
         ensures name { honest self.old → named self.old → named self.new }
         ensures honesty { honest self.old ↔ honest self.new };
 
@@ -83,6 +96,8 @@ pub trait Blocks {
             → OnErr result (StillKept (now self.old) (now self.new)) }
         ensures passes { honest self.old
             → past self.new ≡ past self.old ++ now self.old ∷ [] }
+        ensures later { honest self.old → refused self.old ≤ refused self.new }
+        ensures cause { honest self.old → OnErr result (refused self.old < refused self.new) }
         ensures name { honest self.old → named self.old → named self.new }
         ensures honesty { honest self.old ↔ honest self.new };
 }
@@ -94,6 +109,8 @@ impl Blocks for File {
     ghost past = { λ _. [] };
 
     ghost named = { λ _. ⊥ };
+
+    ghost refused = { λ _. 0 };
 
     ghost honest = { λ _. ⊥ };
 

@@ -1,5 +1,5 @@
 // A boot file and its folder as the disk of boot_store.
-ghost use Rattle.std.specs.Prelude.{◌≡◌, ◌+◌, ◌≤◌, ◌↔◌, ◌++◌, ◌∷◌, [], take, IfErr, IfOk, IfSome, OnErr, OnOk};
+ghost use Rattle.std.specs.Prelude.{◌≡◌, ◌+◌, ◌≤◌, ◌<◌, ◌↔◌, ◌++◌, ◌∷◌, [], take, IfErr, IfOk, IfSome, IsNone, OnErr, OnOk};
 ghost use Rattle.boot_store.specs.Moment.{StillKept, bytes_of, synced};
 ghost use Rattle.boot_file.specs.Locks.{IsLockFault};
 
@@ -83,6 +83,8 @@ impl<F: Blocks + Drop> Disk for FileDisk<F> {
 
     ghost named = { λ d. F.named d.file };
 
+    ghost refused = { λ d. F.refused d.file };
+
     ghost honest = { λ d. F.honest d.file };
 
     fn read(&mut self, room: &mut [u8; 32]) -> Result<usize, DeviceFault> {
@@ -117,8 +119,11 @@ fn sync_both<F: Blocks>(file: &mut F, folder: &F) -> io::Result<()>
     ensures named { F.honest file.old → OnOk result (F.named file.new) }
     ensures unsynced { F.honest file.old
         → OnErr result (StillKept (F.now file.old) (F.now file.new)) }
+    ensures cause { F.honest file.old
+        → OnErr result (F.refused file.old < F.refused file.new) }
     ensures passes { F.honest file.old
         → F.past file.new ≡ F.past file.old ++ F.now file.old ∷ [] }
+    ensures later { F.honest file.old → F.refused file.old ≤ F.refused file.new }
     ensures name { F.honest file.old → F.named file.old → F.named file.new }
     ensures honesty { F.honest file.old ↔ F.honest file.new }
 {
@@ -132,8 +137,11 @@ fn fill<F: Blocks>(file: &mut F, room: &mut [u8; 32]) -> Option<usize>
     ensures count { IfSome result (λ n. n ≤ 32) }
     ensures filled { F.honest file.old
         → IfSome result (λ n. take n room.new ≡ take 32 (bytes_of (F.now file.old))) }
+    ensures cause { F.honest file.old → IsNone result
+        → F.refused file.old < F.refused file.new }
     ensures same { F.honest file.old → F.now file.new ≡ F.now file.old }
     ensures passes { F.honest file.old → F.past file.new ≡ F.past file.old }
+    ensures later { F.honest file.old → F.refused file.old ≤ F.refused file.new }
     ensures name { F.honest file.old → F.named file.old → F.named file.new }
     ensures honesty { F.honest file.old ↔ F.honest file.new }
 {

@@ -1,5 +1,5 @@
 // A boot file's disk: what a read shows, what a crash may leave, and how often it failed.
-ghost use Rattle.std.specs.Prelude.{◌≡◌, ◌+◌, ◌≤◌, ◌↔◌, ℕ, List, [], ◌∷◌, ◌++◌, length, take, OnErr, OnOk, IfOk};
+ghost use Rattle.std.specs.Prelude.{◌≡◌, ◌+◌, ◌≤◌, ◌<◌, ◌↔◌, ℕ, List, [], ◌∷◌, ◌++◌, length, take, OnErr, OnOk, IfOk};
 ghost use Rattle.boot_store.specs.Moment.{Moment, bytes_of, written, within_write, FailedWrite, synced, StillKept, AfterRead};
 
 /// How a byte of a file is held.
@@ -44,6 +44,10 @@ pub trait Disk {
     /// Its name outlasts a crash.
     ghost named: { Self → Type 0 };
 
+    /// How often the system has refused it a call, or has done less than it was asked for. Of an
+    /// honest disk each failure has such a cause.
+    ghost refused: { Self → ℕ };
+
     /// Whether it does what the clauses say of an honest disk.
     ghost honest: { Self → Type 0 };
 
@@ -58,6 +62,8 @@ pub trait Disk {
             → OnErr result (StillKept (now self.old) (now self.new)) }
         ensures passes { honest self.old
             → past self.new ≡ past self.old ++ now self.old ∷ [] }
+        ensures later { honest self.old → refused self.old ≤ refused self.new }
+        ensures cause { honest self.old → OnErr result (refused self.old < refused self.new) }
         ensures name { honest self.old → named self.old → named self.new }
         ensures honesty { honest self.old ↔ honest self.new }
         ensures ok { OnOk result (failures self.new ≡ failures self.old) }
@@ -73,6 +79,8 @@ pub trait Disk {
             → OnErr result (FailedWrite at (length bytes.now) (now self.old) (now self.new)) }
         ensures passes { honest self.old → past self.new ≡ past self.old
             ++ now self.old ∷ within_write at (length bytes.now) (now self.old) ∷ [] }
+        ensures later { honest self.old → refused self.old ≤ refused self.new }
+        ensures cause { honest self.old → OnErr result (refused self.old < refused self.new) }
         ensures name { honest self.old → named self.old → named self.new }
         ensures honesty { honest self.old ↔ honest self.new }
         ensures ok { OnOk result (failures self.new ≡ failures self.old) }
@@ -87,6 +95,8 @@ pub trait Disk {
             → OnErr result (StillKept (now self.old) (now self.new)) }
         ensures passes { honest self.old
             → past self.new ≡ past self.old ++ now self.old ∷ [] }
+        ensures later { honest self.old → refused self.old ≤ refused self.new }
+        ensures cause { honest self.old → OnErr result (refused self.old < refused self.new) }
         ensures name { honest self.old → named self.old → named self.new }
         ensures honesty { honest self.old ↔ honest self.new }
         ensures ok { OnOk result (failures self.new ≡ failures self.old) }

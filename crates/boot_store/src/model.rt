@@ -150,6 +150,8 @@ impl Disk for ModelDisk {
 
     ghost named = { λ _. Unit {0} };
 
+    ghost refused = { λ d. d.failures };
+
     ghost honest = { λ _. Unit {0} };
 
     fn read(&mut self, room: &mut [u8; 32]) -> Result<usize, DeviceFault> {

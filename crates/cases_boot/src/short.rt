@@ -16,6 +16,8 @@ impl Disk for Short {
 
     ghost named = { λ _. ⊥ };
 
+    ghost refused = { λ _. 0 };
+
     ghost honest = { λ _. ⊥ };
 
     fn read(&mut self, _room: &mut [u8; 32]) -> Result<usize, DeviceFault> {

@@ -1,4 +1,4 @@
-use Rattle.std.proofs.Common.{◌-◌, ⊎_elim, length, take, drop, ◌∙◌, ap, arith}
+use Rattle.std.proofs.Common.{◌-◌, ⊎_elim, le_trans, length, take, drop, ◌∙◌, ap, arith}
 use Rattle.std.proofs.lemmas.List.{length-map}
 use Rattle.boot_store.specs.Moment.{Moment, bytes_of}
 use Rattle.boot_file.proofs.Filling.{filled_more, filled_whole}
@@ -33,6 +33,7 @@ loop-filled-preserved g c =
           (c.in-Ok.ensures.bytes (loop.honesty.0 h) ∙ ap (λ (s : Moment). take c.in-Ok.count (drop n (bytes_of s))) (loop.same h));
       same = λ h. c.read_at.ensures.same (loop.honesty.0 h) ∙ loop.same h;
       passes = λ h. c.read_at.ensures.passes (loop.honesty.0 h) ∙ loop.passes h;
+      later = λ h. le_trans (loop.later h) (c.read_at.ensures.later (loop.honesty.0 h));
       name = λ h named. c.read_at.ensures.name (loop.honesty.0 h) (loop.name h named);
       honesty = (λ h. c.read_at.ensures.honesty.0 (loop.honesty.0 h), λ h. loop.honesty.1 (c.read_at.ensures.honesty.1 h));
     }

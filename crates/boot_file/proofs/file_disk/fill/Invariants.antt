@@ -9,6 +9,7 @@ invariant-loop-filled g l = record {
   so_far : g.F.Blocks.honest l.fn.file → take l.filled l.room ≡ take l.filled (bytes_of (g.F.Blocks.now l.fn.file));
   same : g.F.Blocks.honest l.fn.file → g.F.Blocks.now l.file ≡ g.F.Blocks.now l.fn.file;
   passes : g.F.Blocks.honest l.fn.file → g.F.Blocks.past l.file ≡ g.F.Blocks.past l.fn.file;
+  later : g.F.Blocks.honest l.fn.file → g.F.Blocks.refused l.fn.file ≤ g.F.Blocks.refused l.file;
   name : g.F.Blocks.honest l.fn.file → g.F.Blocks.named l.fn.file → g.F.Blocks.named l.file;
   honesty : g.F.Blocks.honest l.fn.file ↔ g.F.Blocks.honest l.file;
 }
