@@ -38,7 +38,7 @@ pub(crate) struct Item {
     life: Activity,
 }
 
-/// Entries by protocol (tcp first) and port, each with its life.
+/// Entries by protocol (icmp first) and port, each with its life.
 #[derive(Drop)]
 pub(crate) struct Store {
     slots: PortSlots<Item>,
@@ -432,7 +432,7 @@ impl Store {
     /// Lists the keys that are to be looked at, in order. The keys of all idle entries that may be let go are among them.
     pub(crate) fn list_due(&mut self, lone: bool, now: u64, keys: &mut Vec<Key>)
         requires empty { keys.old.items ≡ [] }
-        requires room { 131072 ≤ vec_capacity keys.old }
+        requires room { 196608 ≤ vec_capacity keys.old }
         ensures among { idle_keys_in lone now self.old.entries self.old.lives
             ≡ idle_among lone now self.old.entries self.old.lives keys.new.items }
         ensures capacity { vec_capacity keys.new ≡ vec_capacity keys.old }
