@@ -4,7 +4,7 @@ use Rattle.std.proofs.lemmas.Bool.Decides.{nat_tests}
 use Rattle.std.proofs.lemmas.List.{length-drop}
 use Rattle.std.proofs.Math.Seq.{take-length}
 use Rattle.sums.specs.Sum.{word_sum}
-use Rattle.ipv4.specs.Header.{header_of, word_at, has_wrong_sum}
+use Rattle.ipv4.specs.Header.{header_of, has_wrong_sum}
 use Rattle.icmp.specs.declared.faults.IcmpFault.{IcmpFault}
 use Rattle.icmp.specs.declared.kinds.Kind.{Kind}
 use Rattle.icmp.specs.Query.{IsQuery, begins_with, has_no_identifier, kind_number, query_of}

@@ -1,6 +1,6 @@
 //! The packet inside an error, as much of it as was sent: its header whole and right, and at least
-//! 8 bytes behind it, where both ports stand, or the identifier of a query. It may be cut anywhere behind them, so its total
-//! length isn't asked, and it may be the first fragment of its packet.
+//! 8 bytes behind it, where both ports stand, or the identifier of a query. It may be cut anywhere
+//! behind them, so its total length isn't asked, and it may be the first fragment of its packet.
 //!
 //! ```text
 //! 45         00 001e 0001   0000     05    11  c992 c0000201  c6336407     4e20  0035 000a5cdf

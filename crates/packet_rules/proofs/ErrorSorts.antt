@@ -1,5 +1,5 @@
 -- Which frames are those of errors that were passed on.
-use Rattle.std.proofs.Common.{◌≡◌, ◌⊎◌, inl, inr, ◌≤◌, ◌<◌, ◌==◌, ℕ, true, false, List, length, take, slice_index, refl, ap, ◌∙◌, arith}
+use Rattle.std.proofs.Common.{◌≡◌, ◌≤◌, ◌<◌, ◌==◌, ℕ, true, false, List, length, take, slice_index, refl, ap, ◌∙◌, arith}
 use Rattle.std.proofs.lemmas.Bool.Decides.{nat_tests}
 use Rattle.std.proofs.lemmas.List.{get_or-take, length-take}
 use Rattle.addresses.specs.declared.ethernet.Mac.{Mac}
@@ -21,9 +21,9 @@ use Rattle.packet_rules.specs.declared.translations.Translation.{Translation}
 use Rattle.packet_rules.specs.Adverts.{advert_frame}
 use Rattle.packet_rules.specs.Arping.{virtual_of, gratuitous_frame}
 use Rattle.packet_rules.specs.Errors.{is_error_frame, new_error_flow, passed_by, passed_frame}
-use Rattle.packet_rules.specs.Frames.{exit_mac, is_translation, sent_frame}
+use Rattle.packet_rules.specs.Frames.{exit_mac, is_translation}
 use Rattle.packet_rules.specs.Networks.{IsWired, broadcast_mac}
-use Rattle.packet_rules.specs.Steps.{IsForwardable, IsPassable}
+use Rattle.packet_rules.specs.Steps.{IsPassable}
 use Rattle.packet_rules.specs.Queries.{kind_leaving}
 use Rattle.packet_rules.proofs.Sorts.{body-there, cut-first, header-nine, own-six, payload-some, type-there}
 

@@ -1,5 +1,5 @@
 -- What is known of a frame by what it is read as.
-use Rattle.std.proofs.Common.{◌≡◌, ◌⊎◌, inl, inr, ◌≤◌, ◌↔◌, ℕ, Bool, true, false, cond, ◌==◌, ◌&&◌, is_none, Option, Some, None, Result, Ok, Err, List, length, drop, refl, subst, arith, length-drop}
+use Rattle.std.proofs.Common.{◌≡◌, inl, inr, ◌≤◌, ◌↔◌, ℕ, Bool, true, false, cond, ◌==◌, ◌&&◌, is_none, Option, Some, None, Result, Ok, Err, List, length, drop, refl, subst, arith, length-drop}
 use Rattle.std.specs.Option.{option_map}
 use Rattle.std.proofs.lemmas.Bool.{leb-true}
 use Rattle.std.proofs.lemmas.List.{length-take-le}
@@ -190,7 +190,7 @@ type-passes : (g : Grammars) (side : Side) (network : Network) (bytes : List ℕ
 type-passes g side network bytes r true size is = arp-passes g side bytes r is
 type-passes g side network bytes r false size is = ipv4-passes g side network bytes r size is
 
-reading-passes : (g : Grammars) (side : Side) (network : Network) (active up : Bool) (bytes : List ℕ) (r : Reading) → reading_of side network active up bytes ≡ Ok r → Carries side bytes r
+pub reading-passes : (g : Grammars) (side : Side) (network : Network) (active up : Bool) (bytes : List ℕ) (r : Reading) → reading_of side network active up bytes ≡ Ok r → Carries side bytes r
 unfolding body_reading
 reading-passes g side network active up bytes r is =
     let s1 = unless-passes (size_refusal bytes) _ r is in

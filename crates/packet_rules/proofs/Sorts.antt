@@ -156,7 +156,7 @@ payload-some packet long =
     omega (arith, long, length-take ((header_of packet).total_length - h) (drop h packet))
 
 -- a query that goes this way is of the kind that leaves where it goes to
-leaving : Result Direction Reason → Kind
+abbrev leaving : Result Direction Reason → Kind
 leaving (Ok w) = kind_leaving (exit_of w)
 leaving (Err reason) = Echo
 
@@ -195,7 +195,7 @@ unfolding translated_by
 by-begins networks t packet ip any = query-begins (new_flow networks t (flow_of packet)) packet ip any.protocol any.long
 
 -- the frame by which a packet is sent on is a translation's
-GoesBy : Networks → Side → Translation → List ℕ → Type 0
+abbrev pub GoesBy : Networks → Side → Translation → List ℕ → Type 0
 GoesBy networks side t bytes =
     let flow = flow_in bytes in
     direction_of networks side flow.protocol flow.source.0 flow.destination.0 ≡ Ok (way_of t)

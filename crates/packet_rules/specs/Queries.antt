@@ -1,5 +1,4 @@
 -- Which ICMP queries pass at which side: outward goes an Echo, inward a Reply.
-use Rattle.std.specs.Prelude.{◌≡◌, ℕ, List}
 use Rattle.nat_types.specs.declared.gateways.Side.{Side}
 use Rattle.nat_types.specs.declared.gateways.Side.TheVariants.{Inside, Outside}
 use Rattle.icmp.specs.declared.kinds.Kind.{Kind}

@@ -55,13 +55,14 @@ pub fn frames_law()
     ensures passed { (networks : NetworksValue) (t : TranslationValue) (next : MacValue)
         (bytes : List ℕ) → IsWired networks → length next.0 ≡ 6 → IsPassable bytes
         → is_error_frame (passed_frame networks t next bytes) ≡ true }
-    ensures passed_apart { (networks : NetworksValue) (exit : SideValue)
-        (t : TranslationValue) (next : MacValue) (bytes : List ℕ) → IsWired networks → length next.0 ≡ 6 → IsPassable bytes
-        → is_translation exit (passed_frame networks t next bytes) ≡ false }
+    ensures passed_apart { (networks : NetworksValue) (exit : SideValue) (t : TranslationValue)
+        (next : MacValue) (bytes : List ℕ) → IsWired networks → length next.0 ≡ 6
+        → IsPassable bytes → is_translation exit (passed_frame networks t next bytes) ≡ false }
     ensures answer { (exit : SideValue) (network : NetworkValue) (p : ArpValue) (mac : MacValue)
         → length network.own_mac.0 ≡ 6 → length p.sender_mac.0 ≡ 6
         → is_translation exit (answer_frame network p mac) ≡ false }
-    ensures request { (exit : SideValue) (network : NetworkValue) (ip : IpValue) → length network.own_mac.0 ≡ 6
+    ensures request { (exit : SideValue) (network : NetworkValue) (ip : IpValue)
+        → length network.own_mac.0 ≡ 6
         → is_translation exit (request_frame network ip) ≡ false }
     ensures gratuitous { (exit : SideValue) (network : NetworkValue)
         → is_translation exit (gratuitous_frame network) ≡ false }
@@ -80,8 +81,8 @@ pub fn frames_law()
 
 /// What a router advertises, the other gateway reads at its interface.
 pub fn advert_law()
-    ensures { (side : SideValue) (network peer : NetworkValue) (active : Bool) (priority interval : ℕ)
-        → IsWritable (own_advert network priority interval) → network.own_ip.0 < 2 ^ 32
+    ensures { (side : SideValue) (network peer : NetworkValue) (active : Bool)
+        (priority interval : ℕ) → IsWritable (own_advert network priority interval) → network.own_ip.0 < 2 ^ 32
         → peer.interface.virtual_router ≡ network.interface.virtual_router
         → peer.own_ip.0 ≢ network.own_ip.0
         → reading_of side peer active true (advert_frame network priority interval)

@@ -1,5 +1,5 @@
 -- Words of a packet in its parts, and a packet of its parts.
-use Rattle.std.proofs.Common.{◌≡◌, ◌⊎◌, inl, inr, if◌then◌else◌, ◌==◌, subst, ℕ, ◌+◌, ◌-◌, ◌*◌, ◌≤◌, List, ◌++◌, length, take, drop, slice_index, arith, ap, ap₂, sym, ◌∙◌, append_assoc}
+use Rattle.std.proofs.Common.{◌≡◌, inl, inr, if◌then◌else◌, ◌==◌, subst, ℕ, ◌+◌, ◌-◌, ◌*◌, ◌≤◌, List, ◌++◌, length, take, drop, slice_index, arith, ap, ap₂, sym, ◌∙◌, append_assoc}
 use Rattle.std.proofs.lemmas.List.{drop-drop, get_or-take, get_or-drop, length-take}
 use Rattle.byteorder.specs.Endian.{big_number}
 use Rattle.ipv4.specs.Header.{word_at, header_of, payload_of}
@@ -60,7 +60,7 @@ pub record IsOfSome (packet : List ℕ) (p : Protocol) : Type 0 where
   pub shortest_fits : shortest p ≤ length (payload_of packet)
   pub datagram : p ≡ Udp → IsDatagram (payload_of packet)
 
-pub by-number : (number : ℕ) → Protocol
+abbrev pub by-number : (number : ℕ) → Protocol
 by-number number = (if number == 1 then Icmp else if number == 6 then Tcp else Udp)
 
 pub some-protocol : (packet : List ℕ) → IsTranslatable packet → IsOfSome packet (protocol_of packet)

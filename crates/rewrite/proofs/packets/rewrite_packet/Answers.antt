@@ -5,8 +5,8 @@ use Rattle.ipv4.specs.Flow.{destination_place, protocol_of, source_place}
 use Rattle.rewrite.proofs.Parts.{places-fit, word_at-segment, shortest-ports}
 use Rattle.rewrite.proofs.packets.rewrite_packet.Goals as goal
 
-pub segment_length-requires-clause-protocol : goal.segment_length-requires-clause-protocol
-segment_length-requires-clause-protocol c = ap (λ f. f.protocol) c.requires.flow
+pub segment_length-length-requires-clause-protocol : goal.segment_length-length-requires-clause-protocol
+segment_length-length-requires-clause-protocol c = ap (λ f. f.protocol) c.requires.flow
 
 pub rewrite_segment-requires-clause-source_port : goal.rewrite_segment-requires-clause-source_port
 rewrite_segment-requires-clause-source_port c =
