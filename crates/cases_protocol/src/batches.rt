@@ -13,6 +13,7 @@ use cases_words::Given;
 use nat_types::Record;
 use resync::OutOfPlace;
 use std::alloc::Global;
+use std::mem;
 
 #[derive(Drop)]
 struct Cases {
@@ -32,14 +33,13 @@ fn write_record(out: &mut String, record_: &Record) -> Result<()> {
 }
 
 /// How many records there are, and which.
-fn listed(alloc: Global, records: &[Record]) -> Result<String> {
-    let mut out = String::new(alloc);
+fn list(out: &mut String, records: &[Record]) -> Result<()> {
     write!(out, "{}", records.len())?;
     for item in records.iter() {
         write!(out, "; ")?;
-        write_record(&mut out, item)?;
+        write_record(out, item)?;
     }
-    Ok(out)
+    Ok(())
 }
 
 /// The first and the last port of a range.
@@ -72,67 +72,83 @@ impl Cases {
         Cases::new(alloc, zero, one)
     }
 
-    /// What a line answers; nothing, where its call gives nothing back.
-    fn answer(&mut self, given: &mut Given<'_>) -> Result<String> {
-        let alloc = given.alloc;
+    /// Writes what a line answers; nothing, where its call gives nothing back.
+    fn answer(&mut self, given: &mut Given<'_>, out: &mut String) -> Result<()> {
         match given.word()? {
             "new" => self.begin(given)?,
             "own" => self.sender.own(given.port()?)?,
             "disown" => self.sender.disown(given.port()?)?,
             "add" => self.sender.add(given.pair()?, given.state()?)?,
             "set_state" => self.sender.set_state(given.key()?, given.state()?)?,
-            "draw" => return self.draw(given),
-            "take" => return self.take(given),
-            "loaded" => return self.loader.listed(alloc),
+            "draw" => self.draw(given, out)?,
+            "take" => self.take(given, out)?,
+            "loaded" => self.loader.list(out)?,
             call => bail!("no call {call}"),
         }
-        Ok(String::new(alloc))
+        Ok(())
     }
 
     fn begin(&mut self, given: &mut Given<'_>) -> Result<()> {
         let zero = bounds(given)?;
         let one = bounds(given)?;
-        *self = Cases::new(given.alloc, zero, one)?;
+        drop(mem::replace(self, Cases::new(given.alloc, zero, one)?));
         Ok(())
     }
 
     /// Draws records, and hands them to the other table.
-    fn draw(&mut self, given: &mut Given<'_>) -> Result<String> {
+    fn draw(&mut self, given: &mut Given<'_>, out: &mut String) -> Result<()> {
         let records = self.sender.draw(given.count()?);
+        self.hand(records.as_slice())?;
+        list(out, records.as_slice())?;
+        if self.sender.cursor.is_over() {
+            write!(out, "; over")?;
+        }
+        Ok(())
+    }
+
+    fn hand(&mut self, records: &[Record]) -> Result<()> {
         for item in records.iter() {
             if self.loader.take(*item, 0)?.is_err() {
                 bail!("a drawn record is out of place");
             }
         }
-        let mut out = listed(given.alloc, records.as_slice())?;
-        if self.sender.cursor.is_over() {
-            write!(out, "; over")?;
-        }
-        Ok(out)
+        Ok(())
     }
 
-    fn take(&mut self, given: &mut Given<'_>) -> Result<String> {
+    fn take(&mut self, given: &mut Given<'_>, out: &mut String) -> Result<()> {
         let item = given.record()?;
         match self.loader.take(item, 0)? {
-            Ok(what) => Ok(format!(in given.alloc; "{what:?}")?),
-            Err(OutOfPlace) => Ok(format!(in given.alloc; "out of place")?),
+            Ok(what) => write!(out, "{what:?}")?,
+            Err(OutOfPlace) => write!(out, "out of place")?,
         }
+        Ok(())
     }
 }
 
+/// What a line of words answers.
+fn answer(alloc: Global, cases: &mut Cases, words: &[&str]) -> Result<String> {
+    let mut out = String::new(alloc);
+    cases.answer(&mut Given::new(alloc, words), &mut out)?;
+    Ok(out)
+}
+
+fn say(out: &mut String, line: &str, answer: Result<String>) -> Result<()> {
+    match answer {
+        Ok(answer) if answer.is_empty() => {}
+        Ok(answer) => writeln!(out, "{line}: {answer}")?,
+        Err(refusal) => writeln!(out, "{line}: refused, {refusal}")?,
+    }
+    Ok(())
+}
+
 /// Writes the answers to the lines of a file.
-fn write_answers(alloc: Global, cases: &mut Cases, text: &str, out: &mut String) -> Result<()> {
+fn answer_lines(alloc: Global, cases: &mut Cases, text: &str, out: &mut String) -> Result<()> {
     for line in text.lines() {
         if line.is_empty() || line.starts_with("#") {
             continue;
         }
         let words = line.split_whitespace().collect::<Vec<&str>>(alloc)?;
-        let mut given = Given::new(alloc, words.as_slice());
-        match cases.answer(&mut given) {
-            Ok(answer) if answer.is_empty() => {}
-            Ok(answer) => writeln!(out, "{line}: {answer}")?,
-            Err(refusal) => writeln!(out, "{line}: refused, {refusal}")?,
-        }
+        say(out, line, answer(alloc, cases, words.as_slice()))?;
     }
     Ok(())
 }
@@ -141,6 +157,8 @@ fn write_answers(alloc: Global, cases: &mut Cases, text: &str, out: &mut String)
 pub(crate) fn answers(alloc: Global, text: &str) -> Result<String> {
     let mut out = String::new(alloc);
     let mut cases = Cases::sample(alloc)?;
-    write_answers(alloc, &mut cases, text, &mut out)?;
+    let done = answer_lines(alloc, &mut cases, text, &mut out);
+    drop(cases);
+    done?;
     Ok(out)
 }
