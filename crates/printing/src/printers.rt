@@ -163,15 +163,13 @@ fn event_line<O: Write>(output: &mut O, number: usize, text: &str) -> io::Result
     put_all(output, &["event ", buffer.format(number), " ", text, "\n"])
 }
 
-fn event_words<O: Write>(
-    output: &mut O,
-    number: usize,
-    word: &str,
-    text: &str,
-) -> io::Result<()>
+fn event_words<O: Write>(output: &mut O, number: usize, word: &str, text: &str) -> io::Result<()>
     ensures { Prints (O.contents output.old) result (O.contents output.new)
         (event_line number (word.now ++ text.now)) }
 {
     let mut buffer = Buffer::new();
-    put_all(output, &["event ", buffer.format(number), " ", word, text, "\n"])
+    put_all(
+        output,
+        &["event ", buffer.format(number), " ", word, text, "\n"],
+    )
 }

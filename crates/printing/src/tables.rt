@@ -111,16 +111,14 @@ fn follows(last: Port, port: Port) -> bool
     u32::from(last.0) + 1 == u32::from(port.0)
 }
 
-fn owned_run<O: Write>(
-    output: &mut O,
-    id: GatewayId,
-    first: Port,
-    last: Port,
-) -> io::Result<()>
+fn owned_run<O: Write>(output: &mut O, id: GatewayId, first: Port, last: Port) -> io::Result<()>
     ensures { Prints (O.contents output.old) result (O.contents output.new)
         (owned_line id first last) }
 {
     let (mut front, mut back) = (Buffer::new(), Buffer::new());
     let (first, last) = (front.format(first.0), back.format(last.0));
-    put_all(output, &["owned ", id_text(id), " ", first, " ", last, "\n"])
+    put_all(
+        output,
+        &["owned ", id_text(id), " ", first, " ", last, "\n"],
+    )
 }

@@ -46,12 +46,7 @@ fn frame<O: Write>(output: &mut O, id: GatewayId, side: Side, bytes: &[u8]) -> i
     put_all(output, &["\n"])
 }
 
-fn datagrams<O: Write>(
-    output: &mut O,
-    id: GatewayId,
-    sent: &mut usize,
-    out: &Out,
-) -> io::Result<()>
+fn datagrams<O: Write>(output: &mut O, id: GatewayId, sent: &mut usize, out: &Out) -> io::Result<()>
     ensures printed { Prints (O.contents output.old) result (O.contents output.new)
         (link_lines id sent.old out.now.datagrams) }
     ensures sent { OnOk result (sent.new ≡ more sent.old out.now.datagrams) }
@@ -63,17 +58,15 @@ fn datagrams<O: Write>(
     Ok(())
 }
 
-fn datagram<O: Write>(
-    output: &mut O,
-    id: GatewayId,
-    number: usize,
-    bytes: &[u8],
-) -> io::Result<()>
+fn datagram<O: Write>(output: &mut O, id: GatewayId, number: usize, bytes: &[u8]) -> io::Result<()>
     ensures { Prints (O.contents output.old) result (O.contents output.new)
         (link_line id number bytes.now) }
 {
     let mut buffer = Buffer::new();
-    put_all(output, &["link ", id_text(id), " ", buffer.format(number), " "])?;
+    put_all(
+        output,
+        &["link ", id_text(id), " ", buffer.format(number), " "],
+    )?;
     put_hex(output, bytes)?;
     put_all(output, &["\n"])
 }

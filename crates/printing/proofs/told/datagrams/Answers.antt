@@ -19,9 +19,10 @@ loop-bytes-init g c =
 
 pub loop-bytes-preserved : goal.loop-bytes-preserved
 loop-bytes-preserved g c =
-    let is = rw c.in-Some.is at c.next.ensures.steps in
-    (part_more _ _ _ _ _ _ _ c.loop-bytes.invariant.0 (first c.args.id _ _ _ _ _ is c.saturating_add.ensures) c.in_ok-datagram.ensures,
-    c.loop-bytes.invariant.1 ∙ counts _ _ _ _ _ is c.saturating_add.ensures)
+    let is = rw c.in-Some.is at c.next.ensures.steps in (
+      part_more _ _ _ _ _ _ _ c.loop-bytes.invariant.0 (first c.args.id _ _ _ _ _ is c.saturating_add.ensures) c.in_ok-datagram.ensures,
+      c.loop-bytes.invariant.1 ∙ counts _ _ _ _ _ is c.saturating_add.ensures,
+    )
 
 pub returns-in_err-datagram-clause-printed : goal.returns-in_err-datagram-clause-printed
 returns-in_err-datagram-clause-printed g c =
