@@ -26,7 +26,8 @@ pub(crate) fn sim<R: Files + Clock + AllocGlobal, O: Write, E: Write>(
     errors: &mut E,
 ) -> u8
     ensures status { (result ≡ 0) ⊎ ((result ≡ 1) ⊎ (result ≡ 3)) }
-    ensures run { (result ≡ 0) ⊎ (result ≡ 3) → HasRun result }
+    ensures run { (result ≡ 0) ⊎ (result ≡ 3) → HasRun (O.contents output.old)
+        (O.contents output.new) result }
 {
     match texts(rt, files) {
         Ok((settings, script)) => {
@@ -53,7 +54,8 @@ fn simulated<R: Clock + AllocGlobal, O: Write, E: Write>(
     errors: &mut E,
 ) -> u8
     ensures status { (result ≡ 0) ⊎ ((result ≡ 1) ⊎ (result ≡ 3)) }
-    ensures run { (result ≡ 0) ⊎ (result ≡ 3) → RunsScript settings.now script.now result }
+    ensures run { (result ≡ 0) ⊎ (result ≡ 3) → RunsScript settings.now script.now
+        (O.contents output.old) (O.contents output.new) result }
 {
     if is_watched {
         watched(rt, settings, script, output, errors)
@@ -71,7 +73,8 @@ fn watched<R: Clock + AllocGlobal, O: Write, E: Write>(
     errors: &mut E,
 ) -> u8
     ensures status { (result ≡ 0) ⊎ ((result ≡ 1) ⊎ (result ≡ 3)) }
-    ensures run { (result ≡ 0) ⊎ (result ≡ 3) → RunsScript settings.now script.now result }
+    ensures run { (result ≡ 0) ⊎ (result ≡ 3) → RunsScript settings.now script.now
+        (O.contents output.old) (O.contents output.new) result }
 {
     let mut meter = Meter::start(rt, errors);
     match simulate_watched(rt.alloc(), settings, script, &mut meter, output) {
@@ -91,7 +94,8 @@ fn sim_captured<R: Files + Clock + AllocGlobal, O: Write, E: Write>(
     errors: &mut E,
 ) -> u8
     ensures status { (result ≡ 0) ⊎ ((result ≡ 1) ⊎ (result ≡ 3)) }
-    ensures run { (result ≡ 0) ⊎ (result ≡ 3) → RunsScript settings.now script.now result }
+    ensures run { (result ≡ 0) ⊎ (result ≡ 3) → RunsScript settings.now script.now
+        (O.contents output.old) (O.contents output.new) result }
 {
     match capture_at(rt, path) {
         Ok(mut capture) => {
@@ -120,7 +124,8 @@ fn taped<R: Clock + AllocGlobal, T: Tape, O: Write, E: Write>(
     output: &mut O,
     errors: &mut E,
 ) -> Result<u8, Fault>
-    ensures run { IfOk result (RunsScript settings.now script.now) }
+    ensures run { IfOk result (RunsScript settings.now script.now (O.contents output.old)
+        (O.contents output.new)) }
     ensures status { IfOk result (λ status. (status ≡ 0) ⊎ (status ≡ 3)) }
     ensures known { IfErr result (λ fault. status_of fault ≡ 1) }
 {

@@ -5,4 +5,4 @@ use Rattle.commands.proofs.runs.sim_captured.Goals as goal
 
 pub returns-in-Ok-clause-run : goal.returns-in-Ok-clause-run
 returns-in-Ok-clause-run g c h =
-    subst (λ (r : Result ℕ Fault). IfOk r (RunsScript c.args.settings.now c.args.script.now)) (c.ended.ensures.run h) c.taped-run.ensures.run
+    subst (λ (r : Result ℕ Fault). IfOk r (RunsScript c.args.settings.now c.args.script.now (g.O.Write.contents c.args.output.now) (g.O.Write.contents c.taped-run.new.output))) (c.ended.ensures.run h) c.taped-run.ensures.run
