@@ -149,7 +149,7 @@ impl BoxFault {
 
     /// Tells of the fault on a line behind `natpair: `, and gives its exit status. Where even that
     /// can't be written, the status alone tells.
-    pub(crate) fn tell<E: Write>(&self, errors: &mut E) -> u8
+    pub(crate) fn tell<E: Write>(self, errors: &mut E) -> u8
         ensures { result ≡ 1 }
     {
         let _ = writeln!(errors, "natpair: {self}");

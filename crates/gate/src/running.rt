@@ -120,9 +120,28 @@ where
     ensures err { IfErr result (Refuses start.now.ways) }
 {
     let settings = settings_at(rt, start.settings)?;
+    let ended = reached(rt, start, &settings, output);
+    drop(settings);
+    ended
+}
+
+/// Reads the ways of the places, and takes over their descriptors.
+fn reached<R: Files + Net + Clock + RandomSource + Eprint + Env + Input + AllocGlobal, O: Write>(
+    rt: &R,
+    start: &Start<'_>,
+    settings: &Settings,
+    output: &mut O,
+) -> Result<(), BoxFault>
+where
+    R::File: Blocks + Lockable + AsRawFd,
+    requires found { IsTrue start.now.found → start.now.id ≡ Zero }
+    ensures ok { OnOk result (HasRun settings.now start.now.id start.now.rounds start.now.found
+        start.now.track start.now.until_eof (O.contents output.old) (O.contents output.new)) }
+    ensures err { IfErr result (Refuses start.now.ways) }
+{
     let ways = ways_of(start.ways)?;
     ways.inherit()?;
-    watched(rt, start, &settings, &ways, output)
+    watched(rt, start, settings, &ways, output)
 }
 
 /// Takes over the service manager's descriptor, and looks whether the ports of the places on loopback can be had together.
@@ -215,8 +234,8 @@ where
     }
 }
 
-/// Opens the control socket, the sockets that the ways need, and the file of the capture. Nothing is asked of the disk before
-/// all of them are had.
+/// Opens the control socket, and the sockets that the ways need. Nothing is asked of the disk before all is had that comes
+/// before its number.
 fn connected<
     R: Files + Net + Clock + RandomSource + Eprint + Env + Input + AllocGlobal,
     D: Disk,
@@ -244,17 +263,74 @@ where
         return Err(BoxFault::no_control(rt.alloc(), boot_file));
     };
     let ports = ports_of(settings, start.id);
-    let mut wire = match Sockets::open(rt, rt.alloc(), ways, ports, control) {
-        Ok(wire) => wire,
-        Err(SocketFault::NoMemory) => return Err(BoxFault::from(NoMemory)),
-        Err(SocketFault::NoSocket) => return Err(BoxFault::NoSocket(refused_end(rt, ways, ports))),
-    };
+    match Sockets::open(rt, rt.alloc(), ways, ports, control) {
+        Ok(wire) => logged(rt, start, settings, manager, disk, wire, output),
+        Err(SocketFault::NoMemory) => Err(BoxFault::from(NoMemory)),
+        Err(SocketFault::NoSocket) => Err(BoxFault::NoSocket(refused_end(rt, ways, ports))),
+    }
+}
+
+/// Reads the filter of the records.
+fn logged<
+    R: Files + Clock + RandomSource + Eprint + Env + Input + AllocGlobal,
+    D: Disk,
+    W: Wire + Drop,
+    O: Write,
+>(
+    rt: &R,
+    start: &Start<'_>,
+    settings: &Settings,
+    manager: &Option<Manager>,
+    disk: &mut D,
+    wire: W,
+    output: &mut O,
+) -> Result<(), BoxFault>
+where
+    R::File: AsRawFd,
+    requires found { IsTrue start.now.found → start.now.id ≡ Zero }
+    requires unasked { W.answers wire ≡ [] }
+    ensures ok { OnOk result (HasRun settings.now start.now.id start.now.rounds start.now.found
+        start.now.track start.now.until_eof (O.contents output.old) (O.contents output.new)) }
+    ensures err { IfErr result IsOfNoWay }
+    ensures untouched { IfErr result (λ why. IsBeforeBoot why → disk.new ≡ disk.old) }
+{
     let log = log_of(rt, start.log, start.format)?;
+    let ended = captured(rt, start, settings, manager, disk, wire, output, &log);
+    drop(log);
+    ended
+}
+
+/// Opens the file of a capture, where there is to be one, and runs the gateway.
+fn captured<
+    R: Files + Clock + RandomSource + Input + AllocGlobal,
+    D: Disk,
+    W: Wire + Drop,
+    O: Write,
+    L: Journal,
+>(
+    rt: &R,
+    start: &Start<'_>,
+    settings: &Settings,
+    manager: &Option<Manager>,
+    disk: &mut D,
+    mut wire: W,
+    output: &mut O,
+    log: &L,
+) -> Result<(), BoxFault>
+where
+    R::File: AsRawFd,
+    requires found { IsTrue start.now.found → start.now.id ≡ Zero }
+    requires unasked { W.answers wire ≡ [] }
+    ensures ok { OnOk result (HasRun settings.now start.now.id start.now.rounds start.now.found
+        start.now.track start.now.until_eof (O.contents output.old) (O.contents output.new)) }
+    ensures err { IfErr result IsOfNoWay }
+    ensures untouched { IfErr result (λ why. IsBeforeBoot why → disk.new ≡ disk.old) }
+{
     match capture_at(rt, start.capture)? {
         Some(capture) => tapped(
-            rt, start, settings, manager, disk, capture, wire, output, &log,
+            rt, start, settings, manager, disk, capture, wire, output, log,
         ),
-        None => run(rt, start, settings, manager, disk, &mut wire, output, &log),
+        None => run(rt, start, settings, manager, disk, &mut wire, output, log),
     }
 }
 
