@@ -13,7 +13,7 @@ returns-in_err-tables-clause-stops g c =
 pub returns-in_err-flush-clause-stops : goal.returns-in_err-flush-clause-stops
 returns-in_err-flush-clause-stops g c =
     let p = err_from_is_err_and c.from_residual-in_err-flush.result c.from_residual-in_err-flush.ensures.1 in
-    let all = all_kept _ _ _ _ c.turned.new.world c.turned.new.passage _ _ _ _ c.in_ok-refused.refused c.in_ok-refused.ensures.had c.in_ok-tables.ensures c.in_err-flush.ensures in
+    let all = all_kept _ _ _ _ c.turned.new.world c.turned.new.passage _ _ _ _ c.in_ok-refused.refused c.in_ok-refused.ensures.had c.in_ok-tables.ensures c.in_err-flush.ensures.bytes in
     rw (p.1, p.2) (ended_begun _ _ _ _ _ _ _ all)
 
 pub returns-clause-run : goal.returns-clause-run
@@ -22,6 +22,6 @@ returns-clause-run g c =
     record {
       turns = had.turns;
       taken = had.taken;
-      text = part_whole _ _ _ _ (part_kept _ _ _ _ _ (all_printed _ _ _ _ c.turned.new.world c.turned.new.passage _ _ _ c.in_ok-refused.refused had c.in_ok-tables.ensures) c.in_ok-flush.ensures) refl;
+      text = part_whole _ _ _ _ (part_kept _ _ _ _ _ (all_printed _ _ _ _ c.turned.new.world c.turned.new.passage _ _ _ c.in_ok-refused.refused had c.in_ok-tables.ensures) c.in_ok-flush.ensures.bytes) refl;
       is = c.status_of.ensures ∙ ap (λ (b : Bool). if b then 3 else 0) had.refusals;
     }

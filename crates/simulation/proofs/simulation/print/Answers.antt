@@ -20,11 +20,11 @@ returns-in_err-flush g c =
     let some = part_more _ _ _ text _ _ _ (part_none _ text) refl c.in_ok-print_steps.ensures in
     let all = part_more _ _ _ text _ _ [] some (sym (append-nil _)) c.in_ok-tables.ensures in
     err_begun c.from_residual-in_err-flush.result _ _ _ c.from_residual-in_err-flush.ensures.0
-    (part_begun _ _ _ _ (part_kept _ _ _ _ _ all c.in_err-flush.ensures))
+    (part_begun _ _ _ _ (part_kept _ _ _ _ _ all c.in_err-flush.ensures.bytes))
 
 pub returns : goal.returns
 returns g c =
     let text = run_lines c.args.events.now c.args.steps.now c.args.world.now in
     let some = part_more _ _ _ text _ _ _ (part_none _ text) refl c.in_ok-print_steps.ensures in
     let all = part_more _ _ _ text _ _ [] some (sym (append-nil _)) c.in_ok-tables.ensures in
-    part_whole _ _ _ [] (part_kept _ _ _ _ _ all c.in_ok-flush.ensures) refl
+    part_whole _ _ _ [] (part_kept _ _ _ _ _ all c.in_ok-flush.ensures.bytes) refl

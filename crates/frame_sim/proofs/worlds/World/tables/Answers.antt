@@ -1,7 +1,7 @@
 use Rattle.std.proofs.Common.{refl}
 use Rattle.frame_sim.specs.Texts.{world_lines}
 use Rattle.printing.proofs.Offered.{begun_more, err_begun, part_more, part_none, prints_rest}
-use Rattle.frame_sim.proofs.standings.World.tables.Goals as goal
+use Rattle.frame_sim.proofs.worlds.World.tables.Goals as goal
 
 pub returns-in_err-print_table : goal.returns-in_err-print_table
 returns-in_err-print_table g c = err_begun c.from_residual.result _ _ _ c.from_residual.ensures.0
