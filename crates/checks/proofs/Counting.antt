@@ -1,5 +1,5 @@
 -- When no fault is counted.
-use Rattle.std.proofs.Common.{◌≡◌, ◌∙◌, ◌↔◌, ◌==◌, ℕ, Bool, true, false, cond, not, List, [], ◌∷◌, length, filter, Option, Some, None, refl, sym, ap, arith}
+use Rattle.std.proofs.Common.{◌≡◌, ◌∙◌, ◌↔◌, ◌==◌, ℕ, ◌+◌, ◌≤◌, Bool, true, false, cond, not, List, [], ◌∷◌, length, filter, Option, Some, None, refl, sym, ap, arith}
 use Rattle.std.proofs.lemmas.Bool.{eqb-false}
 use Rattle.toml.specs.Data.{Members}
 use Rattle.nat_types.specs.declared.gateways.GatewayId.{GatewayId}
@@ -7,7 +7,7 @@ use Rattle.settings_file.specs.declared.looks.Look.{Look}
 use Rattle.settings_file.specs.declared.looks.Look.TheVariants as looks
 use Rattle.settings_file.specs.Listing.{HasNoFault, IsSeen, IsSeenIn}
 use Rattle.checks.specs.declared.doubts.Warning.{Warning}
-use Rattle.checks.specs.Counts.{at_least_one, fault_count, stops, stopping, left, IsClean, IsUndoubted}
+use Rattle.checks.specs.Counts.{Grows, at_least_one, fault_count, stops, stopping, left, IsClean, IsUndoubted}
 
 positive : (n : ℕ) (none : Bool) → (n == 0) ≡ none → cond none 1 n ≡ 0 → ⊥
 positive n true e h = absurd (omega arith)
@@ -75,3 +75,11 @@ undoubted id (w ∷ ws) h k =
 pub none_stops : (ws : List Warning) → stopping None ws ≡ 0
 none_stops [] = refl
 none_stops (w ∷ ws) = none_stops ws
+
+-- a count that is 0 has grown by nothing
+pub grown_none : (old new more : ℕ) → Grows old new more → new ≡ 0 → more ≡ 0
+grown_none old new more h k = grind arith
+
+-- a count that grows by nothing stays 0
+pub none_grown : (old new more : ℕ) → Grows old new more → old ≡ 0 → more ≡ 0 → new ≡ 0
+none_grown old new more h k e = grind arith

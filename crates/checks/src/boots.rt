@@ -1,7 +1,7 @@
 //! Looks at a box's boot file, and changes nothing of it.
-ghost use Rattle.std.specs.Prelude.{◌≡◌, ◌≤◌, ◌+◌, false, length, take, IfSome, OnOk, Some};
+ghost use Rattle.std.specs.Prelude.{◌≡◌, ◌≤◌, false, length, take, IfSome, None, OnOk, Some};
 ghost use Rattle.boot_store.specs.BootFile.{slot_number, greater, number_of, boot_answer};
-ghost use Rattle.checks.specs.Counts.{capped, faults_of_start};
+ghost use Rattle.checks.specs.Counts.{Grows, faults_of_start};
 
 use crate::tallies::Tally;
 use boot_file::Lockable;
@@ -76,7 +76,7 @@ fn say_number<O: Write>(
     tally: &mut Tally,
 ) -> Result<(), Fault>
     ensures faults { OnOk result
-        (tally.new.faults ≡ capped (tally.old.faults + faults_of_start (boot_answer false number))) }
+        (Grows tally.old.faults tally.new.faults (faults_of_start (boot_answer false number))) }
     ensures no_fewer { tally.old.faults ≤ tally.new.faults }
     ensures warnings { tally.new.warnings ≡ tally.old.warnings }
 {
@@ -130,19 +130,23 @@ fn opened<R: Files>(rt: &R, path: &str) -> io::Result<Option<R::File>> {
     Ok(Some(file))
 }
 
-/// Looks at the boot file of a box.
+/// Looks at the boot file of a box, where one is named.
 pub(crate) fn say_boot_file<R: Files, O: Write>(
     rt: &R,
     settings: &Settings,
-    id: GatewayId,
+    id: Option<GatewayId>,
     output: &mut O,
     tally: &mut Tally,
 ) -> Result<(), Fault>
 where
     R::File: Lockable,
     ensures faults { tally.old.faults ≤ tally.new.faults }
+    ensures none { id ≡ None → tally.new.faults ≡ tally.old.faults }
     ensures warnings { tally.old.warnings ≤ tally.new.warnings }
 {
+    let Some(id) = id else {
+        return Ok(());
+    };
     let key = key_of(id);
     match opened(rt, settings.gateway(id).boot_file.as_str()) {
         Err(_) => {

@@ -77,12 +77,40 @@ where
     let (seen, faults) = counted(rt.alloc(), text)?;
     let mut tally = Tally::of_faults(faults);
     say_faults(&seen, output)?;
-    if let Look::Held(settings, _) = &seen {
-        say_held(rt, settings, request, output, &mut tally)?;
-    }
+    say_more(rt, &seen, request, output, &mut tally)?;
     let Tally { faults, warnings } = tally;
     writeln!(output, "{faults} faults, {warnings} warnings")?;
     Ok(tally)
+}
+
+/// Of settings that were seen says what there is beside faults of the text.
+fn say_more<R: Files + AllocGlobal, O: Write>(
+    rt: &R,
+    seen: &Look,
+    request: &Request<'_>,
+    output: &mut O,
+    tally: &mut Tally,
+) -> Result<(), Fault>
+where
+    R::File: Lockable,
+    ensures takes_none { OnOk result (tally.new.faults ≡ 0 → tally.old.faults ≡ 0) }
+    ensures clean { OnOk result (tally.new.faults ≡ 0 → tally.new.warnings ≡ 0
+        → HasNoFault seen.now → IsUndoubted seen.now) }
+    ensures adds_none { request.now.id ≡ None → request.now.link ≡ None
+        → OnOk result (tally.old.faults ≡ 0 → tally.new.faults ≡ 0) }
+{
+    match seen {
+        Look::Held(settings, _) => {
+            say_held(rt, settings, request, output, tally)?;
+            Ok(())
+        }
+        Look::NotToml
+        | Look::UnknownKeys(_)
+        | Look::MissingKeys(_)
+        | Look::BadValues(_)
+        | Look::RangesOverlap
+        | Look::SameIds => Ok(()),
+    }
 }
 
 /// Says each warning of settings, and what is to be said of the places and the boot file that the request names.
@@ -103,9 +131,7 @@ where
 {
     say_warnings(rt.alloc(), settings, request.id, output, tally)?;
     say_places(rt, request, settings, output, tally)?;
-    if let Some(id) = request.id {
-        say_boot_file(rt, settings, id, output, tally)?;
-    }
+    say_boot_file(rt, settings, request.id, output, tally)?;
     Ok(())
 }
 

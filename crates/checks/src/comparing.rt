@@ -33,8 +33,8 @@ pub fn compare<R: Files + AllocGlobal, O: Write, E: Write>(
     ensures status { (result ≡ 0) ⊎ (result ≡ 1) }
     ensures alike { result ≡ 0 → AreSomeAlike }
 {
-    let texts = (text_at(rt, one, errors), text_at(rt, other, errors));
-    let (Some(one_text), Some(other_text)) = texts else {
+    let (Some(one_text), Some(other_text)) = (text_at(rt, one, errors), text_at(rt, other, errors))
+    else {
         return 1;
     };
     let one = Source {
@@ -80,13 +80,12 @@ fn compare_texts<O: Write, E: Write>(
     errors: &mut E,
 ) -> Option<usize>
     ensures { IfSome result
-        (DifferIn (parse_document one.text.now) (parse_document other.text.now)) }
+        (DifferIn (parse_document one.entry.text.now) (parse_document other.entry.text.now)) }
 {
-    let both = (
+    let (Some(one), Some(other)) = (
         settings_in(alloc, one, errors),
         settings_in(alloc, other, errors),
-    );
-    let (Some(one), Some(other)) = both else {
+    ) else {
         return None;
     };
     match say_differences(alloc, &one, &other, output) {
@@ -100,7 +99,7 @@ fn compare_texts<O: Write, E: Write>(
 
 /// The settings of a text; why there are none is told on `errors`.
 fn settings_in<E: Write>(alloc: Global, source: Source<'_>, errors: &mut E) -> Option<Settings>
-    ensures { IfSome result (IsReadFrom (parse_document source.text.now)) }
+    ensures { IfSome result (IsReadFrom (parse_document source.entry.text.now)) }
 {
     match settings_file::read(alloc, source.text) {
         Ok(settings) => Some(settings),

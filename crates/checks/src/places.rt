@@ -90,7 +90,7 @@ pub(crate) fn say_link<O: Write>(
     tally: &mut Tally,
 ) -> Result<(), Fault>
     ensures faults { tally.old.faults ≤ tally.new.faults }
-    ensures none { address ≡ None → tally.new.faults ≡ tally.old.faults }
+    ensures none { address.entry ≡ None → tally.new.faults ≡ tally.old.faults }
     ensures warnings { tally.old.warnings ≤ tally.new.warnings }
 {
     let Some(text) = address else {

@@ -1,7 +1,7 @@
 //! Says what was found in a text of settings, a line each.
-ghost use Rattle.std.specs.Prelude.{◌≡◌, ◌+◌, OnOk};
+ghost use Rattle.std.specs.Prelude.{◌≡◌, OnOk};
 ghost use Rattle.checks.specs.Doubts.{warnings_of};
-ghost use Rattle.checks.specs.Counts.{at_least_one, capped, fault_count, is_of, left, stopping, stops};
+ghost use Rattle.checks.specs.Counts.{Grows, at_least_one, fault_count, is_of, left, stopping, stops};
 
 use crate::tallies::Tally;
 use crate::{Doubt, Warning, warnings_of};
@@ -85,9 +85,9 @@ fn say_each<O: Write>(
     tally: &mut Tally,
 ) -> io::Result<()>
     ensures faults { OnOk result
-        (tally.new.faults ≡ capped (tally.old.faults + stopping id warnings.now)) }
+        (Grows tally.old.faults tally.new.faults (stopping id warnings.now)) }
     ensures warnings { OnOk result
-        (tally.new.warnings ≡ capped (tally.old.warnings + left id warnings.now)) }
+        (Grows tally.old.warnings tally.new.warnings (left id warnings.now)) }
 {
     for warning in warnings {
         if stops(id, warning) {
@@ -110,9 +110,9 @@ pub(crate) fn say_warnings<O: Write>(
     tally: &mut Tally,
 ) -> Result<(), Fault>
     ensures faults { OnOk result
-        (tally.new.faults ≡ capped (tally.old.faults + stopping id (warnings_of settings.now))) }
+        (Grows tally.old.faults tally.new.faults (stopping id (warnings_of settings.now))) }
     ensures warnings { OnOk result
-        (tally.new.warnings ≡ capped (tally.old.warnings + left id (warnings_of settings.now))) }
+        (Grows tally.old.warnings tally.new.warnings (left id (warnings_of settings.now))) }
 {
     let warnings = warnings_of(alloc, settings)?;
     say_each(warnings.as_slice(), id, output, tally)?;
