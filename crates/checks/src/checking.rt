@@ -71,7 +71,7 @@ where
     ensures accepts { IfOk result (λ tally. tally.faults ≡ 0 → IsGood (parse_document text.now)) }
     ensures clean { IfOk result (λ tally.
         tally.faults ≡ 0 → tally.warnings ≡ 0 → IsClean (parse_document text.now)) }
-    ensures refuses { request.now.id ≡ None → request.now.link ≡ None
+    ensures good { request.now.id ≡ None → request.now.link ≡ None
         → IsGood (parse_document text.now) → IfOk result (λ tally. tally.faults ≡ 0) }
 {
     let (seen, faults) = counted(rt.alloc(), text)?;
