@@ -82,9 +82,9 @@ pub ends_of_no_way : {T : Type 0} (result : Result T BoxFault) → IfErr result 
 ends_of_no_way (Ok x) is = tt
 ends_of_no_way (Err why) is = start_of_no_way why is
 
-pub ends_behind : {T A : Type 0} (result : Result T BoxFault) → IfErr result IsOfStart → IfErr result (λ why. IsBeforeBoot why → A)
-ends_behind (Ok x) is = tt
-ends_behind (Err why) is = not_before why is
+pub ends_behind : {T : Type 0} (A : Type 0) (result : Result T BoxFault) → IfErr result IsOfStart → IfErr result (λ why. IsBeforeBoot why → A)
+ends_behind A (Ok x) is = tt
+ends_behind A (Err why) is = not_before why is
 
 -- where the ways are written, a fault of none refuses
 of_no_way : (texts : WayTexts) (ways : Ways) (why : BoxFault) → AreWays texts ways → IsOfNoWay why → Refuses texts why

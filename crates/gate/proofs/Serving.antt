@@ -80,8 +80,8 @@ pub had_run : {T E : Type 0} (r : Result T E) (settings : Settings) (id : Gatewa
     → HasStarted settings id found before between start → heard ≡ []
     → OnOk r (HadRounds rounds track until_eof start heard last) → OnOk r (Appends between after (codes "end\n"))
     → OnOk r (HasRun settings id rounds found track until_eof before after)
-had_run (Ok x) settings id rounds found track until_eof before between after start last heard started none had ended =
-    has_run (Ok x) settings id rounds found track until_eof before between after start last heard had.0 started none had.1 ended
+had_run {E = E} (Ok x) settings id rounds found track until_eof before between after start last heard started none had ended =
+    has_run {E = E} (Ok x) settings id rounds found track until_eof before between after start last heard had.0 started none had.1 ended
 had_run (Err e) settings id rounds found track until_eof before between after start last heard started none had ended = tt
 
 -- rounds after which the wire has answered this

@@ -21,7 +21,7 @@ pub(crate) fn capture_at<'a, R: Files + AllocGlobal>(
     rt: &R,
     path: Option<&'a str>,
 ) -> Result<Option<CaptureAt<'a, R::File>>, BoxFault>
-    ensures asked { IfOk result (λ capture. is_some capture ≡ is_some path) }
+    ensures asked { IfOk result (λ capture. is_some capture ≡ is_some path.entry) }
     ensures err { IfErr result IsOfCapture }
     ensures no_way { IfErr result IsOfNoWay }
 {

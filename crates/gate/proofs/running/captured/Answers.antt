@@ -5,10 +5,10 @@ pub returns-in-Some-clause-err : goal.returns-in-Some-clause-err
 returns-in-Some-clause-err g c = ends_of_no_way c.tapped.result c.tapped.ensures.err
 
 pub returns-in-Some-clause-untouched : goal.returns-in-Some-clause-untouched
-returns-in-Some-clause-untouched g c = ends_behind c.tapped.result c.tapped.ensures.err
+returns-in-Some-clause-untouched g c = ends_behind _ c.tapped.result c.tapped.ensures.err
 
 pub returns-in-None-clause-err : goal.returns-in-None-clause-err
 returns-in-None-clause-err g c = ends_of_no_way c.run.result c.run.ensures.err
 
 pub returns-in-None-clause-untouched : goal.returns-in-None-clause-untouched
-returns-in-None-clause-untouched g c = ends_behind c.run.result c.run.ensures.err
+returns-in-None-clause-untouched g c = ends_behind _ c.run.result c.run.ensures.err
