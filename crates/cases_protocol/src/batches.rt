@@ -13,7 +13,6 @@ use cases_words::Given;
 use nat_types::Record;
 use resync::OutOfPlace;
 use std::alloc::Global;
-use std::mem;
 
 #[derive(Drop)]
 struct Cases {
@@ -33,13 +32,14 @@ fn write_record(out: &mut String, record_: &Record) -> Result<()> {
 }
 
 /// How many records there are, and which.
-fn list(out: &mut String, records: &[Record]) -> Result<()> {
+fn listed(alloc: Global, records: &[Record]) -> Result<String> {
+    let mut out = String::new(alloc);
     write!(out, "{}", records.len())?;
     for item in records.iter() {
         write!(out, "; ")?;
-        write_record(out, item)?;
+        write_record(&mut out, item)?;
     }
-    Ok(())
+    Ok(out)
 }
 
 /// The first and the last port of a range.
@@ -72,83 +72,67 @@ impl Cases {
         Cases::new(alloc, zero, one)
     }
 
-    /// Writes what a line answers; nothing, where its call gives nothing back.
-    fn answer(&mut self, given: &mut Given<'_>, out: &mut String) -> Result<()> {
+    /// What a line answers; nothing, where its call gives nothing back.
+    fn answer(&mut self, given: &mut Given<'_>) -> Result<String> {
+        let alloc = given.alloc;
         match given.word()? {
             "new" => self.begin(given)?,
             "own" => self.sender.own(given.port()?)?,
             "disown" => self.sender.disown(given.port()?)?,
             "add" => self.sender.add(given.pair()?, given.state()?)?,
             "set_state" => self.sender.set_state(given.key()?, given.state()?)?,
-            "draw" => self.draw(given, out)?,
-            "take" => self.take(given, out)?,
-            "loaded" => self.loader.list(out)?,
+            "draw" => return self.draw(given),
+            "take" => return self.take(given),
+            "loaded" => return self.loader.listed(alloc),
             call => bail!("no call {call}"),
         }
-        Ok(())
+        Ok(String::new(alloc))
     }
 
     fn begin(&mut self, given: &mut Given<'_>) -> Result<()> {
         let zero = bounds(given)?;
         let one = bounds(given)?;
-        drop(mem::replace(self, Cases::new(given.alloc, zero, one)?));
+        *self = Cases::new(given.alloc, zero, one)?;
         Ok(())
     }
 
     /// Draws records, and hands them to the other table.
-    fn draw(&mut self, given: &mut Given<'_>, out: &mut String) -> Result<()> {
+    fn draw(&mut self, given: &mut Given<'_>) -> Result<String> {
         let records = self.sender.draw(given.count()?);
-        self.hand(records.as_slice())?;
-        list(out, records.as_slice())?;
-        if self.sender.cursor.is_over() {
-            write!(out, "; over")?;
-        }
-        Ok(())
-    }
-
-    fn hand(&mut self, records: &[Record]) -> Result<()> {
         for item in records.iter() {
             if self.loader.take(*item, 0)?.is_err() {
                 bail!("a drawn record is out of place");
             }
         }
-        Ok(())
+        let mut out = listed(given.alloc, records.as_slice())?;
+        if self.sender.cursor.is_over() {
+            write!(out, "; over")?;
+        }
+        Ok(out)
     }
 
-    fn take(&mut self, given: &mut Given<'_>, out: &mut String) -> Result<()> {
+    fn take(&mut self, given: &mut Given<'_>) -> Result<String> {
         let item = given.record()?;
         match self.loader.take(item, 0)? {
-            Ok(what) => write!(out, "{what:?}")?,
-            Err(OutOfPlace) => write!(out, "out of place")?,
+            Ok(what) => Ok(format!(in given.alloc; "{what:?}")?),
+            Err(OutOfPlace) => Ok(format!(in given.alloc; "out of place")?),
         }
-        Ok(())
     }
-}
-
-/// What a line of words answers.
-fn answer(alloc: Global, cases: &mut Cases, words: &[&str]) -> Result<String> {
-    let mut out = String::new(alloc);
-    cases.answer(&mut Given::new(alloc, words), &mut out)?;
-    Ok(out)
-}
-
-fn say(out: &mut String, line: &str, answer: Result<String>) -> Result<()> {
-    match answer {
-        Ok(answer) if answer.is_empty() => {}
-        Ok(answer) => writeln!(out, "{line}: {answer}")?,
-        Err(refusal) => writeln!(out, "{line}: refused, {refusal}")?,
-    }
-    Ok(())
 }
 
 /// Writes the answers to the lines of a file.
-fn answer_lines(alloc: Global, cases: &mut Cases, text: &str, out: &mut String) -> Result<()> {
+fn write_answers(alloc: Global, cases: &mut Cases, text: &str, out: &mut String) -> Result<()> {
     for line in text.lines() {
         if line.is_empty() || line.starts_with("#") {
             continue;
         }
         let words = line.split_whitespace().collect::<Vec<&str>>(alloc)?;
-        say(out, line, answer(alloc, cases, words.as_slice()))?;
+        let mut given = Given::new(alloc, words.as_slice());
+        match cases.answer(&mut given) {
+            Ok(answer) if answer.is_empty() => {}
+            Ok(answer) => writeln!(out, "{line}: {answer}")?,
+            Err(refusal) => writeln!(out, "{line}: refused, {refusal}")?,
+        }
     }
     Ok(())
 }
@@ -157,8 +141,6 @@ fn answer_lines(alloc: Global, cases: &mut Cases, text: &str, out: &mut String) 
 pub(crate) fn answers(alloc: Global, text: &str) -> Result<String> {
     let mut out = String::new(alloc);
     let mut cases = Cases::sample(alloc)?;
-    let done = answer_lines(alloc, &mut cases, text, &mut out);
-    drop(cases);
-    done?;
+    write_answers(alloc, &mut cases, text, &mut out)?;
     Ok(out)
 }

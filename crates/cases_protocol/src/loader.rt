@@ -41,9 +41,10 @@ impl Loader {
     }
 
     /// The runs of the ports that it is to own, and its entries.
-    pub fn list(&self, out: &mut String) -> Result<()> {
-        let ports = self.table.owned()?.len();
-        write!(out, "{ports} ports")?;
+    pub fn listed(&self, alloc: Global) -> Result<String> {
+        let mut out = String::new(alloc);
+        let ports = self.table.owned()?;
+        write!(out, "{} ports", ports.len())?;
         let mut last = None;
         for _ in 0..self.table.len() {
             if let Some(entry) = self.table.entry_after(last) {
@@ -51,6 +52,6 @@ impl Loader {
                 last = Some(entry.pair.key);
             }
         }
-        Ok(())
+        Ok(out)
     }
 }

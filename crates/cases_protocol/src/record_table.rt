@@ -44,56 +44,41 @@ fn call(side: &mut Side, word: &str, given: &mut Given<'_>, out: &mut String) ->
     Ok(())
 }
 
-/// Writes what a line answers.
-fn answer(side: &mut Option<Side>, given: &mut Given<'_>, out: &mut String) -> Result<()> {
+/// What a line answers.
+fn answer(side: &mut Option<Side>, given: &mut Given<'_>) -> Result<String> {
+    let mut out = String::new(given.alloc);
     let word = given.word()?;
     if word == "core" {
-        drop(side.replace(Side::new(given)?));
-        return Ok(());
+        *side = Some(Side::new(given)?);
+        return Ok(out);
     }
     let side = side.as_mut().context("there is no core")?;
-    call(side, word, given, out)
-}
-
-/// What a line of words answers.
-fn answered(alloc: Global, side: &mut Option<Side>, words: &[&str]) -> Result<String> {
-    let mut out = String::new(alloc);
-    answer(side, &mut Given::new(alloc, words), &mut out)?;
+    call(side, word, given, &mut out)?;
     Ok(out)
 }
 
-fn say_answer(out: &mut String, line: &str, answer: Result<String>) -> Result<()> {
-    match answer {
-        Ok(answer) if answer.is_empty() => writeln!(out, "{line}: nothing")?,
-        Ok(answer) => writeln!(out, "{line}: {answer}")?,
-        Err(refusal) => writeln!(out, "{line}: refused, {refusal}")?,
-    }
-    Ok(())
-}
-
 /// The lines for the cases of a file, whose calls are of one core after another.
-fn answer_lines(
-    alloc: Global,
-    side: &mut Option<Side>,
-    text: &str,
-    out: &mut String,
-) -> Result<()> {
+fn answer_lines(alloc: Global, text: &str, side: &mut Option<Side>) -> Result<String> {
+    let mut out = String::new(alloc);
     for line in text.lines() {
         if line.is_empty() || line.starts_with("#") {
             continue;
         }
         let words = line.split_whitespace().collect::<Vec<&str>>(alloc)?;
-        say_answer(out, line, answered(alloc, side, words.as_slice()))?;
+        let mut given = Given::new(alloc, words.as_slice());
+        match answer(side, &mut given) {
+            Ok(answer) if answer.is_empty() => writeln!(out, "{line}: nothing")?,
+            Ok(answer) => writeln!(out, "{line}: {answer}")?,
+            Err(refusal) => writeln!(out, "{line}: refused, {refusal}")?,
+        }
     }
-    Ok(())
+    Ok(out)
 }
 
 /// The lines for the cases of a file.
 pub(crate) fn answers(alloc: Global, text: &str) -> Result<String> {
-    let mut out = String::new(alloc);
     let mut side = None;
-    let done = answer_lines(alloc, &mut side, text, &mut out);
+    let answers = answer_lines(alloc, text, &mut side);
     drop(side);
-    done?;
-    Ok(out)
+    answers
 }

@@ -1,5 +1,5 @@
 //! One gateway's side of the protocol, with its end of the link.
-ghost use Rattle.std.specs.Prelude.{◌≡◌, ◌<◌, ◌+◌, ◌≤◌, length, IfOk, OnOk, vec_capacity, vec_len};
+ghost use Rattle.std.specs.Prelude.{◌≡◌, ◌<◌, ◌+◌, ◌≤◌, length, IfOk, vec_capacity, vec_len};
 ghost use Rattle.bindings.specs.Ports.{AreBounds};
 ghost use Rattle.link.specs.Grammar.{IsWellFormedRecord};
 ghost use Rattle.link.specs.Link.{free_places, occupied};
@@ -30,8 +30,6 @@ pub struct Side {
     clock: u64,
     /// How many of the link's records were printed.
     printed: usize,
-    /// What the last call noted.
-    notes: Vec<Note>,
 }
 
 /// An endpoint for which a table is made ready.
@@ -82,17 +80,6 @@ fn count_owned(table: &Table) -> Result<usize>
     Ok(table.owned()?.len())
 }
 
-fn say_entries(table: &Table, out: &mut String) -> Result<()> {
-    let mut last = None;
-    for _ in 0..table.len() {
-        if let Some(entry) = table.entry_after(last) {
-            say_entry(out, entry)?;
-            last = Some(entry.pair.key);
-        }
-    }
-    Ok(())
-}
-
 /// As the link has begun a session anew.
 fn begin_session(core: &mut Core, link: &mut Link, now: u64, notes: &mut Vec<Note>)
     requires begins { occupied link.old ≡ 0 }
@@ -115,12 +102,6 @@ fn take_promised(core: &mut Core, link: &mut Link, item: &Record, now: u64, note
 {
     rows_leave();
     core.take(*item, link, now, notes);
-}
-
-fn spelled(alloc: Global, datagram: &Datagram) -> Result<Vec<u8>> {
-    let mut bytes = Vec::new(alloc);
-    write(datagram, &mut bytes)?;
-    Ok(bytes)
 }
 
 /// The first and the last port of a range.
@@ -153,8 +134,8 @@ impl Side {
         let one = bounds(given)?;
         let capacity = given.count()?;
         let limit = read_limit(given)?;
-        let link = Link::new(alloc, id, 1, capacity)?;
         let core = begin_core(alloc, id, word, zero, one, limit)?;
+        let link = Link::new(alloc, id, 1, capacity)?;
         Ok(Side {
             alloc,
             id,
@@ -162,7 +143,6 @@ impl Side {
             link,
             clock: 0,
             printed: 0,
-            notes: Vec::new(alloc),
         })
     }
 
@@ -176,20 +156,18 @@ impl Side {
     }
 
     /// Makes the table ready for one more pair, and gives room for the notes of any call.
-    fn prepare(&mut self) -> Result<()>
-        ensures ready { OnOk result (0 < self.new.core.table.ready) }
-        ensures room { OnOk result (vec_len self.new.notes + length self.new.core.table.entries
-            < vec_capacity self.new.notes) }
+    fn prepare(&mut self) -> Result<Vec<Note>>
+        ensures ready { IfOk result (λ v. 0 < self.new.core.table.ready) }
+        ensures room { IfOk result (λ v. vec_len v + length self.new.core.table.entries
+            < vec_capacity v) }
     {
         self.core.ready(&[any_endpoint()])?;
         let room = self.core.table().len().saturating_add(1);
-        self.notes.clear();
-        self.notes.reserve(room)?;
-        Ok(())
+        Ok(Vec::with_capacity(self.alloc, room)?)
     }
 
     /// Prints the records that were pushed since the last line, and the notes.
-    fn tell(&mut self, out: &mut String) -> Result<()> {
+    fn tell(&mut self, notes: &Vec<Note>, out: &mut String) -> Result<()> {
         if self.link.wanted() == 0 {
             let serves = self.core.is_synced();
             if let Some(datagram) = self.link.answer(serves) {
@@ -199,7 +177,7 @@ impl Side {
                 self.printed = datagram.records.len();
             }
         }
-        for note in self.notes.iter() {
+        for note in notes.iter() {
             say(out, "notes ")?;
             write!(out, "{note}")?;
         }
@@ -210,39 +188,39 @@ impl Side {
         if !is_spelled_endpoint(endpoint) {
             bail!("a port is 0");
         }
-        self.prepare()?;
+        let mut notes = self.prepare()?;
         let looked = self.core.look(&self.link, endpoint);
         let want = self
             .core
-            .want(endpoint, &mut self.link, self.clock, &mut self.notes);
+            .want(endpoint, &mut self.link, self.clock, &mut notes);
         if looked != want {
             bail!("look answers otherwise");
         }
         say_want(out, want)?;
-        self.tell(out)
+        self.tell(&notes, out)
     }
 
     pub fn take(&mut self, item: &Record, out: &mut String) -> Result<()> {
         if !is_spelled(item) {
             bail!("it has no spelling");
         }
-        self.prepare()?;
+        let mut notes = self.prepare()?;
         if self.link.room() == 0 {
             bail!("no place is free");
         }
         let ended = self
             .core
-            .take(*item, &mut self.link, self.clock, &mut self.notes);
+            .take(*item, &mut self.link, self.clock, &mut notes);
         if let Some(endpoint) = ended {
             say_endpoint(out, "frees ", endpoint)?;
         }
-        self.tell(out)
+        self.tell(&notes, out)
     }
 
     pub fn tick(&mut self, out: &mut String) -> Result<()> {
-        self.prepare()?;
-        self.core.tick(&mut self.link, self.clock, &mut self.notes);
-        self.tell(out)
+        let mut notes = self.prepare()?;
+        self.core.tick(&mut self.link, self.clock, &mut notes);
+        self.tell(&notes, out)
     }
 
     /// As `udp 20000 198.51.100.7 53 out -`: the key, the remote host, the way and the flags.
@@ -251,15 +229,16 @@ impl Side {
         let remote = given.remote()?;
         let way = given.way()?;
         let flags = given.flags()?;
-        self.prepare()?;
+        let mut notes = self.prepare()?;
         self.core
-            .carried(key, remote, way, flags, self.clock, &mut self.notes);
-        self.tell(out)
+            .carried(key, remote, way, flags, self.clock, &mut notes);
+        self.tell(&notes, out)
     }
 
     /// A datagram without records comes of a boot of the peer's; whether it begins a session.
     fn hear(&mut self, boot: u64) -> Result<bool> {
-        let bytes = spelled(self.alloc, &empty_datagram(self.id.other(), boot))?;
+        let mut bytes = Vec::new(self.alloc);
+        write(&empty_datagram(self.id.other(), boot), &mut bytes)?;
         Ok(self.link.take(bytes.as_slice(), self.clock)?.restarted)
     }
 
@@ -279,26 +258,20 @@ impl Side {
         }
         self.hear(boot)?;
         self.printed = 0;
-        self.prepare()?;
+        let mut notes = self.prepare()?;
         if self.link.unacknowledged() > 0 || self.link.room() < self.most_of_batch()? {
             bail!("there is no room for the batch");
         }
-        begin_session(&mut self.core, &mut self.link, self.clock, &mut self.notes);
+        begin_session(&mut self.core, &mut self.link, self.clock, &mut notes);
         self.core.ready(&[any_endpoint()])?;
         if let Some(item) = item {
             if !is_spelled(item) || self.link.room() == 0 {
                 bail!("it can't come");
             }
-            take_promised(
-                &mut self.core,
-                &mut self.link,
-                item,
-                self.clock,
-                &mut self.notes,
-            );
+            take_promised(&mut self.core, &mut self.link, item, self.clock, &mut notes);
         }
         self.core.hand_in(&mut self.link);
-        self.tell(out)
+        self.tell(&notes, out)
     }
 
     /// How many records a batch of its table has at most.
@@ -327,7 +300,7 @@ impl Side {
 
     /// The operator says that the peer's boots up to one are over.
     pub fn peer_off(&mut self, boot: u64, out: &mut String) -> Result<()> {
-        self.prepare()?;
+        let mut notes = self.prepare()?;
         if !self.core.is_synced() {
             bail!("it isn't synced");
         }
@@ -336,23 +309,26 @@ impl Side {
         }
         self.link.close(boot);
         self.printed = 0;
-        self.core.peer_off(&self.link, self.clock, &mut self.notes);
-        self.tell(out)
+        self.core.peer_off(&self.link, self.clock, &mut notes);
+        self.tell(&notes, out)
     }
 
     /// How far it is, its entries, and the ports that it owns.
     pub fn list(&self, out: &mut String) -> Result<()> {
-        say(out, self.stage())?;
-        say_entries(self.core.table(), out)?;
-        let owned = self.core.owned()?;
-        say_owned(out, owned.as_slice())
-    }
-
-    fn stage(&self) -> &'static str {
-        match (self.core.is_synced(), self.core.is_lone()) {
+        let stage = match (self.core.is_synced(), self.core.is_lone()) {
             (false, _) => "unsynced",
             (true, false) => "paired",
             (true, true) => "lone",
+        };
+        say(out, stage)?;
+        let table = self.core.table();
+        let mut last = None;
+        for _ in 0..table.len() {
+            if let Some(entry) = table.entry_after(last) {
+                say_entry(out, entry)?;
+                last = Some(entry.pair.key);
+            }
         }
+        say_owned(out, self.core.owned()?.as_slice())
     }
 }
