@@ -1,5 +1,5 @@
 -- A run that was taken down.
-use Rattle.std.proofs.Common.{◌≡◌, ◌⊎◌, inl, inr, ℕ, Option, Result, Ok, Err, IfErr, IfOk, ap, subst}
+use Rattle.std.proofs.Common.{◌≡◌, ◌∙◌, ◌⊎◌, inl, inr, ℕ, Option, Result, Ok, Err, IfErr, IfOk, ap, subst, sym}
 use Rattle.faults.specs.Faults.{status_of}
 use Rattle.faults.specs.Jobs.{IsJobOf}
 use Rattle.faults.specs.declared.faults.Fault.{Fault}
@@ -24,3 +24,8 @@ pub known : {T : Type 0} (r : Result T Fault) → IfErr r (λ fault. (fault ≡ 
 known (Ok n) h = tt
 known (Err fault) (inl is) = ap status_of is
 known (Err fault) (inr is) = ap status_of is
+
+-- and a fault's status is none of a run's
+pub isnt_1 : {A : Type 0} (n : ℕ) → n ≡ 1 → (n ≡ 0) ⊎ (n ≡ 3) → A
+isnt_1 n is (inl zero_is) = absurd (let bad : 1 ≡ 0 = sym is ∙ zero_is in cc)
+isnt_1 n is (inr three_is) = absurd (let bad : 1 ≡ 3 = sym is ∙ three_is in cc)
