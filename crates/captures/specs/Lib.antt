@@ -1,3 +1,4 @@
 pub mod Fields
 pub mod Interfaces
 pub mod Captures
+pub mod Files

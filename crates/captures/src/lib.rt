@@ -3,10 +3,12 @@
 #![tactic(auto)]
 
 mod fields;
+mod files;
 mod heads;
 mod interfaces;
 mod packets;
 
+pub use files::{Opened, Reader, Vacant, open};
 pub use heads::write_head;
 pub use interfaces::{Direction, Interface};
 pub use packets::{Packet, write_packet};

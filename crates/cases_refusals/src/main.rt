@@ -6,6 +6,7 @@ mod shown;
 mod stations;
 
 use anyhow::Result;
+use gateway::Hashers;
 use stations::Station;
 use std::alloc::Global;
 use std::fs;
@@ -21,8 +22,8 @@ fn text_of<R: Files + AllocGlobal>(rt: &R, name: &str) -> Result<String> {
 }
 
 /// What the lines of a text say, at a founded gateway.
-fn play<O: Write>(alloc: Global, text: &str, output: &mut O) -> Result<()> {
-    let mut station = Station::new(alloc, 1, true)?;
+fn play<O: Write>(alloc: Global, hashers: Hashers, text: &str, output: &mut O) -> Result<()> {
+    let mut station = Station::new(alloc, hashers, 1, true)?;
     let played = play_lines(&mut station, text, output);
     station.end();
     played
@@ -42,10 +43,11 @@ fn play_lines<O: Write>(station: &mut Station, text: &str, output: &mut O) -> Re
 
 fn main(rt: HostRuntime) -> Result<()> {
     let mut output = io::writer(&rt);
+    let hashers = Hashers::drawn(&rt)?;
     for name in ["word.cases", "accepts.cases"] {
         let text = text_of(&rt, name)?;
         writeln!(output, "== {name}")?;
-        play(rt.alloc(), text.as_str(), &mut output)?;
+        play(rt.alloc(), hashers, text.as_str(), &mut output)?;
     }
     Ok(())
 }

@@ -17,14 +17,14 @@ pub(crate) struct Station {
 
 impl Station {
     /// Gateway 0 of the sample settings in this boot, founded or not.
-    pub(crate) fn new(alloc: Global, boot: u64, found: bool) -> Result<Station> {
+    pub(crate) fn new(alloc: Global, hashers: Hashers, boot: u64, found: bool) -> Result<Station> {
         let settings = match Settings::sample(alloc) {
             Ok(settings) => settings,
             Err(_refused) => Settings::sample(alloc)?,
         };
-        let gateway = match started(alloc, &settings, boot, found) {
+        let gateway = match started(alloc, &settings, hashers, boot, found) {
             Ok(gateway) => gateway,
-            Err(_refused) => started(alloc, &settings, boot, found)?,
+            Err(_refused) => started(alloc, &settings, hashers, boot, found)?,
         };
         let out = Out::new(alloc);
         Ok(Station {
@@ -110,11 +110,16 @@ fn bytes_of(alloc: Global, digits: &str) -> Result<Vec<u8>> {
 }
 
 /// A gateway, of which nothing is said, so that what a caller has to show stays small.
-fn started(alloc: Global, settings: &Settings, boot: u64, found: bool) -> Result<Gateway> {
+fn started(
+    alloc: Global,
+    settings: &Settings,
+    hashers: Hashers,
+    boot: u64,
+    found: bool,
+) -> Result<Gateway> {
     if boot == 0 {
         bail!("boots are counted from 1");
     }
-    let hashers = Hashers::fixed();
     let gateway = Gateway::new(alloc, settings, GatewayId::Zero, boot, found, hashers)?;
     Ok(gateway)
 }

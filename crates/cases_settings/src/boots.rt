@@ -38,5 +38,6 @@ where
     made(rt, "torn", &[1; 32])?;
     made(rt, "cut", &slot(7))?.set_len(31)?;
     fs::set_permissions(rt, "open", Permissions::from_mode(0o644))?;
+    fs::create_dir(rt, "folder")?;
     Ok(())
 }

@@ -1,5 +1,6 @@
 //! Cases of `check`, `compare` and the digest.
 use crate::edits::edited;
+use crate::full::Full;
 use anyhow::{Context, Result};
 use boot_file::{Blocks, Lockable};
 use checks::{Request, check, compare, digest};
@@ -49,8 +50,26 @@ fn all_edited<R: AllocGlobal>(rt: &R, sample: &str, edits: &[&str]) -> Result<St
     Ok(text)
 }
 
-/// A line is empty, a `#` comment, or `NAME;OPTIONS;OLD;NEW;OLD;NEW..`: what is said of the edited sample by `check`, or,
-/// where `compare` is the option, of it beside the sample.
+/// What `check` says of the edited sample; with `compare` what `compare` says of it beside the sample, and with `other=PATH`
+/// of the file there.
+fn say<R: Files + AllocGlobal, O: Write, E: Write>(
+    rt: &R,
+    options: &str,
+    output: &mut O,
+    errors: &mut E,
+) -> u8
+where
+    R::File: Lockable,
+{
+    match (option(options, "compare"), option(options, "other=")) {
+        (Some(_), _) => compare(rt, "S.toml", EDITED, output, errors),
+        (None, Some(other)) => compare(rt, "S.toml", other, output, errors),
+        (None, None) => check(rt, &request(options), output, errors),
+    }
+}
+
+/// A line is empty, a `#` comment, or `NAME;OPTIONS;OLD;NEW;OLD;NEW..`: what is said where the sample is edited so, and with
+/// `full` what is told where the output is on a full disk.
 pub(crate) fn run<R: Files + AllocGlobal, O: Write>(
     rt: &R,
     sample: &str,
@@ -72,10 +91,9 @@ where
         fs::write(rt, EDITED, text.as_bytes())?;
         writeln!(output, "{name}")?;
         let mut errors = Vec::new(rt.alloc());
-        let status = if *options == "compare" {
-            compare(rt, "S.toml", EDITED, output, &mut errors)
-        } else {
-            check(rt, &request(options), output, &mut errors)
+        let status = match option(options, "full") {
+            Some(_) => say(rt, options, &mut Full, &mut errors),
+            None => say(rt, options, output, &mut errors),
         };
         output.write_all(errors.as_slice())?;
         writeln!(output, "  status {status}")?;

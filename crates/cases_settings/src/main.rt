@@ -6,6 +6,7 @@ mod boots;
 mod checking;
 mod clashes;
 mod edits;
+mod full;
 mod lines;
 mod lists;
 mod sample;

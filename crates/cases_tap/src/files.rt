@@ -3,11 +3,11 @@
 use anyhow::{Result, bail};
 use captures::{Direction, Interface, Packet};
 use nat_types::{GatewayId, Side};
-use std::fs;
+use std::fs::{self, Permissions};
 use std::io::{ErrorKind, Read};
 use std::os::unix::fs::PermissionsExt;
 use std::os::unix::net::UnixStream;
-use tap::{CaptureFile, Reel, open};
+use tap::{CaptureFile, Reel, begin, open};
 
 /// A frame of 60 bytes that came to the outside of gateway 1 two seconds after its start.
 const FRAME: Packet<'static> = Packet {
@@ -22,14 +22,39 @@ const BLOCK: usize = 104;
 
 const HEAD: usize = 324;
 
-/// Captures the frame to a file, and prints the file's mode and bytes.
+/// Writes a file that has these bytes, of mode 640.
+pub(crate) fn write_file(rt: &HostRuntime, path: &str, bytes: &[u8]) -> Result<()> {
+    fs::write(rt, path, bytes)?;
+    fs::set_permissions(rt, path, Permissions::from_mode(0o640))?;
+    Ok(())
+}
+
+/// Opens the file of a capture and lets it go, and prints what it has then.
+pub(crate) fn look_at_file(rt: &HostRuntime, path: &str) -> Result<()> {
+    match open(rt, path) {
+        Ok(_) => {}
+        Err(error) => println!(rt; "  refused: {error}")?,
+    }
+    show_file(rt, path)
+}
+
+/// Captures the frame to a file, and prints whether it was kept, and the file.
 pub(crate) fn capture_to_file(rt: &HostRuntime, path: &str) -> Result<()> {
-    let mut reel = Reel::begin(rt.alloc(), open(rt, path)?)?;
-    let is_kept = reel.keep(&FRAME);
+    match open(rt, path) {
+        Ok(file) => {
+            let mut reel = begin(rt.alloc(), file)?;
+            println!(rt; "  kept {}", reel.keep(&FRAME))?;
+        }
+        Err(error) => println!(rt; "  refused: {error}")?,
+    }
+    show_file(rt, path)
+}
+
+/// Prints a file's mode and bytes.
+fn show_file(rt: &HostRuntime, path: &str) -> Result<()> {
     let mode = fs::metadata(rt, path)?.permissions().mode() % 0o1000;
     let bytes = hex::encode(rt.alloc(), &fs::read(rt, path)?)?;
-    println!(rt; "  kept {is_kept}, mode {mode:o}")?;
-    println!(rt; "  file {bytes}")?;
+    println!(rt; "  mode {mode:o}, file {bytes}")?;
     Ok(())
 }
 

@@ -9,7 +9,7 @@ mod words;
 
 use anyhow::{Context, Result, bail};
 use cases_words::{Given, is_silent, words_of};
-use files::{capture_to_file, fill_stream};
+use files::{capture_to_file, fill_stream, look_at_file, write_file};
 use managers::{read_manager, tell_manager};
 use nat_types::GatewayId;
 use pages::{Page, Paper, Wall};
@@ -138,6 +138,8 @@ fn act(
 ///   none; writing fails; a write takes so many bytes at most
 /// - `clock MOMENT`: it stands there
 /// - `manager TEXT`, `tell ..`: a service manager's descriptor is read; one is told something
+/// - `write PATH BYTES`: a file has these bytes
+/// - `look PATH`: a file is opened for a capture, which isn't begun; it is printed what it has
 /// - `file PATH`: a packet is captured to a file, of which is printed what it has
 /// - `stream PACKETS`: so many are captured to a stream that nobody reads, and then somebody does
 /// - one of `act`
@@ -153,6 +155,11 @@ fn take<'a>(
         "clock" => stage.moment.set(given.number()?),
         "manager" => read_manager(rt, given.word()?)?,
         "tell" => tell_manager(rt, given)?,
+        "write" => {
+            let path = given.word()?;
+            write_file(rt, path, &bytes_of(rt.alloc(), given.word()?)?)?
+        }
+        "look" => look_at_file(rt, given.word()?)?,
         "file" => capture_to_file(rt, given.word()?)?,
         "stream" => fill_stream(rt, given.number()?)?,
         word => act(

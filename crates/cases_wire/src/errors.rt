@@ -12,30 +12,40 @@ use std::alloc::Global;
 pub fn error(alloc: Global, bytes: &[u8]) -> Result<String> {
     let packet = Ipv4View::parse(bytes)?;
     let ErrorPacket { flow, length } = ErrorPacket::parse(&packet)?;
-    let (from, to) = (flow.source, flow.destination);
-    let about = way(alloc, flow.inside)?;
     let error = ErrorView::parse(packet.payload())?;
+    let mut out = String::new(alloc);
+    write_message(&error, &mut out)?;
+    let (from, to) = (flow.source, flow.destination);
+    write!(out, " from {from} to {to} length {length}")?;
+    write_way(flow.inside, &mut out)?;
+    write_inside(alloc, &error, &mut out)?;
+    Ok(out)
+}
+
+fn write_message(error: &ErrorView<'_>, out: &mut String) -> Result<()> {
     let (kind, code) = (error.kind(), error.code());
     let (sum, parameter) = (error.checksum(), error.parameter());
+    write!(
+        out,
+        "type {kind} code {code} sum {sum:04x} parameter {parameter:08x}"
+    )?;
+    Ok(())
+}
+
+fn write_way(flow: Flow, out: &mut String) -> Result<()> {
+    let (protocol, source, source_port) = (flow.protocol, flow.source, flow.source_port);
+    write!(out, " about {protocol} from {source} {source_port}")?;
+    let (destination, destination_port) = (flow.destination, flow.destination_port);
+    write!(out, " to {destination} {destination_port}")?;
+    Ok(())
+}
+
+fn write_inside(alloc: Global, error: &ErrorView<'_>, out: &mut String) -> Result<()> {
     let inside = error.inside();
     let header = inside.header_length();
     let behind = hex::encode(alloc, inside.behind())?;
-    Ok(format!(in alloc;
-        "type {kind} code {code} sum {sum:04x} parameter {parameter:08x} from {from} to {to} length {length} about {about} header {header} behind [{behind}]"
-    )?)
-}
-
-fn way(alloc: Global, flow: Flow) -> Result<String> {
-    let Flow {
-        protocol,
-        source,
-        source_port,
-        destination,
-        destination_port,
-    } = flow;
-    Ok(format!(in alloc;
-        "{protocol} from {source} {source_port} to {destination} {destination_port}"
-    )?)
+    write!(out, " header {header} behind [{behind}]")?;
+    Ok(())
 }
 
 /// What the message says that isn't written, and the message afterwards.

@@ -15,9 +15,16 @@ use cases_words::Given;
 use std::alloc::Global;
 use std::{env, fs};
 
-/// The lines for the cases of a file.
-fn answers(alloc: Global, text: &str) -> Result<String> {
-    let mut out = String::new(alloc);
+fn write_answer(out: &mut String, name: &str, answer: Result<String>) -> Result<()> {
+    match answer {
+        Ok(answer) => writeln!(out, "{name}: {answer}")?,
+        Err(refusal) => writeln!(out, "{name}: refused, {refusal}")?,
+    }
+    Ok(())
+}
+
+/// Writes the lines for the cases of a file.
+fn write_answers(alloc: Global, text: &str, out: &mut String) -> Result<()> {
     for line in text.lines() {
         if line.is_empty() || line.starts_with("#") {
             continue;
@@ -25,11 +32,15 @@ fn answers(alloc: Global, text: &str) -> Result<String> {
         let words = line.split_whitespace().collect::<Vec<&str>>(alloc)?;
         let mut given = Given::new(alloc, words.as_slice());
         let name = given.word()?;
-        match calls::answer(&mut given) {
-            Ok(answer) => writeln!(out, "{name}: {answer}")?,
-            Err(refusal) => writeln!(out, "{name}: refused, {refusal}")?,
-        }
+        write_answer(out, name, calls::answer(&mut given))?;
     }
+    Ok(())
+}
+
+/// The lines for the cases of a file.
+fn answers(alloc: Global, text: &str) -> Result<String> {
+    let mut out = String::new(alloc);
+    write_answers(alloc, text, &mut out)?;
     Ok(out)
 }
 

@@ -57,15 +57,18 @@ pub fn found(alloc: Global, steps: &[&str]) -> Result<String> {
     });
     let mut cache = Cache::new(alloc, &fixed)?;
     let mut found = String::new(alloc);
+    let done = take_steps(alloc, &mut cache, steps, &mut found);
+    drop(cache);
+    done?;
+    Ok(found)
+}
+
+fn take_steps(alloc: Global, cache: &mut Cache, steps: &[&str], found: &mut String) -> Result<()> {
     for step in steps {
         let words = step.split(':').collect::<Vec<&str>>(alloc)?;
-        take_step(
-            &mut cache,
-            &mut Given::new(alloc, words.as_slice()),
-            &mut found,
-        )?;
+        take_step(cache, &mut Given::new(alloc, words.as_slice()), found)?;
     }
-    Ok(found)
+    Ok(())
 }
 
 fn take_step(cache: &mut Cache, given: &mut Given, found: &mut String) -> Result<()> {

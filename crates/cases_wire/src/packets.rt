@@ -41,20 +41,48 @@ pub fn write_body(given: &mut Given) -> Result<String> {
     Ok(format!(in given.alloc; "type {kind:04x} header [{header}] frame [{bytes}]")?)
 }
 
+/// A name, and bytes in hexadecimal.
+fn write_hex(alloc: Global, name: &str, bytes: &[u8], out: &mut String) -> Result<()> {
+    let text = hex::encode(alloc, bytes)?;
+    write!(out, " {name} [{text}]")?;
+    Ok(())
+}
+
 pub fn ipv4(alloc: Global, bytes: &[u8]) -> Result<String> {
     let packet = Ipv4View::parse(bytes)?;
+    let mut out = String::new(alloc);
+    write_lengths(&packet, &mut out)?;
+    write_protocol(&packet, &mut out)?;
+    write_ends(&packet, &mut out)?;
+    write_hex(alloc, "options", packet.options(), &mut out)?;
+    write_hex(alloc, "payload", packet.payload(), &mut out)?;
+    Ok(out)
+}
+
+fn write_lengths(packet: &Ipv4View<'_>, out: &mut String) -> Result<()> {
     let (header, service) = (packet.header_length(), packet.type_of_service());
     let (total, number) = (packet.total_length(), packet.identification());
+    write!(
+        out,
+        "header {header} service {service} total {total} number {number}"
+    )?;
+    Ok(())
+}
+
+fn write_protocol(packet: &Ipv4View<'_>, out: &mut String) -> Result<()> {
     let flags = packet.flags_word();
     let (ttl, protocol, transport) = (packet.ttl(), packet.protocol(), packet.transport());
+    write!(
+        out,
+        " flags {flags:04x} ttl {ttl} protocol {protocol} {transport:?}"
+    )?;
+    Ok(())
+}
+
+fn write_ends(packet: &Ipv4View<'_>, out: &mut String) -> Result<()> {
     let (sum, from, to) = (packet.checksum(), packet.source(), packet.destination());
-    let (options, payload) = (
-        hex::encode(alloc, packet.options())?,
-        hex::encode(alloc, packet.payload())?,
-    );
-    Ok(format!(in alloc;
-        "header {header} service {service} total {total} number {number} flags {flags:04x} ttl {ttl} protocol {protocol} {transport:?} sum {sum:04x} from {from} to {to} options [{options}] payload [{payload}]"
-    )?)
+    write!(out, " sum {sum:04x} from {from} to {to}")?;
+    Ok(())
 }
 
 pub fn carried(alloc: Global, bytes: &[u8]) -> Result<String> {
@@ -65,27 +93,48 @@ pub fn carried(alloc: Global, bytes: &[u8]) -> Result<String> {
 }
 
 fn udp(alloc: Global, datagram: &UdpView<'_>) -> Result<String> {
+    let mut out = String::new(alloc);
     let (from, to) = (datagram.source_port(), datagram.destination_port());
     let (length, sum) = (datagram.length(), datagram.checksum());
-    let payload = hex::encode(alloc, datagram.payload())?;
-    Ok(format!(in alloc;
-        "udp from {from} to {to} length {length} sum {sum:04x} payload [{payload}]"
-    )?)
+    write!(out, "udp from {from} to {to} length {length} sum {sum:04x}")?;
+    write_hex(alloc, "payload", datagram.payload(), &mut out)?;
+    Ok(out)
 }
 
 fn tcp(alloc: Global, segment: &TcpView<'_>) -> Result<String> {
+    let mut out = String::new(alloc);
+    write_numbers(segment, &mut out)?;
+    write_flags(segment, &mut out)?;
+    write_window(segment, &mut out)?;
+    write_hex(alloc, "options", segment.options(), &mut out)?;
+    write_hex(alloc, "payload", segment.payload(), &mut out)?;
+    Ok(out)
+}
+
+fn write_numbers(segment: &TcpView<'_>, out: &mut String) -> Result<()> {
     let (from, to) = (segment.source_port(), segment.destination_port());
     let (sequence, acknowledgement) = (segment.sequence(), segment.acknowledgement());
+    write!(
+        out,
+        "tcp from {from} to {to} sequence {sequence} acknowledgement {acknowledgement}"
+    )?;
+    Ok(())
+}
+
+fn write_flags(segment: &TcpView<'_>, out: &mut String) -> Result<()> {
+    let header = segment.header_length();
     let TcpFlags { fin, syn, rst, ack } = segment.flags();
-    let (header, window) = (segment.header_length(), segment.window());
-    let (sum, urgent) = (segment.checksum(), segment.urgent());
-    let (options, payload) = (
-        hex::encode(alloc, segment.options())?,
-        hex::encode(alloc, segment.payload())?,
-    );
-    Ok(format!(in alloc;
-        "tcp from {from} to {to} sequence {sequence} acknowledgement {acknowledgement} header {header} fin {fin} syn {syn} rst {rst} ack {ack} window {window} sum {sum:04x} urgent {urgent} options [{options}] payload [{payload}]"
-    )?)
+    write!(
+        out,
+        " header {header} fin {fin} syn {syn} rst {rst} ack {ack}"
+    )?;
+    Ok(())
+}
+
+fn write_window(segment: &TcpView<'_>, out: &mut String) -> Result<()> {
+    let (window, sum, urgent) = (segment.window(), segment.checksum(), segment.urgent());
+    write!(out, " window {window} sum {sum:04x} urgent {urgent}")?;
+    Ok(())
 }
 
 /// What the header says that isn't written, and the packet afterwards.

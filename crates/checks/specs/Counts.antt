@@ -1,12 +1,32 @@
 -- How many faults a look finds, and when there is none.
-use Rattle.std.specs.Prelude.{◌≡◌, ℕ, ◌==◌, not, if◌then◌else◌, List, length, filter}
+use Rattle.std.specs.Prelude.{◌≡◌, ℕ, ◌+◌, ◌-◌, ◌^◌, ◌==◌, ◌&&◌, min, not, Bool, true, false, if◌then◌else◌, List, [], length, filter, Option, Some, None, Result, Ok, Err}
+use Rattle.toml.specs.Data.{Members}
 use Rattle.toml.specs.Parse.{parse_document}
+use Rattle.boot_store.specs.declared.faults.BootFault.{BootFault}
+use Rattle.nat_types.specs.declared.gateways.GatewayId.{GatewayId}
+use Rattle.nat_types.specs.declared.gateways.GatewayId.TheVariants as ids
 use Rattle.settings.specs.declared.whole.Settings.{Settings}
 use Rattle.settings_file.specs.declared.keys.Key.{Key}
+use Rattle.settings_file.specs.declared.keys.Section.{Section}
+use Rattle.settings_file.specs.declared.keys.Section.TheVariants.{GatewayZero, GatewayOne}
 use Rattle.settings_file.specs.declared.looks.Look.{Look}
 use Rattle.settings_file.specs.declared.looks.Look.TheVariants.{NotToml, UnknownKeys, MissingKeys, BadValues, RangesOverlap, SameIds, Held}
+use Rattle.settings_file.specs.Settings.{IsHeld, IsReadFrom}
+use Rattle.settings_file.specs.Works.{all_that_cant}
 use Rattle.settings_file.specs.Listing.{IsGood}
+use Rattle.checks.specs.declared.doubts.Doubt.{Doubt}
+use Rattle.checks.specs.declared.doubts.Doubt.TheVariants.{LongPath}
+use Rattle.checks.specs.declared.doubts.Warning.{Warning}
+use Rattle.checks.specs.Doubts.{warnings_of}
 use Rattle.checks.specs.Differences.{may_differ, differing}
+
+-- a count of 64 bits goes no further than its greatest number
+abbrev pub capped : ℕ → ℕ
+capped n = min n (2 ^ 64 - 1)
+
+-- a count of 64 bits has grown by so many, as far as it goes
+abbrev pub Grows : ℕ → ℕ → ℕ → Type 0
+Grows old new more = capped new ≡ capped (old + more)
 
 abbrev pub at_least_one : ℕ → ℕ
 at_least_one n = if n == 0 then 1 else n
@@ -21,6 +41,47 @@ fault_count RangesOverlap = 1
 fault_count SameIds = 1
 fault_count (Held settings keys) = length keys.items
 
+abbrev pub is_of : GatewayId → Section → Bool
+is_of ids.Zero GatewayZero = true
+is_of ids.Zero _ = false
+is_of ids.One GatewayOne = true
+is_of ids.One _ = false
+
+abbrev pub is_long_path : Doubt → Bool
+is_long_path LongPath = true
+is_long_path _ = false
+
+-- the box that is looked at can't start for it: the control socket beside its boot file would have too long a path
+abbrev pub stops : Option GatewayId → Warning → Bool
+stops None warning = false
+stops (Some id) warning = is_of id warning.key.section && is_long_path warning.doubt
+
+-- how many of the warnings are faults of the box that is looked at, and how many are left
+abbrev pub stopping : Option GatewayId → List Warning → ℕ
+stopping id warnings = length (filter (stops id) warnings)
+
+abbrev pub left : Option GatewayId → List Warning → ℕ
+left id warnings = length (filter (λ w. not (stops id w)) warnings)
+
+-- what a box's start answers at a boot file is a fault, or none
+abbrev pub faults_of_start : Result ℕ BootFault → ℕ
+faults_of_start (Ok boot) = 0
+faults_of_start (Err fault) = 1
+
+-- a look that found settings of which nothing is doubted
+abbrev pub IsUndoubted : Look → Type 0
+IsUndoubted (Held settings keys) = warnings_of settings ≡ []
+IsUndoubted _ = ⊥
+
+-- a document holds settings of which all can work, and nothing is doubted
+abbrev pub IsClean : Option Members → Type 0
+IsClean document =
+    (settings : Settings) × IsHeld document settings × (all_that_cant settings ≡ []) × (warnings_of settings ≡ [])
+
+-- some text is such
+unfoldable pub IsSomeClean : Type 0
+IsSomeClean = (text : List ℕ) × IsClean (parse_document text)
+
 -- some text holds settings with which `gate` starts
 unfoldable pub IsSomeGood : Type 0
 IsSomeGood = (text : List ℕ) × IsGood (parse_document text)
@@ -32,3 +93,8 @@ must_not keys = length (filter (λ k. not (may_differ k.name)) keys)
 -- some two settings differ in no key in which they must not
 unfoldable pub AreSomeAlike : Type 0
 AreSomeAlike = (one : Settings) × (other : Settings) × (must_not (differing one other) ≡ 0)
+
+-- two documents hold settings that differ in so many keys in which they must not
+abbrev pub DifferIn : Option Members → Option Members → ℕ → Type 0
+DifferIn one other count =
+    (a : Settings) × (b : Settings) × IsReadFrom one a × IsReadFrom other b × (count ≡ must_not (differing a b))

@@ -1,6 +1,7 @@
 //! Looks at a box's boot file, and changes nothing of it.
-ghost use Rattle.std.specs.Prelude.{◌≡◌, ◌≤◌, length};
-ghost use Rattle.boot_store.specs.BootFile.{slot_number, greater};
+ghost use Rattle.std.specs.Prelude.{◌≡◌, ◌≤◌, false, length, take, IfSome, None, OnOk, Some};
+ghost use Rattle.boot_store.specs.BootFile.{slot_number, greater, number_of, boot_answer};
+ghost use Rattle.checks.specs.Counts.{Grows, faults_of_start};
 
 use crate::tallies::Tally;
 use boot_file::Lockable;
@@ -9,22 +10,10 @@ use faults::Fault;
 use nat_types::GatewayId;
 use settings::Settings;
 use settings_file::{Key, Name, Section};
-use std::fs::{OpenFile, OpenOptions};
-use std::io::{Read, Write};
+use std::fs::{self, OpenFile, OpenOptions};
+use std::io::{self, Read, Write};
 use std::os::unix::fs::PermissionsExt;
 use std::rt::Files;
-
-/// The longest path of a boot file beside which the control socket's has room.
-const LONGEST_PATH: usize = 92;
-
-/// What a boot file holds.
-#[derive(Clone, Copy, Debug, PartialEq, Eq)]
-enum Number {
-    /// No slot is valid, or the file is too short.
-    Damaged,
-    /// The number of the last start, 0 for none.
-    Last(u64),
-}
 
 /// The number of a slot, where it is valid.
 #[tactic(auto, unfolding(boot_store::specs::BootFile::slot_number))]
@@ -53,32 +42,21 @@ fn greater(first: Option<u64>, second: Option<u64>) -> Option<u64>
 }
 
 /// The number of a boot file: the greater one of its valid slots.
-fn number_of(file: &[u8; 32]) -> Option<u64> {
-    greater(slot_number(&file[..16]), slot_number(&file[16..]))
-}
-
-/// Reads as far as the file goes, at most 32 bytes; a read that fails ends it too.
-fn filled<F: Read>(file: &mut F, room: &mut [u8; 32]) -> usize
-    ensures { result ≤ 32 }
+fn number_of(file: &[u8; 32]) -> Option<u64>
+    ensures { result ≡ number_of file.now }
 {
-    let mut filled = 0;
-    for _ in 0..32 {
-        match file.read(&mut room[filled..]) {
-            Ok(count) if count > 0 => filled += count,
-            _ => return filled,
-        }
-    }
-    filled
+    greater(slot_number(&file[..16]), slot_number(&file[16..32]))
 }
 
-fn read_number<F: Read>(file: &mut F) -> Number {
-    let mut room = [0; 32];
-    if filled(file, &mut room) < 32 {
-        return Number::Damaged;
-    }
-    match number_of(&room) {
-        Some(number) => Number::Last(number),
-        None => Number::Damaged,
+/// The number of a boot file, from its first 32 bytes; none where no slot is valid, or they can't be read.
+fn read_number<F: Read>(file: &mut F) -> Option<u64>
+    ensures { IfSome (F.remaining file.old) (λ bytes.
+        IfSome result (λ number. number_of (take 32 bytes) ≡ Some number)) }
+{
+    let mut bytes = [0; 32];
+    match file.read_exact(&mut bytes) {
+        Ok(()) => number_of(&bytes),
+        Err(_) => None,
     }
 }
 
@@ -90,26 +68,29 @@ fn key_of(id: GatewayId) -> Key {
     Key::new(section, Name::BootFile)
 }
 
-/// Says what number a boot file has.
+/// Says what number a boot file has. It is a fault where no box starts with it.
 fn say_number<O: Write>(
-    number: Number,
+    number: Option<u64>,
     key: Key,
     output: &mut O,
     tally: &mut Tally,
 ) -> Result<(), Fault>
-    ensures { tally.old.faults ≤ tally.new.faults }
+    ensures faults { OnOk result
+        (Grows tally.old.faults tally.new.faults (faults_of_start (boot_answer false number))) }
+    ensures no_fewer { tally.old.faults ≤ tally.new.faults }
+    ensures warnings { tally.new.warnings ≡ tally.old.warnings }
 {
     match number {
-        Number::Damaged => {
+        None => {
             writeln!(output, "fault: boot 2 Damaged {key}")?;
             tally.fault();
         }
-        Number::Last(u64::MAX) => {
+        Some(u64::MAX) => {
             writeln!(output, "fault: boot 3 BootsUsedUp {key}")?;
             tally.fault();
         }
-        Number::Last(0) => writeln!(output, "note: {key}: no start yet")?,
-        Number::Last(number) => writeln!(output, "note: {key}: the last start was boot {number}")?,
+        Some(0) => writeln!(output, "note: {key}: no start yet")?,
+        Some(number) => writeln!(output, "note: {key}: the last start was boot {number}")?,
     }
     Ok(())
 }
@@ -121,7 +102,8 @@ fn say_use<F: OpenFile + Lockable, O: Write>(
     output: &mut O,
     tally: &mut Tally,
 ) -> Result<(), Fault>
-    ensures { tally.new.faults ≡ tally.old.faults }
+    ensures faults { tally.new.faults ≡ tally.old.faults }
+    ensures no_fewer { tally.old.warnings ≤ tally.new.warnings }
 {
     if let Ok(metadata) = file.metadata() {
         let mode = metadata.permissions().mode() & 0o777;
@@ -139,29 +121,43 @@ fn say_use<F: OpenFile + Lockable, O: Write>(
     Ok(())
 }
 
-/// Looks at the boot file of a box.
+/// The file at a path, where it is a regular one: to open a named pipe would wait for who writes to it.
+fn opened<R: Files>(rt: &R, path: &str) -> io::Result<Option<R::File>> {
+    if !fs::metadata(rt, path)?.is_file() {
+        return Ok(None);
+    }
+    let file = OpenOptions::new().read(true).open(rt, path)?;
+    Ok(Some(file))
+}
+
+/// Looks at the boot file of a box, where one is named.
 pub(crate) fn say_boot_file<R: Files, O: Write>(
     rt: &R,
     settings: &Settings,
-    id: GatewayId,
+    id: Option<GatewayId>,
     output: &mut O,
     tally: &mut Tally,
 ) -> Result<(), Fault>
 where
     R::File: Lockable,
-    ensures { tally.old.faults ≤ tally.new.faults }
+    ensures faults { tally.old.faults ≤ tally.new.faults }
+    ensures none { id ≡ None → tally.new.faults ≡ tally.old.faults }
+    ensures warnings { tally.old.warnings ≤ tally.new.warnings }
 {
-    let key = key_of(id);
-    let path = settings.gateway(id).boot_file.as_str();
-    if path.len() > LONGEST_PATH {
-        writeln!(output, "fault: socket 2 LongPath {key}")?;
-        tally.fault();
-    }
-    let Ok(mut file) = OpenOptions::new().read(true).open(rt, path) else {
-        writeln!(output, "fault: file 1 NoFile {key}")?;
-        tally.fault();
+    let Some(id) = id else {
         return Ok(());
     };
-    say_number(read_number(&mut file), key, output, tally)?;
-    say_use(&file, key, output, tally)
+    let key = key_of(id);
+    match opened(rt, settings.gateway(id).boot_file.as_str()) {
+        Err(_) => {
+            writeln!(output, "fault: file 1 NoFile {key}")?;
+            tally.fault();
+            Ok(())
+        }
+        Ok(None) => say_number(None, key, output, tally),
+        Ok(Some(mut file)) => {
+            say_number(read_number(&mut file), key, output, tally)?;
+            say_use(&file, key, output, tally)
+        }
+    }
 }

@@ -1,8 +1,9 @@
 //! Says every fault and every warning of a settings file.
-ghost use Rattle.std.specs.Prelude.{◌≡◌, ◌⊎◌, ◌↔◌, IfOk};
+ghost use Rattle.std.specs.Prelude.{◌≡◌, ◌⊎◌, ◌↔◌, IfOk, OnOk, None, [], true};
 ghost use Rattle.toml.specs.Parse.{parse_document};
-ghost use Rattle.settings_file.specs.Listing.{IsGood};
-ghost use Rattle.checks.specs.Counts.{IsSomeGood};
+ghost use Rattle.settings_file.specs.Listing.{HasNoFault, IsGood};
+ghost use Rattle.checks.specs.Doubts.{warnings_of};
+ghost use Rattle.checks.specs.Counts.{IsClean, IsSomeClean, IsSomeGood, IsUndoubted};
 
 use crate::Request;
 use crate::boots::say_boot_file;
@@ -11,6 +12,7 @@ use crate::saying::{fault_count, say_faults, say_warnings};
 use crate::tallies::Tally;
 use boot_file::Lockable;
 use faults::{Fault, text_of};
+use settings::Settings;
 use settings_file::{Look, look};
 use std::alloc::{AllocError, Global};
 use std::io::Write;
@@ -29,6 +31,7 @@ where
     R::File: Lockable,
     ensures status { (result ≡ 0) ⊎ (result ≡ 1) }
     ensures accepts { result ≡ 0 → IsSomeGood }
+    ensures strict { request.now.strict ≡ true → result ≡ 0 → IsSomeClean }
 {
     match checked(rt, request, output) {
         Ok(tally) => tally.status(request.strict),
@@ -39,16 +42,7 @@ where
     }
 }
 
-/// What is seen of a text, and how many faults that is: none just where `settings_file::read` gives its settings.
-fn counted(alloc: Global, text: &str) -> Result<(Look, usize), AllocError>
-    ensures accepts { IfOk result (λ found. (found.1 ≡ 0) ↔ IsGood (parse_document text.now)) }
-    ensures some { IfOk result (λ found. found.1 ≡ 0 → IsSomeGood) }
-{
-    let found = look(alloc, text)?;
-    let count = fault_count(&found);
-    Ok((found, count))
-}
-
+/// Says all that is to be said of the file that the request names.
 fn checked<R: Files + AllocGlobal, O: Write>(
     rt: &R,
     request: &Request<'_>,
@@ -57,19 +51,98 @@ fn checked<R: Files + AllocGlobal, O: Write>(
 where
     R::File: Lockable,
     ensures accepts { IfOk result (λ tally. tally.faults ≡ 0 → IsSomeGood) }
+    ensures clean { IfOk result (λ tally. tally.faults ≡ 0 → tally.warnings ≡ 0 → IsSomeClean) }
 {
     let text = text_of(rt, request.settings)?;
-    let (seen, faults) = counted(rt.alloc(), text.as_str())?;
+    let tally = say_text(rt, text.as_str(), request, output)?;
+    output.flush()?;
+    Ok(tally)
+}
+
+/// Says all that is to be said of a text, and of the places and the boot file that the request names.
+fn say_text<R: Files + AllocGlobal, O: Write>(
+    rt: &R,
+    text: &str,
+    request: &Request<'_>,
+    output: &mut O,
+) -> Result<Tally, Fault>
+where
+    R::File: Lockable,
+    ensures accepts { IfOk result (λ tally. tally.faults ≡ 0 → IsGood (parse_document text.now)) }
+    ensures clean { IfOk result (λ tally.
+        tally.faults ≡ 0 → tally.warnings ≡ 0 → IsClean (parse_document text.now)) }
+    ensures good { request.now.id ≡ None → request.now.link ≡ None
+        → IsGood (parse_document text.now) → IfOk result (λ tally. tally.faults ≡ 0) }
+{
+    let (seen, faults) = counted(rt.alloc(), text)?;
     let mut tally = Tally::of_faults(faults);
     say_faults(&seen, output)?;
-    if let Look::Held(settings, _) = &seen {
-        say_warnings(rt.alloc(), settings, output, &mut tally)?;
-        say_places(rt, request, settings, output, &mut tally)?;
-        if let Some(id) = request.id {
-            say_boot_file(rt, settings, id, output, &mut tally)?;
-        }
-    }
+    say_more(rt, &seen, request, output, &mut tally)?;
     let Tally { faults, warnings } = tally;
     writeln!(output, "{faults} faults, {warnings} warnings")?;
     Ok(tally)
+}
+
+/// Of settings that were seen says what there is beside faults of the text.
+fn say_more<R: Files + AllocGlobal, O: Write>(
+    rt: &R,
+    seen: &Look,
+    request: &Request<'_>,
+    output: &mut O,
+    tally: &mut Tally,
+) -> Result<(), Fault>
+where
+    R::File: Lockable,
+    ensures takes_none { OnOk result (tally.new.faults ≡ 0 → tally.old.faults ≡ 0) }
+    ensures clean { OnOk result (tally.new.faults ≡ 0 → tally.new.warnings ≡ 0
+        → HasNoFault seen.now → IsUndoubted seen.now) }
+    ensures adds_none { request.now.id ≡ None → request.now.link ≡ None
+        → OnOk result (tally.old.faults ≡ 0 → tally.new.faults ≡ 0) }
+{
+    match seen {
+        Look::Held(settings, _) => {
+            say_held(rt, settings, request, output, tally)?;
+            Ok(())
+        }
+        Look::NotToml
+        | Look::UnknownKeys(_)
+        | Look::MissingKeys(_)
+        | Look::BadValues(_)
+        | Look::RangesOverlap
+        | Look::SameIds => Ok(()),
+    }
+}
+
+/// Says each warning of settings, and what is to be said of the places and the boot file that the request names.
+fn say_held<R: Files + AllocGlobal, O: Write>(
+    rt: &R,
+    settings: &Settings,
+    request: &Request<'_>,
+    output: &mut O,
+    tally: &mut Tally,
+) -> Result<(), Fault>
+where
+    R::File: Lockable,
+    ensures takes_none { OnOk result (tally.new.faults ≡ 0 → tally.old.faults ≡ 0) }
+    ensures clean { OnOk result
+        (tally.new.faults ≡ 0 → tally.new.warnings ≡ 0 → warnings_of settings.now ≡ []) }
+    ensures adds_none { request.now.id ≡ None → request.now.link ≡ None
+        → OnOk result (tally.old.faults ≡ 0 → tally.new.faults ≡ 0) }
+{
+    say_warnings(rt.alloc(), settings, request.id, output, tally)?;
+    say_places(rt, request, settings, output, tally)?;
+    say_boot_file(rt, settings, request.id, output, tally)?;
+    Ok(())
+}
+
+/// What is seen of a text, and how many faults that is: none just where `settings_file::read` gives its settings.
+fn counted(alloc: Global, text: &str) -> Result<(Look, usize), AllocError>
+    ensures accepts { IfOk result (λ found. (found.1 ≡ 0) ↔ IsGood (parse_document text.now)) }
+    ensures held { IfOk result (λ found. found.1 ≡ 0 → HasNoFault found.0) }
+    ensures clean { IfOk result (λ found.
+        found.1 ≡ 0 → IsUndoubted found.0 → IsClean (parse_document text.now)) }
+{
+    let found = look(alloc, text)?;
+    let count = fault_count(&found);
+    Ok((found, count))
 }

@@ -1,7 +1,9 @@
 //! Says in what two settings files differ.
-ghost use Rattle.std.specs.Prelude.{◌≡◌, ◌⊎◌, IfOk};
+ghost use Rattle.std.specs.Prelude.{◌≡◌, ◌⊎◌, IfOk, IfSome};
+ghost use Rattle.toml.specs.Parse.{parse_document};
+ghost use Rattle.settings_file.specs.Settings.{IsReadFrom};
 ghost use Rattle.checks.specs.Differences.{differing};
-ghost use Rattle.checks.specs.Counts.{must_not, AreSomeAlike};
+ghost use Rattle.checks.specs.Counts.{must_not, AreSomeAlike, DifferIn};
 
 use crate::{differing_keys, may_differ};
 use faults::{Fault, text_of};
@@ -10,6 +12,13 @@ use settings_file::Key;
 use std::alloc::{AllocError, Global};
 use std::io::{self, Write};
 use std::rt::Files;
+
+/// The text of a settings file, and the file's path.
+#[derive(Clone, Copy)]
+struct Source<'a> {
+    path: &'a str,
+    text: &'a str,
+}
 
 /// Says on `output` each key in which the settings of two files differ, and whether it may. The answer is the exit
 /// status: 0, or 1 where one differs that must not, a file can't be read or holds no settings, or `output` can't be
@@ -24,38 +33,81 @@ pub fn compare<R: Files + AllocGlobal, O: Write, E: Write>(
     ensures status { (result ≡ 0) ⊎ (result ≡ 1) }
     ensures alike { result ≡ 0 → AreSomeAlike }
 {
-    let (Some(one), Some(other)) = (settings_at(rt, one, errors), settings_at(rt, other, errors))
+    let (Some(one_text), Some(other_text)) = (text_at(rt, one, errors), text_at(rt, other, errors))
     else {
         return 1;
     };
-    match say_differences(rt.alloc(), &one, &other, output) {
-        Ok(count) => { if count == 0 { 0 } else { 1 } }
-        Err(fault) => {
-            let _untold = writeln!(errors, "natpair: {fault}");
-            1
-        }
+    let one = Source {
+        path: one,
+        text: one_text.as_str(),
+    };
+    let other = Source {
+        path: other,
+        text: other_text.as_str(),
+    };
+    match compare_texts(rt.alloc(), one, other, output, errors) {
+        Some(0) => 0,
+        _ => 1,
     }
 }
 
-/// The settings of a file; why there are none is told on `errors`.
-fn settings_at<R: Files + AllocGlobal, E: Write>(
-    rt: &R,
-    path: &str,
-    errors: &mut E,
-) -> Option<Settings> {
-    match read_settings(rt, path) {
-        Ok(settings) => Some(settings),
+/// The text of a file; why there is none is told on `errors`.
+fn text_at<R: Files + AllocGlobal, E: Write>(rt: &R, path: &str, errors: &mut E) -> Option<String> {
+    match text_of(rt, path) {
+        Ok(text) => Some(text),
         Err(fault) => {
-            let _untold = writeln!(errors, "natpair: {fault} ({path})");
+            tell(&fault, path, errors);
             None
         }
     }
 }
 
-fn read_settings<R: Files + AllocGlobal>(rt: &R, path: &str) -> Result<Settings, Fault> {
-    let text = text_of(rt, path)?;
-    let settings = settings_file::read(rt.alloc(), text.as_str())?;
-    Ok(settings)
+/// Tells of the fault of a file, and which file it is.
+fn tell<E: Write>(fault: &Fault, path: &str, errors: &mut E) {
+    let _untold = match fault {
+        Fault::File(_) => writeln!(errors, "natpair: {fault}"),
+        _ => writeln!(errors, "natpair: {fault} ({path})"),
+    };
+}
+
+/// Says in what the settings of two texts differ, and in how many keys of these they must not; why they can't be
+/// compared is told on `errors`.
+fn compare_texts<O: Write, E: Write>(
+    alloc: Global,
+    one: Source<'_>,
+    other: Source<'_>,
+    output: &mut O,
+    errors: &mut E,
+) -> Option<usize>
+    ensures { IfSome result
+        (DifferIn (parse_document one.entry.text.now) (parse_document other.entry.text.now)) }
+{
+    let (Some(one), Some(other)) = (
+        settings_in(alloc, one, errors),
+        settings_in(alloc, other, errors),
+    ) else {
+        return None;
+    };
+    match say_differences(alloc, &one, &other, output) {
+        Ok(count) => Some(count),
+        Err(fault) => {
+            let _untold = writeln!(errors, "natpair: {fault}");
+            None
+        }
+    }
+}
+
+/// The settings of a text; why there are none is told on `errors`.
+fn settings_in<E: Write>(alloc: Global, source: Source<'_>, errors: &mut E) -> Option<Settings>
+    ensures { IfSome result (IsReadFrom (parse_document source.entry.text.now)) }
+{
+    match settings_file::read(alloc, source.text) {
+        Ok(settings) => Some(settings),
+        Err(fault) => {
+            tell(&Fault::from(fault), source.path, errors);
+            None
+        }
+    }
 }
 
 /// How many of the keys must not differ.
@@ -80,17 +132,6 @@ fn counted(alloc: Global, one: &Settings, other: &Settings) -> Result<(Vec<Key>,
     Ok((keys, count))
 }
 
-fn compared(
-    alloc: Global,
-    one: &Settings,
-    other: &Settings,
-) -> Result<(Vec<Key>, usize), AllocError>
-    ensures { IfOk result (λ found. found.1 ≡ 0 → AreSomeAlike) }
-{
-    let found = counted(alloc, one, other)?;
-    Ok(found)
-}
-
 fn say_keys<O: Write>(keys: &[Key], output: &mut O) -> io::Result<()> {
     for key in keys {
         let word = if may_differ(*key) { "may" } else { "must not" };
@@ -106,11 +147,12 @@ fn say_differences<O: Write>(
     other: &Settings,
     output: &mut O,
 ) -> Result<usize, Fault>
-    ensures { IfOk result (λ count. count ≡ 0 → AreSomeAlike) }
+    ensures { IfOk result (λ count. count ≡ must_not (differing one.now other.now)) }
 {
-    let (keys, count) = compared(alloc, one, other)?;
+    let (keys, count) = counted(alloc, one, other)?;
     say_keys(keys.as_slice(), output)?;
     let all = keys.len();
     writeln!(output, "{all} keys differ, {count} of them must not")?;
+    output.flush()?;
     Ok(count)
 }

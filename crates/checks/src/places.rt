@@ -1,5 +1,8 @@
 //! Says what is wrong with the places of a box: its interfaces, and its address on the link.
-ghost use Rattle.std.specs.Prelude.{◌≡◌, ◌≤◌};
+ghost use Rattle.std.specs.Prelude.{◌≡◌, ◌≤◌, ◌+◌, None, OnOk};
+ghost use Rattle.addresses.specs.Address.{IsIn};
+ghost use Rattle.settings.specs.Parts.{interface_of};
+ghost use Rattle.checks.specs.Counts.{capped};
 
 use crate::Request;
 use crate::tallies::Tally;
@@ -32,7 +35,8 @@ pub(crate) fn say_interface<R: Files + AllocGlobal, O: Write>(
     output: &mut O,
     tally: &mut Tally,
 ) -> Result<(), Fault>
-    ensures { tally.new.faults ≡ tally.old.faults }
+    ensures faults { tally.new.faults ≡ tally.old.faults }
+    ensures no_fewer { tally.old.warnings ≤ tally.new.warnings }
 {
     let Some(name) = name else {
         return Ok(());
@@ -62,7 +66,11 @@ fn say_link_on<O: Write>(
     output: &mut O,
     tally: &mut Tally,
 ) -> Result<(), Fault>
-    ensures { tally.new.faults ≡ tally.old.faults }
+    ensures warned { IsIn ip.0 (interface_of settings.now side).virtual_ip.0
+        (interface_of settings.now side).prefix_length
+        → OnOk result (tally.new.warnings ≡ capped (tally.old.warnings + 1)) }
+    ensures no_fewer { tally.old.warnings ≤ tally.new.warnings }
+    ensures faults { tally.new.faults ≡ tally.old.faults }
 {
     if settings.interface(side).network().contains(ip) {
         writeln!(
@@ -81,7 +89,9 @@ pub(crate) fn say_link<O: Write>(
     output: &mut O,
     tally: &mut Tally,
 ) -> Result<(), Fault>
-    ensures { tally.old.faults ≤ tally.new.faults }
+    ensures faults { tally.old.faults ≤ tally.new.faults }
+    ensures none { address.entry ≡ None → tally.new.faults ≡ tally.old.faults }
+    ensures warnings { tally.old.warnings ≤ tally.new.warnings }
 {
     let Some(text) = address else {
         return Ok(());
@@ -104,7 +114,9 @@ pub(crate) fn say_places<R: Files + AllocGlobal, O: Write>(
     output: &mut O,
     tally: &mut Tally,
 ) -> Result<(), Fault>
-    ensures { tally.old.faults ≤ tally.new.faults }
+    ensures faults { tally.old.faults ≤ tally.new.faults }
+    ensures none { request.now.link ≡ None → tally.new.faults ≡ tally.old.faults }
+    ensures warnings { tally.old.warnings ≤ tally.new.warnings }
 {
     say_interface(rt, Side::Inside, request.inside, output, tally)?;
     say_interface(rt, Side::Outside, request.outside, output, tally)?;

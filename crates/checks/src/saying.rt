@@ -1,12 +1,14 @@
 //! Says what was found in a text of settings, a line each.
-ghost use Rattle.std.specs.Prelude.{◌≡◌};
-ghost use Rattle.checks.specs.Counts.{at_least_one, fault_count};
+ghost use Rattle.std.specs.Prelude.{◌≡◌, OnOk};
+ghost use Rattle.checks.specs.Doubts.{warnings_of};
+ghost use Rattle.checks.specs.Counts.{Grows, at_least_one, fault_count, is_of, left, stopping, stops};
 
 use crate::tallies::Tally;
-use crate::warnings_of;
+use crate::{Doubt, Warning, warnings_of};
 use faults::Fault;
+use nat_types::GatewayId;
 use settings::Settings;
-use settings_file::{Key, Look};
+use settings_file::{Key, Look, Section};
 use std::alloc::Global;
 use std::io::{self, Write};
 
@@ -55,19 +57,64 @@ pub(crate) fn say_faults<O: Write>(look: &Look, output: &mut O) -> io::Result<()
     }
 }
 
-/// Says each warning of settings.
+/// Whether a section is that of a box.
+fn is_of(id: GatewayId, section: Section) -> bool
+    ensures { result ≡ is_of id section }
+{
+    matches!(
+        (id, section),
+        (GatewayId::Zero, Section::GatewayZero) | (GatewayId::One, Section::GatewayOne)
+    )
+}
+
+/// Whether the box that is looked at can't start for a warning: its control socket would have too long a path.
+fn stops(id: Option<GatewayId>, warning: &Warning) -> bool
+    ensures { result ≡ stops id warning.now }
+{
+    match id {
+        Some(id) => is_of(id, warning.key.section) && matches!(warning.doubt, Doubt::LongPath),
+        None => false,
+    }
+}
+
+/// Says a list of warnings: as a fault what stops the box that is looked at.
+fn say_each<O: Write>(
+    warnings: &[Warning],
+    id: Option<GatewayId>,
+    output: &mut O,
+    tally: &mut Tally,
+) -> io::Result<()>
+    ensures faults { OnOk result
+        (Grows tally.old.faults tally.new.faults (stopping id warnings.now)) }
+    ensures warnings { OnOk result
+        (Grows tally.old.warnings tally.new.warnings (left id warnings.now)) }
+{
+    for warning in warnings {
+        if stops(id, warning) {
+            writeln!(output, "fault: socket 2 LongPath {}", warning.key)?;
+            tally.fault();
+        } else {
+            writeln!(output, "warning: {warning}")?;
+            tally.warning();
+        }
+    }
+    Ok(())
+}
+
+/// Says each warning of settings: as a fault what stops the box that is looked at.
 pub(crate) fn say_warnings<O: Write>(
     alloc: Global,
     settings: &Settings,
+    id: Option<GatewayId>,
     output: &mut O,
     tally: &mut Tally,
 ) -> Result<(), Fault>
-    ensures { tally.new.faults ≡ tally.old.faults }
+    ensures faults { OnOk result
+        (Grows tally.old.faults tally.new.faults (stopping id (warnings_of settings.now))) }
+    ensures warnings { OnOk result
+        (Grows tally.old.warnings tally.new.warnings (left id (warnings_of settings.now))) }
 {
     let warnings = warnings_of(alloc, settings)?;
-    for warning in &warnings {
-        writeln!(output, "warning: {warning}")?;
-        tally.warning();
-    }
+    say_each(warnings.as_slice(), id, output, tally)?;
     Ok(())
 }

@@ -1,5 +1,6 @@
 //! How many faults and warnings there are.
-ghost use Rattle.std.specs.Prelude.{◌≡◌, ◌≤◌, ◌⊎◌, false, true};
+ghost use Rattle.std.specs.Prelude.{◌≡◌, ◌≤◌, ◌+◌, ◌⊎◌, false, true};
+ghost use Rattle.checks.specs.Counts.{capped};
 
 /// How many faults and warnings were said.
 #[derive(Clone, Copy, Debug, PartialEq, Eq)]
@@ -11,7 +12,8 @@ pub(crate) struct Tally {
 impl Tally {
     /// So many faults, and no warning yet.
     pub(crate) fn of_faults(faults: usize) -> Tally
-        ensures { result.faults ≡ faults }
+        ensures faults { result.faults ≡ faults }
+        ensures warnings { result.warnings ≡ 0 }
     {
         Tally {
             faults,
@@ -21,14 +23,18 @@ impl Tally {
 
     /// One more fault.
     pub(crate) fn fault(&mut self)
-        ensures { self.old.faults ≤ self.new.faults }
+        ensures faults { self.new.faults ≡ capped (self.old.faults + 1) }
+        ensures no_fewer { self.old.faults ≤ self.new.faults }
+        ensures warnings { self.new.warnings ≡ self.old.warnings }
     {
         self.faults = self.faults.saturating_add(1);
     }
 
     /// One more warning.
     pub(crate) fn warning(&mut self)
-        ensures { self.new.faults ≡ self.old.faults }
+        ensures warnings { self.new.warnings ≡ capped (self.old.warnings + 1) }
+        ensures no_fewer { self.old.warnings ≤ self.new.warnings }
+        ensures faults { self.new.faults ≡ self.old.faults }
     {
         self.warnings = self.warnings.saturating_add(1);
     }

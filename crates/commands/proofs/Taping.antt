@@ -1,15 +1,31 @@
 -- A run that was taken down.
-use Rattle.std.proofs.Common.{ℕ, List, Result, Ok, Err, IfOk}
+use Rattle.std.proofs.Common.{◌≡◌, ◌∙◌, ◌⊎◌, inl, inr, ℕ, Option, Result, Ok, Err, IfErr, IfOk, ap, subst, sym}
+use Rattle.faults.specs.Faults.{status_of}
+use Rattle.faults.specs.Jobs.{IsJobOf}
+use Rattle.faults.specs.declared.faults.Fault.{Fault}
+use Rattle.faults.specs.declared.faults.Fault.TheVariants.{NoMemory, NotWritten}
+use Rattle.faults.specs.declared.jobs.Job.{Job}
+use Rattle.std.specs.Prelude.{List}
 use Rattle.recording.specs.Tapes.{TakesOn}
 use Rattle.simulation.specs.Status.{RunsScript}
-use Rattle.simulation.specs.Tapes.{TapesScript}
+use Rattle.simulation.specs.Tapes.{IsTapedRun}
 
--- what holds of the value of a result holds by what follows from it
-pub in_ok : {E : Type 0} {P Q : ℕ → Type 0} (r : Result ℕ E) → ((n : ℕ) → P n → Q n) → IfOk r P → IfOk r Q
-in_ok (Ok n) f h = f n h
-in_ok (Err e) f h = tt
+-- it is a run of the job of two texts
+pub run_of : {E T : Type 0} (r : Result ℕ E) (takes : TakesOn T) (text script : List ℕ) (job : Job) (before after : T) (output printed : Option (List ℕ)) (status : ℕ)
+    → IsJobOf text script job → IfOk r (IsTapedRun takes job.settings job.events.items before after output printed) → r ≡ Ok status
+    → RunsScript text script output printed status
+run_of {E = E} r takes text script job before after output printed status held taped is =
+    let h = subst (λ (x : Result ℕ E). IfOk x (IsTapedRun takes job.settings job.events.items before after output printed)) is taped in
+    record { job = job; is = held; run = h.run; printed = h.text }
 
--- it is a run
-pub run_of : {E T : Type 0} (r : Result ℕ E) (takes : TakesOn T) (text script : List ℕ) (before after : T)
-    → IfOk r (TapesScript takes text script before after) → IfOk r (RunsScript text script)
-run_of r takes text script before after h = in_ok r (λ n t. record { job = t.job; is = t.is; run = t.run.run }) h
+-- what ends one has the status 1
+pub known : {T : Type 0} (r : Result T Fault) → IfErr r (λ fault. (fault ≡ NotWritten) ⊎ (fault ≡ NoMemory))
+    → IfErr r (λ fault. status_of fault ≡ 1)
+known (Ok n) h = tt
+known (Err fault) (inl is) = ap status_of is
+known (Err fault) (inr is) = ap status_of is
+
+-- and a fault's status is none of a run's
+pub isnt_1 : {A : Type 0} (n : ℕ) → n ≡ 1 → (n ≡ 0) ⊎ (n ≡ 3) → A
+isnt_1 n is (inl zero_is) = absurd (let bad : 1 ≡ 0 = sym is ∙ zero_is in cc)
+isnt_1 n is (inr three_is) = absurd (let bad : 1 ≡ 3 = sym is ∙ three_is in cc)

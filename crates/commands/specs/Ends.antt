@@ -11,11 +11,11 @@ use Rattle.loopback.specs.Standings.{MayBe, Standing, bound, unasked}
 use Rattle.loopback_run.specs.Loops.{LoopsScript}
 use Rattle.loopback_run.specs.Turns.{Passes}
 
--- the status of a run of some script, on a new world of the settings that some text holds
-pub record HasRun (status : ℕ) : Type 0 where
+-- the status of a run of some script, on a new world of the settings that some text holds, and just its text was printed
+pub record HasRun (before after : Option (List ℕ)) (status : ℕ) : Type 0 where
   pub text : List ℕ
   pub script : List ℕ
-  pub run : RunsScript text script status
+  pub run : RunsScript text script before after status
 
 -- the sockets of a loopback passage: once it has its ports, they are those of these settings,
 abbrev pub has_ports : Standing → Settings → Standing → Type 0
@@ -25,12 +25,12 @@ has_ports before settings after = after ≡ bound settings
 abbrev pub may_pass : Passes Standing
 may_pass before parcel fate after = MayBe before fate × (after ≡ before)
 
--- the status of such a run in which what each event hands in is first sent through these
-pub record HasLoop (status : ℕ) : Type 0 where
+-- the status of such a run in which what each event hands in is first sent through these, and just its text was printed
+pub record HasLoop (before after : Option (List ℕ)) (status : ℕ) : Type 0 where
   pub text : List ℕ
   pub script : List ℕ
   pub last : Standing
-  pub run : LoopsScript has_ports may_pass text script unasked last status
+  pub run : LoopsScript has_ports may_pass text script unasked last before after status
 
 -- the line that tells the version
 abbrev pub version_line : List ℕ
@@ -47,8 +47,8 @@ Ends before after (task.Pairs words) status = status ≡ 0
 Ends before after (task.Stop settings id) status = status ≡ 0
 Ends before after (task.PeerOff words) status = status ≡ 0
 Ends before after (task.Side settings id side up) status = status ≡ 0
-Ends before after (task.Sim files) status = HasRun status
-Ends before after (task.Loop files) status = HasLoop status
+Ends before after (task.Sim files) status = HasRun before after status
+Ends before after (task.Loop files) status = HasLoop before after status
 Ends before after task.Version status = (status ≡ 0) × Appends before after version_line
 
 -- the words ask for a task that is done with this status

@@ -2,35 +2,34 @@
 ghost use Rattle.std.specs.Prelude.{◌≡◌, ◌⊎◌, Ok, IfErr, IfOk};
 ghost use Rattle.faults.specs.Faults.{status_of};
 
+use captures::{Reader, open};
 use faults::{Fault, Refusal};
 use recording::Capture;
 use std::alloc::Global;
-use std::fs::{Files, OpenOptions};
+use std::fs::Files;
 use std::io::{self, BufWriter, ErrorKind, Write};
 
-/// Begins a capture in the file at a path; one that is there loses what it has.
+/// Begins a capture in the file at a path. One that is there loses what it has, where that is a capture. The reader of a named
+/// pipe is waited for.
 ///
 /// # Errors
 ///
-/// Where it can't be made or written.
+/// `AlreadyExists` where it is a regular file that has something else, and keeps it; where it can't be made or written.
 pub(crate) fn capture_at<R: Files + AllocGlobal>(
     rt: &R,
     path: &str,
 ) -> io::Result<Capture<BufWriter<R::File>>> {
-    let file = OpenOptions::new()
-        .write(true)
-        .create(true)
-        .truncate(true)
-        .open(rt, path)?;
+    let file = open(rt, path, Reader::Awaited)?.clear()?;
     Capture::begin(BufWriter::new(rt.alloc(), file)?)
 }
 
-/// Tells why a capture couldn't be made or written, and gives the exit status.
+/// Tells why a capture couldn't be begun or written, and gives the exit status.
 pub(crate) fn unmade<E: Write>(alloc: Global, error: &io::Error, path: &str, errors: &mut E) -> u8
     ensures { result ≡ 1 }
 {
     let fault = match error.kind() {
         ErrorKind::OutOfMemory => Fault::NoMemory,
+        ErrorKind::AlreadyExists => Fault::of_file(alloc, Refusal::Exists, path, None),
         cause => Fault::of_file(alloc, Refusal::NotWritten, path, Some(cause)),
     };
     fault.tell(errors)

@@ -4,3 +4,4 @@ pub mod Halves
 pub mod Scene
 pub mod Runs
 pub mod Status
+pub mod Texts

@@ -1,8 +1,10 @@
 //! What an event gave.
 ghost use Rattle.std.specs.Prelude.{◌≡◌};
+ghost use Rattle.frame_sim.specs.Texts.{refusal_text};
 
 use gateway::{Out, Outcome};
 use nat_types::NoMemory;
+use printing::RefusalText;
 use std::alloc::AllocError;
 use thiserror::Error;
 
@@ -18,6 +20,22 @@ pub enum WorldFault {
     /// A growth was refused.
     #[error("3 NoMemory")]
     NoMemory,
+}
+
+impl RefusalText for WorldFault {
+    ghost use Rattle.frame_sim.specs.Texts.{refusal_text};
+
+    ghost text = { refusal_text };
+
+    fn text(&self) -> &str
+        ensures { result.now ≡ refusal_text self.now }
+    {
+        match self {
+            WorldFault::PremiseBroken => "1 PremiseBroken",
+            WorldFault::NoSuchDatagram => "2 NoSuchDatagram",
+            WorldFault::NoMemory => "3 NoMemory",
+        }
+    }
 }
 
 impl From<AllocError> for WorldFault {

@@ -1,4 +1,8 @@
 //! Prints the tables of a world.
+ghost use Rattle.std.specs.Prelude.{◌≡◌};
+ghost use Rattle.printing.specs.Printed.{Prints};
+ghost use Rattle.frame_sim.specs.Texts.{gateway_lines, standing_of, world_lines};
+ghost use Rattle.frame_sim.specs.World.{gateway_at};
 
 use crate::World;
 use faults::PrintFault;
@@ -11,17 +15,29 @@ impl World<'_> {
     ///
     /// # Errors
     ///
-    /// Where output is refused, or memory is.
-    pub fn tables<O: Write>(&self, output: &mut O) -> Result<(), PrintFault> {
-        for id in [GatewayId::Zero, GatewayId::One] {
-            let (ports, pairs) = (self.owned(id)?, self.table(id)?);
-            let (ports, pairs) = (ports.as_slice(), pairs.as_slice());
-            table(output, id, self.standing(id), ports, pairs)?;
-        }
+    /// Where output is refused, or memory is: a beginning of the lines is written.
+    pub fn tables<O: Write>(&self, output: &mut O) -> Result<(), PrintFault>
+        ensures { Prints (O.contents output.old) result (O.contents output.new)
+            (world_lines self.now) }
+    {
+        self.print_table(output, GatewayId::Zero)?;
+        self.print_table(output, GatewayId::One)
+    }
+
+    /// Prints how a gateway stands.
+    fn print_table<O: Write>(&self, output: &mut O, id: GatewayId) -> Result<(), PrintFault>
+        ensures { Prints (O.contents output.old) result (O.contents output.new)
+            (gateway_lines self.now id) }
+    {
+        let (ports, pairs) = (self.owned(id)?, self.table(id)?);
+        let (ports, pairs) = (ports.as_slice(), pairs.as_slice());
+        table(output, id, self.standing(id), ports, pairs)?;
         Ok(())
     }
 
-    fn standing(&self, id: GatewayId) -> Standing {
+    fn standing(&self, id: GatewayId) -> Standing
+        ensures { result ≡ standing_of (gateway_at self.now id) }
+    {
         if !self.up(id) {
             Standing::Down
         } else if self.synced(id) {

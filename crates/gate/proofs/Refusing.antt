@@ -1,37 +1,90 @@
 -- Why a start is refused.
 use Rattle.std.proofs.Common.{Result, Ok, Err, IfErr}
 use Rattle.sockets.specs.declared.ways.Ways.{Ways}
-use Rattle.gate.specs.Faults.{IsOfNoWay, IsOfRun}
+use Rattle.gate.specs.Faults.{IsBeforeBoot, IsOfNoWay, IsOfRun, IsOfStart}
 use Rattle.gate.specs.Starts.{AreWays, Refuses}
 use Rattle.gate.specs.declared.refusals.BoxFault.{BoxFault}
 use Rattle.gate.specs.declared.refusals.BoxFault.TheVariants as fault
 use Rattle.gate.specs.declared.ways.WayTexts.{WayTexts}
 
--- a fault of a run is of no way
-run_of_no_way : (why : BoxFault) → IsOfRun why → IsOfNoWay why
-run_of_no_way (fault.Run reason) is = tt
-run_of_no_way (fault.NoWay side) is = absurd is
-run_of_no_way fault.NoWayOfLink is = absurd is
-run_of_no_way (fault.NoDescriptor reason) is = absurd is
-run_of_no_way fault.NoManager is = tt
-run_of_no_way (fault.NotOpen reason) is = tt
-run_of_no_way (fault.NoSocket reason) is = tt
-run_of_no_way (fault.NoControl path) is = tt
-run_of_no_way fault.LongPath is = tt
-run_of_no_way fault.Device is = tt
-run_of_no_way fault.Damaged is = tt
-run_of_no_way fault.BootsUsedUp is = tt
-run_of_no_way fault.FoundTwice is = tt
-run_of_no_way fault.InUse is = tt
-run_of_no_way (fault.NoFilter part) is = tt
-run_of_no_way (fault.PeerOff reason) is = tt
-run_of_no_way (fault.NoReport reason) is = tt
-run_of_no_way fault.NotSynced is = tt
+-- a fault of a run is one of a start
+run_of_start : (why : BoxFault) → IsOfRun why → IsOfStart why
+run_of_start (fault.Run reason) is = tt
+run_of_start (fault.NoWay side) is = absurd is
+run_of_start fault.NoWayOfLink is = absurd is
+run_of_start (fault.NoDescriptor reason) is = absurd is
+run_of_start fault.NoManager is = absurd is
+run_of_start (fault.NotOpen reason) is = absurd is
+run_of_start (fault.NoSocket reason) is = absurd is
+run_of_start (fault.NoControl path) is = absurd is
+run_of_start fault.LongPath is = absurd is
+run_of_start fault.Device is = absurd is
+run_of_start fault.Damaged is = absurd is
+run_of_start fault.BootsUsedUp is = absurd is
+run_of_start fault.FoundTwice is = absurd is
+run_of_start fault.InUse is = absurd is
+run_of_start (fault.NoFilter part) is = absurd is
+run_of_start (fault.NoCapture reason) is = absurd is
+run_of_start (fault.PeerOff reason) is = absurd is
+run_of_start (fault.NoReport reason) is = absurd is
+run_of_start fault.NotSynced is = absurd is
 
--- and what ends with one
-pub ends_of_no_way : {T : Type 0} (result : Result T BoxFault) → IfErr result IsOfRun → IfErr result IsOfNoWay
+-- which is of no way
+start_of_no_way : (why : BoxFault) → IsOfStart why → IsOfNoWay why
+start_of_no_way (fault.Run reason) is = tt
+start_of_no_way (fault.NoWay side) is = absurd is
+start_of_no_way fault.NoWayOfLink is = absurd is
+start_of_no_way (fault.NoDescriptor reason) is = absurd is
+start_of_no_way fault.NoManager is = absurd is
+start_of_no_way (fault.NotOpen reason) is = absurd is
+start_of_no_way (fault.NoSocket reason) is = absurd is
+start_of_no_way (fault.NoControl path) is = absurd is
+start_of_no_way fault.LongPath is = absurd is
+start_of_no_way fault.Device is = tt
+start_of_no_way fault.Damaged is = tt
+start_of_no_way fault.BootsUsedUp is = tt
+start_of_no_way fault.FoundTwice is = tt
+start_of_no_way fault.InUse is = absurd is
+start_of_no_way (fault.NoFilter part) is = absurd is
+start_of_no_way (fault.NoCapture reason) is = absurd is
+start_of_no_way (fault.PeerOff reason) is = absurd is
+start_of_no_way (fault.NoReport reason) is = absurd is
+start_of_no_way fault.NotSynced is = absurd is
+
+-- and of nothing before it
+not_before : {A : Type 0} (why : BoxFault) → IsOfStart why → IsBeforeBoot why → A
+not_before (fault.Run reason) is before = absurd before
+not_before (fault.NoWay side) is before = absurd is
+not_before fault.NoWayOfLink is before = absurd is
+not_before (fault.NoDescriptor reason) is before = absurd is
+not_before fault.NoManager is before = absurd is
+not_before (fault.NotOpen reason) is before = absurd is
+not_before (fault.NoSocket reason) is before = absurd is
+not_before (fault.NoControl path) is before = absurd is
+not_before fault.LongPath is before = absurd is
+not_before fault.Device is before = absurd before
+not_before fault.Damaged is before = absurd before
+not_before fault.BootsUsedUp is before = absurd before
+not_before fault.FoundTwice is before = absurd before
+not_before fault.InUse is before = absurd is
+not_before (fault.NoFilter part) is before = absurd is
+not_before (fault.NoCapture reason) is before = absurd is
+not_before (fault.PeerOff reason) is before = absurd is
+not_before (fault.NoReport reason) is before = absurd is
+not_before fault.NotSynced is before = absurd is
+
+-- and so does what ends with one
+pub ends_of_start : {T : Type 0} (result : Result T BoxFault) → IfErr result IsOfRun → IfErr result IsOfStart
+ends_of_start (Ok x) is = tt
+ends_of_start (Err why) is = run_of_start why is
+
+pub ends_of_no_way : {T : Type 0} (result : Result T BoxFault) → IfErr result IsOfStart → IfErr result IsOfNoWay
 ends_of_no_way (Ok x) is = tt
-ends_of_no_way (Err why) is = run_of_no_way why is
+ends_of_no_way (Err why) is = start_of_no_way why is
+
+pub ends_behind : {T : Type 0} (A : Type 0) (result : Result T BoxFault) → IfErr result IsOfStart → IfErr result (λ why. IsBeforeBoot why → A)
+ends_behind A (Ok x) is = tt
+ends_behind A (Err why) is = not_before why is
 
 -- where the ways are written, a fault of none refuses
 of_no_way : (texts : WayTexts) (ways : Ways) (why : BoxFault) → AreWays texts ways → IsOfNoWay why → Refuses texts why
@@ -50,6 +103,7 @@ of_no_way texts ways fault.BootsUsedUp written is = record { ways = ways; writte
 of_no_way texts ways fault.FoundTwice written is = record { ways = ways; written = written }
 of_no_way texts ways fault.InUse written is = record { ways = ways; written = written }
 of_no_way texts ways (fault.NoFilter part) written is = record { ways = ways; written = written }
+of_no_way texts ways (fault.NoCapture reason) written is = record { ways = ways; written = written }
 of_no_way texts ways (fault.PeerOff reason) written is = record { ways = ways; written = written }
 of_no_way texts ways (fault.NoReport reason) written is = record { ways = ways; written = written }
 of_no_way texts ways fault.NotSynced written is = record { ways = ways; written = written }

@@ -7,7 +7,7 @@ use Rattle.spec_step.specs.Shown.{Shown}
 use Rattle.sockets.specs.Letters.{Polled}
 use Rattle.rounds.specs.Rounds.{AreRounds, Box, IsRound, IsRun, Reads, box, most_rounds}
 use Rattle.gate.specs.Boots.{HasStarted}
-use Rattle.gate.specs.Served.{AreHeld, HasRounds, HasRun, HasServed, any_reading}
+use Rattle.gate.specs.Served.{AreHeld, HadRounds, HasRounds, HasRun, HasServed, any_reading}
 
 -- a round by one clock is one by any
 any_round : {C : Type 0} (track : Bool) (reads : Reads C) (b : Box) (c : C) (b2 : Box) (c2 : C) → IsRound track reads b c b2 c2 → IsRound track any_reading b tt b2 tt
@@ -73,6 +73,22 @@ has_run (Ok x) settings id rounds found track until_eof before between after sta
   ended = ended;
 }
 has_run (Err e) settings id rounds found track until_eof before between after start last heard answers started none had ended = tt
+
+-- the same, whatever the wire has answered by then
+pub had_run : {T E : Type 0} (r : Result T E) (settings : Settings) (id : GatewayId) (rounds : Option ℕ) (found track until_eof : Bool)
+    (before between after : Option (List ℕ)) (start last : Shown) (heard : List Polled)
+    → HasStarted settings id found before between start → heard ≡ []
+    → OnOk r (HadRounds rounds track until_eof start heard last) → OnOk r (Appends between after (codes "end\n"))
+    → OnOk r (HasRun settings id rounds found track until_eof before after)
+had_run {E = E} (Ok x) settings id rounds found track until_eof before between after start last heard started none had ended =
+    has_run {E = E} (Ok x) settings id rounds found track until_eof before between after start last heard had.0 started none had.1 ended
+had_run (Err e) settings id rounds found track until_eof before between after start last heard started none had ended = tt
+
+-- rounds after which the wire has answered this
+pub had_of : {T E : Type 0} (r : Result T E) (rounds : Option ℕ) (track until_eof : Bool) (g : Shown) (answers : List Polled) (g2 : Shown) (answers2 : List Polled)
+    → HasRounds rounds track until_eof g answers g2 answers2 → OnOk r (HadRounds rounds track until_eof g answers g2)
+had_of (Ok x) rounds track until_eof g answers g2 answers2 had = (answers2, had)
+had_of (Err e) rounds track until_eof g answers g2 answers2 had = tt
 
 -- with the settings of a text
 pub has_served : {T E : Type 0} (r : Result T E) (settings : Settings) (id : GatewayId) (rounds : Option ℕ) (found track until_eof : Bool)

@@ -1,3 +1,4 @@
+pub mod Asked
 pub mod Boots
 pub mod Faults
 pub mod Served

@@ -26,6 +26,10 @@ pub record HasRounds (rounds : Option ℕ) (track until_eof : Bool) (g : Shown) 
   pub left_out : ℕ
   pub had : IsRun track any_reading (most_rounds rounds) (IsTrue until_eof) (box g answers 0 false) tt g2 answers2 left_out tt
 
+-- the same, whatever the wire has answered by then
+abbrev pub HadRounds : Option ℕ → Bool → Bool → Shown → List Polled → Shown → Type 0
+HadRounds rounds track until_eof g answers g2 = (answers2 : List Polled) × HasRounds rounds track until_eof g answers g2 answers2
+
 -- With these settings the gateway of this id starts, in some boot, whose line is printed; it has its rounds, with a wire
 -- that hasn't answered before; and `end` is printed. There are such a boot, answers and events left out: nothing says which.
 pub record HasRun (settings : Settings) (id : GatewayId) (rounds : Option ℕ) (found track until_eof : Bool) (before after : Option (List ℕ)) : Type 0

@@ -27,8 +27,8 @@ LackWay texts fault.NoWayOfLink =
 LackWay texts other = ⊥
 
 -- A start is refused for a way only by the first text that writes none. Each fault behind that one in the order, so that
--- of a descriptor, a path, a lock, a socket and a boot number, comes only where all three write ways; a descriptor is one of
--- theirs.
+-- of a descriptor, a path, a lock, a socket, a capture and a boot number, comes only where all three write ways; a
+-- descriptor is one of theirs.
 abbrev pub Refuses : WayTexts → BoxFault → Type 0
 Refuses texts (fault.Run why) = Unit {0}
 Refuses texts (fault.NoWay side) = LackWay texts (fault.NoWay side)

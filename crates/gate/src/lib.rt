@@ -2,6 +2,7 @@
 #![tactic(auto)]
 
 mod asking;
+mod capturing;
 mod ends;
 mod refusals;
 mod running;

@@ -1,6 +1,7 @@
 //! Why a box ends without its work done.
 ghost use Rattle.std.specs.Prelude.{◌≡◌};
-ghost use Rattle.gate.specs.Faults.{IsOfBootFile, IsOfFilter, IsOfNoWay, IsOfRun, IsOfSocket};
+ghost use Rattle.faults.specs.Faults.{IsOfFile};
+ghost use Rattle.gate.specs.Faults.{IsOfCapture, IsOfFilter, IsOfNoWay, IsOfSocket, TellsBootFile};
 
 use crate::ends::Refused;
 use boot_file::FileFault;
@@ -66,6 +67,9 @@ pub(crate) enum BoxFault {
     /// This part of what is to choose the lines is no directive.
     #[error("log 1 NoFilter {0}")]
     NoFilter(String),
+    /// The file of a capture can't be opened, or has something that is none.
+    #[error("{0}")]
+    NoCapture(Fault),
     /// The box doesn't take the word that a boot of the other is off.
     #[error("{0}")]
     PeerOff(Explained),
@@ -121,7 +125,7 @@ impl BoxFault {
 
     /// Of a boot file that can't be had.
     pub(crate) fn of_boot_file(alloc: Global, path: &str, fault: FileFault) -> BoxFault
-        ensures kind { IsOfBootFile result }
+        ensures told { TellsBootFile fault result }
         ensures no_way { IsOfNoWay result }
     {
         let (refusal, cause) = match fault {
@@ -135,24 +139,32 @@ impl BoxFault {
         BoxFault::Run(Fault::of_file(alloc, refusal, path, cause))
     }
 
-    /// Of the file of a capture that can't be made or written.
-    pub(crate) fn of_capture(alloc: Global, path: &str, error: &io::Error) -> BoxFault
-        ensures kind { IsOfRun result }
+    /// Of the file of a capture that can't be opened, or has something that is none.
+    pub(crate) fn no_capture(alloc: Global, path: &str, error: &io::Error) -> BoxFault
+        ensures kind { IsOfCapture result }
         ensures no_way { IsOfNoWay result }
     {
-        match error.kind() {
-            ErrorKind::OutOfMemory => BoxFault::Run(Fault::NoMemory),
-            cause => BoxFault::Run(Fault::of_file(alloc, Refusal::NotWritten, path, Some(cause))),
-        }
+        BoxFault::NoCapture(of_capture(alloc, path, error))
     }
 
     /// Tells of the fault on a line behind `natpair: `, and gives its exit status. Where even that
     /// can't be written, the status alone tells.
-    pub(crate) fn tell<E: Write>(&self, errors: &mut E) -> u8
+    pub(crate) fn tell<E: Write>(self, errors: &mut E) -> u8
         ensures { result ≡ 1 }
     {
         let _ = writeln!(errors, "natpair: {self}");
         1
+    }
+}
+
+/// Why a capture can't be begun in the file at a path.
+pub(crate) fn of_capture(alloc: Global, path: &str, error: &io::Error) -> Fault
+    ensures { IsOfFile result }
+{
+    match error.kind() {
+        ErrorKind::OutOfMemory => Fault::NoMemory,
+        ErrorKind::AlreadyExists => Fault::of_file(alloc, Refusal::Exists, path, None),
+        cause => Fault::of_file(alloc, Refusal::NotWritten, path, Some(cause)),
     }
 }
 

@@ -1,13 +1,17 @@
 //! What is done at a box: its boot file and its rounds.
-ghost use Rattle.std.specs.Prelude.{◌≡◌, ◌⊎◌, ◌<◌, ◌↔◌, [], IfErr, IfOk, IsTrue, Ok, OnOk, codes};
+ghost use Rattle.std.specs.Prelude.{◌≡◌, ◌⊎◌, ◌<◌, ◌↔◌, [], IfErr, IfOk, IsTrue, None, Ok, OnOk, Some, codes};
 ghost use Rattle.std.specs.Io.KnownBytes.{Appends};
 ghost use Rattle.nat_types.specs.declared.gateways.GatewayId.TheVariants.{Zero};
 ghost use Rattle.boot_store.specs.Crash.{Decides, Keeps, Rises, Since};
+ghost use Rattle.settings_file.specs.Clashes.{clash_of_one};
+ghost use Rattle.settings_file.specs.declared.keys.Key.{Key};
+ghost use Rattle.gate.specs.Asked.{IsManagerOf, is_loopback, on_loopback};
 ghost use Rattle.gate.specs.Boots.{HasBoot, HasStarted, IsStart, boot_line};
-ghost use Rattle.gate.specs.Faults.{IsOfFilter, IsOfNoWay, IsOfRun};
-ghost use Rattle.gate.specs.Served.{AreHeld, HasRounds, HasRun, HasServed};
+ghost use Rattle.gate.specs.Faults.{IsBeforeBoot, IsOfFilter, IsOfNoWay, IsOfRun, IsOfStart, of_clash};
+ghost use Rattle.gate.specs.Served.{AreHeld, HadRounds, HasRounds, HasRun, HasServed};
 ghost use Rattle.gate.specs.Starts.{Refuses};
 
+use crate::capturing::{CaptureAt, capture_at};
 use crate::ends::refused_end;
 use crate::refusals::BoxFault;
 use crate::saying::control_path;
@@ -34,7 +38,7 @@ use std::os::fd::AsRawFd;
 use std::random::RandomSource;
 use std::rt::{Clock, Env};
 use supervision::{Manager, Supervisor};
-use tap::{CaptureFile, Reel, SinceFirst, Tapped};
+use tap::{SinceFirst, Tapped};
 
 /// Makes the boot file of a box. The answer is the exit status: 0, or 1 for a fault, which is told
 /// on `errors`.
@@ -101,8 +105,8 @@ where
 /// Faults are found in this order: the settings' file, the settings, the ways, their descriptors, the service manager's
 /// descriptor, ports of the loopback address that can't be had together, the control socket's path, the boot file and its
 /// lock, the control socket, the sockets, the filter of the records, the file of the capture, the seed of the table's
-/// hashers, the boot number. So a start that is refused for one of the others takes no number, and one on a box that runs
-/// already touches none of its sockets.
+/// hashers, the boot number, the head of the capture. So a start that is refused for one of those before takes no number, one
+/// on a box that runs already touches none of its sockets, and only where all else is had a file loses what it has.
 fn served<R: Files + Net + Clock + RandomSource + Eprint + Env + Input + AllocGlobal, O: Write>(
     rt: &R,
     start: &Start<'_>,
@@ -116,9 +120,28 @@ where
     ensures err { IfErr result (Refuses start.now.ways) }
 {
     let settings = settings_at(rt, start.settings)?;
+    let ended = reached(rt, start, &settings, output);
+    drop(settings);
+    ended
+}
+
+/// Reads the ways of the places, and takes over their descriptors.
+fn reached<R: Files + Net + Clock + RandomSource + Eprint + Env + Input + AllocGlobal, O: Write>(
+    rt: &R,
+    start: &Start<'_>,
+    settings: &Settings,
+    output: &mut O,
+) -> Result<(), BoxFault>
+where
+    R::File: Blocks + Lockable + AsRawFd,
+    requires found { IsTrue start.now.found → start.now.id ≡ Zero }
+    ensures ok { OnOk result (HasRun settings.now start.now.id start.now.rounds start.now.found
+        start.now.track start.now.until_eof (O.contents output.old) (O.contents output.new)) }
+    ensures err { IfErr result (Refuses start.now.ways) }
+{
     let ways = ways_of(start.ways)?;
     ways.inherit()?;
-    watched(rt, start, &settings, &ways, output)
+    watched(rt, start, settings, &ways, output)
 }
 
 /// Takes over the service manager's descriptor, and looks whether the ports of the places on loopback can be had together.
@@ -143,6 +166,7 @@ where
 
 /// The service manager whose descriptor a text writes, if there is one.
 fn manager_of(text: Option<&str>) -> Result<Option<Manager>, BoxFault>
+    ensures ok { IfOk result (IsManagerOf text.entry) }
     ensures err { IfErr result IsOfNoWay }
 {
     let Some(text) = text else {
@@ -157,12 +181,15 @@ fn manager_of(text: Option<&str>) -> Result<Option<Manager>, BoxFault>
 
 /// Looks whether the ports of the places that are on loopback can be had together.
 fn without_clash(settings: &Settings, id: GatewayId, ways: &Ways) -> Result<(), BoxFault>
+    ensures ok { OnOk result (clash_of_one settings.now id (on_loopback ways.now) ≡ None) }
+    ensures told { IfErr result (λ why. (key : Key)
+        × (clash_of_one settings.now id (on_loopback ways.now) ≡ Some key) × (why ≡ of_clash key)) }
     ensures err { IfErr result IsOfNoWay }
 {
     let on = OnLoopback {
-        inside: ways.inside == Way::Loopback,
-        outside: ways.outside == Way::Loopback,
-        link: ways.link == Way::Loopback,
+        inside: is_loopback(ways.inside),
+        outside: is_loopback(ways.outside),
+        link: is_loopback(ways.link),
     };
     match port_clash(settings, id, on) {
         Some(key) => {
@@ -170,6 +197,16 @@ fn without_clash(settings: &Settings, id: GatewayId, ways: &Ways) -> Result<(), 
             Err(BoxFault::Run(Fault::Setting(fault)))
         }
         None => Ok(()),
+    }
+}
+
+/// Whether a place is on loopback.
+fn is_loopback(way: Way) -> bool
+    ensures { result ≡ is_loopback way }
+{
+    match way {
+        Way::Loopback => true,
+        Way::Udp(_) | Way::Vxlan(_, _) | Way::Descriptor(_) => false,
     }
 }
 
@@ -197,7 +234,8 @@ where
     }
 }
 
-/// Opens the control socket, the sockets that the ways need, and the file of the capture.
+/// Opens the control socket, and the sockets that the ways need. Nothing is asked of the disk before all is had that comes
+/// before its number.
 fn connected<
     R: Files + Net + Clock + RandomSource + Eprint + Env + Input + AllocGlobal,
     D: Disk,
@@ -218,25 +256,86 @@ where
     ensures ok { OnOk result (HasRun settings.now start.now.id start.now.rounds start.now.found
         start.now.track start.now.until_eof (O.contents output.old) (O.contents output.new)) }
     ensures err { IfErr result IsOfNoWay }
+    ensures untouched { IfErr result (λ why. IsBeforeBoot why → disk.new ≡ disk.old) }
 {
     let Ok(control) = Control::open(rt, path) else {
         let boot_file = settings.gateway(start.id).boot_file.as_str();
         return Err(BoxFault::no_control(rt.alloc(), boot_file));
     };
     let ports = ports_of(settings, start.id);
-    let mut wire = match Sockets::open(rt, rt.alloc(), ways, ports, control) {
-        Ok(wire) => wire,
-        Err(SocketFault::NoMemory) => return Err(BoxFault::from(NoMemory)),
-        Err(SocketFault::NoSocket) => return Err(BoxFault::NoSocket(refused_end(rt, ways, ports))),
-    };
-    let log = log_of(rt, start.log, start.format)?;
-    match start.capture {
-        Some(file) => tapped(rt, start, settings, manager, disk, file, wire, output, &log),
-        None => run(rt, start, settings, manager, disk, &mut wire, output, &log),
+    match Sockets::open(rt, rt.alloc(), ways, ports, control) {
+        Ok(wire) => logged(rt, start, settings, manager, disk, wire, output),
+        Err(SocketFault::NoMemory) => Err(BoxFault::from(NoMemory)),
+        Err(SocketFault::NoSocket) => Err(BoxFault::NoSocket(refused_end(rt, ways, ports))),
     }
 }
 
-/// Runs the gateway on a wire whose packets are captured in a file. At the end a record says how many were left out.
+/// Reads the filter of the records.
+fn logged<
+    R: Files + Clock + RandomSource + Eprint + Env + Input + AllocGlobal,
+    D: Disk,
+    W: Wire + Drop,
+    O: Write,
+>(
+    rt: &R,
+    start: &Start<'_>,
+    settings: &Settings,
+    manager: &Option<Manager>,
+    disk: &mut D,
+    wire: W,
+    output: &mut O,
+) -> Result<(), BoxFault>
+where
+    R::File: AsRawFd,
+    requires found { IsTrue start.now.found → start.now.id ≡ Zero }
+    requires unasked { W.answers wire ≡ [] }
+    ensures ok { OnOk result (HasRun settings.now start.now.id start.now.rounds start.now.found
+        start.now.track start.now.until_eof (O.contents output.old) (O.contents output.new)) }
+    ensures err { IfErr result IsOfNoWay }
+    ensures untouched { IfErr result (λ why. IsBeforeBoot why → disk.new ≡ disk.old) }
+{
+    let log = log_of(rt, start.log, start.format)?;
+    let ended = captured(rt, start, settings, manager, disk, wire, output, &log);
+    drop(log);
+    ended
+}
+
+/// Opens the file of a capture, where there is to be one, and runs the gateway.
+fn captured<
+    R: Files + Clock + RandomSource + Input + AllocGlobal,
+    D: Disk,
+    W: Wire + Drop,
+    O: Write,
+    L: Journal,
+>(
+    rt: &R,
+    start: &Start<'_>,
+    settings: &Settings,
+    manager: &Option<Manager>,
+    disk: &mut D,
+    mut wire: W,
+    output: &mut O,
+    log: &L,
+) -> Result<(), BoxFault>
+where
+    R::File: AsRawFd,
+    requires found { IsTrue start.now.found → start.now.id ≡ Zero }
+    requires unasked { W.answers wire ≡ [] }
+    ensures ok { OnOk result (HasRun settings.now start.now.id start.now.rounds start.now.found
+        start.now.track start.now.until_eof (O.contents output.old) (O.contents output.new)) }
+    ensures err { IfErr result IsOfNoWay }
+    ensures untouched { IfErr result (λ why. IsBeforeBoot why → disk.new ≡ disk.old) }
+{
+    match capture_at(rt, start.capture)? {
+        Some(capture) => tapped(
+            rt, start, settings, manager, disk, capture, wire, output, log,
+        ),
+        None => run(rt, start, settings, manager, disk, &mut wire, output, log),
+    }
+}
+
+/// Starts the gateway and runs its rounds, on a wire that wasn't asked yet and whose packets are captured in a file. The
+/// capture is begun once the boot number is taken.
 fn tapped<
     R: Files + Clock + RandomSource + Input + AllocGlobal,
     D: Disk,
@@ -249,7 +348,7 @@ fn tapped<
     settings: &Settings,
     manager: &Option<Manager>,
     disk: &mut D,
-    file: &str,
+    capture: CaptureAt<'_, R::File>,
     wire: W,
     output: &mut O,
     log: &L,
@@ -260,36 +359,56 @@ where
     requires unasked { W.answers wire ≡ [] }
     ensures ok { OnOk result (HasRun settings.now start.now.id start.now.rounds start.now.found
         start.now.track start.now.until_eof (O.contents output.old) (O.contents output.new)) }
-    ensures err { IfErr result IsOfNoWay }
+    ensures err { IfErr result IsOfStart }
 {
-    let reel = reel_at(rt, file)?;
+    let (identity, mut gateway) = started(rt, disk, settings, start.id, start.found, output, log)?;
+    let ended = tapped_rounds(
+        rt,
+        &mut gateway,
+        wire,
+        capture,
+        start,
+        identity,
+        manager,
+        output,
+        log,
+    );
+    gateway.end();
+    ended
+}
+
+/// Begins a capture in its file, and runs a gateway as `rounds_of` does. At the end a record says how many packets were left
+/// out.
+fn tapped_rounds<R: Files + Clock + Input + AllocGlobal, W: Wire + Drop, O: Write, L: Journal>(
+    rt: &R,
+    gateway: &mut Gateway,
+    wire: W,
+    capture: CaptureAt<'_, R::File>,
+    start: &Start<'_>,
+    identity: Identity,
+    manager: &Option<Manager>,
+    output: &mut O,
+    log: &L,
+) -> Result<(), BoxFault>
+where
+    R::File: AsRawFd,
+    ensures rounds { OnOk result (HadRounds start.now.rounds start.now.track start.now.until_eof
+        gateway.old (W.answers wire) gateway.new) }
+    ensures ended { OnOk result
+        (Appends (O.contents output.old) (O.contents output.new) (codes "end\n")) }
+    ensures err { IfErr result IsOfRun }
+{
+    let reel = capture.begin(rt.alloc())?;
     let mut wire = Tapped::new(wire, start.id, SinceFirst::new(rt), reel);
-    let ended = run(rt, start, settings, manager, disk, &mut wire, output, log);
+    let ended = rounds_of(
+        rt, gateway, &mut wire, start, identity, manager, output, log,
+    );
     wire.end();
     let packets = wire.left_out();
     if 0 < packets {
         warn!(log; target: "natpair::capture", packets; "capture left out {packets} packets");
     }
     ended
-}
-
-/// A capture that is begun in the file at a path.
-fn reel_at<R: Files + AllocGlobal>(
-    rt: &R,
-    path: &str,
-) -> Result<Reel<CaptureFile<R::File>>, BoxFault>
-where
-    R::File: AsRawFd,
-    ensures err { IfErr result IsOfNoWay }
-{
-    let begun = match tap::open(rt, path) {
-        Ok(file) => Reel::begin(rt.alloc(), file),
-        Err(error) => Err(error),
-    };
-    match begun {
-        Ok(reel) => Ok(reel),
-        Err(error) => Err(BoxFault::of_capture(rt.alloc(), path, &error)),
-    }
 }
 
 /// The box's records, on the standard error.
@@ -346,16 +465,9 @@ fn run<R: Clock + RandomSource + Input + AllocGlobal, D: Disk, W: Wire, O: Write
     requires unasked { W.answers wire.old ≡ [] }
     ensures ok { OnOk result (HasRun settings.now start.now.id start.now.rounds start.now.found
         start.now.track start.now.until_eof (O.contents output.old) (O.contents output.new)) }
-    ensures err { IfErr result IsOfNoWay }
+    ensures err { IfErr result IsOfStart }
 {
-    let digest = digest(rt.alloc(), settings)?;
-    let (boot, mut gateway) = started(rt, disk, settings, start.id, start.found, output, log)?;
-    manager.ready(boot);
-    let identity = Identity {
-        id: start.id,
-        boot,
-        digest,
-    };
+    let (identity, mut gateway) = started(rt, disk, settings, start.id, start.found, output, log)?;
     let ended = rounds_of(
         rt,
         &mut gateway,
@@ -370,7 +482,8 @@ fn run<R: Clock + RandomSource + Input + AllocGlobal, D: Disk, W: Wire, O: Write
     ended
 }
 
-/// Runs a gateway until it is told to end, or has had its rounds. After an Err it was run too, and `end` isn't written.
+/// Runs a gateway until it is told to end, or has had its rounds. Its manager hears first that it is up. After an Err it was
+/// run too, and `end` isn't written.
 fn rounds_of<R: Clock + Input + AllocGlobal, W: Wire, O: Write, L: Journal>(
     rt: &R,
     gateway: &mut Gateway,
@@ -387,6 +500,7 @@ fn rounds_of<R: Clock + Input + AllocGlobal, W: Wire, O: Write, L: Journal>(
         (Appends (O.contents output.old) (O.contents output.new) (codes "end\n")) }
     ensures err { IfErr result IsOfRun }
 {
+    manager.ready(identity.boot);
     let mut clock = Stopwatch::start(rt);
     let until = InputEnd::new(rt, start.until_eof);
     serve(
@@ -417,7 +531,7 @@ fn drawn<R: RandomSource>(rt: &R) -> Result<Hashers, BoxFault>
 }
 
 /// A gateway in the next boot of its disk, whose number is printed before anything is sent, and is the first record. Its
-/// seed is drawn first, so that a start without one takes no number.
+/// seed is drawn first, so that a start without one takes no number. The answer has who the box is.
 fn started<R: RandomSource + AllocGlobal, D: Disk, O: Write, L: Log>(
     rt: &R,
     disk: &mut D,
@@ -426,18 +540,19 @@ fn started<R: RandomSource + AllocGlobal, D: Disk, O: Write, L: Log>(
     found: bool,
     output: &mut O,
     log: &L,
-) -> Result<(u64, Gateway), BoxFault>
+) -> Result<(Identity, Gateway), BoxFault>
     requires found { IsTrue found → id ≡ Zero }
     ensures start { IfOk result (λ begun. HasStarted settings.now id found
         (O.contents output.old) (O.contents output.new) begun.1) }
-    ensures err { IfErr result IsOfNoWay }
+    ensures err { IfErr result IsOfStart }
 {
+    let digest = digest(rt.alloc(), settings)?;
     let hashers = drawn(rt)?;
     let (boot, gateway) = booted(rt.alloc(), disk, settings, id, found, hashers)?;
     match announced(output, boot) {
         Ok(()) => {
             tell(log, 0, Entry::Boot(boot));
-            Ok((boot, gateway))
+            Ok((Identity { id, boot, digest }, gateway))
         }
         Err(fault) => {
             gateway.end();
@@ -471,7 +586,7 @@ fn booted<D: Disk>(
     ensures begins { IfOk result (λ start. IsStart settings.now id found start.0 start.1) }
     ensures own { IfOk result (λ start. HasBoot start.0 start.1) }
     ensures above_zero { IfOk result (λ start. 0 < start.0) }
-    ensures err { IfErr result IsOfNoWay }
+    ensures err { IfErr result IsOfStart }
     ensures rises { D.honest disk.old
         → IfOk result (λ start. Rises (D.now disk.old) (D.now disk.new) (Ok start.0)) }
     ensures decided { D.honest disk.old

@@ -1,3 +1,5 @@
 pub mod Turns
+pub mod Texts
+pub mod Runs
 pub mod Loops
 pub mod Stops

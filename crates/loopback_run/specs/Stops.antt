@@ -1,5 +1,5 @@
 -- What a run through a passage leaves where a fault ends it.
-use Rattle.std.specs.Prelude.{◌≡◌, ◌⊎◌, ◌<◌, ℕ, List, None, take}
+use Rattle.std.specs.Prelude.{◌≡◌, ◌⊎◌, ◌<◌, ℕ, List, Option, None, take}
 use Rattle.settings.specs.declared.whole.Settings.{Settings}
 use Rattle.nat_types.specs.declared.events.WorldEvent.{WorldEvent}
 use Rattle.loopback.specs.declared.ports.PortFault.{PortFault}
@@ -10,6 +10,8 @@ use Rattle.faults.specs.declared.faults.Fault.TheVariants.{Setting, BadLine, Not
 use Rattle.scripts.specs.Script.{first_bad_line}
 use Rattle.faults.specs.declared.jobs.Job.{Job}
 use Rattle.faults.specs.Jobs.{IsJobOf}
+use Rattle.printing.specs.Printed.{IsBegun}
+use Rattle.loopback_run.specs.Texts.{loop_lines}
 use Rattle.loopback_run.specs.Turns.{AreTurns, Passes, Turn}
 use Rattle.loopback_run.specs.Loops.{TellsLoop}
 
@@ -17,35 +19,44 @@ use Rattle.loopback_run.specs.Loops.{TellsLoop}
 abbrev pub Untouched : {P O : Type 0} → P → P → O → O → Type 0
 Untouched before after output printed = (after ≡ before) × (printed ≡ output)
 
+-- what an output holds, where that is known
+abbrev pub Contents : Type 0 → Type 0
+Contents O = O → Option (List ℕ)
+
 -- ---- events that run
 
--- some of these events have had their turns, in order from the first: that one at least, where there is one
-pub record HaveBegun {P : Type 0} (passes : Passes P) (w : World) (p : P) (es : List WorldEvent) (p2 : P) : Type 0 where
+-- some of these events have had their turns, in order from the first: that one at least, where there is one; and a beginning
+-- of their text was printed
+pub record HaveBegun {P : Type 0} (passes : Passes P) (w : World) (p : P) (es : List WorldEvent) (p2 : P) (output printed : Option (List ℕ)) : Type 0 where
   pub count : ℕ
   pub some : 0 < count
   pub turns : List Turn
   pub world : World
   pub taken : AreTurns passes w p (take count es) turns world p2
+  pub text : IsBegun output printed (loop_lines (take count es) turns world)
 
 -- all of them have
-pub record HaveEnded {P : Type 0} (passes : Passes P) (w : World) (p : P) (es : List WorldEvent) (p2 : P) : Type 0 where
+pub record HaveEnded {P : Type 0} (passes : Passes P) (w : World) (p : P) (es : List WorldEvent) (p2 : P) (output printed : Option (List ℕ)) : Type 0 where
   pub turns : List Turn
   pub world : World
   pub taken : AreTurns passes w p es turns world p2
+  pub text : IsBegun output printed (loop_lines es turns world)
 
 -- how far events have come from one world where a fault ends their run: output is refused after the first turn at the
 -- earliest, and memory, which the tables want, after the last
-abbrev pub Stops : {P : Type 0} → Passes P → World → P → List WorldEvent → P → Fault → Type 0
-Stops passes w p es p2 NotWritten = HaveBegun passes w p es p2
-Stops passes w p es p2 NoMemory = HaveEnded passes w p es p2
-Stops passes w p es p2 others = ⊥
+abbrev pub Stops : {P : Type 0} → Passes P → World → P → List WorldEvent → P → Option (List ℕ) → Option (List ℕ) → Fault → Type 0
+Stops passes w p es p2 output printed NotWritten = HaveBegun passes w p es p2 output printed
+Stops passes w p es p2 output printed NoMemory = HaveEnded passes w p es p2 output printed
+Stops passes w p es p2 output printed others = ⊥
 
 -- the same on a new world of these settings; for want of memory there may be none, and then nothing is touched
-abbrev pub StopsLoop : {P O : Type 0} → Passes P → Settings → List WorldEvent → P → P → O → O → Fault → Type 0
-StopsLoop passes settings events before after output printed NotWritten = HaveBegun passes (founding settings) before events after
-StopsLoop passes settings events before after output printed NoMemory =
-    Untouched before after output printed ⊎ HaveEnded passes (founding settings) before events after
-StopsLoop passes settings events before after output printed others = ⊥
+abbrev pub StopsLoop : {P O : Type 0} → Passes P → Contents O → Settings → List WorldEvent → P → P → O → O → Fault → Type 0
+StopsLoop passes contents settings events before after output printed NotWritten =
+    HaveBegun passes (founding settings) before events after (contents output) (contents printed)
+StopsLoop passes contents settings events before after output printed NoMemory =
+    Untouched before after output printed
+    ⊎ HaveEnded passes (founding settings) before events after (contents output) (contents printed)
+StopsLoop passes contents settings events before after output printed others = ⊥
 
 -- ---- a script's run
 
@@ -69,29 +80,29 @@ pub record IsRefused {P O : Type 0} (refuses : Refuses P) (text script : List �
   pub unwritten : printed ≡ output
 
 -- both texts are good, the passage got its ports, and then this fault ended the run
-pub record IsStopped {P O : Type 0} (opens : Opens P) (passes : Passes P) (text script : List ℕ) (before after : P) (output printed : O) (fault : Fault) : Type 0 where
+pub record IsStopped {P O : Type 0} (opens : Opens P) (passes : Passes P) (contents : Contents O) (text script : List ℕ) (before after : P) (output printed : O) (fault : Fault) : Type 0 where
   pub texts : HoldJob text script
   pub open_passage : P
   pub opened : opens before texts.job.settings open_passage
-  pub stopped : StopsLoop passes texts.job.settings texts.job.events.items open_passage after output printed fault
+  pub stopped : StopsLoop passes contents texts.job.settings texts.job.events.items open_passage after output printed fault
 
 -- What a fault leaves: one of the texts nothing touched, one of a port the passage refused and the output as it was, and
 -- refused output a run that has begun. Memory may be wanted at each of these.
-abbrev pub Leaves : {P O : Type 0} → Opens P → Refuses P → Passes P → List ℕ → List ℕ → P → P → O → O → Fault → Type 0
-Leaves opens refuses passes text script before after output printed (Setting fault) = Untouched before after output printed
-Leaves opens refuses passes text script before after output printed (BadLine n) = Untouched before after output printed
-Leaves opens refuses passes text script before after output printed (NoSocket port) =
+abbrev pub Leaves : {P O : Type 0} → Opens P → Refuses P → Passes P → Contents O → List ℕ → List ℕ → P → P → O → O → Fault → Type 0
+Leaves opens refuses passes contents text script before after output printed (Setting fault) = Untouched before after output printed
+Leaves opens refuses passes contents text script before after output printed (BadLine n) = Untouched before after output printed
+Leaves opens refuses passes contents text script before after output printed (NoSocket port) =
     IsRefused refuses text script before after output printed (ports.NoPort port)
-Leaves opens refuses passes text script before after output printed NotWritten =
-    IsStopped opens passes text script before after output printed NotWritten
-Leaves opens refuses passes text script before after output printed NoMemory =
+Leaves opens refuses passes contents text script before after output printed NotWritten =
+    IsStopped opens passes contents text script before after output printed NotWritten
+Leaves opens refuses passes contents text script before after output printed NoMemory =
     Untouched before after output printed
     ⊎ (IsRefused refuses text script before after output printed ports.NoMemory
-    ⊎ IsStopped opens passes text script before after output printed NoMemory)
-Leaves opens refuses passes text script before after output printed others = ⊥
+    ⊎ IsStopped opens passes contents text script before after output printed NoMemory)
+Leaves opens refuses passes contents text script before after output printed others = ⊥
 
 -- a fault ended the run: which, and what it leaves
-pub record FailsScript {P O : Type 0} (opens : Opens P) (refuses : Refuses P) (passes : Passes P) (text script : List ℕ) (before after : P) (output printed : O) : Type 0 where
+pub record FailsScript {P O : Type 0} (opens : Opens P) (refuses : Refuses P) (passes : Passes P) (contents : Contents O) (text script : List ℕ) (before after : P) (output printed : O) : Type 0 where
   pub fault : Fault
   pub told : TellsLoop text script fault
-  pub leaves : Leaves opens refuses passes text script before after output printed fault
+  pub leaves : Leaves opens refuses passes contents text script before after output printed fault

@@ -92,18 +92,6 @@ abbrev pub is_refusal : Option Step → Bool
 is_refusal None = false
 is_refusal (Some s) = is_err s.answer
 
--- these events have had their turns, and one was refused or none
-pub record HasTurned {P : Type 0} (passes : Passes P) (w : World) (p : P) (es : List WorldEvent) (w2 : World) (p2 : P) (refused : Bool) : Type 0 where
-  pub turns : List Turn
-  pub taken : AreTurns passes w p es turns w2 p2
-  pub refusals : refused ≡ has_refusal (steps_in turns)
-
--- the same, with the status
-pub record TakesTurns {P : Type 0} (passes : Passes P) (w : World) (p : P) (es : List WorldEvent) (w2 : World) (p2 : P) (status : ℕ) : Type 0 where
-  pub refused : Bool
-  pub had : HasTurned passes w p es w2 p2 refused
-  pub is : status ≡ (if refused then 3 else 0)
-
 -- one event's turn, and the step that it gave
 pub record TakesTurn {P : Type 0} (passes : Passes P) (w : World) (p : P) (e : WorldEvent) (step : Option Step) (w2 : World) (p2 : P) : Type 0 where
   pub turn : Turn

@@ -5,7 +5,10 @@ ghost use Rattle.frame_sim.specs.Runs.{Answers};
 ghost use Rattle.faults.specs.Faults.{status_of};
 ghost use Rattle.scripts.specs.Script.{first_bad_line};
 ghost use Rattle.faults.specs.declared.faults.Fault.TheVariants as faults;
-ghost use Rattle.loopback_run.specs.Turns.{HasSent, HasTurned, TakesTurn, TakesTurns, handed, is_lost, is_refusal, of_port};
+ghost use Rattle.printing.specs.Printed.{Prints};
+ghost use Rattle.loopback_run.specs.Runs.{HasTurned, TakesTurns};
+ghost use Rattle.loopback_run.specs.Texts.{counts_then, turn_lines};
+ghost use Rattle.loopback_run.specs.Turns.{HasSent, TakesTurn, handed, is_lost, is_refusal, of_port};
 ghost use Rattle.loopback_run.specs.Loops.{IsLoop, LoopsScript, TellsLoop};
 ghost use Rattle.loopback_run.specs.Stops.{FailsScript, HaveBegun, HoldJob, Leaves, Stops, StopsLoop, Untouched};
 
@@ -37,9 +40,9 @@ pub fn run_loop<P: Channel, O: Write, E: Write>(
     ensures status { (result ≡ 0) ⊎ ((result ≡ 1) ⊎ (result ≡ 3)) }
     ensures bad { IsSome (first_bad_line script.now) → result ≡ 1 }
     ensures run { (result ≡ 0) ⊎ (result ≡ 3) → LoopsScript P.opens P.passes settings.now
-        script.now passage.old passage.new result }
-    ensures fault { result ≡ 1 → FailsScript P.opens P.refuses P.passes settings.now script.now
-        passage.old passage.new output.old output.new }
+        script.now passage.old passage.new (O.contents output.old) (O.contents output.new) result }
+    ensures fault { result ≡ 1 → FailsScript P.opens P.refuses P.passes O.contents settings.now
+        script.now passage.old passage.new output.old output.new }
     ensures untouched { (HoldJob settings.now script.now → ⊥)
         → Untouched passage.old passage.new output.old output.new }
     ensures quiet { (result ≡ 0) ⊎ (result ≡ 3) → errors.new ≡ errors.old }
@@ -57,7 +60,7 @@ pub fn run_loop<P: Channel, O: Write, E: Write>(
 ///
 /// The settings' fault, else the script's first bad line, else the first key whose port stands twice in the settings
 /// (`CantWork`): after these nothing was sent and nothing is written. Else `NoSocket` where the passage is refused its ports: then nothing is written. Else
-/// `NotWritten` where output is refused: part of it may be written, and what the events up to there
+/// `NotWritten` where output is refused: a beginning of it is written, and what the events up to there
 /// hand in was sent. `NoMemory` may come at each.
 pub fn loop_script<P: Channel, O: Write>(
     alloc: Global,
@@ -70,10 +73,10 @@ pub fn loop_script<P: Channel, O: Write>(
     ensures known { IfErr result (λ fault. status_of fault ≡ 1) }
     ensures good { OnOk result (first_bad_line script.now ≡ None) }
     ensures run { IfOk result (LoopsScript P.opens P.passes settings.now script.now passage.old
-        passage.new) }
+        passage.new (O.contents output.old) (O.contents output.new)) }
     ensures status { IfOk result (λ status. (status ≡ 0) ⊎ (status ≡ 3)) }
-    ensures leaves { IfErr result (Leaves P.opens P.refuses P.passes settings.now script.now
-        passage.old passage.new output.old output.new) }
+    ensures leaves { IfErr result (Leaves P.opens P.refuses P.passes O.contents settings.now
+        script.now passage.old passage.new output.old output.new) }
     ensures untouched { (HoldJob settings.now script.now → ⊥)
         → Untouched passage.old passage.new output.old output.new }
 {
@@ -97,10 +100,10 @@ pub fn loop_captured<P: Channel, T: Tape, O: Write>(
     ensures known { IfErr result (λ fault. status_of fault ≡ 1) }
     ensures good { OnOk result (first_bad_line script.now ≡ None) }
     ensures run { IfOk result (LoopsScript P.opens P.passes settings.now script.now passage.old
-        passage.new) }
+        passage.new (O.contents output.old) (O.contents output.new)) }
     ensures status { IfOk result (λ status. (status ≡ 0) ⊎ (status ≡ 3)) }
-    ensures leaves { IfErr result (Leaves P.opens P.refuses P.passes settings.now script.now
-        passage.old passage.new output.old output.new) }
+    ensures leaves { IfErr result (Leaves P.opens P.refuses P.passes O.contents settings.now
+        script.now passage.old passage.new output.old output.new) }
     ensures untouched { (HoldJob settings.now script.now → ⊥)
         → Untouched passage.old passage.new output.old output.new }
 {
@@ -145,12 +148,13 @@ pub fn play<P: Channel, T: Tape, O: Write>(
     tape: &mut T,
     output: &mut O,
 ) -> Result<u8, Fault>
-    ensures run { IfOk result (IsLoop P.passes settings.now events.now passage.old passage.new) }
+    ensures run { IfOk result (IsLoop P.passes settings.now events.now passage.old passage.new
+        (O.contents output.old) (O.contents output.new)) }
     ensures status { IfOk result (λ status. (status ≡ 0) ⊎ (status ≡ 3)) }
     ensures fault { IfErr result
         (λ fault. (fault ≡ faults.NotWritten) ⊎ (fault ≡ faults.NoMemory)) }
-    ensures stops { IfErr result (StopsLoop P.passes settings.now events.now passage.old
-        passage.new output.old output.new) }
+    ensures stops { IfErr result (StopsLoop P.passes O.contents settings.now events.now
+        passage.old passage.new output.old output.new) }
 {
     match World::founded(alloc, settings) {
         Ok(mut world) => {
@@ -172,11 +176,12 @@ fn played<P: Channel, T: Tape, O: Write>(
     output: &mut O,
 ) -> Result<u8, Fault>
     ensures run { IfOk result (TakesTurns P.passes world.old passage.old events.now world.new
-        passage.new) }
+        passage.new (O.contents output.old) (O.contents output.new)) }
     ensures status { IfOk result (λ status. (status ≡ 0) ⊎ (status ≡ 3)) }
     ensures fault { IfErr result
         (λ fault. (fault ≡ faults.NotWritten) ⊎ (fault ≡ faults.NoMemory)) }
-    ensures stops { IfErr result (Stops P.passes world.old passage.old events.now passage.new) }
+    ensures stops { IfErr result (Stops P.passes world.old passage.old events.now passage.new
+        (O.contents output.old) (O.contents output.new)) }
 {
     let refused = turned(alloc, world, events, passage, tape, output)?;
     world.tables(output)?;
@@ -194,9 +199,9 @@ fn turned<P: Channel, T: Tape, O: Write>(
     output: &mut O,
 ) -> io::Result<bool>
     ensures had { IfOk result (HasTurned P.passes world.old passage.old events.now world.new
-        passage.new) }
+        passage.new (O.contents output.old) (O.contents output.new)) }
     ensures begun { OnErr result (HaveBegun P.passes world.old passage.old events.now
-        passage.new) }
+        passage.new (O.contents output.old) (O.contents output.new)) }
 {
     let mut printer = Printer::new();
     let mut refused = false;
@@ -252,7 +257,11 @@ fn print<O: Write>(
     output: &mut O,
     event: &WorldEvent,
     step: &Option<Step>,
-) -> io::Result<()> {
+) -> io::Result<()>
+    ensures printed { Prints (O.contents output.old) result (O.contents output.new)
+        (turn_lines printer.old event.now step.now) }
+    ensures counted { OnOk result (printer.new ≡ counts_then printer.old event.now step.now) }
+{
     match step {
         Some(step) => printer.step(output, event, &step.answer, &step.out),
         None => printer.lost(output),

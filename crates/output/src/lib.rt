@@ -11,6 +11,3 @@ pub use outs::Out;
 pub use pages::{OutputBuffer, Room};
 pub use readers::{ByteStrings, Frame, Frames};
 pub use writing::WriteBytes;
-
-#[cfg(test)]
-mod tests;

@@ -1,44 +1,52 @@
 //! Prints what each event of a run gave, in order.
+ghost use Rattle.std.specs.Prelude.{◌≡◌, ◌++◌, List, ℕ, OnOk};
+ghost use Rattle.printing.specs.Lines.{answer_text, counts_after, event_line, gateway_of, lost_line, no_counts, one_more, sent_by, step_lines, with_event, with_sent};
+ghost use Rattle.printing.specs.Printed.{Prints};
 
-use crate::hexes::bytes;
+use crate::pieces::put_all;
+use crate::told::told;
+use itoa::Buffer;
 use nat_types::{GatewayId, WorldEvent};
 use output::Out;
 use spec_step::Outcome;
-use std::fmt::Display;
 use std::io::{self, Write};
+use std::marker::Model;
 
-/// How many datagrams each gateway has sent so far.
-#[derive(Clone, Copy)]
-struct Sent {
+/// Why an event was refused, as a text.
+pub trait RefusalText {
+    /// The text.
+    ghost text: { Self → List ℕ };
+
+    /// The text, as `2 NoSuchDatagram`.
+    fn text(&self) -> &str
+        ensures { result.now ≡ text self.now };
+}
+
+/// What a run's lines count: its events, and the datagrams of each gateway, each from 1.
+#[derive(Drop)]
+pub struct Printer {
+    events: usize,
     zero: usize,
     one: usize,
 }
 
-impl Sent {
-    /// Counts one more, and gives its number, from 1.
-    fn count(&mut self, id: GatewayId) -> usize {
-        let sent = match id {
-            GatewayId::Zero => &mut self.zero,
-            GatewayId::One => &mut self.one,
-        };
-        *sent = sent.saturating_add(1);
-        *sent
-    }
-}
+impl Model for Printer {
+    ghost use Rattle.printing.specs.Lines.{Counts};
 
-/// What a run's lines count: its events, and the datagrams of each gateway, each from 1.
-#[derive(Clone, Copy)]
-pub struct Printer {
-    events: usize,
-    sent: Sent,
+    ghost Value = { Counts };
+
+    ghost view = { λ p. record { events = p.events; zero = p.zero; one = p.one } };
 }
 
 impl Printer {
     /// Nothing has been printed.
-    pub fn new() -> Printer {
+    pub fn new() -> Printer
+        ensures { result ≡ no_counts }
+    {
         Printer {
             events: 0,
-            sent: Sent { zero: 0, one: 0 },
+            zero: 0,
+            one: 0,
         }
     }
 
@@ -47,37 +55,73 @@ impl Printer {
     ///
     /// # Errors
     ///
-    /// Where output is refused.
-    pub fn step<O: Write, F: Display>(
+    /// Where output is refused: a beginning of the lines is written.
+    pub fn step<O: Write, F: RefusalText>(
         &mut self,
         output: &mut O,
         event: &WorldEvent,
         outcome: &Result<Outcome, F>,
         out: &Out,
-    ) -> io::Result<()> {
-        told(output, gateway_of(event), out, &mut self.sent)?;
-        answer(output, self.count(), outcome)
+    ) -> io::Result<()>
+        ensures printed { Prints (O.contents output.old) result (O.contents output.new)
+            (step_lines F.text self.old event.now outcome.now out.now) }
+        ensures counted { OnOk result (self.new ≡ counts_after self.old event.now out.now) }
+    {
+        let id = gateway_of(event);
+        let mut sent = self.sent_by(id);
+        told(output, id, &mut sent, out)?;
+        self.set_sent(id, sent);
+        let number = self.count();
+        answer(output, number, outcome)
     }
 
     /// Prints that what the next event was to hand in is lost.
     ///
     /// # Errors
     ///
-    /// Where output is refused.
-    pub fn lost<O: Write>(&mut self, output: &mut O) -> io::Result<()> {
+    /// Where output is refused: a beginning of the line is written.
+    pub fn lost<O: Write>(&mut self, output: &mut O) -> io::Result<()>
+        ensures printed { Prints (O.contents output.old) result (O.contents output.new)
+            (lost_line self.old) }
+        ensures counted { self.new ≡ with_event self.old }
+    {
         let number = self.count();
-        writeln!(output, "event {number} lost")
+        event_line(output, number, "lost")
+    }
+
+    /// How many datagrams a gateway has sent so far.
+    fn sent_by(&self, id: GatewayId) -> usize
+        ensures { result ≡ sent_by id self.now }
+    {
+        match id {
+            GatewayId::Zero => self.zero,
+            GatewayId::One => self.one,
+        }
+    }
+
+    fn set_sent(&mut self, id: GatewayId, sent: usize)
+        ensures { self.new ≡ with_sent id sent self.old }
+    {
+        match id {
+            GatewayId::Zero => self.zero = sent,
+            GatewayId::One => self.one = sent,
+        }
     }
 
     /// Counts one event more, and gives its number.
-    fn count(&mut self) -> usize {
+    fn count(&mut self) -> usize
+        ensures number { result ≡ one_more self.old.events }
+        ensures counted { self.new ≡ with_event self.old }
+    {
         self.events = self.events.saturating_add(1);
         self.events
     }
 }
 
 /// The gateway that an event happens to.
-fn gateway_of(event: &WorldEvent) -> GatewayId {
+fn gateway_of(event: &WorldEvent) -> GatewayId
+    ensures { result ≡ gateway_of event.now }
+{
     match event {
         WorldEvent::Frame(id, _, _)
         | WorldEvent::Tick(id, _)
@@ -90,48 +134,42 @@ fn gateway_of(event: &WorldEvent) -> GatewayId {
     }
 }
 
-/// The frames that a gateway sent in a step, then its datagrams, and then its notes.
-fn told<O: Write>(output: &mut O, id: GatewayId, out: &Out, sent: &mut Sent) -> io::Result<()> {
-    for frame in out.frames() {
-        let side = frame.side;
-        write!(output, "frame {id} {side} ")?;
-        bytes(output, frame.bytes)?;
-    }
-    datagrams(output, id, out, sent)?;
-    for note in out.notes() {
-        writeln!(output, "note {note}")?;
-    }
-    Ok(())
-}
-
-fn datagrams<O: Write>(
-    output: &mut O,
-    id: GatewayId,
-    out: &Out,
-    sent: &mut Sent,
-) -> io::Result<()> {
-    for datagram in out.datagrams() {
-        let number = sent.count(id);
-        write!(output, "link {id} {number} ")?;
-        bytes(output, datagram)?;
-    }
-    Ok(())
-}
-
 /// What became of an event.
-fn answer<O: Write, F: Display>(
+fn answer<O: Write, F: RefusalText>(
     output: &mut O,
     number: usize,
     outcome: &Result<Outcome, F>,
-) -> io::Result<()> {
+) -> io::Result<()>
+    ensures { Prints (O.contents output.old) result (O.contents output.new)
+        (event_line number (answer_text F.text outcome.now)) }
+{
     match outcome {
-        Ok(Outcome::Sent) => writeln!(output, "event {number} sent"),
-        Ok(Outcome::Waiting) => writeln!(output, "event {number} waiting"),
-        Ok(Outcome::Done) => writeln!(output, "event {number} done"),
+        Ok(Outcome::Sent) => event_line(output, number, "sent"),
+        Ok(Outcome::Waiting) => event_line(output, number, "waiting"),
+        Ok(Outcome::Done) => event_line(output, number, "done"),
         Ok(Outcome::Dropped(reason)) => {
-            let reason = reason.number();
-            writeln!(output, "event {number} dropped {reason}")
+            let mut buffer = Buffer::new();
+            event_words(output, number, "dropped ", buffer.format(reason.number()))
         }
-        Err(fault) => writeln!(output, "event {number} refused {fault}"),
+        Err(fault) => event_words(output, number, "refused ", fault.text()),
     }
+}
+
+fn event_line<O: Write>(output: &mut O, number: usize, text: &str) -> io::Result<()>
+    ensures { Prints (O.contents output.old) result (O.contents output.new)
+        (event_line number text.now) }
+{
+    let mut buffer = Buffer::new();
+    put_all(output, &["event ", buffer.format(number), " ", text, "\n"])
+}
+
+fn event_words<O: Write>(output: &mut O, number: usize, word: &str, text: &str) -> io::Result<()>
+    ensures { Prints (O.contents output.old) result (O.contents output.new)
+        (event_line number (word.now ++ text.now)) }
+{
+    let mut buffer = Buffer::new();
+    put_all(
+        output,
+        &["event ", buffer.format(number), " ", word, text, "\n"],
+    )
 }

@@ -1,6 +1,12 @@
 //! Prints how a gateway stands.
+ghost use Rattle.std.specs.Prelude.{◌≡◌, IfOk, flat_map};
+ghost use Rattle.printing.specs.Lines.{begins, ended, follows, held_line, owned_line, owned_lines, standing_text, table_lines};
+ghost use Rattle.printing.specs.Printed.{Prints};
 
+use crate::notes::{end_with_pair, id_text};
+use crate::pieces::put_all;
 use addresses::Port;
+use itoa::Buffer;
 use nat_types::{GatewayId, Pair};
 use std::io::{self, Write};
 
@@ -14,7 +20,9 @@ pub enum Standing {
 }
 
 impl Standing {
-    fn name(self) -> &'static str {
+    fn name(self) -> &'static str
+        ensures { result.now ≡ standing_text self }
+    {
         match self {
             Standing::Down => "down",
             Standing::Unsynced => "unsynced",
@@ -28,35 +36,89 @@ impl Standing {
 ///
 /// # Errors
 ///
-/// Where output is refused.
+/// Where output is refused: a beginning of the lines is written.
 pub fn table<O: Write>(
     output: &mut O,
     id: GatewayId,
     standing: Standing,
     ports: &[Port],
     pairs: &[Pair],
-) -> io::Result<()> {
-    let name = standing.name();
-    writeln!(output, "state {id} {name}")?;
+) -> io::Result<()>
+    ensures { Prints (O.contents output.old) result (O.contents output.new)
+        (table_lines id standing ports.now pairs.now) }
+{
+    put_all(output, &["state ", id_text(id), " ", standing.name(), "\n"])?;
     owned(output, id, ports)?;
+    held(output, id, pairs)
+}
+
+fn held<O: Write>(output: &mut O, id: GatewayId, pairs: &[Pair]) -> io::Result<()>
+    ensures { Prints (O.contents output.old) result (O.contents output.new)
+        (flat_map (held_line id) pairs.now) }
+{
     for pair in pairs {
-        writeln!(output, "held {id} {pair}")?;
+        held_pair(output, id, pair)?;
     }
     Ok(())
 }
 
+fn held_pair<O: Write>(output: &mut O, id: GatewayId, pair: &Pair) -> io::Result<()>
+    ensures { Prints (O.contents output.old) result (O.contents output.new)
+        (held_line id pair.now) }
+{
+    put_all(output, &["held ", id_text(id), " "])?;
+    end_with_pair(output, pair)
+}
+
 /// The unbroken runs of rising ports, a line each.
-fn owned<O: Write>(output: &mut O, id: GatewayId, ports: &[Port]) -> io::Result<()> {
+fn owned<O: Write>(output: &mut O, id: GatewayId, ports: &[Port]) -> io::Result<()>
+    ensures { Prints (O.contents output.old) result (O.contents output.new)
+        (owned_lines id ports.now) }
+{
     let Some((first, others)) = ports.split_first() else {
         return Ok(());
     };
     let (mut first, mut last) = (*first, *first);
     for port in others {
-        if last.0.checked_add(1) != Some(port.0) {
-            writeln!(output, "owned {id} {first} {last}")?;
-            first = *port;
-        }
+        first = owned_until(output, id, first, last, *port)?;
         last = *port;
     }
-    writeln!(output, "owned {id} {first} {last}")
+    owned_run(output, id, first, last)
+}
+
+/// Prints the run from `first` to `last` where it ends before this port, and gives the first port of this one's run.
+fn owned_until<O: Write>(
+    output: &mut O,
+    id: GatewayId,
+    first: Port,
+    last: Port,
+    port: Port,
+) -> io::Result<Port>
+    ensures printed { Prints (O.contents output.old) result (O.contents output.new)
+        (ended id first last port) }
+    ensures first { IfOk result (λ start. start ≡ begins first last port) }
+{
+    if follows(last, port) {
+        return Ok(first);
+    }
+    owned_run(output, id, first, last)?;
+    Ok(port)
+}
+
+fn follows(last: Port, port: Port) -> bool
+    ensures { result ≡ follows last port }
+{
+    u32::from(last.0) + 1 == u32::from(port.0)
+}
+
+fn owned_run<O: Write>(output: &mut O, id: GatewayId, first: Port, last: Port) -> io::Result<()>
+    ensures { Prints (O.contents output.old) result (O.contents output.new)
+        (owned_line id first last) }
+{
+    let (mut front, mut back) = (Buffer::new(), Buffer::new());
+    let (first, last) = (front.format(first.0), back.format(last.0));
+    put_all(
+        output,
+        &["owned ", id_text(id), " ", first, " ", last, "\n"],
+    )
 }

@@ -1,5 +1,5 @@
 -- A run on a new world.
-use Rattle.std.proofs.Common.{◌≡◌, ◌++◌, ◌∙◌, ℕ, List, [], ◌∷◌, IfOk, Result, Ok, Err, take, drop, ap, sym, subst, refl}
+use Rattle.std.proofs.Common.{◌≡◌, ◌⊎◌, inl, inr, ◌++◌, ◌∙◌, ℕ, List, [], ◌∷◌, Option, IfOk, OnErr, Result, Ok, Err, take, drop, ap, sym, subst, refl}
 use Rattle.std.proofs.lemmas.List.{append_assoc, append-nil, take-append-drop}
 use Rattle.settings.specs.declared.whole.Settings.{Settings}
 use Rattle.frame_sim.specs.declared.events.Step.{Step}
@@ -8,6 +8,10 @@ use Rattle.frame_sim.specs.World.{World}
 use Rattle.frame_sim.specs.Runs.{AreSteps}
 use Rattle.frame_sim.specs.Status.{IsNew}
 use Rattle.recording.specs.Tapes.{TakesOn}
+use Rattle.faults.specs.declared.jobs.Job.{Job}
+use Rattle.faults.specs.Jobs.{IsJobOf}
+use Rattle.frame_sim.specs.World.{founding}
+use Rattle.simulation.specs.Stops.{Begins, BeginsScript, HasBegun, HasBegunScript}
 use Rattle.simulation.specs.Tapes.{IsTapedRun, TapesSteps}
 
 -- what holds of the value of a result holds by what follows from it
@@ -15,10 +19,10 @@ pub in_ok : {E : Type 0} {P Q : ℕ → Type 0} (r : Result ℕ E) → ((n : ℕ
 in_ok (Ok n) f h = f n h
 in_ok (Err e) f h = tt
 
-run_from : {T : Type 0} (takes : TakesOn T) (settings : Settings) (w : World) (events : List WorldEvent) (w2 : World) (t t2 : T) (status : ℕ)
-    → IsNew settings w → TapesSteps takes w events w2 t t2 status → IsTapedRun takes settings events t t2 status
+run_from : {T : Type 0} (takes : TakesOn T) (settings : Settings) (w : World) (events : List WorldEvent) (w2 : World) (t t2 : T) (o o2 : Option (List ℕ)) (status : ℕ)
+    → IsNew settings w → TapesSteps takes w events w2 t t2 o o2 status → IsTapedRun takes settings events t t2 o o2 status
 unfolding IsNew
-run_from takes settings w events w2 t t2 status new h = record {
+run_from takes settings w events w2 t t2 o o2 status new h = record {
   run = record {
     steps = h.run.steps;
     world = w2;
@@ -26,11 +30,39 @@ run_from takes settings w events w2 t t2 status new h = record {
     refusals = h.run.refusals;
   };
   taken = h.taken;
+  text = h.text;
 }
 
-pub runs_from : {E : Type 0} {T : Type 0} (r : Result ℕ E) (takes : TakesOn T) (settings : Settings) (w : World) (events : List WorldEvent) (w2 : World) (t t2 : T)
-    → IsNew settings w → IfOk r (TapesSteps takes w events w2 t t2) → IfOk r (IsTapedRun takes settings events t t2)
-runs_from r takes settings w events w2 t t2 new h = in_ok r (λ n p. run_from takes settings w events w2 t t2 n new p) h
+pub runs_from : {E : Type 0} {T : Type 0} (r : Result ℕ E) (takes : TakesOn T) (settings : Settings) (w : World) (events : List WorldEvent) (w2 : World) (t t2 : T) (o o2 : Option (List ℕ))
+    → IsNew settings w → IfOk r (TapesSteps takes w events w2 t t2 o o2) → IfOk r (IsTapedRun takes settings events t t2 o o2)
+runs_from r takes settings w events w2 t t2 o o2 new h = in_ok r (λ n p. run_from takes settings w events w2 t t2 o o2 n new p) h
+
+-- a run from a new world stops as one from the world that it is
+pub begins_from : {X E : Type 0} (r : Result X E) (settings : Settings) (w : World) (events : List WorldEvent) (o o2 : Option (List ℕ))
+    → IsNew settings w → OnErr r (Begins w events o o2) → OnErr r (Begins (founding settings) events o o2)
+unfolding IsNew
+begins_from r settings w events o o2 new h = subst (λ (x : World). OnErr r (Begins x events o o2)) new h
+
+-- and so does one of a script
+script_begins : (text script : List ℕ) (job : Job) (o o2 : Option (List ℕ))
+    → IsJobOf text script job → Begins (founding job.settings) job.events.items o o2 → BeginsScript text script o o2
+script_begins text script job o o2 is (inl same) = inl same
+script_begins text script job o o2 is (inr h) = inr (record { job = job; is = is; begun = h })
+
+pub begins_script : {X E : Type 0} (r : Result X E) (text script : List ℕ) (job : Job) (o o2 : Option (List ℕ))
+    → IsJobOf text script job → OnErr r (Begins (founding job.settings) job.events.items o o2) → OnErr r (BeginsScript text script o o2)
+begins_script (Ok x) text script job o o2 is h = tt
+begins_script (Err e) text script job o o2 is h = script_begins text script job o o2 is h
+
+-- what is so after every Err
+pub on_err : {X E Q : Type 0} (r : Result X E) → Q → OnErr r Q
+on_err (Ok x) q = tt
+on_err (Err e) q = q
+
+-- 0 and 3 aren't 1
+pub isnt_1 : {A : Type 0} (n : ℕ) → (n ≡ 0) ⊎ (n ≡ 3) → n ≡ 1 → A
+isnt_1 n (inl zero_is) is = absurd (let bad : 1 ≡ 0 = sym is ∙ zero_is in cc)
+isnt_1 n (inr three_is) is = absurd (let bad : 1 ≡ 3 = sym is ∙ three_is in cc)
 
 -- ---- events that are run some at a time
 

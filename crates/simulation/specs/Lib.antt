@@ -1,2 +1,4 @@
+pub mod Texts
 pub mod Status
+pub mod Stops
 pub mod Tapes

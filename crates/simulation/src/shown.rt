@@ -1,4 +1,8 @@
 //! Prints the steps of a run.
+ghost use Rattle.std.specs.Prelude.{◌≡◌, length};
+ghost use Rattle.printing.specs.Lines.{no_counts};
+ghost use Rattle.printing.specs.Printed.{Prints};
+ghost use Rattle.simulation.specs.Texts.{steps_lines};
 
 use frame_sim::Step;
 use nat_types::WorldEvent;
@@ -10,10 +14,18 @@ pub(crate) fn print_steps<O: Write>(
     output: &mut O,
     events: &[WorldEvent],
     steps: &[Step],
-) -> io::Result<()> {
+) -> io::Result<()>
+    ensures { Prints (O.contents output.old) result (O.contents output.new)
+        (steps_lines no_counts events.now steps.now) }
+{
     let mut printer = Printer::new();
-    for (event, step) in events.iter().zip(steps) {
+    let mut rest = steps;
+    for event in events {
+        let Some((step, others)) = rest.split_first() else {
+            return Ok(());
+        };
         printer.step(output, event, &step.answer, &step.out)?;
+        rest = others;
     }
     Ok(())
 }

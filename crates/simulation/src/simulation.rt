@@ -1,13 +1,17 @@
 //! A script's run: its events on a new world, their steps and the tables at its end printed.
-ghost use Rattle.std.specs.Prelude.{◌≡◌, ◌⊎◌, None, IfOk, IfErr, OnOk, IsSome};
+ghost use Rattle.std.specs.Prelude.{◌≡◌, ◌⊎◌, None, IfOk, IfErr, OnOk, OnErr, IsSome};
 ghost use Rattle.frame_sim.specs.Runs.{AreSteps};
 ghost use Rattle.faults.specs.Faults.{status_of};
 ghost use Rattle.scripts.specs.Script.{first_bad_line};
 ghost use Rattle.faults.specs.Jobs.{TellsRun};
 ghost use Rattle.frame_sim.specs.Status.{has_refusal, run_status};
 ghost use Rattle.recording.specs.Tapes.{AreTaken};
+ghost use Rattle.printing.specs.Printed.{Prints};
+ghost use Rattle.frame_sim.specs.World.{founding};
 ghost use Rattle.simulation.specs.Status.{RunsScript};
 ghost use Rattle.simulation.specs.Tapes.{IsTapedRun, TapesScript, TapesSteps};
+ghost use Rattle.simulation.specs.Texts.{run_lines};
+ghost use Rattle.simulation.specs.Stops.{Begins, BeginsScript};
 ghost use Rattle.faults.specs.declared.faults.Fault.TheVariants as faults;
 
 use crate::shown::print_steps;
@@ -32,7 +36,10 @@ pub fn simulate<O: Write, E: Write>(
 ) -> u8
     ensures status { (result ≡ 0) ⊎ ((result ≡ 1) ⊎ (result ≡ 3)) }
     ensures bad { IsSome (first_bad_line script.now) → result ≡ 1 }
-    ensures run { (result ≡ 0) ⊎ (result ≡ 3) → RunsScript settings.now script.now result }
+    ensures run { (result ≡ 0) ⊎ (result ≡ 3) → RunsScript settings.now script.now
+        (O.contents output.old) (O.contents output.new) result }
+    ensures begun { result ≡ 1 → BeginsScript settings.now script.now (O.contents output.old)
+        (O.contents output.new) }
 {
     match simulate_watched(alloc, settings, script, &mut Unwatched, output) {
         Ok(status) => status,
@@ -56,7 +63,10 @@ pub fn simulate_watched<P: Progress, O: Write>(
     ensures told { IfErr result (TellsRun settings.now script.now) }
     ensures known { IfErr result (λ fault. status_of fault ≡ 1) }
     ensures good { OnOk result (first_bad_line script.now ≡ None) }
-    ensures run { IfOk result (RunsScript settings.now script.now) }
+    ensures run { IfOk result (RunsScript settings.now script.now (O.contents output.old)
+        (O.contents output.new)) }
+    ensures begun { OnErr result (BeginsScript settings.now script.now (O.contents output.old)
+        (O.contents output.new)) }
     ensures status { IfOk result (λ status. (status ≡ 0) ⊎ (status ≡ 3)) }
 {
     simulate_captured(alloc, settings, script, progress, &mut Untaped, output)
@@ -78,7 +88,10 @@ pub fn simulate_captured<P: Progress, T: Tape, O: Write>(
     ensures told { IfErr result (TellsRun settings.now script.now) }
     ensures known { IfErr result (λ fault. status_of fault ≡ 1) }
     ensures good { OnOk result (first_bad_line script.now ≡ None) }
-    ensures run { IfOk result (TapesScript T.takes settings.now script.now tape.old tape.new) }
+    ensures run { IfOk result (TapesScript T.takes settings.now script.now tape.old tape.new
+        (O.contents output.old) (O.contents output.new)) }
+    ensures begun { OnErr result (BeginsScript settings.now script.now (O.contents output.old)
+        (O.contents output.new)) }
     ensures status { IfOk result (λ status. (status ≡ 0) ⊎ (status ≡ 3)) }
 {
     let job = job_of(alloc, settings, script)?;
@@ -106,7 +119,10 @@ pub fn play<P: Progress, T: Tape, O: Write>(
     tape: &mut T,
     output: &mut O,
 ) -> Result<u8, Fault>
-    ensures run { IfOk result (IsTapedRun T.takes settings.now events.now tape.old tape.new) }
+    ensures run { IfOk result (IsTapedRun T.takes settings.now events.now tape.old tape.new
+        (O.contents output.old) (O.contents output.new)) }
+    ensures begun { OnErr result (Begins (founding settings.now) events.now (O.contents output.old)
+        (O.contents output.new)) }
     ensures status { IfOk result (λ status. (status ≡ 0) ⊎ (status ≡ 3)) }
     ensures fault { IfErr result
         (λ fault. (fault ≡ faults.NotWritten) ⊎ (fault ≡ faults.NoMemory)) }
@@ -131,7 +147,10 @@ fn played<P: Progress, T: Tape, O: Write>(
     output: &mut O,
 ) -> Result<u8, Fault>
     ensures run { IfOk result
-        (TapesSteps T.takes world.old events.now world.new tape.old tape.new) }
+        (TapesSteps T.takes world.old events.now world.new tape.old tape.new
+        (O.contents output.old) (O.contents output.new)) }
+    ensures begun { OnErr result (Begins world.old events.now (O.contents output.old)
+        (O.contents output.new)) }
     ensures status { IfOk result (λ status. (status ≡ 0) ⊎ (status ≡ 3)) }
     ensures fault { IfErr result
         (λ fault. (fault ≡ faults.NotWritten) ⊎ (fault ≡ faults.NoMemory)) }
@@ -169,7 +188,10 @@ fn print<O: Write>(
     events: &[WorldEvent],
     steps: &[Step],
     output: &mut O,
-) -> Result<(), PrintFault> {
+) -> Result<(), PrintFault>
+    ensures { Prints (O.contents output.old) result (O.contents output.new)
+        (run_lines events.now steps.now world.now) }
+{
     print_steps(output, events, steps)?;
     world.tables(output)?;
     output.flush()?;

@@ -8,8 +8,6 @@ mod endpoints;
 mod hashers;
 mod numbers;
 mod port_slots;
-#[cfg(test)]
-mod tests;
 
 pub use dues::Dues;
 pub use endpoints::EndpointIndex;

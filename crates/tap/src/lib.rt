@@ -8,8 +8,9 @@ mod outlets;
 mod reels;
 mod taps;
 
+pub use captures::Vacant;
 pub use laws::capture_law;
 pub use moments::{Moments, SinceFirst};
-pub use outlets::{CaptureFile, Outlet, open};
+pub use outlets::{CaptureFile, Outlet, begin, open};
 pub use reels::Reel;
 pub use taps::Tapped;

@@ -1,16 +1,15 @@
 //! Where a capture goes.
-ghost use Rattle.std.specs.Prelude.{◌≡◌, ◌≤◌, true, List, ℕ, Option, IsTrue, length};
+ghost use Rattle.std.specs.Prelude.{◌≡◌, ◌≤◌, true, List, ℕ, Option, IfOk, IsTrue, length};
 ghost use Rattle.std.specs.Io.KnownBytes.{WriteAppends};
 ghost use Rattle.std.specs.Io.{WritesAtMost};
 
+use crate::Reel;
+use captures::{Reader, Vacant};
 use libc::types::pollfd;
-use std::fs::{Files, OpenOptions};
-use std::io::{self, Write};
+use std::alloc::Global;
+use std::fs::{Files, OpenFile};
+use std::io::{self, Read, Seek, Write};
 use std::os::fd::{AsRawFd, RawFd};
-use std::os::unix::fs::OpenOptionsExt;
-
-/// The mode of a capture that is made: its owner alone reads and writes it.
-const MODE: u32 = 0o600;
 
 /// Where a capture goes; and only while it has room.
 pub trait Outlet {
@@ -52,21 +51,28 @@ impl<F> CaptureFile<F> {
     }
 }
 
-/// Opens the file of a capture for its owner alone, or makes it; one that is there loses what it has, and keeps its mode.
-/// A named pipe is opened without waiting for its reader: it is opened for reading too.
+/// Opens the file of a capture for its owner alone, or makes it; one that is there keeps what it has until a capture is begun
+/// in it. A named pipe is opened without waiting for its reader.
 ///
 /// # Errors
 ///
-/// Where the system refuses it.
-pub fn open<R: Files>(rt: &R, path: &str) -> io::Result<CaptureFile<R::File>> {
-    let file = OpenOptions::new()
-        .read(true)
-        .write(true)
-        .create(true)
-        .truncate(true)
-        .mode(MODE)
-        .open(rt, path)?;
-    Ok(CaptureFile::new(file))
+/// `AlreadyExists` where it is a regular file that has something, and no capture; where the system refuses it.
+pub fn open<R: Files>(rt: &R, path: &str) -> io::Result<Vacant<R::File>> {
+    captures::open(rt, path, Reader::NotAwaited)
+}
+
+/// Begins a capture in a file, which loses what it has.
+///
+/// # Errors
+///
+/// Where the system refuses that; and as `Reel::begin`.
+pub fn begin<F>(alloc: Global, file: Vacant<F>) -> io::Result<Reel<CaptureFile<F>>>
+where
+    F: Read + Write + Seek + OpenFile + AsRawFd + Drop,
+    ensures { IfOk result (λ reel. reel.left_out ≡ 0) }
+{
+    let file = file.clear()?;
+    Reel::begin(alloc, CaptureFile::new(file))
 }
 
 impl<F: Write + AsRawFd> Outlet for CaptureFile<F> {

@@ -7,8 +7,6 @@ ghost use Rattle.std.specs.List.Sorted.{IsPermutation};
 ghost use Rattle.timers.specs.Due.{due_slots, cleared, set_count};
 
 mod links;
-#[cfg(test)]
-mod tests;
 mod wheel;
 
 use crate::links::unset_slots;

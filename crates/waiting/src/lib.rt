@@ -7,6 +7,3 @@ mod waits;
 
 pub use list::{HeldPacket, WaitingPackets};
 pub use waits::{Ended, WaitsFor};
-
-#[cfg(test)]
-mod tests;

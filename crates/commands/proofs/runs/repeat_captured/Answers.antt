@@ -1,7 +1,7 @@
-use Rattle.std.proofs.Common.{ℕ, IfOk, Result, subst}
-use Rattle.faults.specs.declared.faults.Fault.{Fault}
-use Rattle.commands.specs.Ends.{HasLoop}
+use Rattle.commands.proofs.Passing.{has_loop_of}
 use Rattle.commands.proofs.runs.repeat_captured.Goals as goal
 
-pub returns-in-Ok-clause-run : goal.returns-in-Ok-clause-run
-returns-in-Ok-clause-run g c h = subst (λ (r : Result ℕ Fault). IfOk r HasLoop) (c.ended.ensures.run h) c.looped-run.ensures.run
+pub returns-in-Ok-capture_at-clause-run : goal.returns-in-Ok-capture_at-clause-run
+returns-in-Ok-capture_at-clause-run g c h =
+    has_loop_of _ _ _ _ _ _ _ _ _ _ c.new-passage.ensures c.in-Ok.ensures.job c.in-Ok.ensures.opened c.looped-run.ensures.run
+    (c.ended.ensures.run h)

@@ -1,8 +1,9 @@
-use Rattle.std.proofs.Common.{ℕ, IfOk, Result, subst}
-use Rattle.faults.specs.declared.faults.Fault.{Fault}
-use Rattle.simulation.specs.Status.{RunsScript}
+use Rattle.std.proofs.Common.{◌∙◌}
+use Rattle.commands.proofs.Taping.{isnt_1, run_of}
 use Rattle.commands.proofs.runs.sim_captured.Goals as goal
 
-pub returns-in-Ok-clause-run : goal.returns-in-Ok-clause-run
-returns-in-Ok-clause-run g c h =
-    subst (λ (r : Result ℕ Fault). IfOk r (RunsScript c.args.settings.now c.args.script.now)) (c.ended.ensures.run h) c.taped-run.ensures.run
+pub returns-in-Ok-capture_at-clause-run : goal.returns-in-Ok-capture_at-clause-run
+returns-in-Ok-capture_at-clause-run g c h = run_of _ _ _ _ _ _ _ _ _ _ c.in-Ok.ensures.job c.taped-run.ensures.run (c.ended.ensures.run h)
+
+pub returns-clause-run : goal.returns-clause-run
+returns-clause-run g c done = isnt_1 _ (c.tell.ensures ∙ c.in-Err.ensures.known) done

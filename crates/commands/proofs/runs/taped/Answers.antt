@@ -1,8 +1,8 @@
-use Rattle.commands.proofs.Taping.{run_of}
+use Rattle.commands.proofs.Taping.{known}
 use Rattle.commands.proofs.runs.taped.Goals as goal
 
-pub returns-then-is_watched-clause-run : goal.returns-then-is_watched-clause-run
-returns-then-is_watched-clause-run g c = run_of _ _ _ _ _ _ c.simulate_captured.ensures.run
+pub returns-then-is_watched-clause-known : goal.returns-then-is_watched-clause-known
+returns-then-is_watched-clause-known g c = known c.play.result c.play.ensures.fault
 
-pub returns-else-is_watched-clause-run : goal.returns-else-is_watched-clause-run
-returns-else-is_watched-clause-run g c = run_of _ _ _ _ _ _ c.simulate_captured-else-is_watched.ensures.run
+pub returns-else-is_watched-clause-known : goal.returns-else-is_watched-clause-known
+returns-else-is_watched-clause-known g c = known c.play-else-is_watched.result c.play-else-is_watched.ensures.fault

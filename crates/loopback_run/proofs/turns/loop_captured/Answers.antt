@@ -26,11 +26,11 @@ returns-in-Ok-clause-run g c = in_ok c.play.result (λ n h. record {
   is = c.in_ok-job.ensures.job;
   open_passage = c.open.new.self;
   opened = c.in-Ok.ensures.opens;
-  run = subst (λ (es : List WorldEvent). IsLoop g.P.Channel.passes c.in_ok-job.job.settings es c.open.new.self c.play.new.passage n) c.as_slice.ensures.value h;
+  run = subst (λ (es : List WorldEvent). IsLoop g.P.Channel.passes c.in_ok-job.job.settings es c.open.new.self c.play.new.passage (g.O.Write.contents c.args.output.now) (g.O.Write.contents c.play.new.output) n) c.as_slice.ensures.value h;
 }) c.play.ensures.run
 
 pub returns-clause-leaves : goal.returns-clause-leaves
-returns-clause-leaves g c = rw c.of_port.ensures (leaves_refused _ _ _ _ _ _ _ _ _ c.in-Err.fault (record {
+returns-clause-leaves g c = rw c.of_port.ensures (leaves_refused _ _ _ _ _ _ _ _ _ _ c.in-Err.fault (record {
   texts = record { job = c.in_ok-job.job; is = c.in_ok-job.ensures.job; good = c.in_ok-job.ensures.good };
   refused = c.in-Err.ensures.refuses;
   unwritten = refl;
@@ -41,11 +41,11 @@ returns-clause-untouched g c none =
     absurd (none (record { job = c.in_ok-job.job; is = c.in_ok-job.ensures.job; good = c.in_ok-job.ensures.good }))
 
 pub returns-in-Ok-clause-leaves : goal.returns-in-Ok-clause-leaves
-returns-in-Ok-clause-leaves g c = in_err c.play.result (λ e h. leaves_stopped _ _ _ _ _ _ _ _ _ e (record {
+returns-in-Ok-clause-leaves g c = in_err c.play.result (λ e h. leaves_stopped _ _ _ _ _ _ _ _ _ _ e (record {
   texts = record { job = c.in_ok-job.job; is = c.in_ok-job.ensures.job; good = c.in_ok-job.ensures.good };
   open_passage = c.open.new.self;
   opened = c.in-Ok.ensures.opens;
-  stopped = subst (λ (es : List WorldEvent). StopsLoop g.P.Channel.passes c.in_ok-job.job.settings es c.open.new.self c.play.new.passage c.args.output.now c.play.new.output e) c.as_slice.ensures.value h;
+  stopped = subst (λ (es : List WorldEvent). StopsLoop g.P.Channel.passes g.O.Write.contents c.in_ok-job.job.settings es c.open.new.self c.play.new.passage c.args.output.now c.play.new.output e) c.as_slice.ensures.value h;
 })) c.play.ensures.stops
 
 pub returns-in-Ok-clause-untouched : goal.returns-in-Ok-clause-untouched

@@ -3,7 +3,7 @@ use Rattle.loopback_run.proofs.Stopping.{loops_stop}
 use Rattle.loopback_run.proofs.turns.play.Goals as goal
 
 pub returns-in-Ok-clause-run : goal.returns-in-Ok-clause-run
-returns-in-Ok-clause-run g c = loops_from _ _ _ _ _ _ _ _ c.in-Ok.ensures c.played-status.ensures.run
+returns-in-Ok-clause-run g c = loops_from _ _ _ _ _ _ _ _ _ _ c.in-Ok.ensures c.played-status.ensures.run
 
 pub returns-in-Ok-clause-stops : goal.returns-in-Ok-clause-stops
-returns-in-Ok-clause-stops g c = loops_stop c.played-status.result _ _ _ _ _ _ _ _ c.in-Ok.ensures c.played-status.ensures.stops
+returns-in-Ok-clause-stops g c = loops_stop c.played-status.result _ g.O.Write.contents _ _ _ _ _ _ _ c.in-Ok.ensures c.played-status.ensures.stops

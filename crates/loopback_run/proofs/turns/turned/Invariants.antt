@@ -1,7 +1,8 @@
 use Rattle.std.proofs.Common.{take}
-use Rattle.loopback_run.specs.Turns.{HasTurned}
+use Rattle.loopback_run.proofs.Turning.{Turned}
 use Rattle.loopback_run.proofs.turns.turned.Given as goal
 
 abbrev pub invariant-loop-event : goal.invariant-loop-event
 invariant-loop-event g l =
-    HasTurned g.P.Channel.passes l.fn.world l.fn.passage (take l.event-index l.events) l.world l.passage l.refused
+    Turned g.P.Channel.passes l.fn.world l.fn.passage (take l.event-index l.events) l.world l.passage
+    (g.O.Write.contents l.fn.output) (g.O.Write.contents l.output) l.refused l.printer

@@ -1,8 +1,26 @@
-use Rattle.std.proofs.Common.{◌∙◌, List, ap, subst}
+use Rattle.std.proofs.Common.{◌∙◌, List, ap, inl, inr, refl, subst}
+use Rattle.std.specs.Io.KnownBytes.{Appends}
 use Rattle.frame_sim.specs.declared.events.Step.{Step}
 use Rattle.frame_sim.specs.Status.{run_status}
 use Rattle.recording.specs.Tapes.{AreTaken}
+use Rattle.printing.specs.Printed.{IsBegun}
+use Rattle.simulation.specs.Texts.{run_lines}
+use Rattle.simulation.proofs.Playing.{on_err}
 use Rattle.simulation.proofs.simulation.played.Goals as goal
+
+pub returns-in_err-steps-clause-begun : goal.returns-in_err-steps-clause-begun
+returns-in_err-steps-clause-begun g c = on_err c.from_residual.result (inl refl)
+
+pub returns-in_err-take_down-clause-begun : goal.returns-in_err-take_down-clause-begun
+returns-in_err-take_down-clause-begun g c = on_err c.from_residual-in_err-take_down.result (inl refl)
+
+pub returns-in_err-print-clause-begun : goal.returns-in_err-print-clause-begun
+returns-in_err-print-clause-begun g c = on_err c.from_residual-in_err-print.result (inr (record {
+  steps = c.in_ok-steps.steps.items;
+  last = c.steps_of.new.world;
+  answers = c.in_ok-steps.ensures;
+  begun = subst (λ (ss : List Step). IsBegun (g.O.Write.contents c.args.output.now) (g.O.Write.contents c.print.new.output) (run_lines c.args.events.now ss c.steps_of.new.world)) c.as_slice-2.ensures.value c.in_err-print.ensures;
+}))
 
 pub returns-clause-run : goal.returns-clause-run
 returns-clause-run g c = record {
@@ -12,4 +30,5 @@ returns-clause-run g c = record {
     refusals = c.status_of.ensures ∙ ap (λ xs. run_status xs) c.as_slice-3.ensures.value;
   };
   taken = subst (λ (ss : List Step). AreTaken g.T.Tape.takes c.steps_of.new.world c.args.tape.now c.args.events.now ss c.take_down.new.tape) c.as_slice.ensures.value c.in_ok-take_down.ensures;
+  text = subst (λ (ss : List Step). Appends (g.O.Write.contents c.args.output.now) (g.O.Write.contents c.print.new.output) (run_lines c.args.events.now ss c.steps_of.new.world)) c.as_slice-2.ensures.value c.in_ok-print.ensures;
 }

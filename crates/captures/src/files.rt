@@ -1,0 +1,183 @@
+//! The files in which captures are begun.
+ghost use Rattle.std.specs.Prelude.{◌≡◌, ◌≤◌, ◌↔◌, None, true, take, length, option_map, IfOk, IfSome, OnErr, OnOk};
+ghost use Rattle.captures.specs.Files.{Held, emptied, is_free, may_begin};
+
+use std::fs::{self, Files, OpenFile, OpenOptions};
+use std::io::{self, ErrorKind, Read, Seek, SeekFrom};
+use std::marker::Model;
+use std::os::unix::fs::OpenOptionsExt;
+
+/// The mode of a capture that is made: its owner alone reads and writes it.
+const MODE: u32 = 0o600;
+
+/// How many bytes of a file say whether it is a capture.
+const FRONT: usize = 4;
+
+/// A file that is open. What is said of its bytes is said of an honest one alone; a file may claim that it isn't such.
+pub trait Opened {
+    /// What it has.
+    ghost held: { Self → Held };
+
+    /// Whether it does what the clauses say of an honest file.
+    ghost honest: { Self → Type 0 };
+
+    /// Reads the first four bytes of a regular file, or as many as it has, and says how many; nothing of what is none. The
+    /// next write is at the file's front.
+    fn front(&mut self, room: &mut [u8; FRONT]) -> io::Result<Option<usize>>
+        ensures within { IfOk result (λ found. IfSome found (λ count. count ≤ 4)) }
+        ensures front { honest self.old → IfOk result (λ found.
+            option_map (λ count. take count room.new) found ≡ option_map (take 4) (held self.old)) }
+        ensures same { honest self.old → held self.new ≡ held self.old }
+        ensures honesty { honest self.old ↔ honest self.new };
+
+    /// Lets go all that a regular file has.
+    ///
+    /// # Errors
+    ///
+    /// Where that is refused: it has what it had.
+    fn empty(&mut self) -> io::Result<()>
+        ensures ok { honest self.old → OnOk result (held self.new ≡ emptied (held self.old)) }
+        ensures err { honest self.old → OnErr result (held self.new ≡ held self.old) }
+        ensures honesty { honest self.old ↔ honest self.new };
+}
+
+/// No clause can say what the system's files do, so they claim nothing.
+impl<F: Read + Seek + OpenFile> Opened for F {
+    ghost held = { λ _. None };
+
+    ghost honest = { λ _. ⊥ };
+
+    fn front(&mut self, room: &mut [u8; FRONT]) -> io::Result<Option<usize>> {
+        if !self.metadata()?.is_file() {
+            return Ok(None);
+        }
+        let count = fill(self, room)?;
+        self.seek(SeekFrom::Start(0))?;
+        Ok(Some(count))
+    }
+
+    fn empty(&mut self) -> io::Result<()> {
+        if self.metadata()?.is_file() {
+            self.set_len(0)?;
+        }
+        Ok(())
+    }
+}
+
+/// Fills the room as far as a file goes, and says how far.
+fn fill<F: Read>(file: &mut F, room: &mut [u8; FRONT]) -> io::Result<usize>
+    ensures { IfOk result (λ count. count ≤ 4) }
+{
+    let mut filled = 0;
+    while filled < FRONT {
+        match file.read(&mut room[filled..])? {
+            0 => return Ok(filled),
+            count => filled += count,
+        }
+    }
+    Ok(filled)
+}
+
+/// Whether a capture may be begun in a file. The file has what it had.
+///
+/// # Errors
+///
+/// Where it can't be read.
+fn is_free<F: Opened>(file: &mut F) -> io::Result<bool>
+    ensures free { F.honest file.old → IfOk result (λ free. free ≡ is_free (F.held file.old)) }
+    ensures same { F.honest file.old → F.held file.new ≡ F.held file.old }
+    ensures honesty { F.honest file.old ↔ F.honest file.new }
+{
+    let mut room = [0; FRONT];
+    match file.front(&mut room)? {
+        Some(count) => Ok(may_begin(&room[..count])),
+        None => Ok(true),
+    }
+}
+
+/// Whether a capture may be begun in a file that has these bytes at its front.
+fn may_begin(front: &[u8]) -> bool
+    ensures { result ≡ may_begin front.now }
+{
+    match front {
+        [] => true,
+        [a, b, c, d, ..] => *a == 0x0a && *b == 0x0d && *c == 0x0d && *d == 0x0a,
+        _ => false,
+    }
+}
+
+/// A file in which a capture may be begun. It still has what it had.
+#[derive(Drop)]
+pub struct Vacant<F> {
+    file: F,
+}
+
+impl<F> Model for Vacant<F> {
+    ghost Value = { F };
+
+    ghost view = { λ vacant. vacant.file };
+}
+
+impl<F: Opened + Drop> Vacant<F> {
+    /// A file that was looked at.
+    ///
+    /// # Errors
+    ///
+    /// `AlreadyExists` where it is a regular file that has something, and no capture; where it can't be read.
+    pub fn of(mut file: F) -> io::Result<Vacant<F>>
+        ensures free { F.honest file → IfOk result (λ vacant. is_free (F.held vacant) ≡ true) }
+        ensures same { F.honest file → IfOk result (λ vacant. F.held vacant ≡ F.held file) }
+        ensures honesty { IfOk result (λ vacant. F.honest file ↔ F.honest vacant) }
+    {
+        if is_free(&mut file)? {
+            Ok(Vacant { file })
+        } else {
+            Err(io::Error::from(ErrorKind::AlreadyExists))
+        }
+    }
+
+    /// The same without what it had.
+    ///
+    /// # Errors
+    ///
+    /// Where that is refused.
+    pub fn clear(self) -> io::Result<F>
+        ensures { F.honest self → IfOk result (λ file. F.held file ≡ emptied (F.held self)) }
+    {
+        let Vacant { mut file } = self;
+        file.empty()?;
+        Ok(file)
+    }
+}
+
+/// Whether the reader of a named pipe is waited for.
+#[derive(Clone, Copy, Debug, PartialEq, Eq)]
+pub enum Reader {
+    Awaited,
+    /// The pipe is opened for reading too, so that its opening doesn't wait.
+    NotAwaited,
+}
+
+/// Opens the file of a capture, or makes it for its owner alone. One that is there keeps what it has, and its mode.
+///
+/// # Errors
+///
+/// Where the system refuses it; and as `Vacant::of`.
+pub fn open<R: Files>(rt: &R, path: &str, reader: Reader) -> io::Result<Vacant<R::File>> {
+    let reads = reader == Reader::NotAwaited || may_be_regular(rt, path);
+    let file = OpenOptions::new()
+        .read(reads)
+        .write(true)
+        .create(true)
+        .mode(MODE)
+        .open(rt, path)?;
+    Vacant::of(file)
+}
+
+/// Whether a path is that of a regular file, or of none yet.
+fn may_be_regular<R: Files>(rt: &R, path: &str) -> bool {
+    match fs::metadata(rt, path) {
+        Ok(found) => found.is_file(),
+        Err(_) => true,
+    }
+}

@@ -1,0 +1,3 @@
+mod Parts
+mod Splits
+pub mod Offered

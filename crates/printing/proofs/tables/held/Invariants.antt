@@ -1,0 +1,8 @@
+use Rattle.std.proofs.Common.{drop, flat_map}
+use Rattle.printing.specs.Lines.{held_line}
+use Rattle.printing.specs.Printed.{IsPart}
+use Rattle.printing.proofs.tables.held.Given as goal
+
+abbrev pub invariant-loop-pair : goal.invariant-loop-pair
+invariant-loop-pair g l = IsPart (g.O.Write.contents l.fn.output) (g.O.Write.contents l.output)
+    (flat_map (held_line l.id) l.pairs) (flat_map (held_line l.id) (drop l.pair-index l.pairs))

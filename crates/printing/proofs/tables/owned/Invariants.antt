@@ -1,0 +1,8 @@
+use Rattle.std.proofs.Common.{drop}
+use Rattle.printing.specs.Lines.{owned_from, owned_lines}
+use Rattle.printing.specs.Printed.{IsPart}
+use Rattle.printing.proofs.tables.owned.Given as goal
+
+abbrev pub invariant-loop-port : goal.invariant-loop-port
+invariant-loop-port g l = IsPart (g.O.Write.contents l.fn.output) (g.O.Write.contents l.output)
+    (owned_lines l.id l.ports) (owned_from l.id l.first l.last (drop l.port-index l.others))

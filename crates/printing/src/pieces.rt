@@ -1,0 +1,93 @@
+//! Writes text so that an output has all of it, or a beginning where writing fails.
+ghost use Rattle.std.specs.Io.KnownBytes.{WriteAppends};
+ghost use Rattle.std.specs.Io.{WritesAtMost};
+ghost use Rattle.std.specs.Prelude.{flat_map};
+ghost use Rattle.hex.specs.Hex.{encode_lower};
+ghost use Rattle.std.specs.Prelude.{◌≤◌, ◌≡◌, IfOk, OnErr, length};
+ghost use Rattle.printing.specs.Printed.{Prints};
+
+use std::io::{self, ErrorKind, Write};
+
+/// How many bytes were taken, where any were.
+fn taken(count: usize) -> io::Result<usize>
+    ensures some { IfOk result (λ n. n ≡ count) }
+    ensures none { OnErr result (count ≡ 0) }
+{
+    if count == 0 {
+        return Err(ErrorKind::WriteZero.into());
+    }
+    Ok(count)
+}
+
+/// Writes some of these bytes, those at the front, and says how many; none where writing was interrupted.
+fn put_some<O: Write>(output: &mut O, bytes: &[u8]) -> io::Result<usize>
+    ensures bound { WritesAtMost result bytes.now }
+    ensures bytes { WriteAppends (O.contents output.old) (O.contents output.new) result bytes.now }
+{
+    match output.write(bytes) {
+        Ok(count) => taken(count),
+        Err(error) if error.kind() == ErrorKind::Interrupted => Ok(0),
+        Err(error) => Err(error),
+    }
+}
+
+/// Writes bytes.
+fn put<O: Write>(output: &mut O, bytes: &[u8]) -> io::Result<()>
+    ensures { Prints (O.contents output.old) result (O.contents output.new) bytes.now }
+{
+    let mut rest = bytes;
+    for _ in 0..u64::MAX {
+        if rest.is_empty() {
+            return Ok(());
+        }
+        let count = put_some(output, rest)?;
+        rest = &rest[count..];
+    }
+    Err(ErrorKind::Other.into())
+}
+
+fn put_text<O: Write>(output: &mut O, text: &str) -> io::Result<()>
+    ensures { Prints (O.contents output.old) result (O.contents output.new) text.now }
+{
+    put(output, text.as_bytes())
+}
+
+/// Writes texts, one behind the other.
+pub(crate) fn put_all<O: Write>(output: &mut O, texts: &[&str]) -> io::Result<()>
+    ensures { Prints (O.contents output.old) result (O.contents output.new)
+        (flat_map (λ text. text.now) texts.now) }
+{
+    for text in texts {
+        put_text(output, text)?;
+    }
+    Ok(())
+}
+
+/// How many bytes are printed at a time.
+const AT_A_TIME: usize = 128;
+
+/// Writes bytes, two digits each.
+pub(crate) fn put_hex<O: Write>(output: &mut O, bytes: &[u8]) -> io::Result<()>
+    ensures { Prints (O.contents output.old) result (O.contents output.new) (encode_lower bytes.now) }
+{
+    let mut rest = bytes;
+    while !rest.is_empty() {
+        let count = rest.len().min(AT_A_TIME);
+        put_few(output, &rest[..count])?;
+        rest = &rest[count..];
+    }
+    Ok(())
+}
+
+/// No more bytes than are printed at a time.
+fn put_few<O: Write>(output: &mut O, bytes: &[u8]) -> io::Result<()>
+    requires { length bytes.now ≤ AT_A_TIME }
+    ensures { Prints (O.contents output.old) result (O.contents output.new) (encode_lower bytes.now) }
+{
+    let mut digits = [0; 2 * AT_A_TIME];
+    let digits = &mut digits[..2 * bytes.len()];
+    match hex::encode_to_slice(bytes, digits) {
+        Ok(()) => put(output, digits),
+        Err(_other_length) => unreachable!(),
+    }
+}

@@ -1,0 +1,52 @@
+use Rattle.std.proofs.Common.{◌≡◌, ◌∙◌, ◌++◌, ◌+◌, ◌∷◌, [], ℕ, List, length, ap, refl, sym, drop}
+use Rattle.std.proofs.lemmas.List.{drop_all, drop_more}
+use Rattle.nat_types.specs.declared.events.WorldEvent.{WorldEvent}
+use Rattle.frame_sim.specs.declared.events.Step.{Step}
+use Rattle.frame_sim.specs.Texts.{refusal_text}
+use Rattle.printing.specs.Lines.{Counts, counts_after, no_counts, step_lines}
+use Rattle.printing.specs.Printed.{IsPart}
+use Rattle.printing.proofs.Offered.{begun_more, err_begun, part_more, part_none, part_whole}
+use Rattle.simulation.specs.Texts.{steps_lines}
+use Rattle.simulation.proofs.shown.print_steps.Goals as goal
+
+-- the lines of an event and its step come first
+next : (counts : Counts) (es es2 : List WorldEvent) (ss ss2 : List Step) (e : WorldEvent) (s : Step) → es ≡ e ∷ es2 → ss ≡ s ∷ ss2
+    → steps_lines counts es ss ≡ step_lines refusal_text counts e s.answer s.out ++ steps_lines (counts_after counts e s.out) es2 ss2
+next counts es es2 ss ss2 e s events steps = rw (events, steps) refl
+
+-- none is left
+empty : (ss : List Step) → length ss ≡ 0 → ss ≡ []
+empty [] is = refl
+empty (s ∷ ss) is = cc
+
+-- no step is left
+none : (counts : Counts) (es : List WorldEvent) (ss : List Step) → ss ≡ [] → steps_lines counts es ss ≡ []
+none counts [] ss is = refl
+none counts (e ∷ es) ss is = rw is refl
+
+pub loop-event-init : goal.loop-event-init
+loop-event-init g c = rw c.new-printer.ensures (part_none _ _)
+
+pub loop-event-preserved : goal.loop-event-preserved
+loop-event-preserved g c =
+    let l = c.loop-event in
+    let e = c.event-item.result in
+    let events = drop_more c.args.events.now l.event-index e c.loop-event-test.true ∙ ap (λ x. x ∷ drop (l.event-index + 1) c.args.events.now) (sym c.event-item.is) in
+    rw c.in_ok-step.ensures.counted (part_more _ _ _ _ _ _ _ l.invariant (next l.printer _ _ l.rest.now _ e _ events c.in-Some.ensures.cases.0) c.in_ok-step.ensures.printed)
+
+pub returns-in_err-step : goal.returns-in_err-step
+returns-in_err-step g c =
+    let l = c.loop-event in
+    let e = c.event-item.result in
+    let events = drop_more c.args.events.now l.event-index e c.loop-event-test.true ∙ ap (λ x. x ∷ drop (l.event-index + 1) c.args.events.now) (sym c.event-item.is) in
+    err_begun c.from_residual.result _ _ _ c.from_residual.ensures.0
+    (begun_more _ _ _ _ _ _ _ l.invariant (next l.printer _ _ l.rest.now _ e _ events c.in-Some.ensures.cases.0) c.in_err-step.ensures.printed)
+
+pub returns-in_default : goal.returns-in_default
+returns-in_default g c = part_whole _ _ _ _ c.loop-event.invariant (none _ _ _ (empty _ c.in_default.ensures.cases))
+
+pub returns : goal.returns
+returns g c =
+    let l = c.loop-event in
+    let none_left = drop_all c.loop-event.event-index c.args.events.now c.loop-event-test.false in
+    part_whole _ _ _ _ l.invariant (rw none_left refl)

@@ -1,0 +1,31 @@
+-- What is printed where a fault ends a run.
+use Rattle.std.specs.Prelude.{◌≡◌, ◌⊎◌, ℕ, List, Option}
+use Rattle.nat_types.specs.declared.events.WorldEvent.{WorldEvent}
+use Rattle.faults.specs.declared.jobs.Job.{Job}
+use Rattle.faults.specs.Jobs.{IsJobOf}
+use Rattle.frame_sim.specs.declared.events.Step.{Step}
+use Rattle.frame_sim.specs.Runs.{AreSteps}
+use Rattle.frame_sim.specs.World.{World, founding}
+use Rattle.printing.specs.Printed.{IsBegun}
+use Rattle.simulation.specs.Texts.{run_lines}
+
+-- a beginning of the text of the steps that these events take, in order, from a world
+pub record HasBegun (w : World) (events : List WorldEvent) (before after : Option (List ℕ)) : Type 0 where
+  pub steps : List Step
+  pub last : World
+  pub answers : AreSteps w events steps last
+  pub begun : IsBegun before after (run_lines events steps last)
+
+-- that, or the output is as it was
+abbrev pub Begins : World → List WorldEvent → Option (List ℕ) → Option (List ℕ) → Type 0
+Begins w events before after = (after ≡ before) ⊎ HasBegun w events before after
+
+-- a beginning of the text of a run of a script's events on a new world of the settings that a text holds
+pub record HasBegunScript (text script : List ℕ) (before after : Option (List ℕ)) : Type 0 where
+  pub job : Job
+  pub is : IsJobOf text script job
+  pub begun : HasBegun (founding job.settings) job.events.items before after
+
+-- that, or the output is as it was
+abbrev pub BeginsScript : List ℕ → List ℕ → Option (List ℕ) → Option (List ℕ) → Type 0
+BeginsScript text script before after = (after ≡ before) ⊎ HasBegunScript text script before after
