@@ -1,5 +1,5 @@
 //! The entries of a table in slots, each with its life. A slot is found by key and by endpoint.
-ghost use Rattle.std.specs.Prelude.{◌≡◌, ◌+◌, ◌<◌, ◌≤◌, [], Some, None, true, false, not, ◌&&◌, if◌then◌else◌, length, IfOk, OnOk};
+ghost use Rattle.std.specs.Prelude.{◌≡◌, ◌+◌, ◌<◌, ◌≤◌, [], Some, None, true, false, not, ◌&&◌, if◌then◌else◌, length, IfOk, IsOk, OnOk};
 ghost use Rattle.nat_types.specs.declared.pairs.Endpoint.{Endpoint as InsidePort};
 ghost use Rattle.addresses.specs.declared.internet.Ip.{Ip as Address};
 ghost use Rattle.slots.specs.Endpoints.{slot_of as number_of_endpoint, count_in};
@@ -286,6 +286,7 @@ impl Store {
         ensures ok { OnOk result (more ≤ self.new.spare) }
         ensures spare { self.old.spare ≤ self.new.spare }
         ensures same { self.new ≡ record self.old { spare = self.new.spare } }
+        ensures succeeds { more ≤ self.old.spare → IsOk result }
     {
         self.index.ready(more)
     }

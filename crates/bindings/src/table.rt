@@ -156,6 +156,7 @@ impl Table {
     pub fn ready(&mut self, endpoints: &[Endpoint]) -> Result<(), AllocError>
         ensures ok { OnOk result (self.new ≡ record self.old { ready = length endpoints.now }) }
         ensures err { OnErr result (self.new ≡ self.old) }
+        ensures succeeds { length endpoints.now ≤ self.old.ready → IsOk result }
     {
         let more = endpoints.len();
         self.store.ready(more)?;
