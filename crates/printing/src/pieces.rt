@@ -68,7 +68,8 @@ const AT_A_TIME: usize = 128;
 
 /// Writes bytes, two digits each.
 pub(crate) fn put_hex<O: Write>(output: &mut O, bytes: &[u8]) -> io::Result<()>
-    ensures { Prints (O.contents output.old) result (O.contents output.new) (encode_lower bytes.now) }
+    ensures { Prints (O.contents output.old) result (O.contents output.new)
+        (encode_lower bytes.now) }
 {
     let mut rest = bytes;
     while !rest.is_empty() {
@@ -82,7 +83,8 @@ pub(crate) fn put_hex<O: Write>(output: &mut O, bytes: &[u8]) -> io::Result<()>
 /// No more bytes than are printed at a time.
 fn put_few<O: Write>(output: &mut O, bytes: &[u8]) -> io::Result<()>
     requires { length bytes.now ≤ AT_A_TIME }
-    ensures { Prints (O.contents output.old) result (O.contents output.new) (encode_lower bytes.now) }
+    ensures { Prints (O.contents output.old) result (O.contents output.new)
+        (encode_lower bytes.now) }
 {
     let mut digits = [0; 2 * AT_A_TIME];
     let digits = &mut digits[..2 * bytes.len()];
