@@ -6,7 +6,7 @@
 -- A UDP datagram that begins with the letters NP and has the version is taken for one, whatever its port; and so is
 -- what comes in a frame of EtherType 0x88b5, as at link0 and link1 of a capture of `natpair sim`.
 
-local VERSION = 2
+local VERSION = 3
 local LINK_PORT = 7000
 local LOCAL_EXPERIMENTS = 0x88b5
 local MOST_RECORDS = 64
@@ -15,7 +15,7 @@ local MOST_PORTS = 16
 local NUMBERS_END = UInt64.fromhex("8000000000000000")
 
 local STATUS = { [0] = "doesn't serve", [1] = "serves" }
-local PROTOCOLS = { [6] = "tcp", [17] = "udp" }
+local PROTOCOLS = { [1] = "icmp", [6] = "tcp", [17] = "udp" }
 local TAGS = {
   [1] = "Install", [2] = "Accept", [3] = "Refuse", [4] = "Ask", [5] = "Yes", [6] = "No",
   [7] = "Begin", [8] = "Put", [9] = "Done", [10] = "Want", [11] = "Grant", [12] = "Owner",

@@ -2,11 +2,11 @@
 use Rattle.std.proofs.Common.{◌≡◌, ℕ, ◌+◌, ◌-◌, ◌<◌, max, nat_le, Bool, true, false, cond, ◌&&◌, ◌||◌, inl, inr, List, [], ◌∷◌, sym, ap, ◌∙◌, arith}
 use Rattle.std.proofs.lemmas.Bool.{cases_lt, le-leb, lt-leb, and_from, and_left, and_right}
 use Rattle.addresses.specs.declared.transport.Protocol.{Protocol}
-use Rattle.addresses.specs.declared.transport.Protocol.TheVariants.{Tcp, Udp}
+use Rattle.addresses.specs.declared.transport.Protocol.TheVariants.{Icmp, Tcp, Udp}
 use Rattle.activity.specs.declared.sessions.Session.{Session}
 use Rattle.activity.specs.declared.sessions.Class.{Class}
 use Rattle.activity.specs.declared.sessions.Class.TheVariants.{Opening, Established, Closed}
-use Rattle.activity.specs.declared.TheConstants.{UDP_REST, ESTABLISHED_REST}
+use Rattle.activity.specs.declared.TheConstants.{QUERY_REST, UDP_REST, ESTABLISHED_REST}
 use Rattle.activity.specs.Sessions.{rest_of, has_rested}
 use Rattle.activity.specs.Kept.{all_passed}
 use Rattle.activity.specs.Lives.{Activity, is_empty, looks_idle}
@@ -44,6 +44,7 @@ all-from now (x ∷ xs) =
 
 -- a pair is idle just from its due moment on
 pub idle-from : (protocol : Protocol) (life : Activity) (now : ℕ) → looks_idle protocol life now ≡ nat_le (due_moment protocol life) now
+idle-from Icmp life now = rested-from QUERY_REST life.last now (omega arith)
 idle-from Udp life now = rested-from UDP_REST life.last now (omega arith)
 idle-from Tcp life now = at (life.is_crowded || is_empty life.sessions)
   where

@@ -4,8 +4,8 @@
 -- a pair is idle just from its due moment on
 pub use Rattle.activity.proofs.Due.{idle-from}
 -- What is kept of a life agrees with its past.
--- a packet of a UDP pair
-pub use Rattle.activity.proofs.Pasts.{agrees-udp}
+-- a packet of a pair without sessions
+pub use Rattle.activity.proofs.Pasts.{agrees-plain}
 -- a packet of a TCP pair
 pub use Rattle.activity.proofs.Pasts.{agrees-tcp}
 -- whether a pair is idle

@@ -4,15 +4,15 @@ use Rattle.std.specs.List.{refill}
 use Rattle.std.proofs.lemmas.List.{length-set}
 use Rattle.std.proofs.lemmas.List.Folds.{list_all-map}
 use Rattle.addresses.specs.declared.transport.Protocol.{Protocol}
-use Rattle.addresses.specs.declared.transport.Protocol.TheVariants.{Tcp, Udp}
+use Rattle.addresses.specs.declared.transport.Protocol.TheVariants.{Tcp}
 use Rattle.activity.specs.declared.packets.Packet.{Packet}
 use Rattle.activity.specs.declared.sessions.Session.{Session}
-use Rattle.activity.specs.declared.TheConstants.{ESTABLISHED_REST, UDP_REST}
+use Rattle.activity.specs.declared.TheConstants.{ESTABLISHED_REST}
 use Rattle.activity.specs.Packets.{same_remote}
 use Rattle.activity.specs.Sessions.{stepped, begun_session, has_passed_by, has_rested}
 use Rattle.activity.specs.Places.{put_at, is_nowhere}
 use Rattle.activity.specs.Kept.{session_place, with_session, all_passed}
-use Rattle.activity.specs.Lives.{Course, History, Activity, Agrees, with_packet, last_of, courses, course_place, is_crowded, is_empty, is_idle, looks_idle, first_course, longer, session_of}
+use Rattle.activity.specs.Lives.{Course, History, Activity, Agrees, with_packet, last_of, courses, course_place, is_crowded, is_empty, is_idle, looks_idle, first_course, longer, session_of, least_rest}
 use Rattle.activity.specs.declared.places.Place.TheVariants.{Known, Passed}
 use Rattle.activity.proofs.Items.{put-map, place-map, refilled, known-within, passed-within, set-changed, set-new}
 use Rattle.activity.proofs.Segments.{stepped-is, begun-is}
@@ -32,13 +32,13 @@ no_use : (b : Bool) → false ≡ (b && false)
 no_use true = refl
 no_use false = refl
 
--- a packet of a UDP pair
-pub agrees-udp : (past : History) (life2 : Activity) (p : Packet) → life2.last ≡ p.at → life2.is_unused ≡ false → Agrees Udp (with_packet p past) life2
-agrees-udp past life2 p last unused = record {
+-- a packet of a pair without sessions
+pub agrees-plain : (protocol : Protocol) (past : History) (life2 : Activity) (p : Packet) → (protocol ≡ Tcp → ⊥) → life2.last ≡ p.at → life2.is_unused ≡ false → Agrees protocol (with_packet p past) life2
+agrees-plain protocol past life2 p plain last unused = record {
   last = last;
   unused = unused ∙ no_use past.by_install;
-  sessions = λ tcp. cc;
-  crowded = λ tcp. cc;
+  sessions = λ tcp. absurd (plain tcp);
+  crowded = λ tcp. absurd (plain tcp);
 }
 
 -- a packet of a TCP pair
@@ -67,8 +67,8 @@ idle-tcp past life now a =
 
 -- whether a pair is idle
 pub looks-is : (protocol : Protocol) (past : History) (life : Activity) (now : ℕ) → Agrees protocol past life → looks_idle protocol life now ≡ is_idle protocol past now
-looks-is Udp past life now a = ap (λ n. has_rested UDP_REST n now) a.last
 looks-is Tcp past life now a = idle-tcp past life now a
+looks-is protocol past life now a = ap (λ n. has_rested (least_rest protocol) n now) a.last
 
 -- ---- what is written
 

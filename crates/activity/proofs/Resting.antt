@@ -3,18 +3,19 @@ use Rattle.std.proofs.Common.{◌≡◌, ℕ, zero, suc, ◌+◌, ◌-◌, ◌<�
 use Rattle.std.specs.List.{list_all}
 use Rattle.std.proofs.lemmas.Bool.{leb-true, and_parts}
 use Rattle.addresses.specs.declared.transport.Protocol.{Protocol}
-use Rattle.addresses.specs.declared.transport.Protocol.TheVariants.{Tcp, Udp}
+use Rattle.addresses.specs.declared.transport.Protocol.TheVariants.{Icmp, Tcp, Udp}
 use Rattle.activity.specs.declared.packets.Packet.{Packet}
 use Rattle.activity.specs.declared.places.Place.{Place}
 use Rattle.activity.specs.declared.places.Place.TheVariants.{Known, Free, Passed, Nowhere}
 use Rattle.activity.specs.declared.sessions.Class.{Class}
 use Rattle.activity.specs.declared.sessions.Class.TheVariants.{Opening, Established, Closed}
-use Rattle.activity.specs.declared.TheConstants.{UDP_REST, TRANSITORY_REST, ESTABLISHED_REST}
+use Rattle.activity.specs.declared.TheConstants.{QUERY_REST, UDP_REST, TRANSITORY_REST, ESTABLISHED_REST}
 use Rattle.activity.specs.Packets.{same_remote}
 use Rattle.activity.specs.Places.{changed_at, put_at, is_nowhere}
 use Rattle.activity.specs.Sessions.{has_rested, rest_of}
 use Rattle.activity.specs.Lives.{Course, History, came, with_packet, renewed, courses, course_place, is_crowded, is_empty, is_idle, is_unused, has_passed, first_course, longer, class_of, last_of, newest_or}
-use Rattle.activity.specs.Rests.{least_rest, CameBy, AllRested, AllBefore, IsAmong, WasCarried, HaveRested, LiesBehind, AccountsFor}
+use Rattle.activity.specs.Rests.{CameBy, AllRested, AllBefore, IsAmong, WasCarried, HaveRested, LiesBehind, AccountsFor}
+use Rattle.activity.specs.Lives.{least_rest}
 use Rattle.activity.proofs.Items.{known-within, passed-within}
 
 -- where the newest of the packets rested, all did
@@ -74,6 +75,7 @@ tcp-idle past now true by is h = newest past.since ESTABLISHED_REST TRANSITORY_R
 tcp-idle past now false by is h = not-crowded now past.packets by (or-parts (is_crowded past.packets) (is_empty (courses past.packets)) is).0 h
 
 pub idle-rests : (protocol : Protocol) (past : History) (now : ℕ) → CameBy now past.packets → is_idle protocol past now ≡ true → AllRested (least_rest protocol) now past.packets
+idle-rests Icmp past now by h = newest past.since QUERY_REST QUERY_REST now past.packets past.by_install (omega arith) (omega arith) by h
 idle-rests Udp past now by h = newest past.since UDP_REST UDP_REST now past.packets past.by_install (omega arith) (omega arith) by h
 idle-rests Tcp past now by h = tcp-idle past now (is_crowded past.packets || is_empty (courses past.packets)) by refl h
 
@@ -181,6 +183,7 @@ begin-rested : (protocol : Protocol) (past : History) (now : ℕ) → CameBy now
 begin-rested protocol past now by h = at past.packets refl (idle-rests protocol past now by h)
   where
     none : (protocol : Protocol) → past.packets ≡ [] → is_idle protocol past now ≡ true → past.since + least_rest protocol ≤ now
+    none Icmp is idle = rested-by QUERY_REST QUERY_REST past.since now (omega arith) (omega arith) (sym (ap (λ ps. has_rested QUERY_REST (newest_or past.since ps) now) is) ∙ idle)
     none Udp is idle = rested-by UDP_REST UDP_REST past.since now (omega arith) (omega arith) (sym (ap (λ ps. has_rested UDP_REST (newest_or past.since ps) now) is) ∙ idle)
     none Tcp is idle = rested-by ESTABLISHED_REST TRANSITORY_REST past.since now (omega arith) (omega arith)
         (sym (ap (λ ps. cond (is_crowded ps || is_empty (courses ps)) (has_rested ESTABLISHED_REST (newest_or past.since ps) now) (list_all (has_passed now) (courses ps))) is) ∙ idle)

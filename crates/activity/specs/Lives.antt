@@ -2,7 +2,7 @@
 use Rattle.std.specs.Prelude.{◌≡◌, ℕ, Bool, true, false, ◌&&◌, ◌||◌, List, [], ◌∷◌, map, if◌then◌else◌}
 use Rattle.std.specs.List.{list_any, list_all}
 use Rattle.addresses.specs.declared.transport.Protocol.{Protocol}
-use Rattle.addresses.specs.declared.transport.Protocol.TheVariants.{Tcp, Udp}
+use Rattle.addresses.specs.declared.transport.Protocol.TheVariants.{Icmp, Tcp, Udp}
 use Rattle.addresses.specs.declared.transport.TcpFlags.{TcpFlags}
 use Rattle.activity.specs.declared.packets.Packet.{Packet}
 use Rattle.activity.specs.declared.packets.Remote.{Remote}
@@ -13,7 +13,7 @@ use Rattle.activity.specs.declared.sessions.Class.{Class}
 use Rattle.activity.specs.declared.sessions.Class.TheVariants.{Opening, Established, Closed}
 use Rattle.activity.specs.declared.sessions.Marks.{Marks}
 use Rattle.activity.specs.declared.sessions.Session.{Session}
-use Rattle.activity.specs.declared.TheConstants.{UDP_REST, ESTABLISHED_REST}
+use Rattle.activity.specs.declared.TheConstants.{QUERY_REST, UDP_REST, TRANSITORY_REST, ESTABLISHED_REST}
 use Rattle.activity.specs.Packets.{same_way, same_remote, is_fin, is_plain}
 use Rattle.activity.specs.Sessions.{is_closed, is_opening, first_class, rest_of, has_rested}
 use Rattle.activity.specs.Places.{place_by, put_at, is_nowhere}
@@ -122,14 +122,20 @@ newest_or since (p ∷ older) = p.at
 abbrev pub last_of : History → ℕ
 last_of past = newest_or past.since past.packets
 
--- A pair is idle: a UDP pair by its last use, a TCP pair with no session or that is crowded likewise, and another TCP
--- pair where the limits of all its sessions have passed.
+-- how long a pair of a protocol rests at least before it is idle, in centiseconds
+abbrev pub least_rest : Protocol → ℕ
+least_rest Icmp = QUERY_REST
+least_rest Tcp = TRANSITORY_REST
+least_rest Udp = UDP_REST
+
+-- A pair is idle: a TCP pair with no session or that is crowded by its last use, another TCP pair where the limits of
+-- all its sessions have passed; a pair of another protocol, which has no sessions, by its last use.
 abbrev pub is_idle : Protocol → History → ℕ → Bool
-is_idle Udp past now = has_rested UDP_REST (last_of past) now
 is_idle Tcp past now =
     (if is_crowded past.packets || is_empty (courses past.packets)
     then has_rested ESTABLISHED_REST (last_of past) now
     else list_all (has_passed now) (courses past.packets))
+is_idle protocol past now = has_rested (least_rest protocol) (last_of past) now
 
 -- ---- what is kept of a life
 
@@ -142,24 +148,24 @@ pub record Activity : Type 0 where
 
 -- the rule on what is kept
 abbrev pub looks_idle : Protocol → Activity → ℕ → Bool
-looks_idle Udp life now = has_rested UDP_REST life.last now
 looks_idle Tcp life now =
     (if life.is_crowded || is_empty life.sessions
     then has_rested ESTABLISHED_REST life.last now
     else all_passed now life.sessions)
+looks_idle protocol life now = has_rested (least_rest protocol) life.last now
 
 -- what is kept as a pair comes into a table, as it carries a packet, and as its list of packets begins empty
 abbrev pub life_begun : Bool → ℕ → Activity
 life_begun by_install now = record { last = now; is_unused = by_install; is_crowded = false; sessions = [] }
 
 abbrev pub life_carried : Protocol → Packet → Activity → Activity
-life_carried Udp p life = record life { last = p.at; is_unused = false }
 life_carried Tcp p life = record {
   last = p.at;
   is_unused = false;
   is_crowded = life.is_crowded || is_nowhere (session_place p life.sessions);
   sessions = with_session p life.sessions;
 }
+life_carried protocol p life = record life { last = p.at; is_unused = false }
 
 abbrev pub life_renewed : ℕ → Activity → Activity
 life_renewed now life = record life { last = now; is_crowded = false; sessions = [] }

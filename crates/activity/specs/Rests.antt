@@ -1,15 +1,8 @@
 -- What the rule of idle pairs gives to those who see uses and releases alone.
 use Rattle.std.specs.Prelude.{◌≡◌, ℕ, ◌+◌, ◌≤◌, ◌⊎◌, true, List, [], ◌∷◌}
 use Rattle.addresses.specs.declared.transport.Protocol.{Protocol}
-use Rattle.addresses.specs.declared.transport.Protocol.TheVariants.{Tcp, Udp}
 use Rattle.activity.specs.declared.packets.Packet.{Packet}
-use Rattle.activity.specs.declared.TheConstants.{UDP_REST, TRANSITORY_REST}
-use Rattle.activity.specs.Lives.{History, last_of}
-
--- how long a pair of a protocol rests at least before it is idle, in centiseconds
-abbrev pub least_rest : Protocol → ℕ
-least_rest Tcp = TRANSITORY_REST
-least_rest Udp = UDP_REST
+use Rattle.activity.specs.Lives.{History, last_of, least_rest}
 
 -- the packets, newest first, were carried at moments that never ran back, none after this one
 abbrev pub CameBy : ℕ → List Packet → Type 0

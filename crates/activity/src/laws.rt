@@ -2,15 +2,16 @@
 ghost use Rattle.std.specs.Prelude.{◌≡◌, ℕ, ◌≤◌, nat_le, true, Bool, List, ◌∷◌, ◌++◌, map};
 ghost use Rattle.addresses.specs.declared.transport.Protocol.{Protocol};
 ghost use Rattle.activity.specs.declared.packets.Packet.{Packet as Carried};
-ghost use Rattle.activity.specs.declared.TheConstants.{MAX_SESSIONS, UDP_REST, TRANSITORY_REST, ESTABLISHED_REST};
+ghost use Rattle.activity.specs.declared.TheConstants.{MAX_SESSIONS, QUERY_REST, UDP_REST, TRANSITORY_REST, ESTABLISHED_REST};
 ghost use Rattle.activity.specs.Dues.{due_moment};
 ghost use Rattle.activity.specs.Lives.{History, Activity as Seen, came, with_packet, renewed, looks_idle, is_idle, is_unused};
-ghost use Rattle.activity.specs.Rests.{least_rest, CameBy, AllRested, AllBefore, HaveRested, AccountsFor};
+ghost use Rattle.activity.specs.Rests.{CameBy, AllRested, AllBefore, HaveRested, AccountsFor};
+ghost use Rattle.activity.specs.Lives.{least_rest};
 
 /// An idle pair has rested since each use. The uses of a gateway's life are those of this list of packets, and those
 /// before it, which had rested when the list began: so each of them lies at least the protocol's rest before a release
 /// where the pair is idle, or unused; and the next list begins with all of them rested.
-/// The last four say in figures what the limits are, in centiseconds.
+/// The last five say in figures what the limits are, in centiseconds.
 pub fn idle_rests_law()
     ensures idle { (protocol : Protocol) → (past : History) → (now : ℕ)
         → CameBy now past.packets
@@ -22,6 +23,7 @@ pub fn idle_rests_law()
     ensures together { (rest now : ℕ) → (packets : List Carried) → (uses : List ℕ)
         → AllRested rest now packets → AllBefore rest now uses → AllBefore rest now (map
         (λ p. p.at) packets ++ uses) }
+    ensures query_rest { QUERY_REST ≡ 6000 }
     ensures udp_rest { UDP_REST ≡ 30000 }
     ensures transitory_rest { TRANSITORY_REST ≡ 24000 }
     ensures established_rest { ESTABLISHED_REST ≡ 744000 }
@@ -35,7 +37,7 @@ pub fn idle_rests_law()
 /// each pair without an entry, or let go, that its uses have rested.
 ///
 /// `HaveRested (least_rest protocol) now uses` is what a release needs to be idle by the trace alone: each use of the pair
-/// by that gateway in the same life lies at least 30,000 (UDP) or 24,000 (TCP) centiseconds before it. Such a word on notes
+/// by that gateway in the same life lies at least 30,000 (UDP), 24,000 (TCP) or 6,000 (ICMP) centiseconds before it. Such a word on notes
 /// follows where each use that the notes show in the present life is among `uses`: a use is put in front, a boot of the
 /// gateway empties the list, and no other note changes it.
 pub fn uses_rest_law()

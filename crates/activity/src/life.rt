@@ -2,13 +2,16 @@
 ghost use Rattle.std.specs.Prelude.{◌≡◌, ◌+◌, ◌||◌, if◌then◌else◌};
 ghost use Rattle.addresses.specs.declared.transport.Protocol.{Protocol as Transport};
 ghost use Rattle.activity.specs.Lives.{History, Agrees, came, with_packet, renewed, is_idle, looks_idle, is_unused, is_empty, life_begun, life_carried, life_renewed};
+ghost use Rattle.activity.specs.Lives.{least_rest};
 ghost use Rattle.activity.specs.Sessions.{has_rested};
 ghost use Rattle.activity.specs.Kept.{all_passed};
 ghost use Rattle.activity.specs.Dues.{last_end, due_moment, clipped};
 
 use crate::places::{end_of_all, follow, have_all_passed};
 use crate::sessions::has_rested_since;
-use crate::{ESTABLISHED_REST, MAX_SESSIONS, Packet, Session, UDP_REST};
+use crate::{
+    ESTABLISHED_REST, MAX_SESSIONS, Packet, QUERY_REST, Session, TRANSITORY_REST, UDP_REST,
+};
 use addresses::Protocol;
 use arrayvec::ArrayVec;
 use std::marker::Model;
@@ -33,6 +36,17 @@ impl Model for Activity {
       is_crowded = l.is_crowded;
       sessions = l.sessions.items;
     } };
+}
+
+/// How long a pair of a protocol rests at least before it is idle; one without sessions just so long.
+fn least_rest(protocol: Protocol) -> u64
+    ensures { result ≡ least_rest protocol }
+{
+    match protocol {
+        Protocol::Icmp => QUERY_REST,
+        Protocol::Tcp => TRANSITORY_REST,
+        Protocol::Udp => UDP_REST,
+    }
 }
 
 /// Whether a TCP pair with these sessions is idle.
@@ -84,7 +98,7 @@ impl Activity {
         self.last = packet.at;
         self.is_unused = false;
         match protocol {
-            Protocol::Udp => {}
+            Protocol::Icmp | Protocol::Udp => {}
             Protocol::Tcp => {
                 let nowhere = follow(&mut self.sessions, packet);
                 self.is_crowded |= nowhere;
@@ -110,7 +124,9 @@ impl Activity {
         ensures exact { result ≡ looks_idle protocol self.now now }
     {
         match protocol {
-            Protocol::Udp => has_rested_since(UDP_REST, self.last, now),
+            Protocol::Icmp | Protocol::Udp => {
+                has_rested_since(least_rest(protocol), self.last, now)
+            }
             Protocol::Tcp => is_tcp_idle(self.sessions.as_slice(), self.is_crowded, self.last, now),
         }
     }
@@ -120,7 +136,7 @@ impl Activity {
         ensures { result ≡ clipped (due_moment protocol self.now) }
     {
         match protocol {
-            Protocol::Udp => self.last.saturating_add(UDP_REST),
+            Protocol::Icmp | Protocol::Udp => self.last.saturating_add(least_rest(protocol)),
             Protocol::Tcp => tcp_due(self.sessions.as_slice(), self.is_crowded, self.last),
         }
     }

@@ -69,6 +69,8 @@ fn summed(mut start: [u8; STARTS]) -> [u8; STARTS] {
 /// stands for any.
 fn set_transport(frame: &mut [u8; LONGEST], kind: Kind) {
     match kind.protocol {
+        // No query is measured.
+        Protocol::Icmp => {}
         Protocol::Udp => {
             let [high, low] = kind.size.saturating_sub(20).to_be_bytes();
             frame[38] = high;

@@ -120,7 +120,7 @@ impl Station {
 
 fn other(protocol: Protocol) -> Protocol {
     match protocol {
-        Protocol::Tcp => Protocol::Udp,
+        Protocol::Icmp | Protocol::Tcp => Protocol::Udp,
         Protocol::Udp => Protocol::Tcp,
     }
 }

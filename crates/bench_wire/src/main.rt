@@ -3,10 +3,11 @@
 #![tactic(auto)]
 
 ghost use Rattle.std.specs.Prelude.{IsTrue};
-ghost use Rattle.ipv4.specs.Carried.{IsTransport};
+ghost use Rattle.icmp.specs.Query.{IsTranslatable};
 ghost use Rattle.ipv4.specs.Header.{IsIpv4};
 
 use addresses::{Ip, Port, Protocol};
+use icmp::Kind;
 use ipv4::{Ipv4View, Transport};
 use std::rt::{Clock, Env};
 use std::time::Instant;
@@ -64,6 +65,7 @@ fn packet_of(protocol: Protocol, size: u16) -> [u8; LONGEST] {
             let [high, low] = size.saturating_sub(20).to_be_bytes();
             packet[24..28].copy_from_slice(&[high, low, 0x12, 0x34]);
         }
+        Protocol::Icmp => packet[20..26].copy_from_slice(&[8, 0, 0x12, 0x34, 0x13, 0x88]),
         Protocol::Tcp => {
             packet[32] = 0x50;
             packet[33] = 0x10;
@@ -72,19 +74,22 @@ fn packet_of(protocol: Protocol, size: u16) -> [u8; LONGEST] {
     packet
 }
 
-fn is_carried(packet: &[u8]) -> bool
+fn is_translatable(packet: &[u8]) -> bool
     ensures ipv4 { IsTrue result → IsIpv4 packet.now }
-    ensures transport { IsTrue result → IsTransport packet.now }
+    ensures translatable { IsTrue result → IsTranslatable packet.now }
 {
     match Ipv4View::parse(packet) {
-        Ok(view) => Transport::parse(&view).is_ok(),
+        Ok(view) => match view.transport() {
+            Some(Protocol::Icmp) => icmp::query_packet(Kind::Echo, &view).is_ok(),
+            Some(Protocol::Tcp | Protocol::Udp) | None => Transport::parse(&view).is_ok(),
+        },
         Err(_) => false,
     }
 }
 
 /// Whether the packet was parsed and sent on.
 fn is_sent(packet: &mut [u8]) -> bool {
-    if !is_carried(packet) {
+    if !is_translatable(packet) {
         return false;
     }
     rewrite::outward(packet, OUTSIDE, Port(20000)).is_ok()
@@ -119,6 +124,8 @@ fn report<R: Print + Clock>(rt: &R, count: u32) -> io::Result<()> {
         (Protocol::Udp, 1500),
         (Protocol::Tcp, 44),
         (Protocol::Tcp, 1500),
+        (Protocol::Icmp, 44),
+        (Protocol::Icmp, 1500),
     ] {
         let (each, sent) = measure(rt, protocol, size, count)?;
         println!(rt; "{protocol} {size} bytes: {each} ns a packet, {sent} of {count} sent")?;

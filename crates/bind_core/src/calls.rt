@@ -1,6 +1,6 @@
 //! What a gateway asks of its core: rows carried out.
 ghost use Rattle.std.specs.Prelude.{◌≡◌, ◌+◌, ◌<◌, ◌≤◌, ◌++◌, ◌∷◌, ◌||◌, [], ℕ, List, true, false, suc};
-ghost use Rattle.std.specs.Prelude.{length, vec_len, vec_capacity, OnOk, OnErr};
+ghost use Rattle.std.specs.Prelude.{length, vec_len, vec_capacity, IsOk, OnOk, OnErr};
 ghost use Rattle.link.specs.Grammar.{IsWellFormedRecord};
 ghost use Rattle.link.specs.Link.{free_places, needs_answer};
 ghost use Rattle.spec_binding.specs.Books.{is_lone as is_lone_at, is_synced as is_synced_at};
@@ -253,6 +253,7 @@ impl Core {
           };
         }) }
         ensures err { OnErr result (self.new ≡ self.old) }
+        ensures succeeds { length endpoints.now ≤ self.old.table.ready → IsOk result }
     {
         self.make_ready(endpoints)
     }

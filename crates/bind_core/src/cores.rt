@@ -1,7 +1,7 @@
 //! One gateway's table, and how far it is.
 ghost use Rattle.std.specs.Prelude.{◌≡◌, ◌+◌, ◌-◌, ◌*◌, ◌<◌, ◌≤◌, ◌++◌, ◌&&◌, not};
 ghost use Rattle.std.specs.Prelude.{ℕ, Bool, [], true};
-ghost use Rattle.std.specs.Prelude.{IsTrue, IfOk, IfSome, is_some, length, vec_len, vec_capacity};
+ghost use Rattle.std.specs.Prelude.{IsTrue, IsOk, IfOk, IfSome, is_some, length, vec_len, vec_capacity};
 ghost use Rattle.std.specs.Prelude.{slice_get, Some, false, OnOk, OnErr, drop, take, List, map};
 ghost use Rattle.nat_types.specs.declared.pairs.Key.{Key as OutsidePort};
 ghost use Rattle.activity.specs.declared.packets.Packet.{Packet as Carried};
@@ -465,6 +465,7 @@ impl Core {
           };
         }) }
         ensures err { OnErr result (self.new ≡ self.old) }
+        ensures succeeds { length endpoints.now ≤ self.old.table.ready → IsOk result }
     {
         self.table.ready(endpoints)
     }

@@ -151,7 +151,7 @@ pub(crate) fn count_keys(zero: PortBounds, one: PortBounds) -> usize
     requires one { one.lowest.0 ≤ one.highest.0 }
     ensures { result ≡ key_count zero one }
 {
-    2 * (count_ports(zero) + count_ports(one))
+    3 * (count_ports(zero) + count_ports(one))
 }
 
 /// The ports of gateway 0 and of gateway 1.

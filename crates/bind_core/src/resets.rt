@@ -35,7 +35,7 @@ fn key_of(entry: &Entry) -> Key
     entry.pair.key
 }
 
-/// Notes the pairs that come back, by protocol (tcp first) and port.
+/// Notes the pairs that come back, by protocol (icmp first) and port.
 pub(crate) fn note_back(table: &Table, notes: &mut Vec<Note>, by: GatewayId, at: u64)
     requires sent { CanBeSent table.now }
     requires reserved { vec_len notes.old + length table.now.entries ≤ vec_capacity notes.old }

@@ -5,7 +5,7 @@ use Rattle.std.specs.Option.{option_map}
 use Rattle.std.proofs.lemmas.Bool.{and_parts, and_from, le-leb, leb-true, ltb-true, ltb-false}
 use Rattle.std.proofs.lemmas.List.{length-map}
 use Rattle.addresses.specs.declared.transport.Protocol.{Protocol}
-use Rattle.addresses.specs.declared.transport.Protocol.TheVariants.{Tcp, Udp}
+use Rattle.addresses.specs.declared.transport.Protocol.TheVariants.{Icmp, Tcp, Udp}
 use Rattle.nat_types.specs.declared.pairs.EntryState.{EntryState}
 use Rattle.nat_types.specs.declared.pairs.Key.{Key}
 use Rattle.nat_types.specs.Same.{same_key}
@@ -86,7 +86,7 @@ stored-drop es ls ports ports2 low high cap places key s freed bounds owns = rec
 }
   where
     here : (q : Key) → is_free_at ports2 q ≡ cond (same_key key q) (is_within (lowest_of low high) (highest_of low high) key.port.0) (is_free_at ports q)
-    here q = freed q ∙ ap (λ n. cond (same_key key q) (is_within n ports.tcp.highest key.port.0) (is_free_at ports q)) s.same.tcp_low ∙ ap (λ n. cond (same_key key q) (is_within (lowest_of low high) n key.port.0) (is_free_at ports q)) s.same.tcp_high
+    here q = freed q ∙ ap (λ n. cond (same_key key q) (is_within n ports.tcp.highest key.port.0) (is_free_at ports q)) s.same.tcp.low ∙ ap (λ n. cond (same_key key q) (is_within (lowest_of low high) n key.port.0) (is_free_at ports q)) s.same.tcp.high
 
 -- other lives, as many
 pub stored-lives : (es : List Entry) (ls ls2 : List Activity) (ports : Ports) (low high : PortBounds) (cap places : ℕ) → IsStored es ls ports low high cap places → length ls2 ≡ length ls → IsStored es ls2 ports low high cap places
@@ -107,6 +107,7 @@ free-kept : (old new : Ports) → SameFree old new → (q : Key) → is_free_at 
 free-kept old new f q = at q.protocol
   where
     at : (x : Protocol) → is_free (range_of new x) q.port.0 ≡ is_free (range_of old x) q.port.0
+    at Icmp = ap (is_listed q.port.0) f.icmp
     at Tcp = ap (is_listed q.port.0) f.tcp
     at Udp = ap (is_listed q.port.0) f.udp
 

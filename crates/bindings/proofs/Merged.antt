@@ -181,7 +181,7 @@ merged lone now first low (m ∷ ms) (r ∷ rows) rises keyed due =
     by less zero e = here less (sym due.0.own ∙ ap key_at (let c = due.0.cell in omega (arith, c, e)))
     by less (suc j) e = beyond less (let c = due.0.cell in omega (arith, c, e))
 
-are-due : (lone : Bool) (now : ℕ) (dues : List (Option ℕ)) (rows : List (Row Item)) → length dues ≡ 131072 → AreKeyed rows → AreTimed lone dues rows → AreDue lone now 0 dues rows
+are-due : (lone : Bool) (now : ℕ) (dues : List (Option ℕ)) (rows : List (Row Item)) → length dues ≡ 196608 → AreKeyed rows → AreTimed lone dues rows → AreDue lone now 0 dues rows
 are-due lone now dues [] count keyed timed = tt
 are-due lone now dues (r ∷ rows) count keyed timed = (
   record {
@@ -201,7 +201,7 @@ are-due lone now dues (r ∷ rows) count keyed timed = (
 )
 
 -- all idle entries are among the due keys, and those of the due keys are all
-pub idle-among : (lone : Bool) (now : ℕ) (dues : List (Option ℕ)) (rows : List (Row Item)) → length dues ≡ 131072 → slots.Rises 0 rows → AreKeyed rows → AreTimed lone dues rows
+pub idle-among : (lone : Bool) (now : ℕ) (dues : List (Option ℕ)) (rows : List (Row Item)) → length dues ≡ 196608 → slots.Rises 0 rows → AreKeyed rows → AreTimed lone dues rows
     → idle_keys_in lone now (entries_of rows) (lives_of rows) ≡ idle_among lone now (entries_of rows) (lives_of rows) (due_keys now dues)
 idle-among lone now dues rows count rises keyed timed =
     merged lone now 0 0 dues rows rises keyed (are-due lone now dues rows count keyed timed)

@@ -55,7 +55,7 @@ pub use Rattle.bindings.proofs.Rising.{rise-filter, rise-range, listed-filter, l
 pub use Rattle.bindings.proofs.Rising.{not-below}
 -- all ports of both ranges
 pub use Rattle.bindings.proofs.Rising.{listed-all}
--- A table's entries are no more than the ports of both ranges for both protocols, where they lie in the ranges.
+-- A table's entries are no more than the ports of both ranges for the three protocols, where they lie in the ranges.
 pub use Rattle.bindings.proofs.Rooms.{few}
 -- one more key of the ranges finds room
 pub use Rattle.bindings.proofs.Rooms.{has-room}

@@ -2,12 +2,12 @@
 use Rattle.std.proofs.Common.{◌≡◌, ℕ, Bool, true, false, cond, ◌&&◌, ◌==◌, is_none, Option, Some, None, List, inl, inr, refl, sym, ap, ◌∙◌, eq-eqb}
 use Rattle.std.proofs.lemmas.Bool.{cond-true, cond-false, cases_Bool, both_ways, eqb-true, false_from_ne_true}
 use Rattle.addresses.specs.declared.transport.Protocol.{Protocol}
-use Rattle.addresses.specs.declared.transport.Protocol.TheVariants.{Tcp, Udp}
+use Rattle.addresses.specs.declared.transport.Protocol.TheVariants.{Icmp, Tcp, Udp}
 use Rattle.addresses.specs.declared.transport.Parity.{Parity}
 use Rattle.nat_types.specs.declared.pairs.Key.{Key}
 use Rattle.nat_types.specs.Same.{same_key}
 use Rattle.nat_types.proofs.Offered.{key-eq, key-true}
-use Rattle.port_range.specs.Ports.{is_free, is_owned, is_within, is_available, is_listed, chosen_port as chosen_of, IsRange}
+use Rattle.port_range.specs.Ports.{Range, is_free, is_owned, is_within, is_available, is_listed, chosen_port as chosen_of, IsRange}
 use Rattle.bindings.specs.declared.ports.Ports.{Ports}
 use Rattle.port_range.specs.Ports.{chosen_open}
 use Rattle.port_range.proofs.Offered.{chosen-same}
@@ -16,7 +16,7 @@ use Rattle.addresses.proofs.Offered.{protocol-eq, protocol-self}
 use Rattle.bindings.specs.declared.entries.Entry.{Entry}
 use Rattle.bindings.specs.declared.entries.PortBounds.{PortBounds}
 use Rattle.bindings.specs.Entries.{slot_of, set_at}
-use Rattle.bindings.specs.Ports.{range_of, is_free_at, is_free_in, is_open_in, lowest_of, highest_of, chosen_port, AreAlike, SameBounds, SameOwned, AreFree, key_of}
+use Rattle.bindings.specs.Ports.{range_of, is_free_at, is_free_in, is_open_in, lowest_of, highest_of, chosen_port, IsLike, AreAlike, SameEnds, SameBounds, SameOwned, AreFree, key_of}
 
 -- a test of ports that is written at one of them
 abbrev pub IsSetAt : (ℕ → Bool) → (ℕ → Bool) → ℕ → Bool → Type 0
@@ -50,21 +50,35 @@ range-set x old new key b of is rest q =
       ]) ∙ sym (cond-false (same_key key q) b (is_free_at old q) other)
     ]
 
-pub tcp-rest : (old new : Ports) → new.udp ≡ old.udp → (y : Protocol) → (y ≡ Tcp → ⊥) → range_of new y ≡ range_of old y
-tcp-rest old new e Tcp differs = absurd (differs refl)
-tcp-rest old new e Udp differs = e
+-- the ranges of the other protocols stay
+pub icmp-rest : (old new : Ports) → new.tcp ≡ old.tcp → new.udp ≡ old.udp → (y : Protocol) → (y ≡ Icmp → ⊥) → range_of new y ≡ range_of old y
+icmp-rest old new t u Icmp differs = absurd (differs refl)
+icmp-rest old new t u Tcp differs = t
+icmp-rest old new t u Udp differs = u
 
-pub udp-rest : (old new : Ports) → new.tcp ≡ old.tcp → (y : Protocol) → (y ≡ Udp → ⊥) → range_of new y ≡ range_of old y
-udp-rest old new e Tcp differs = e
-udp-rest old new e Udp differs = absurd (differs refl)
+pub tcp-rest : (old new : Ports) → new.icmp ≡ old.icmp → new.udp ≡ old.udp → (y : Protocol) → (y ≡ Tcp → ⊥) → range_of new y ≡ range_of old y
+tcp-rest old new i u Icmp differs = i
+tcp-rest old new i u Tcp differs = absurd (differs refl)
+tcp-rest old new i u Udp differs = u
+
+pub udp-rest : (old new : Ports) → new.icmp ≡ old.icmp → new.tcp ≡ old.tcp → (y : Protocol) → (y ≡ Udp → ⊥) → range_of new y ≡ range_of old y
+udp-rest old new i t Icmp differs = i
+udp-rest old new i t Tcp differs = t
+udp-rest old new i t Udp differs = absurd (differs refl)
 
 already : (c b : Bool) (o : Bool) → (c ≡ true → o ≡ b) → o ≡ cond c b o
 already true b o h = h refl
 already false b o h = refl
 
--- a key that is so already
-pub key-already : (ports : Ports) (key : Key) (b : Bool) → is_free_at ports key ≡ b → (q : Key) → is_free_at ports q ≡ cond (same_key key q) b (is_free_at ports q)
-key-already ports key b is q = already (same_key key q) b (is_free_at ports q) (λ same. ap (is_free_at ports) (sym (key-eq key q same)) ∙ is)
+-- a port that is so already
+pub port-already : (range : Range) (port : ℕ) → is_free range port ≡ false → (p : ℕ) → is_free range p ≡ cond (p == port) false (is_free range p)
+port-already range port is p = already (p == port) false (is_free range p) (λ same. ap (is_free range) (eqb-true p port same) ∙ is)
+
+-- each range is like the others
+pub like-of : (low high : ℕ) (ports : Ports) → AreAlike low high ports → (x : Protocol) → IsLike ports.tcp low high (range_of ports x)
+like-of low high ports alike Icmp = alike.icmp
+like-of low high ports alike Tcp = alike.tcp
+like-of low high ports alike Udp = alike.udp
 
 -- ---- the free keys of a table
 
@@ -121,43 +135,56 @@ available-is : (low high : ℕ) (es : List Entry) (ports : Ports) (x : Protocol)
 available-is low high es ports x free alike is port =
     ap (λ b. b && is_owned (range_of ports x) port) (free (key_of x port))
     ∙ flip (is_within low high port) (is_free_in es x port) (is_owned (range_of ports x) port) within
-    ∙ ap (λ b. b && is_free_in es x port) (owned x)
+    ∙ ap (λ b. b && is_free_in es x port) (like.owned port)
   where
-    owned : (x : Protocol) → is_owned (range_of ports x) port ≡ is_listed port ports.tcp.owned
-    owned Tcp = refl
-    owned Udp = alike.owned port
-
-    lows : (x : Protocol) → (range_of ports x).lowest ≡ low
-    lows Tcp = alike.tcp_low
-    lows Udp = alike.udp_low
-
-    highs : (x : Protocol) → (range_of ports x).highest ≡ high
-    highs Tcp = alike.tcp_high
-    highs Udp = alike.udp_high
+    like : IsLike ports.tcp low high (range_of ports x)
+    like = like-of low high ports alike x
 
     within : is_owned (range_of ports x) port ≡ true → is_within low high port ≡ true
-    within h = ap (λ n. is_within n high port) (sym (lows x)) ∙ ap (λ n. is_within (range_of ports x).lowest n port) (sym (highs x)) ∙ is.owned port h
+    within h = ap (λ n. is_within n high port) (sym like.low) ∙ ap (λ n. is_within (range_of ports x).lowest n port) (sym like.high) ∙ is.owned port h
 
 pub chosen-is : (es : List Entry) (zero one : PortBounds) (ports : Ports) (x : Protocol) (parity : Parity) → AreFree (lowest_of zero one) (highest_of zero one) es ports → AreAlike (lowest_of zero one) (highest_of zero one) ports → IsRange (range_of ports x) → chosen_of (range_of ports x) parity ≡ chosen_port es ports.tcp.owned zero one x parity
 chosen-is es zero one ports x parity free alike is =
     chosen-same (is_available (range_of ports x)) (is_open_in es ports.tcp.owned x) (range_of ports x).lowest (range_of ports x).highest parity (available-is (lowest_of zero one) (highest_of zero one) es ports x free alike is)
-    ∙ ap (λ n. chosen_open (is_open_in es ports.tcp.owned x) n (range_of ports x).highest parity) (lows x)
-    ∙ ap (λ n. chosen_open (is_open_in es ports.tcp.owned x) (lowest_of zero one) n parity) (highs x)
+    ∙ ap (λ n. chosen_open (is_open_in es ports.tcp.owned x) n (range_of ports x).highest parity) like.low
+    ∙ ap (λ n. chosen_open (is_open_in es ports.tcp.owned x) (lowest_of zero one) n parity) like.high
   where
-    lows : (x : Protocol) → (range_of ports x).lowest ≡ lowest_of zero one
-    lows Tcp = alike.tcp_low
-    lows Udp = alike.udp_low
-
-    highs : (x : Protocol) → (range_of ports x).highest ≡ highest_of zero one
-    highs Tcp = alike.tcp_high
-    highs Udp = alike.udp_high
+    like : IsLike ports.tcp (lowest_of zero one) (highest_of zero one) (range_of ports x)
+    like = like-of (lowest_of zero one) (highest_of zero one) ports alike x
 
 -- the ranges stay alike
 pub alike-same : (low high : ℕ) (old new : Ports) → AreAlike low high old → SameBounds old new → SameOwned old new → AreAlike low high new
 alike-same low high old new a b o = record {
-  tcp_low = b.tcp_low ∙ a.tcp_low;
-  tcp_high = b.tcp_high ∙ a.tcp_high;
-  udp_low = b.udp_low ∙ a.udp_low;
-  udp_high = b.udp_high ∙ a.udp_high;
-  owned = λ port. ap (is_listed port) o.udp ∙ a.owned port ∙ sym (ap (is_listed port) o.tcp);
+  icmp = like-same old.icmp new.icmp a.icmp b.icmp o.icmp;
+  tcp = like-same old.tcp new.tcp a.tcp b.tcp o.tcp;
+  udp = like-same old.udp new.udp a.udp b.udp o.udp;
 }
+  where
+    like-same : (range range2 : Range) → IsLike old.tcp low high range → SameEnds range range2 → range2.owned ≡ range.owned → IsLike new.tcp low high range2
+    like-same range range2 l e same = record {
+      low = e.low ∙ l.low;
+      high = e.high ∙ l.high;
+      owned = λ port. ap (is_listed port) same ∙ l.owned port ∙ sym (ap (is_listed port) o.tcp);
+    }
+
+-- nothing changes
+pub bounds-refl : (ports : Ports) → SameBounds ports ports
+bounds-refl ports = record {
+  icmp = record { low = refl; high = refl };
+  tcp = record { low = refl; high = refl };
+  udp = record { low = refl; high = refl };
+}
+
+pub owned-refl : (ports : Ports) → SameOwned ports ports
+owned-refl ports = record { icmp = refl; tcp = refl; udp = refl }
+
+-- one change after another
+pub bounds-trans : (first second third : Ports) → SameBounds first second → SameBounds second third → SameBounds first third
+bounds-trans first second third a b = record {
+  icmp = record { low = b.icmp.low ∙ a.icmp.low; high = b.icmp.high ∙ a.icmp.high };
+  tcp = record { low = b.tcp.low ∙ a.tcp.low; high = b.tcp.high ∙ a.tcp.high };
+  udp = record { low = b.udp.low ∙ a.udp.low; high = b.udp.high ∙ a.udp.high };
+}
+
+pub owned-trans : (first second third : Ports) → SameOwned first second → SameOwned second third → SameOwned first third
+owned-trans first second third a b = record { icmp = b.icmp ∙ a.icmp; tcp = b.tcp ∙ a.tcp; udp = b.udp ∙ a.udp }

@@ -1,10 +1,10 @@
--- A table's entries are no more than the ports of both ranges for both protocols, where they lie in the ranges.
+-- A table's entries are no more than the ports of both ranges for the three protocols, where they lie in the ranges.
 use Rattle.std.proofs.Common.{◌≡◌, ℕ, suc, ◌+◌, ◌-◌, ◌*◌, ◌<◌, ◌≤◌, ◌==◌, Bool, true, false, cond, ◌||◌, nat_le, Some, None, List, [], ◌∷◌, length, refl, sym, ap, subst, ◌∙◌, arith}
 use Rattle.std.specs.List.{list_any, AllByRecursion, IsDistinct}
 use Rattle.std.proofs.lemmas.Map.Steps.{length-le_from_distinct_below}
 use Rattle.std.proofs.lemmas.Bool.{and_parts, cond-true, cond-false, leb-true, eqb-true, false_from_ne_true}
 use Rattle.addresses.specs.declared.transport.Protocol.{Protocol}
-use Rattle.addresses.specs.declared.transport.Protocol.TheVariants.{Tcp, Udp}
+use Rattle.addresses.specs.declared.transport.Protocol.TheVariants.{Icmp, Tcp, Udp}
 use Rattle.nat_types.specs.declared.pairs.Key.{Key}
 use Rattle.nat_types.specs.declared.pairs.Pair.{Pair}
 use Rattle.nat_types.specs.Same.{same_key}
@@ -27,11 +27,12 @@ place_by low high p true = p - low.lowest.0
 place_by low high p false = ports_in low + (p - high.lowest.0)
 
 bit : Protocol → ℕ
-bit Tcp = 0
-bit Udp = 1
+bit Icmp = 0
+bit Tcp = 1
+bit Udp = 2
 
 index : PortBounds → PortBounds → Key → ℕ
-index low high k = 2 * place_by low high k.port.0 (in_bounds low k.port.0) + bit k.protocol
+index low high k = 3 * place_by low high k.port.0 (in_bounds low k.port.0) + bit k.protocol
 
 place-below : (low high : PortBounds) (p : ℕ) (b : Bool) → in_bounds low p ≡ b → (b || in_bounds high p) ≡ true → place_by low high p b < ports_in low + ports_in high
 unfolding place_by
@@ -46,10 +47,15 @@ place-inj low high p q false true bp bq hp hq e = let w = bounds high p hp in le
 place-inj low high p q false false bp bq hp hq e = let w = bounds high p hp in let v = bounds high q hq in omega arith
 
 -- two keys of one number are one
-bit-inj : (x y : Protocol) (a b : ℕ) → 2 * a + bit x ≡ 2 * b + bit y → (a ≡ b) × (x ≡ y)
+bit-inj : (x y : Protocol) (a b : ℕ) → 3 * a + bit x ≡ 3 * b + bit y → (a ≡ b) × (x ≡ y)
 unfolding bit
+bit-inj Icmp Icmp a b e = (omega arith, refl)
+bit-inj Icmp Tcp a b e = absurd (omega arith)
+bit-inj Icmp Udp a b e = absurd (omega arith)
+bit-inj Tcp Icmp a b e = absurd (omega arith)
 bit-inj Tcp Tcp a b e = (omega arith, refl)
 bit-inj Tcp Udp a b e = absurd (omega arith)
+bit-inj Udp Icmp a b e = absurd (omega arith)
 bit-inj Udp Tcp a b e = absurd (omega arith)
 bit-inj Udp Udp a b e = (omega arith, refl)
 
@@ -60,8 +66,9 @@ index-inj low high k q hk hq e =
     let port : k.port.0 ≡ q.port.0 = place-inj low high k.port.0 q.port.0 (in_bounds low k.port.0) (in_bounds low q.port.0) refl refl hk hq parts.0 in
     ap (λ (x : Protocol). let z : Key = record { protocol = x; port = k.port } in z) parts.1 ∙ ap (λ (y : ℕ). let z : Key = record { protocol = q.protocol; port = record { 0 = y } } in z) port
 
-bit-low : (x : Protocol) → bit x ≤ 1
+bit-low : (x : Protocol) → bit x ≤ 2
 unfolding bit
+bit-low Icmp = omega arith
 bit-low Tcp = omega arith
 bit-low Udp = omega arith
 

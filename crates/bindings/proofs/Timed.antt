@@ -72,7 +72,7 @@ item-put r (x ∷ rows) none = by (nat_lt (slots.key_place r.key) (slots.key_pla
     by true ih = cond-true (same_key r.key r.key) (Some r) (slots.row_of (x ∷ rows) r.key) (key-self r.key)
     by false ih = cond-false (same_key x.key r.key) (Some x) (slots.row_of (slots.put_in r rows) r.key) parts.0 ∙ ih
 
-pub added-timed : (alone : Bool) (old new : List (Option ℕ)) (r : Row Item) (rows : List (Row Item)) → slots.row_of rows r.key ≡ None → key_at (cell_of r.key) ≡ r.key → cell_of r.key < 131072 → KeepsDues r.key old new
+pub added-timed : (alone : Bool) (old new : List (Option ℕ)) (r : Row Item) (rows : List (Row Item)) → slots.row_of rows r.key ≡ None → key_at (cell_of r.key) ≡ r.key → cell_of r.key < 196608 → KeepsDues r.key old new
     → ((i : Item) → slots.item_of (slots.put_in r rows) r.key ≡ Some i → may_go alone i.entry.state ≡ true → IsTimed new r.key i.life) → AreTimed alone old rows → AreTimed alone new (slots.put_in r rows)
 added-timed alone old new r rows none own within keeps set timed =
     let there = ap (option_map (λ (x : Row Item). x.item)) (item-put r rows none) in

@@ -4,7 +4,8 @@ use Rattle.std.proofs.lemmas.Bool.{and_parts}
 use Rattle.nat_types.specs.declared.pairs.Key.{Key}
 use Rattle.activity.specs.declared.packets.Packet.{Packet}
 use Rattle.activity.specs.Lives.{History, came, with_packet, renewed, is_idle}
-use Rattle.activity.specs.Rests.{HaveRested, least_rest}
+use Rattle.activity.specs.Rests.{HaveRested}
+use Rattle.activity.specs.Lives.{least_rest}
 use Rattle.activity.proofs.Offered.{looks-is, accounts-came, accounts-renewed, accounts-anew, accounts-later, accounts-more, accounts-idle, accounts-unused}
 use Rattle.bindings.specs.declared.entries.Entry.{Entry}
 use Rattle.bindings.specs.Entries.{slot_of}

@@ -19,7 +19,7 @@ IsTimed dues key life = (moment : ℕ) × (moment_of dues key ≡ Some moment) �
 -- a row's key is that of a cell, and is due in time where the entry may be let go
 pub record IsTimedRow (lone : Bool) (dues : List (Option ℕ)) (r : Row Item) : Type 0 where
   pub own : key_at (cell_of r.key) ≡ r.key
-  pub within : cell_of r.key < 131072
+  pub within : cell_of r.key < 196608
   pub timed : may_go lone r.item.entry.state ≡ true → IsTimed dues r.key r.item.life
 
 -- each entry that may be let go is looked at in time
@@ -29,7 +29,7 @@ AreTimed lone dues rows = AllByRecursion (IsTimedRow lone dues) rows
 -- the same of the rows whose keys aren't listed
 abbrev pub AreTimedBut : Bool → List Key → List (Option ℕ) → List (Row Item) → Type 0
 AreTimedBut lone keys dues [] = Unit {0}
-AreTimedBut lone keys dues (r ∷ rows) = ((key_at (cell_of r.key) ≡ r.key) × (cell_of r.key < 131072)
+AreTimedBut lone keys dues (r ∷ rows) = ((key_at (cell_of r.key) ≡ r.key) × (cell_of r.key < 196608)
     × (may_go lone r.item.entry.state ≡ true → Contains keys r.key ⊎ IsTimed dues r.key r.item.life)) × AreTimedBut lone keys dues rows
 
 -- all other keys are due as before

@@ -83,6 +83,6 @@ entry_in state pair = record { pair = pair; state = state }
 abbrev pub pairs_in : (EntryState → Bool) → List Entry → List Pair
 pairs_in test entries = map (λ e. e.pair) (filter (λ e. test e.state) entries)
 
--- a pair's place in the order by protocol (tcp first) and port
+-- a pair's place in the order by protocol (icmp first) and port
 abbrev pub place_of : Pair → ℕ
 place_of p = 65536 * protocol_number p.key.protocol + p.key.port.0

@@ -1,4 +1,4 @@
--- Lists of entries by protocol (tcp first) and port, and what a change makes of them.
+-- Lists of entries by protocol (icmp first) and port, and what a change makes of them.
 use Rattle.std.specs.Prelude.{◌≡◌, ℕ, ◌≤◌, zero, suc, Bool, true, cond, not, nat_lt, List, [], ◌∷◌, map, if◌then◌else◌, Option, Some, None, ◌+◌, ◌*◌}
 use Rattle.std.specs.List.{filter, find}
 use Rattle.addresses.specs.Transport.{protocol_number}
@@ -36,7 +36,7 @@ abbrev pub RisesUp : ℕ → List Entry → Type 0
 RisesUp low [] = Unit {0}
 RisesUp low (x ∷ xs) = (low ≤ place_of x.pair) × RisesUp (suc (place_of x.pair)) xs
 
--- by protocol (tcp first) and port
+-- by protocol (icmp first) and port
 abbrev pub AreInOrder : List Entry → Type 0
 AreInOrder es = Rises 0 es
 
@@ -47,7 +47,7 @@ IsOneToOne es =
     → slot_of es k ≡ Some x → slot_of es q ≡ Some y → is_pair x.state ≡ true → is_pair y.state ≡ true
     → x.pair.endpoint ≡ y.pair.endpoint → k ≡ q
 
--- a key's place in the order by protocol (tcp first) and port
+-- a key's place in the order by protocol (icmp first) and port
 abbrev pub key_place : Key → ℕ
 key_place key = 65536 * protocol_number key.protocol + key.port.0
 

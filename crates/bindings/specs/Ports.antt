@@ -1,7 +1,7 @@
 -- The ports of a table: which are free, which are owned, and which of them is chosen.
 use Rattle.std.specs.Prelude.{◌≡◌, ℕ, ◌+◌, ◌-◌, ◌*◌, ◌≤◌, Bool, ◌&&◌, ◌||◌, Option, is_none, List, nat_lt, if◌then◌else◌}
 use Rattle.addresses.specs.declared.transport.Protocol.{Protocol}
-use Rattle.addresses.specs.declared.transport.Protocol.TheVariants.{Tcp, Udp}
+use Rattle.addresses.specs.declared.transport.Protocol.TheVariants.{Icmp, Tcp, Udp}
 use Rattle.addresses.specs.declared.transport.Parity.{Parity}
 use Rattle.addresses.specs.declared.transport.Port.{Port}
 use Rattle.nat_types.specs.declared.pairs.Key.{Key}
@@ -19,9 +19,9 @@ key_of protocol port = record { protocol = protocol; port = record { 0 = port } 
 abbrev pub is_free_in : List Entry → Protocol → ℕ → Bool
 is_free_in entries protocol port = is_none (slot_of entries (key_of protocol port))
 
--- no entry of either protocol has the port
+-- no entry of any protocol has the port
 abbrev pub is_vacant : List Entry → ℕ → Bool
-is_vacant entries port = is_free_in entries Tcp port && is_free_in entries Udp port
+is_vacant entries port = is_free_in entries Icmp port && (is_free_in entries Tcp port && is_free_in entries Udp port)
 
 -- an owned port that no entry has
 abbrev pub is_spare : List Entry → List ℕ → ℕ → Bool
@@ -44,12 +44,12 @@ in_bounds b port = is_within b.lowest.0 b.highest.0 port
 abbrev pub in_either : PortBounds → PortBounds → ℕ → Bool
 in_either zero one port = in_bounds zero port || in_bounds one port
 
--- how many ports a range has, and how many keys both have
+-- how many ports a range has, and how many keys both have for the three protocols
 abbrev pub ports_in : PortBounds → ℕ
 ports_in b = b.highest.0 + 1 - b.lowest.0
 
 abbrev pub key_count : PortBounds → PortBounds → ℕ
-key_count zero one = 2 * (ports_in zero + ports_in one)
+key_count zero one = 3 * (ports_in zero + ports_in one)
 
 -- the lowest and the highest port of both ranges
 abbrev pub lowest_of : PortBounds → PortBounds → ℕ
@@ -66,34 +66,44 @@ chosen_port entries owned zero one protocol parity =
 -- ---- what the code keeps: a range for each protocol
 
 abbrev pub range_of : Ports → Protocol → Range
+range_of ports Icmp = ports.icmp
 range_of ports Tcp = ports.tcp
 range_of ports Udp = ports.udp
 
 abbrev pub is_free_at : Ports → Key → Bool
 is_free_at ports key = is_free (range_of ports key.protocol) key.port.0
 
--- both ranges go from the one port to the other, and the same ports are owned
+-- a range goes from the one port to the other, and the same ports are owned as in this one
+pub record IsLike (first : Range) (lowest highest : ℕ) (range : Range) : Type 0 where
+  pub low : range.lowest ≡ lowest
+  pub high : range.highest ≡ highest
+  pub owned : (port : ℕ) → is_owned range port ≡ is_owned first port
+
+-- the ranges go from the one port to the other, and the same ports are owned in each
 pub record AreAlike (lowest highest : ℕ) (ports : Ports) : Type 0 where
-  pub tcp_low : ports.tcp.lowest ≡ lowest
-  pub tcp_high : ports.tcp.highest ≡ highest
-  pub udp_low : ports.udp.lowest ≡ lowest
-  pub udp_high : ports.udp.highest ≡ highest
-  pub owned : (port : ℕ) → is_owned ports.udp port ≡ is_owned ports.tcp port
+  pub icmp : IsLike ports.tcp lowest highest ports.icmp
+  pub tcp : IsLike ports.tcp lowest highest ports.tcp
+  pub udp : IsLike ports.tcp lowest highest ports.udp
 
 -- the bounds stay
+pub record SameEnds (old new : Range) : Type 0 where
+  pub low : new.lowest ≡ old.lowest
+  pub high : new.highest ≡ old.highest
+
 pub record SameBounds (old new : Ports) : Type 0 where
-  pub tcp_low : new.tcp.lowest ≡ old.tcp.lowest
-  pub tcp_high : new.tcp.highest ≡ old.tcp.highest
-  pub udp_low : new.udp.lowest ≡ old.udp.lowest
-  pub udp_high : new.udp.highest ≡ old.udp.highest
+  pub icmp : SameEnds old.icmp new.icmp
+  pub tcp : SameEnds old.tcp new.tcp
+  pub udp : SameEnds old.udp new.udp
 
 -- which ports are owned stays
 pub record SameOwned (old new : Ports) : Type 0 where
+  pub icmp : new.icmp.owned ≡ old.icmp.owned
   pub tcp : new.tcp.owned ≡ old.tcp.owned
   pub udp : new.udp.owned ≡ old.udp.owned
 
 -- which ports are free stays
 pub record SameFree (old new : Ports) : Type 0 where
+  pub icmp : new.icmp.free ≡ old.icmp.free
   pub tcp : new.tcp.free ≡ old.tcp.free
   pub udp : new.udp.free ≡ old.udp.free
 

@@ -14,7 +14,7 @@ use Rattle.bindings.specs.Lists.{AreInOrder, IsOneToOne, place_in, put_in, witho
 use Rattle.bindings.specs.Ports.{AreAlike, AreFree, in_either, lowest_of, highest_of, key_count}
 use Rattle.bindings.specs.Lives.{HasPast, lives_without, idle_keys_in}
 
--- A table: its entries by protocol (tcp first) and port, their lives, the ports that the gateway owns, the ranges of
+-- A table: its entries by protocol (icmp first) and port, their lives, the ports that the gateway owns, the ranges of
 -- both gateways, how many entries it has room for, and for how many more adds it is ready.
 pub record Table : Type 0 where
   pub entries : List Entry

@@ -7,7 +7,8 @@ ghost use Rattle.bindings.specs.Table.{Table as Seen, IsTable, AreInRanges, IsPa
 ghost use Rattle.bindings.specs.Lives.{rests_at, is_unused_at, is_among};
 ghost use Rattle.bindings.specs.declared.entries.Entry.{Entry as Row};
 ghost use Rattle.activity.specs.Lives.{History, came, with_packet, renewed};
-ghost use Rattle.activity.specs.Rests.{HaveRested, least_rest};
+ghost use Rattle.activity.specs.Rests.{HaveRested};
+ghost use Rattle.activity.specs.Lives.{least_rest};
 ghost use Rattle.activity.specs.declared.packets.Packet.{Packet as Carried};
 
 /// Where all entries lie in the ranges, a key of the ranges without an entry never meets Full.

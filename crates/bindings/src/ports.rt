@@ -17,6 +17,7 @@ use std::alloc::{AllocError, Global};
 /// A range of ports for each protocol.
 #[derive(Drop)]
 pub(crate) struct Ports {
+    pub icmp: Range,
     pub tcp: Range,
     pub udp: Range,
 }
@@ -69,6 +70,19 @@ fn unowned(alloc: Global, lowest: Port, highest: Port) -> Result<Range, AllocErr
     }
 }
 
+/// Takes a port of the range, where it is free.
+fn take_in(range: &mut Range, port: Port)
+    ensures free { (p : ℕ) → is_free range.new p ≡ (if p == port.0 then false
+        else is_free range.old p) }
+    ensures owned { range.new.owned ≡ range.old.owned }
+    ensures lowest { range.new.lowest ≡ range.old.lowest }
+    ensures highest { range.new.highest ≡ range.old.highest }
+{
+    if range.is_free(port) {
+        range.take(port);
+    }
+}
+
 /// Makes a port of the range free.
 fn put_back_in(range: &mut Range, port: Port)
     ensures free { let within = is_within range.old.lowest range.old.highest port.0 in (p : ℕ)
@@ -93,9 +107,10 @@ impl Ports {
         ensures owned { IfOk result (λ p. (port : ℕ) → is_owned p.tcp port ≡ false) }
         ensures list { IfOk result (λ p. p.tcp.owned ≡ []) }
     {
+        let icmp = unowned(alloc, lowest, highest)?;
         let tcp = unowned(alloc, lowest, highest)?;
         let udp = unowned(alloc, lowest, highest)?;
-        Ok(Ports { tcp, udp })
+        Ok(Ports { icmp, tcp, udp })
     }
 
     /// Takes a key that is free, and leaves another one.
@@ -106,16 +121,9 @@ impl Ports {
         ensures bounds { SameBounds self.old self.new }
     {
         match key.protocol {
-            Protocol::Tcp => {
-                if self.tcp.is_free(key.port) {
-                    self.tcp.take(key.port);
-                }
-            }
-            Protocol::Udp => {
-                if self.udp.is_free(key.port) {
-                    self.udp.take(key.port);
-                }
-            }
+            Protocol::Icmp => take_in(&mut self.icmp, key.port),
+            Protocol::Tcp => take_in(&mut self.tcp, key.port),
+            Protocol::Udp => take_in(&mut self.udp, key.port),
         }
     }
 
@@ -129,6 +137,7 @@ impl Ports {
         ensures bounds { SameBounds self.old self.new }
     {
         match key.protocol {
+            Protocol::Icmp => put_back_in(&mut self.icmp, key.port),
             Protocol::Tcp => put_back_in(&mut self.tcp, key.port),
             Protocol::Udp => put_back_in(&mut self.udp, key.port),
         }
@@ -139,6 +148,8 @@ impl Ports {
         requires alike { AreAlike self.old.tcp.lowest self.old.tcp.highest self.old }
         requires within { is_within self.old.tcp.lowest self.old.tcp.highest port.0 ≡ true }
         requires foreign { is_owned self.old.tcp port.0 ≡ false }
+        ensures icmp { (p : ℕ) → is_owned self.new.icmp p ≡ (if p == port.0 then true
+            else is_owned self.old.icmp p) }
         ensures tcp { (p : ℕ) → is_owned self.new.tcp p ≡ (if p == port.0 then true
             else is_owned self.old.tcp p) }
         ensures udp { (p : ℕ) → is_owned self.new.udp p ≡ (if p == port.0 then true
@@ -148,6 +159,7 @@ impl Ports {
         ensures bounds { SameBounds self.old self.new }
     {
         self.tcp.recall();
+        self.icmp.own(port);
         self.tcp.own(port);
         self.udp.own(port);
         self.tcp.recall();
@@ -192,16 +204,20 @@ impl Ports {
             ≡ is_within low self.old.tcp.highest q.port.0 }
         ensures owned { self.new.tcp.owned ≡ [] }
     {
+        self.icmp.reset();
         self.tcp.reset();
         self.udp.reset();
     }
 
-    /// Gives up an owned port that is free for both protocols.
+    /// Gives up an owned port that is free for each protocol.
     pub(crate) fn disown(&mut self, port: Port)
         requires alike { AreAlike self.old.tcp.lowest self.old.tcp.highest self.old }
         requires owned { is_owned self.old.tcp port.0 ≡ true }
+        requires icmp_free { is_free self.old.icmp port.0 ≡ true }
         requires tcp_free { is_free self.old.tcp port.0 ≡ true }
         requires udp_free { is_free self.old.udp port.0 ≡ true }
+        ensures icmp { (p : ℕ) → is_owned self.new.icmp p ≡ (if p == port.0 then false
+            else is_owned self.old.icmp p) }
         ensures tcp { (p : ℕ) → is_owned self.new.tcp p ≡ (if p == port.0 then false
             else is_owned self.old.tcp p) }
         ensures udp { (p : ℕ) → is_owned self.new.udp p ≡ (if p == port.0 then false
@@ -211,6 +227,7 @@ impl Ports {
         ensures bounds { SameBounds self.old self.new }
     {
         self.tcp.recall();
+        self.icmp.disown(port);
         self.tcp.disown(port);
         self.udp.disown(port);
         self.tcp.recall();
@@ -251,19 +268,22 @@ impl Ports {
         self.tcp.owns(port)
     }
 
+    fn range(&self, protocol: Protocol) -> &Range
+        ensures { result.now ≡ range_of self.now protocol }
+    {
+        match protocol {
+            Protocol::Icmp => &self.icmp,
+            Protocol::Tcp => &self.tcp,
+            Protocol::Udp => &self.udp,
+        }
+    }
+
     pub(crate) fn free_like(&self, protocol: Protocol, parity: Parity) -> Option<Port>
         ensures chosen { result ≡ chosen_port (range_of self.now protocol) parity }
         ensures range { IsRange (range_of self.now protocol) }
     {
-        match protocol {
-            Protocol::Tcp => {
-                self.tcp.recall();
-                self.tcp.free_like(parity)
-            }
-            Protocol::Udp => {
-                self.udp.recall();
-                self.udp.free_like(parity)
-            }
-        }
+        let range = self.range(protocol);
+        range.recall();
+        range.free_like(parity)
     }
 }

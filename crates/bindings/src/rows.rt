@@ -2,7 +2,7 @@
 ghost use Rattle.std.specs.Prelude.{◌≡◌, ◌+◌, ◌≤◌, ◌++◌, [], ◌∷◌, if◌then◌else◌, count_by, vec_len, vec_capacity, IfOk, OnOk};
 ghost use Rattle.bindings.specs.Entries.{is_pair, translates, entry_in, refusal_of, pairs_in};
 ghost use Rattle.bindings.specs.Dues.{idle_among, is_idle_key};
-ghost use Rattle.bindings.specs.Ports.{is_vacant};
+ghost use Rattle.bindings.specs.Ports.{is_free_in, is_vacant};
 
 use crate::entries::{endpoint_of, is_pair_state, is_translating, key_of, may_go_state};
 use crate::store::Store;
@@ -32,19 +32,20 @@ pub(crate) fn refusal(
     None
 }
 
-/// Whether no entry of either protocol has the port.
+/// Whether no entry of a protocol has the port.
+fn is_free_port(store: &Store, protocol: Protocol, port: Port) -> bool
+    ensures { result ≡ is_free_in store.now.entries protocol port.0 }
+{
+    store.entry(Key { protocol, port }).is_none()
+}
+
+/// Whether no entry of any protocol has the port.
 pub(crate) fn is_vacant_port(store: &Store, port: Port) -> bool
     ensures { result ≡ is_vacant store.now.entries port.0 }
 {
-    let tcp = Key {
-        protocol: Protocol::Tcp,
-        port,
-    };
-    let udp = Key {
-        protocol: Protocol::Udp,
-        port,
-    };
-    store.entry(tcp).is_none() && store.entry(udp).is_none()
+    is_free_port(store, Protocol::Icmp, port)
+        && is_free_port(store, Protocol::Tcp, port)
+        && is_free_port(store, Protocol::Udp, port)
 }
 
 fn push_if(pairs: &mut Vec<Pair>, passes: bool, pair: Pair) -> Result<(), AllocError>

@@ -1,5 +1,5 @@
 //! The entries of a table in slots, each with its life. A slot is found by key and by endpoint.
-ghost use Rattle.std.specs.Prelude.{◌≡◌, ◌+◌, ◌<◌, ◌≤◌, [], Some, None, true, false, not, ◌&&◌, if◌then◌else◌, length, IfOk, OnOk};
+ghost use Rattle.std.specs.Prelude.{◌≡◌, ◌+◌, ◌<◌, ◌≤◌, [], Some, None, true, false, not, ◌&&◌, if◌then◌else◌, length, IfOk, IsOk, OnOk};
 ghost use Rattle.nat_types.specs.declared.pairs.Endpoint.{Endpoint as InsidePort};
 ghost use Rattle.addresses.specs.declared.internet.Ip.{Ip as Address};
 ghost use Rattle.slots.specs.Endpoints.{slot_of as number_of_endpoint, count_in};
@@ -38,7 +38,7 @@ pub(crate) struct Item {
     life: Activity,
 }
 
-/// Entries by protocol (tcp first) and port, each with its life.
+/// Entries by protocol (icmp first) and port, each with its life.
 #[derive(Drop)]
 pub(crate) struct Store {
     slots: PortSlots<Item>,
@@ -286,6 +286,7 @@ impl Store {
         ensures ok { OnOk result (more ≤ self.new.spare) }
         ensures spare { self.old.spare ≤ self.new.spare }
         ensures same { self.new ≡ record self.old { spare = self.new.spare } }
+        ensures succeeds { more ≤ self.old.spare → IsOk result }
     {
         self.index.ready(more)
     }
@@ -432,7 +433,7 @@ impl Store {
     /// Lists the keys that are to be looked at, in order. The keys of all idle entries that may be let go are among them.
     pub(crate) fn list_due(&mut self, lone: bool, now: u64, keys: &mut Vec<Key>)
         requires empty { keys.old.items ≡ [] }
-        requires room { 131072 ≤ vec_capacity keys.old }
+        requires room { 196608 ≤ vec_capacity keys.old }
         ensures among { idle_keys_in lone now self.old.entries self.old.lives
             ≡ idle_among lone now self.old.entries self.old.lives keys.new.items }
         ensures capacity { vec_capacity keys.new ≡ vec_capacity keys.old }

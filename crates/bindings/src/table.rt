@@ -9,9 +9,8 @@ ghost use Rattle.bindings.specs.Lists.{put_in, after_key};
 ghost use Rattle.bindings.specs.Revivals.{revived_entries, revived_slot, lives_of_pairs};
 ghost use Rattle.bindings.specs.Table.{empty_table};
 ghost use Rattle.bindings.specs.Runs.{own_in, without_port, all_ports, first_run, port_at};
-ghost use Rattle.addresses.specs.declared.transport.Protocol.TheVariants.{Tcp, Udp};
 ghost use Rattle.bindings.specs.Lives.{KeepsOthers, is_among, may_go, rests_at, is_unused_at};
-ghost use Rattle.bindings.specs.Ports.{AreBounds, in_either, key_count, is_free_in, is_open_in, is_vacant, is_spare, chosen_port, ports_in};
+ghost use Rattle.bindings.specs.Ports.{AreBounds, in_either, key_count, is_open_in, is_vacant, is_spare, chosen_port, ports_in};
 ghost use Rattle.bindings.specs.Table.{IsTable, IsPast, owns, idle_keys_of, with_entry_state, without_entry};
 ghost use Rattle.bindings.specs.Lives.{lives_with};
 ghost use Rattle.bindings.specs.Lists.{place_in};
@@ -32,7 +31,7 @@ use slots::{CELLS, Hashers};
 use std::alloc::{AllocError, Global};
 use std::marker::Model;
 
-/// Entries by protocol (tcp first) and port: distinct keys, and distinct endpoints except Doomed ones.
+/// Entries by protocol (icmp first) and port: distinct keys, and distinct endpoints except Doomed ones.
 #[derive(Drop)]
 pub struct Table {
     alloc: Global,
@@ -64,7 +63,7 @@ impl Model for Table {
     ghost use Rattle.std.specs.Prelude.{◌≤◌, vec_capacity};
 
     ghost invariant = { λ t. IsStored t.store.entries t.store.lives t.ports t.zero t.one t.capacity
-        t.store.room × (t.ready ≤ t.store.spare) × (131072 ≤ vec_capacity t.found) };
+        t.store.room × (t.ready ≤ t.store.spare) × (196608 ≤ vec_capacity t.found) };
 }
 
 fn port_count(bounds: PortBounds) -> usize
@@ -75,7 +74,7 @@ fn port_count(bounds: PortBounds) -> usize
 }
 
 impl Table {
-    /// An empty table for the ranges of both gateways, with room for all their ports for both protocols. It owns no port,
+    /// An empty table for the ranges of both gateways, with room for all their ports for each protocol. It owns no port,
     /// and hashes endpoints by the caller's hashers.
     pub fn new(
         alloc: Global,
@@ -92,7 +91,7 @@ impl Table {
         ensures capacity { IfOk result (λ t. t.capacity ≡ key_count zero one) }
         ensures empty { IfOk result (λ t. t ≡ empty_table zero one) }
     {
-        let capacity = 2 * (port_count(zero) + port_count(one));
+        let capacity = 3 * (port_count(zero) + port_count(one));
         let found = Vec::with_capacity(alloc, CELLS)?;
         let ports = Ports::new(alloc, lowest_port(zero, one), highest_port(zero, one))?;
         let store = Store::new(alloc, capacity, hashers)?;
@@ -129,7 +128,7 @@ impl Table {
         self.store.len()
     }
 
-    /// The entry that follows a key in the order by protocol (tcp first) and port, whatever its state; of `None` the
+    /// The entry that follows a key in the order by protocol (icmp first) and port, whatever its state; of `None` the
     /// first one. The key needs no entry of its own.
     pub fn entry_after(&self, last: Option<Key>) -> Option<Entry>
         ensures { result ≡ after_key last self.now.entries }
@@ -144,7 +143,7 @@ impl Table {
         self.store.entry_of(endpoint)
     }
 
-    /// How many pairs an inside address has, of both protocols together and whatever their state. Doomed ones don't count.
+    /// How many pairs an inside address has, of all protocols together and whatever their state. Doomed ones don't count.
     pub fn pairs_of(&self, address: Ip) -> u32
         ensures { result ≡ pairs_of address self.now.entries }
     {
@@ -157,6 +156,7 @@ impl Table {
     pub fn ready(&mut self, endpoints: &[Endpoint]) -> Result<(), AllocError>
         ensures ok { OnOk result (self.new ≡ record self.old { ready = length endpoints.now }) }
         ensures err { OnErr result (self.new ≡ self.old) }
+        ensures succeeds { length endpoints.now ≤ self.old.ready → IsOk result }
     {
         let more = endpoints.len();
         self.store.ready(more)?;
@@ -270,14 +270,14 @@ impl Table {
         self.ports.reset();
     }
 
-    /// All pairs but Doomed ones, by protocol (tcp first) and port.
+    /// All pairs but Doomed ones, by protocol (icmp first) and port.
     pub fn pairs(&self) -> Result<Vec<Pair>, AllocError>
         ensures { IfOk result (λ v. v.items ≡ pairs_in is_pair self.now.entries) }
     {
         list_pairs(self.alloc, &self.store)
     }
 
-    /// The Live and Held pairs, by protocol (tcp first) and port.
+    /// The Live and Held pairs, by protocol (icmp first) and port.
     pub fn translating(&self) -> Result<Vec<Pair>, AllocError>
         ensures { IfOk result (λ v. v.items ≡ pairs_in translates self.now.entries) }
     {
@@ -326,8 +326,7 @@ impl Table {
     /// The gateway gives up an owned port that no entry has.
     pub fn disown(&mut self, port: Port)
         requires owned { owns self.old port.0 ≡ true }
-        requires tcp { is_free_in self.old.entries Tcp port.0 ≡ true }
-        requires udp { is_free_in self.old.entries Udp port.0 ≡ true }
+        requires vacant { is_vacant self.old.entries port.0 ≡ true }
         ensures owned { (p : ℕ) → owns self.new p ≡ (if p == port.0 then false
             else owns self.old p) }
         ensures list { self.new.owned ≡ without_port port.0 self.old.owned }
@@ -354,7 +353,7 @@ impl Table {
             .first_run(from, highest_port(self.zero, self.one))
     }
 
-    /// Whether no entry of either protocol has a port.
+    /// Whether no entry of any protocol has a port.
     pub fn is_vacant(&self, port: Port) -> bool
         ensures { result ≡ is_vacant self.now.entries port.0 }
     {
@@ -431,7 +430,7 @@ impl Table {
         self.store.is_unused(key)
     }
 
-    /// Appends the keys of the idle entries that may be let go, each once, by protocol (tcp first) and port: of the Live
+    /// Appends the keys of the idle entries that may be let go, each once, by protocol (icmp first) and port: of the Live
     /// ones, and where the gateway is lone of the Held ones too. Room for as many keys as there are entries is enough.
     pub fn idle_keys(&mut self, lone: bool, now: u64, keys: &mut Vec<Key>) -> Result<(), AllocError>
         ensures keys { OnOk result (keys.new.items

@@ -33,6 +33,7 @@ pub(crate) fn port(word: &str) -> Result<Port> {
 /// A protocol and an outside port.
 pub(crate) fn key(protocol: &str, outside: &str) -> Result<Key> {
     let protocol = match protocol {
+        "icmp" => Protocol::Icmp,
         "tcp" => Protocol::Tcp,
         "udp" => Protocol::Udp,
         _ => bail!("no protocol {protocol}"),

@@ -29,6 +29,7 @@ pub(crate) fn blank() -> Report {
             pairs: PairCounts::none(),
             ports: PortCounts {
                 owned: 0,
+                free_icmp: 0,
                 free_tcp: 0,
                 free_udp: 0,
             },
@@ -53,7 +54,7 @@ pub(crate) fn blank() -> Report {
 /// - `look SIDE ROLE up|down MOMENT`: the side is seen so then
 /// - `peer BOOT serves|idle`, `heard CENTISECONDS`: how long ago
 /// - `pairs PROTOCOL STATE COUNT`: so many more entries
-/// - `ports OWNED TCP UDP`, `waiting PAIR HOP`
+/// - `ports OWNED ICMP TCP UDP`, `waiting PAIR HOP`
 /// - `count ORIGIN WHAT COUNT`: so many more
 /// - `lines COUNT`
 pub(crate) fn set(report: &mut Report, line: &str, given: &mut Given<'_>) -> Result<()> {
@@ -115,6 +116,7 @@ fn set_gateway(state: &mut GatewayReport, line: &str, given: &mut Given<'_>) -> 
         }
         "ports" => {
             state.ports.owned = given.number()?;
+            state.ports.free_icmp = given.number()?;
             state.ports.free_tcp = given.number()?;
             state.ports.free_udp = given.number()?;
         }

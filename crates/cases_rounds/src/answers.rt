@@ -5,7 +5,7 @@ use control::Answer;
 use journal::{Cause, Origin};
 use nat_types::EntryState;
 use packet_rules::Reason;
-use reports::{Count, Page, PairCounts, Report, SideReport};
+use reports::{Count, PROTOCOLS, Page, PairCounts, Report, SideReport};
 use std::alloc::Global;
 use std::io::{self, Write};
 
@@ -43,11 +43,16 @@ fn show_report<O: Write>(report: &Report, output: &mut O) -> io::Result<()> {
     )?;
     show_side("inside", &report.sides.inside, output)?;
     show_side("outside", &report.sides.outside, output)?;
-    show_pairs("tcp", &gateway.pairs, Protocol::Tcp, output)?;
-    show_pairs("udp", &gateway.pairs, Protocol::Udp, output)?;
+    for protocol in PROTOCOLS {
+        show_pairs(&gateway.pairs, protocol, output)?;
+    }
     let ports = gateway.ports;
-    let (owned, tcp, udp) = (ports.owned, ports.free_tcp, ports.free_udp);
-    writeln!(output, "    ports {owned} free tcp {tcp} udp {udp}")?;
+    let (icmp, tcp, udp) = (ports.free_icmp, ports.free_tcp, ports.free_udp);
+    let owned = ports.owned;
+    writeln!(
+        output,
+        "    ports {owned} free icmp {icmp} tcp {tcp} udp {udp}"
+    )?;
     let (pair, next_hop) = (gateway.waiting.pair, gateway.waiting.next_hop);
     writeln!(output, "    waiting {pair} {next_hop}")?;
     show_counts(report, output)?;
@@ -66,12 +71,7 @@ fn show_side<O: Write>(name: &str, side: &SideReport, output: &mut O) -> io::Res
 }
 
 /// How many entries of a protocol have each state.
-fn show_pairs<O: Write>(
-    name: &str,
-    pairs: &PairCounts,
-    protocol: Protocol,
-    output: &mut O,
-) -> io::Result<()> {
+fn show_pairs<O: Write>(pairs: &PairCounts, protocol: Protocol, output: &mut O) -> io::Result<()> {
     let pending = pairs.of(protocol, EntryState::Pending);
     let doomed = pairs.of(protocol, EntryState::Doomed);
     let live = pairs.of(protocol, EntryState::Live);
@@ -79,7 +79,7 @@ fn show_pairs<O: Write>(
     let held = pairs.of(protocol, EntryState::Held);
     writeln!(
         output,
-        "    {name} pending {pending} doomed {doomed} live {live} closing {closing} held {held}"
+        "    {protocol} pending {pending} doomed {doomed} live {live} closing {closing} held {held}"
     )
 }
 

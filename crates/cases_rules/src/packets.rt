@@ -65,25 +65,31 @@ fn reading_text(alloc: Global, reading: Result<Reading, Reason>) -> Result<Strin
 }
 
 pub fn read(interfaces: &Interfaces, given: &mut Given) -> Result<String> {
-    let station = interfaces.at(given.side()?);
+    let side = given.side()?;
+    let station = interfaces.at(side);
     let up = given.word()? == "up";
     let bytes = given.bytes()?;
-    reading_text(given.alloc, station.read_frame(up, bytes.as_slice()))
+    reading_text(given.alloc, station.read_frame(side, up, bytes.as_slice()))
 }
 
 pub fn read_padded(interfaces: &Interfaces, given: &mut Given) -> Result<String> {
-    let station = interfaces.at(given.side()?);
+    let side = given.side()?;
+    let station = interfaces.at(side);
     let length = given.number()?.min(2000) as usize;
     let mut bytes = given.bytes()?;
     bytes.resize(length, 0)?;
-    reading_text(given.alloc, station.read_frame(true, bytes.as_slice()))
+    reading_text(
+        given.alloc,
+        station.read_frame(side, true, bytes.as_slice()),
+    )
 }
 
 pub fn hear_advert(interfaces: &mut Interfaces, given: &mut Given) -> Result<String> {
-    let station = interfaces.at_mut(given.side()?);
+    let side = given.side()?;
+    let station = interfaces.at_mut(side);
     let bytes = given.bytes()?;
     let now = moment(given)?;
-    match station.read_frame(true, bytes.as_slice()) {
+    match station.read_frame(side, true, bytes.as_slice()) {
         Ok(Reading::Advert(advert, from)) => {
             let action = station.heard(&advert, from, now);
             let sent = acted(given.alloc, station, action)?;
@@ -103,10 +109,11 @@ fn answered(alloc: Global, station: &Interface, packet: &ArpPacket) -> Result<St
 }
 
 pub fn hear_arp(interfaces: &mut Interfaces, given: &mut Given) -> Result<String> {
-    let station = interfaces.at_mut(given.side()?);
+    let side = given.side()?;
+    let station = interfaces.at_mut(side);
     let bytes = given.bytes()?;
     let now = moment(given)?;
-    match station.read_frame(true, bytes.as_slice()) {
+    match station.read_frame(side, true, bytes.as_slice()) {
         Ok(Reading::Arp(packet)) => {
             let learnt = station.learn(&packet, now);
             let answer = answered(given.alloc, station, &packet)?;
@@ -163,10 +170,10 @@ pub fn send(interfaces: &Interfaces, given: &mut Given) -> Result<String> {
     let bytes = given.bytes()?;
     let mac = given.mac()?;
     let networks = &interfaces.networks;
-    match interfaces.at(side).read_frame(true, bytes.as_slice()) {
+    match interfaces.at(side).read_frame(side, true, bytes.as_slice()) {
         Ok(Reading::Packet(packet)) => {
             let flow = packet.flow;
-            match direction_taken(networks, side, flow.source, flow.destination) {
+            match direction_taken(networks, side, flow.protocol, flow.source, flow.destination) {
                 Ok(way) => {
                     let translation = translation(given, way, flow.protocol)?;
                     let hop = translation.next_hop(networks, flow.destination);

@@ -1,5 +1,5 @@
 //! Which call a case names.
-use crate::{datagrams, errors, neighbours, packets};
+use crate::{datagrams, errors, neighbours, packets, queries};
 use anyhow::{Result, bail};
 use cases_words::Given;
 use std::alloc::Global;
@@ -22,6 +22,8 @@ pub fn answer(given: &mut Given) -> Result<String> {
         call @ ("error-outward" | "error-inward" | "error-hairpin") => errors::passed_on(
             given, call,
         ),
+        "query" => queries::query(given),
+        "write-query" => queries::write_query(given),
         call @ ("arp-request" | "arp-reply" | "gratuitous") => neighbours::arp_written(given, call),
         "is-learnable" => is_learnt(given),
         "cache" => neighbours::found(given.alloc, given.left()),

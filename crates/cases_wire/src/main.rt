@@ -8,6 +8,7 @@ mod datagrams;
 mod errors;
 mod neighbours;
 mod packets;
+mod queries;
 
 use anyhow::Result;
 use cases_words::Given;

@@ -1,12 +1,13 @@
 //! Frames, IPv4 packets, and what they carry.
 ghost use Rattle.std.specs.Prelude.{IsTrue};
 ghost use Rattle.ipv4.specs.Header.{IsIpv4};
-ghost use Rattle.ipv4.specs.Carried.{IsTransport};
+ghost use Rattle.icmp.specs.Query.{IsTranslatable};
 
 use addresses::TcpFlags;
 use anyhow::{Result, ensure};
 use cases_words::Given;
 use frames::{EthView, EthViewMut, EtherType};
+use icmp::Kind;
 use ipv4::{Ipv4View, Ipv4ViewMut, TcpView, TcpViewMut, Transport, UdpView, UdpViewMut};
 use std::alloc::Global;
 
@@ -177,12 +178,16 @@ pub fn write_tcp(given: &mut Given) -> Result<String> {
     )?)
 }
 
-fn is_carried(bytes: &[u8]) -> bool
+fn is_translatable(bytes: &[u8]) -> bool
     ensures ipv4 { IsTrue result → IsIpv4 bytes.now }
-    ensures transport { IsTrue result → IsTransport bytes.now }
+    ensures translatable { IsTrue result → IsTranslatable bytes.now }
 {
     match Ipv4View::parse(bytes) {
-        Ok(packet) => Transport::parse(&packet).is_ok(),
+        Ok(packet) => {
+            Transport::parse(&packet).is_ok()
+                || icmp::query_packet(Kind::Echo, &packet).is_ok()
+                || icmp::query_packet(Kind::Reply, &packet).is_ok()
+        }
         Err(_) => false,
     }
 }
@@ -196,7 +201,10 @@ pub fn rewritten(given: &mut Given, call: &str) -> Result<String> {
     } else {
         (address, port)
     };
-    ensure!(is_carried(bytes.as_slice()), "nothing that is translated");
+    ensure!(
+        is_translatable(bytes.as_slice()),
+        "nothing that is translated"
+    );
     let done = match call {
         "outward" => rewrite::outward(bytes.as_mut_slice(), address, port),
         "inward" => rewrite::inward(bytes.as_mut_slice(), address, port),

@@ -8,9 +8,10 @@ use anyhow::{Context, Result, bail};
 use nat_types::{Endpoint, EntryState, Key, Pair};
 
 impl Given<'_> {
-    /// `tcp` or `udp`.
+    /// `icmp`, `tcp` or `udp`.
     pub fn protocol(&mut self) -> Result<Protocol> {
         match self.word()? {
+            "icmp" => Ok(Protocol::Icmp),
             "tcp" => Ok(Protocol::Tcp),
             "udp" => Ok(Protocol::Udp),
             word => bail!("no protocol {word}"),

@@ -8,10 +8,10 @@ use Rattle.clap.specs.Words.{Row, Text, first_of}
 use Rattle.addresses.specs.declared.internet.Ip.{Ip}
 use Rattle.addresses.specs.declared.transport.Port.{Port}
 use Rattle.addresses.specs.declared.transport.Protocol.{Protocol}
-use Rattle.addresses.specs.declared.transport.Protocol.TheVariants.{Tcp, Udp}
+use Rattle.addresses.specs.declared.transport.Protocol.TheVariants.{Icmp, Tcp, Udp}
 use Rattle.nat_types.specs.declared.pairs.EntryState.{EntryState}
 use Rattle.nat_types.specs.declared.pairs.EntryState.TheVariants.{Pending, Doomed, Live, Closing, Held}
-use Rattle.command_line.specs.Values.{IsReadIf, either_of, flag_of}
+use Rattle.command_line.specs.Values.{IsReadIf, flag_of}
 use Rattle.command_line.specs.declared.words.Form.{Form}
 use Rattle.command_line.specs.declared.words.Form.TheVariants.{Plain, Json, Prometheus}
 
@@ -47,7 +47,9 @@ meant of None = Some None
 meant of (Some word) = option_map (λ x. Some x) (of word)
 
 abbrev pub protocol_of : Text → Option Protocol
-protocol_of word = either_of (codes "udp") Udp (codes "tcp") Tcp word
+protocol_of word =
+    if bytes_eq word (codes "icmp") then Some Icmp else if bytes_eq word (codes "tcp") then Some Tcp
+    else if bytes_eq word (codes "udp") then Some Udp else None
 
 abbrev pub protocol_in : List Row → Option (Option Protocol)
 protocol_in rows = meant protocol_of (first_of (codes "protocol") rows)

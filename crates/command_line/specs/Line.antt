@@ -97,7 +97,7 @@ with_until a = with_rule (with_rule a (text_rule (codes "until"))) (number_rule 
 abbrev pub status_app : App
 status_app = with_until (with_form (with_gateway (new_app (codes "status"))))
 
--- `[--protocol udp|tcp] [--address A]`
+-- `[--protocol icmp|tcp|udp] [--address A]`
 abbrev pub with_endpoint : App → App
 with_endpoint a = with_rule (with_rule a (text_rule (codes "protocol"))) (text_rule (codes "address"))
 
@@ -105,7 +105,7 @@ with_endpoint a = with_rule (with_rule a (text_rule (codes "protocol"))) (text_r
 abbrev pub with_entry : App → App
 with_entry a = with_rule (with_rule a (number_rule (codes "port") 1 65535)) (text_rule (codes "state"))
 
--- `pairs SETTINGS --id I [--protocol udp|tcp] [--address A] [--port N] [--state S]`
+-- `pairs SETTINGS --id I [--protocol icmp|tcp|udp] [--address A] [--port N] [--state S]`
 abbrev pub pairs_app : App
 pairs_app = with_entry (with_endpoint (with_gateway (new_app (codes "pairs"))))
 

@@ -228,7 +228,7 @@ fn with_endpoint<'a>(alloc: Global, command: Command<'a>) -> Result<Command<'a>,
     ensures app { IfOk result (λ c. app_of c ≡ with_endpoint (app_of command.entry)) }
     ensures local { IfOk result (λ c. (fields_of c).has_globals ≡ false) }
 {
-    let protocol = "Pairs of this protocol, udp or tcp";
+    let protocol = "Pairs of this protocol: icmp, tcp or udp";
     let address = "Pairs of this inside address, as in --address 192.168.1.10";
     let protocol = options::text(alloc, "protocol", protocol);
     let command = with(command, protocol)?;

@@ -16,7 +16,7 @@ pub enum ValueFault {
     #[error("status takes json or prometheus, and until synced")]
     NoStatus,
     /// The words of `pairs` are no protocol, no address or no state.
-    #[error("pairs takes udp or tcp, an IPv4 address, and a state as in --state held")]
+    #[error("pairs takes icmp, tcp or udp, an IPv4 address, and a state as in --state held")]
     NoFilter,
 }
 

@@ -58,8 +58,9 @@ fn protocol_of(word: &str) -> Option<Protocol>
     ensures { result ≡ protocol_of word.now }
 {
     match word {
-        "udp" => Some(Protocol::Udp),
+        "icmp" => Some(Protocol::Icmp),
         "tcp" => Some(Protocol::Tcp),
+        "udp" => Some(Protocol::Udp),
         _ => None,
     }
 }

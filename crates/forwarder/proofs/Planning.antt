@@ -79,7 +79,7 @@ on-holds g flow way.Hairpin = at (target_pair g flow)
     at (Err reason) = tt
 
 holds : (g : Shown) (side : Side) (flow : Flow) → Holds g flow (plan_of g side flow)
-holds g side flow = at (direction_of g.networks side flow.source.0 flow.destination.0)
+holds g side flow = at (direction_of g.networks side flow.protocol flow.source.0 flow.destination.0)
   where
     at : (r : Result Direction Reason) → Holds g flow (and_then r (plan_on g flow))
     at (Ok w) = on-holds g flow w

@@ -3,7 +3,8 @@ use Rattle.std.proofs.Common.{◌≡◌, ℕ, ◌<◌, List, Result, inl, inr, a
 use Rattle.nat_types.specs.declared.gateways.Side.{Side}
 use Rattle.frames.specs.Frame.{frame_of}
 use Rattle.ipv4.specs.declared.flows.Flow.{Flow}
-use Rattle.ipv4.specs.Carried.{IsTransport}
+use Rattle.icmp.specs.Query.{IsTranslatable}
+use Rattle.ipv4.specs.Flow.{protocol_of, source_place}
 use Rattle.ipv4.specs.Header.{payload_of, word_at}
 use Rattle.packet_rules.specs.declared.reasons.Reason.{Reason}
 use Rattle.packet_rules.specs.Flows.{flow_in}
@@ -17,11 +18,13 @@ use Rattle.icmp.specs.declared.packets.ErrorFlow.{ErrorFlow}
 -- a packet that is translated comes from a port above 0
 pub source-above : (bytes : List ℕ) → IsForwardable bytes → 0 < (flow_in bytes).source_port.0
 unfolding flow_in
-source-above bytes is = above (frame_of bytes).body is.transport
+source-above bytes is = above (frame_of bytes).body is.translatable
   where
-    above : (body : List ℕ) → IsTransport body → 0 < word_at 0 (payload_of body)
-    above body (inl udp) = udp.datagram.from
-    above body (inr tcp) = tcp.segment.from
+    above : (body : List ℕ) → IsTranslatable body → 0 < word_at (source_place (protocol_of body)) (payload_of body)
+    above body (inl (inl udp)) = rw udp.protocol udp.datagram.from
+    above body (inl (inr tcp)) = rw tcp.protocol tcp.segment.from
+    above body (inr (inl echo)) = rw echo.protocol echo.query.identifier
+    above body (inr (inr reply)) = rw reply.protocol reply.query.identifier
 
 -- a plan that is done is the one that was made
 pub taken-as : (s : GatewayAndOutput) (side : Side) (bytes : List ℕ) (flow : Flow) (plan : Result Plan Reason) → plan ≡ plan_of s.shown side flow → by_verdict s side bytes flow plan ≡ flow_taken s side bytes flow

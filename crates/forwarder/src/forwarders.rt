@@ -58,8 +58,8 @@ impl Forwarder {
     /// Reads a frame that came in on a side; or gives the reason of the first step that refuses it.
     pub fn read_frame(&self, side: Side, bytes: &[u8]) -> Result<Reading, Reason>
         ensures reading { result ≡ reading_on (shown_of self.now) side bytes.now }
-        ensures carries { IfOk result (Carries bytes.now) }
+        ensures carries { IfOk result (Carries side bytes.now) }
     {
-        self.station(side).read_frame(self.is_up(), bytes)
+        self.station(side).read_frame(side, self.is_up(), bytes)
     }
 }

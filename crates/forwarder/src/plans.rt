@@ -57,7 +57,13 @@ impl Forwarder {
     pub(crate) fn plan(&self, side: Side, flow: Flow) -> Result<Plan, Reason>
         ensures { result ≡ plan_of (shown_of self.now) side flow }
     {
-        match direction_taken(&self.networks, side, flow.source, flow.destination) {
+        match direction_taken(
+            &self.networks,
+            side,
+            flow.protocol,
+            flow.source,
+            flow.destination,
+        ) {
             Ok(way) => self.plan_on(flow, way),
             Err(reason) => Err(reason),
         }

@@ -26,7 +26,7 @@ pub(crate) fn take_reading(
     bytes: &[u8],
     reading: Reading,
 ) -> Result<Outcome, NoMemory>
-    requires carries { Carries bytes.now reading }
+    requires carries { Carries side bytes.now reading }
     requires moment { IsMoment forwarder.old.moment }
     requires room { HasRoomFor an_arp_packet forwarder.old page.old }
     ensures outcome { IfOk result (λ o. o

@@ -1,19 +1,21 @@
 -- Where no test fails, bytes are in the grammar, and the other way round.
-use Rattle.std.proofs.Common.{◌≡◌, ◌≤◌, ◌<◌, ℕ, ◌-◌, ◌%◌, Bool, true, false, not, ◌||◌, ◌==◌, nat_lt, List, length, take, drop, arith, ap, ◌∙◌, sym, Some, None, if◌then◌else◌, refl}
+use Rattle.std.proofs.Common.{◌≡◌, ◌≤◌, ◌<◌, ℕ, ◌-◌, ◌%◌, Bool, true, false, not, ◌&&◌, ◌||◌, ◌==◌, nat_lt, List, length, take, drop, arith, ap, ◌∙◌, sym, Some, None, if◌then◌else◌, refl}
 use Rattle.std.proofs.lemmas.Bool.Decides.{nat_tests}
 use Rattle.std.proofs.lemmas.List.{length-drop}
 use Rattle.std.proofs.Math.Seq.{take-length}
 use Rattle.sums.specs.Sum.{word_sum}
-use Rattle.ipv4.specs.Header.{header_of, word_at, has_wrong_sum}
-use Rattle.icmp.specs.declared.faults.IcmpFault.TheVariants.{NotError, BadError}
-use Rattle.icmp.specs.Quoted.{IsQuoted, behind, has_no_packet}
+use Rattle.ipv4.specs.Header.{header_of, has_wrong_sum}
+use Rattle.icmp.specs.declared.faults.IcmpFault.{IcmpFault}
+use Rattle.icmp.specs.declared.kinds.Kind.{Kind}
+use Rattle.icmp.specs.Query.{IsQuery, begins_with, has_no_identifier, kind_number, query_of}
+use Rattle.icmp.specs.Quoted.{IsQuoted, has_no_query, has_no_packet, port_from, port_to}
 use Rattle.icmp.specs.Error.{IsError, inside_of, has_error_kind, has_no_error}
-use Rattle.icmp.proofs.Grammar.{none-passes, passes-none}
+use Rattle.icmp.proofs.Grammar.{none-passes, passes-none, three-clear}
 
 pub quoted-told : (packet : List ℕ) → has_no_packet packet ≡ false → IsQuoted packet
 quoted-told packet e =
     let h = header_of packet in
-    let p = none-passes (length packet) h.version h.header_length (word_sum (take h.header_length packet)) h.fragment_offset h.protocol (word_at 0 (behind packet)) (word_at 2 (behind packet)) e in
+    let p = none-passes (length packet) h.version h.header_length (word_sum (take h.header_length packet)) h.fragment_offset h.protocol (has_no_query packet) (port_from packet) (port_to packet) e in
     record {
       long = p.whole;
       version = p.version_four;
@@ -22,6 +24,7 @@ quoted-told packet e =
       sum = (p.sum_zero, p.sum_some);
       first = p.first;
       protocol = p.translated;
+      query = p.query;
       from = p.from_some;
       to = p.to_some;
     }
@@ -29,7 +32,7 @@ quoted-told packet e =
 pub told-quoted : (packet : List ℕ) → IsQuoted packet → has_no_packet packet ≡ false
 told-quoted packet g =
     let h = header_of packet in
-    passes-none (length packet) h.version h.header_length (word_sum (take h.header_length packet)) h.fragment_offset h.protocol (word_at 0 (behind packet)) (word_at 2 (behind packet)) (record {
+    passes-none (length packet) h.version h.header_length (word_sum (take h.header_length packet)) h.fragment_offset h.protocol (has_no_query packet) (port_from packet) (port_to packet) (record {
       whole = g.long;
       version_four = g.version;
       holds_fields = g.holds_fields;
@@ -38,6 +41,7 @@ told-quoted packet g =
       sum_some = g.sum.1;
       first = g.first;
       translated = g.protocol;
+      query = g.query;
       from_some = g.from;
       to_some = g.to;
     })
@@ -45,13 +49,6 @@ told-quoted packet g =
 -- a whole rest is what stands behind
 pub take-rest : (n : ℕ) (bytes : List ℕ) → take (length bytes - n) (drop n bytes) ≡ drop n bytes
 take-rest n bytes = ap (λ (k : ℕ). take k (drop n bytes)) (sym (length-drop n bytes)) ∙ take-length (drop n bytes)
-
--- of three tests none fails where not one of them does
-three-clear : (a b d : Bool) → (a || b || d) ≡ false → (a ≡ false) × ((b ≡ false) × (d ≡ false))
-three-clear false false false e = (refl, (refl, refl))
-three-clear false false true e = cc
-three-clear false true d e = cc
-three-clear true b d e = cc
 
 clear-three : (a b d : Bool) → a ≡ false → b ≡ false → d ≡ false → (a || b || d) ≡ false
 clear-three false false false e f g = refl
@@ -93,30 +90,65 @@ told-error message g =
     (told-quoted (inside_of message) g.inside)
 
 -- two tests, and three, in an order
-pub two-clear : (k b : Bool) → (if not k then Some NotError else (if b then Some BadError else None)) ≡ None → (k ≡ true) × (b ≡ false)
-two-clear true false e = (refl, refl)
-two-clear true true e = cc
-two-clear false b e = cc
+pub two-clear : (x y : IcmpFault) (k b : Bool) → (if not k then Some x else (if b then Some y else None)) ≡ None → (k ≡ true) × (b ≡ false)
+two-clear x y true false e = (refl, refl)
+two-clear x y true true e = cc
+two-clear x y false b e = cc
 
-pub clear-two : (k b : Bool) → k ≡ true → b ≡ false → (if not k then Some NotError else (if b then Some BadError else None)) ≡ None
-clear-two true false e f = refl
-clear-two true true e f = cc
-clear-two false b e f = cc
+pub clear-two : (x y : IcmpFault) (k b : Bool) → k ≡ true → b ≡ false → (if not k then Some x else (if b then Some y else None)) ≡ None
+clear-two x y true false e f = refl
+clear-two x y true true e f = cc
+clear-two x y false b e f = cc
 
-pub all-clear : (p k b : Bool) → (if not p then Some NotError else (if not k then Some NotError else (if b then Some BadError else None))) ≡ None → (p ≡ true) × ((k ≡ true) × (b ≡ false))
-all-clear true true false e = (refl, (refl, refl))
-all-clear true true true e = cc
-all-clear true false b e = cc
-all-clear false k b e = cc
+pub all-clear : (x y : IcmpFault) (p k b : Bool) → (if not p then Some x else (if not k then Some x else (if b then Some y else None))) ≡ None → (p ≡ true) × ((k ≡ true) × (b ≡ false))
+all-clear x y true true false e = (refl, (refl, refl))
+all-clear x y true true true e = cc
+all-clear x y true false b e = cc
+all-clear x y false k b e = cc
 
-pub clear-all : (p k b : Bool) → p ≡ true → k ≡ true → b ≡ false → (if not p then Some NotError else (if not k then Some NotError else (if b then Some BadError else None))) ≡ None
-clear-all true true false e f g = refl
-clear-all true true true e f g = cc
-clear-all true false b e f g = cc
-clear-all false k b e f g = cc
+pub clear-all : (x y : IcmpFault) (p k b : Bool) → p ≡ true → k ≡ true → b ≡ false → (if not p then Some x else (if not k then Some x else (if b then Some y else None))) ≡ None
+clear-all x y true true false e f g = refl
+clear-all x y true true true e f g = cc
+clear-all x y true false b e f g = cc
+clear-all x y false k b e f g = cc
 
 pub same-number : (m n : ℕ) → (m == n) ≡ true → m ≡ n
 same-number m n e = grind (arith, nat_tests)
 
 pub number-same : (m n : ℕ) → m ≡ n → (m == n) ≡ true
 number-same m n e = grind (arith, nat_tests)
+
+-- the tests of a query, of numbers
+begun : (long kind number code : ℕ) → (nat_lt 0 long && (kind == number) && (code == 0)) ≡ true → (kind ≡ number) × (code ≡ 0)
+begun long kind number code e =
+    let same : kind ≡ number = grind (arith, nat_tests) in
+    let zero : code ≡ 0 = grind (arith, nat_tests) in
+    (same, zero)
+
+begun-back : (long kind number code : ℕ) → 8 ≤ long → kind ≡ number → code ≡ 0 → (nat_lt 0 long && (kind == number) && (code == 0)) ≡ true
+begun-back long kind number code e f g = grind (arith, nat_tests)
+
+identified : (long identifier : ℕ) → (nat_lt long 8 || (identifier == 0)) ≡ false → (8 ≤ long) × (0 < identifier)
+identified long identifier e =
+    let whole : 8 ≤ long = grind (arith, nat_tests) in
+    let some : 0 < identifier = grind (arith, nat_tests) in
+    (whole, some)
+
+identified-back : (long identifier : ℕ) → 8 ≤ long → 0 < identifier → (nat_lt long 8 || (identifier == 0)) ≡ false
+identified-back long identifier e f = grind (arith, nat_tests)
+
+-- a message that begins as a kind's does, and with whose header nothing is wrong
+pub query-told : (kind : Kind) (message : List ℕ) → begins_with kind message ≡ true → has_no_identifier message ≡ false → IsQuery kind message
+query-told kind message begins e =
+    let q = query_of message in
+    let first = begun (length message) q.kind (kind_number kind) q.code begins in
+    let rest = identified (length message) q.identifier e in
+    record { long = rest.0; type_is = first.0; code = first.1; identifier = rest.1 }
+
+pub told-begins : (kind : Kind) (message : List ℕ) → IsQuery kind message → begins_with kind message ≡ true
+told-begins kind message g =
+    let q = query_of message in
+    begun-back (length message) q.kind (kind_number kind) q.code g.long g.type_is g.code
+
+pub told-identified : (kind : Kind) (message : List ℕ) → IsQuery kind message → has_no_identifier message ≡ false
+told-identified kind message g = identified-back (length message) (query_of message).identifier g.long g.identifier

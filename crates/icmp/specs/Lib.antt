@@ -1,3 +1,4 @@
 pub mod Error
 pub mod Packet
+pub mod Query
 pub mod Quoted

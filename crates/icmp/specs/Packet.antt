@@ -1,5 +1,5 @@
 -- Packets that carry an ICMP error, and what is read of them.
-use Rattle.std.specs.Prelude.{◌≡◌, ◌==◌, not, List, [], ◌∷◌, ℕ, Option}
+use Rattle.std.specs.Prelude.{◌≡◌, ◌==◌, not, Bool, List, [], ◌∷◌, ℕ, Option}
 use Rattle.ipv4.specs.Header.{header_of, payload_of}
 use Rattle.ipv4.specs.Order.{first_fault}
 use Rattle.icmp.specs.declared.errors.TheConstants.{PROTOCOL}
@@ -8,7 +8,8 @@ use Rattle.icmp.specs.declared.faults.IcmpFault.TheVariants.{NotError, BadError}
 use Rattle.icmp.specs.declared.packets.ErrorFlow.{ErrorFlow}
 use Rattle.icmp.specs.declared.packets.ErrorPacket.{ErrorPacket}
 use Rattle.icmp.specs.Error.{IsError, inside_of, has_error_kind, has_no_error}
-use Rattle.icmp.specs.Quoted.{quoted_flow}
+use Rattle.icmp.specs.Quoted.{may_be, quoted_flow}
+use Rattle.icmp.specs.declared.kinds.Kind.{Kind}
 
 -- an IPv4 packet carries an error
 pub record IsErrorPacket (packet : List ℕ) : Type 0 where
@@ -38,3 +39,7 @@ error_packet_of packet = record {
   flow = error_flow packet;
   length = (header_of packet).total_length;
 }
+
+-- of queries it is about one of this kind alone
+abbrev pub is_about : Kind → List ℕ → Bool
+is_about kind packet = may_be kind (inside_of (payload_of packet))

@@ -1,21 +1,42 @@
 -- The packet inside an ICMP error, as much of it as was sent (RFC 792).
-use Rattle.std.specs.Prelude.{◌≡◌, ◌≤◌, ◌<◌, ℕ, ◌+◌, Bool, IsTrue, ◌==◌, nat_lt, not, ◌||◌, List, length, take, drop}
+use Rattle.std.specs.Prelude.{◌≡◌, ◌≤◌, ◌<◌, ℕ, ◌+◌, Bool, false, IsTrue, ◌==◌, nat_lt, not, ◌&&◌, ◌||◌, List, length, take, drop}
 use Rattle.sums.specs.Sum.{IsRight}
-use Rattle.ipv4.specs.Flow.{protocol_of}
+use Rattle.ipv4.specs.Flow.{protocol_of, source_place, destination_place}
 use Rattle.ipv4.specs.Header.{word_at, header_of, has_wrong_sum}
 use Rattle.ipv4.specs.declared.flows.Flow.{Flow}
+use Rattle.icmp.specs.Query.{begins_with}
+use Rattle.icmp.specs.declared.kinds.Kind.{Kind}
+use Rattle.icmp.specs.declared.kinds.Kind.TheVariants.{Echo, Reply}
 use Rattle.icmp.specs.declared.quoted.field.TheConstants.{FIXED, BEHIND}
 
--- what stands behind the header: both transport headers begin with the two ports
+-- what stands behind the header
 abbrev pub behind : List ℕ → List ℕ
 behind packet = drop (header_of packet).header_length packet
 
--- a protocol that is translated: TCP or UDP
+-- a protocol that is translated: ICMP, TCP or UDP
 abbrev pub is_translated : ℕ → Bool
-is_translated protocol = (protocol == 6) || (protocol == 17)
+is_translated protocol = (protocol == 1) || (protocol == 6) || (protocol == 17)
 
--- a whole and right header of no later fragment, 8 bytes or more behind it, UDP or TCP between ports
--- that aren't 0; the total length isn't asked
+-- the packet is of ICMP, but begins as no query does
+abbrev pub has_no_query : List ℕ → Bool
+has_no_query packet =
+    ((header_of packet).protocol == 1)
+    && not (begins_with Echo (behind packet))
+    && not (begins_with Reply (behind packet))
+
+-- the packet may be a query of this kind, since it is of another protocol or begins as one
+abbrev pub may_be : Kind → List ℕ → Bool
+may_be kind packet = not ((header_of packet).protocol == 1) || begins_with kind (behind packet)
+
+-- the ports that stand behind the header; of a query the identifier is both
+abbrev pub port_from : List ℕ → ℕ
+port_from packet = word_at (source_place (protocol_of packet)) (behind packet)
+
+abbrev pub port_to : List ℕ → ℕ
+port_to packet = word_at (destination_place (protocol_of packet)) (behind packet)
+
+-- a whole and right header of no later fragment, 8 bytes or more behind it, UDP, TCP or a query between
+-- ports that aren't 0; the total length isn't asked
 pub record IsQuoted (packet : List ℕ) : Type 0 where
   pub long : FIXED ≤ length packet
   pub version : (header_of packet).version ≡ 4
@@ -24,10 +45,11 @@ pub record IsQuoted (packet : List ℕ) : Type 0 where
   pub sum : IsRight (take (header_of packet).header_length packet)
   pub first : (header_of packet).fragment_offset ≡ 0
   pub protocol : IsTrue (is_translated (header_of packet).protocol)
-  pub from : 0 < word_at 0 (behind packet)
-  pub to : 0 < word_at 2 (behind packet)
+  pub query : has_no_query packet ≡ false
+  pub from : 0 < port_from packet
+  pub to : 0 < port_to packet
 
--- its header isn't there, isn't right, or isn't of a UDP or TCP packet's beginning
+-- its header isn't there, isn't right, or isn't that of a translated packet's beginning
 abbrev pub has_no_header : List ℕ → Bool
 has_no_header packet =
     nat_lt (length packet) FIXED
@@ -40,18 +62,18 @@ has_no_header packet =
 
 -- a port is 0
 abbrev pub has_no_ports : List ℕ → Bool
-has_no_ports packet = (word_at 0 (behind packet) == 0) || (word_at 2 (behind packet) == 0)
+has_no_ports packet = (port_from packet == 0) || (port_to packet == 0)
 
 -- there is no packet inside that can be told
 abbrev pub has_no_packet : List ℕ → Bool
-has_no_packet packet = has_no_header packet || has_no_ports packet
+has_no_packet packet = has_no_header packet || has_no_query packet || has_no_ports packet
 
 -- from where to where the packet went, and by which protocol
 abbrev pub quoted_flow : List ℕ → Flow
 quoted_flow packet = record {
   protocol = protocol_of packet;
   source = record { 0 = (header_of packet).source };
-  source_port = record { 0 = word_at 0 (behind packet) };
+  source_port = record { 0 = port_from packet };
   destination = record { 0 = (header_of packet).destination };
-  destination_port = record { 0 = word_at 2 (behind packet) };
+  destination_port = record { 0 = port_to packet };
 }

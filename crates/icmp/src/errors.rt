@@ -70,7 +70,7 @@ impl<'a> ErrorView<'a> {
         ensures ok { IsOk result ↔ IsError message.now }
         ensures bytes { IfOk result (λ v. v.bytes.now ≡ message.now) }
     {
-        if !error_kind(message) {
+        if !is_error_message(message) {
             return Err(IcmpFault::NotError);
         }
         if no_error(message) {
@@ -151,7 +151,7 @@ fn is_error_type(kind: u8) -> bool
 }
 
 /// Whether a message begins with an error's type: an empty one doesn't.
-fn error_kind(message: &[u8]) -> bool
+pub fn is_error_message(message: &[u8]) -> bool
     ensures { result ≡ has_error_kind message.now }
 {
     match message.get(field::KIND) {

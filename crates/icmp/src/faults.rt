@@ -10,4 +10,10 @@ pub enum IcmpFault {
     /// A wrong checksum, or a packet inside that can't be told from its bytes.
     #[error("a bad ICMP error")]
     BadError,
+    /// Of another type than the one that is asked for, of a code other than 0, or not of ICMP at all.
+    #[error("no ICMP query")]
+    NotQuery,
+    /// A header that is cut off, or an identifier 0.
+    #[error("a bad ICMP query")]
+    BadQuery,
 }

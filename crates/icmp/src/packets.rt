@@ -1,12 +1,17 @@
-//! What the first reading of an error finds out, so that nobody has to read it again.
-ghost use Rattle.std.specs.Prelude.{◌≡◌, ◌↔◌, IsOk, IfOk, None, List, ℕ};
+//! What the first reading of an error or of a query finds out, so that nobody has to read it again.
+ghost use Rattle.std.specs.Prelude.{◌≡◌, ◌≤◌, ◌↔◌, length, IsOk, IfOk, None, List, ℕ};
 ghost use Rattle.std.specs.Result.{result_err};
-ghost use Rattle.ipv4.specs.Header.{payload_of};
-ghost use Rattle.icmp.specs.Packet.{IsErrorPacket, packet_refusal, error_flow, error_packet_of};
+ghost use Rattle.ipv4.specs.Flow.{flow_of, packet_of};
+ghost use Rattle.ipv4.specs.Header.{header_of, payload_of};
+ghost use Rattle.icmp.specs.Packet.{IsErrorPacket, packet_refusal, error_flow, error_packet_of, is_about};
+ghost use Rattle.icmp.specs.Query.{IsQueryPacket, query_packet_refusal};
+ghost use Rattle.icmp.specs.declared.errors.TheConstants.{PROTOCOL as ICMP};
+ghost use Rattle.icmp.specs.declared.kinds.Kind.{Kind as KindValue};
 
-use crate::{ErrorView, IcmpFault, PROTOCOL};
-use addresses::Ip;
-use ipv4::{Flow, Ipv4View};
+use crate::queries::identifier;
+use crate::{ErrorView, IcmpFault, Kind, PROTOCOL, QueryView};
+use addresses::{Ip, Protocol};
+use ipv4::{Flow, Ipv4View, Packet};
 
 /// From whom to whom an error goes, and the way of the packet that it is about.
 #[derive(Clone, Copy, Debug, PartialEq, Eq)]
@@ -41,6 +46,15 @@ impl ErrorPacket {
             length: view.total_length(),
         })
     }
+
+    /// Whether an error is about a packet of another protocol, or about a query of this kind.
+    pub fn is_about(kind: Kind, view: &Ipv4View<'_>) -> bool
+        requires { IsErrorPacket view.now.bytes.now }
+        ensures { result ≡ is_about kind view.now.bytes.now }
+    {
+        let bytes = view.payload();
+        ErrorView { bytes }.inside().may_be(kind)
+    }
 }
 
 impl ErrorFlow {
@@ -69,4 +83,40 @@ impl ErrorFlow {
 /// The packets that aren't refused are those of the grammar.
 pub fn error_packet_grammar()
     ensures { (packet : List ℕ) → (packet_refusal packet ≡ None) ↔ IsErrorPacket packet }
+{}
+
+/// Reads a packet that carries a query of this kind, or refuses it: as NotQuery where it isn't of
+/// ICMP, else as [`QueryView::parse`] does.
+pub fn query_packet(kind: Kind, view: &Ipv4View<'_>) -> Result<Packet, IcmpFault>
+    ensures refusal { result_err result ≡ query_packet_refusal kind view.now.bytes.now }
+    ensures ok { IsOk result ↔ IsQueryPacket kind view.now.bytes.now }
+    ensures packet { IfOk result (λ p. p ≡ packet_of view.now.bytes.now) }
+{
+    if view.protocol() != PROTOCOL {
+        return Err(IcmpFault::NotQuery);
+    }
+    QueryView::parse(kind, view.payload())?;
+    Ok(Packet::going(view, query_flow(view)))
+}
+
+/// The flow of a packet that carries a query: its identifier is both ports.
+pub fn query_flow(view: &Ipv4View<'_>) -> Flow
+    requires protocol { (header_of view.now.bytes.now).protocol ≡ ICMP }
+    requires long { 8 ≤ length (payload_of view.now.bytes.now) }
+    ensures { result ≡ flow_of view.now.bytes.now }
+{
+    let identifier = identifier(view.payload());
+    Flow {
+        protocol: Protocol::Icmp,
+        source: view.source(),
+        source_port: identifier,
+        destination: view.destination(),
+        destination_port: identifier,
+    }
+}
+
+/// The packets that aren't refused are those of the grammar.
+pub fn query_packet_grammar()
+    ensures { (kind : KindValue) (packet : List ℕ)
+        → (query_packet_refusal kind packet ≡ None) ↔ IsQueryPacket kind packet }
 {}

@@ -1,17 +1,19 @@
 //! The packet inside an error, as much of it as was sent: its header whole and right, and at least
-//! 8 bytes behind it, where both ports stand. It may be cut anywhere behind them, so its total
-//! length isn't asked, and it may be the first fragment of its packet.
+//! 8 bytes behind it, where both ports stand, or the identifier of a query. It may be cut anywhere
+//! behind them, so its total length isn't asked, and it may be the first fragment of its packet.
 //!
 //! ```text
 //! 45         00 001e 0001   0000     05    11  c992 c0000201  c6336407     4e20  0035 000a5cdf
 //! 4, 5 words -- ---- number offset 0 TTL 5 UDP sum  192.0.2.1 198.51.100.7 20000 53   ..
 //! ```
 ghost use Rattle.std.specs.Prelude.{◌≡◌, ◌≤◌, ◌+◌, ◌↔◌, length, IsOk, IfOk, IfErr, List, ℕ, false};
-ghost use Rattle.ipv4.specs.Header.{header_of};
-ghost use Rattle.icmp.specs.Quoted.{IsQuoted, has_no_header, has_no_ports, has_no_packet, behind, quoted_flow};
+ghost use Rattle.ipv4.specs.Flow.{destination_place, protocol_of, source_place};
+ghost use Rattle.ipv4.specs.Header.{header_of, word_at};
+ghost use Rattle.icmp.specs.Quoted.{IsQuoted, has_no_header, has_no_query, has_no_ports, has_no_packet, behind, may_be, quoted_flow};
 ghost use Rattle.icmp.specs.declared.quoted.field.TheConstants.{FIXED, BEHIND};
 
-use crate::IcmpFault;
+use crate::queries::is_begun;
+use crate::{IcmpFault, Kind, PROTOCOL};
 use addresses::{Ip, Port, Protocol};
 use byteorder::{BigEndian, ByteOrder};
 use ipv4::Flow;
@@ -37,6 +39,8 @@ mod field {
     pub const SOURCE_PORT: Range<usize> = 0..2;
 
     pub const DESTINATION_PORT: Range<usize> = 2..4;
+    /// Of a query it is both ports.
+    pub const IDENTIFIER: Range<usize> = 4..6;
     /// The fewest bytes behind the header (RFC 792).
     pub const BEHIND: usize = 8;
 }
@@ -44,7 +48,7 @@ mod field {
 /// One more than the greatest offset of a fragment.
 const OFFSETS: u16 = 0x2000;
 
-/// A UDP or TCP packet as an error holds it, with what stands behind.
+/// A packet as an error holds it, with what stands behind.
 #[derive(Clone, Copy)]
 pub struct QuotedView<'a> {
     pub bytes: &'a [u8],
@@ -76,14 +80,22 @@ impl<'a> QuotedView<'a> {
     pub fn flow(&self) -> Flow
         ensures { result ≡ quoted_flow self.now.bytes.now }
     {
-        let ports = self.behind();
+        let protocol = translated_protocol(self.bytes);
+        let behind = self.behind();
         Flow {
-            protocol: self.protocol(),
+            protocol,
             source: Ip(BigEndian::read_u32(&self.bytes[field::SOURCE])),
-            source_port: Port(BigEndian::read_u16(&ports[field::SOURCE_PORT])),
+            source_port: source_port(protocol, behind),
             destination: Ip(BigEndian::read_u32(&self.bytes[field::DESTINATION])),
-            destination_port: Port(BigEndian::read_u16(&ports[field::DESTINATION_PORT])),
+            destination_port: destination_port(protocol, behind),
         }
+    }
+
+    /// Whether the packet may be a query of this kind: it is of another protocol, or begins as one.
+    pub fn may_be(&self, kind: Kind) -> bool
+        ensures { result ≡ may_be kind self.now.bytes.now }
+    {
+        protocol(self.bytes) != PROTOCOL || is_begun(kind, self.behind())
     }
 
     /// What stands behind the header.
@@ -92,16 +104,6 @@ impl<'a> QuotedView<'a> {
         ensures long { 8 ≤ length result.now }
     {
         &self.bytes[self.header_length()..]
-    }
-
-    fn protocol(&self) -> Protocol
-        ensures { result ≡ (quoted_flow self.now.bytes.now).protocol }
-    {
-        if protocol(self.bytes) == Protocol::Tcp.number() {
-            Protocol::Tcp
-        } else {
-            Protocol::Udp
-        }
     }
 }
 
@@ -133,6 +135,45 @@ fn protocol(bytes: &[u8]) -> u8
     bytes[field::PROTOCOL]
 }
 
+/// The protocol, where it is one that is translated.
+fn translated_protocol(bytes: &[u8]) -> Protocol
+    requires { 20 ≤ length bytes.now }
+    ensures { result ≡ protocol_of bytes.now }
+{
+    let number = protocol(bytes);
+    if number == Protocol::Icmp.number() {
+        Protocol::Icmp
+    } else if number == Protocol::Tcp.number() {
+        Protocol::Tcp
+    } else {
+        Protocol::Udp
+    }
+}
+
+/// The source port behind a header; of a query its identifier.
+fn source_port(protocol: Protocol, behind: &[u8]) -> Port
+    requires { 8 ≤ length behind.now }
+    ensures { result.0 ≡ word_at (source_place protocol) behind.now }
+{
+    match protocol {
+        Protocol::Icmp => Port(BigEndian::read_u16(&behind[field::IDENTIFIER])),
+        Protocol::Tcp | Protocol::Udp => Port(BigEndian::read_u16(&behind[field::SOURCE_PORT])),
+    }
+}
+
+/// The destination port behind a header; of a query its identifier.
+fn destination_port(protocol: Protocol, behind: &[u8]) -> Port
+    requires { 8 ≤ length behind.now }
+    ensures { result.0 ≡ word_at (destination_place protocol) behind.now }
+{
+    match protocol {
+        Protocol::Icmp => Port(BigEndian::read_u16(&behind[field::IDENTIFIER])),
+        Protocol::Tcp | Protocol::Udp => Port(BigEndian::read_u16(
+            &behind[field::DESTINATION_PORT],
+        )),
+    }
+}
+
 fn no_header(bytes: &[u8]) -> bool
     ensures { result ≡ has_no_header bytes.now }
 {
@@ -148,21 +189,34 @@ fn no_header(bytes: &[u8]) -> bool
         || Protocol::from_number(protocol(bytes)).is_none()
 }
 
+/// Whether a packet of ICMP begins as no query does.
+fn no_query(bytes: &[u8]) -> bool
+    requires long { 20 ≤ length bytes.now }
+    requires there { (header_of bytes.now).header_length + 8 ≤ length bytes.now }
+    ensures { result ≡ has_no_query bytes.now }
+{
+    if protocol(bytes) != PROTOCOL {
+        return false;
+    }
+    let behind = &bytes[header_length(bytes)..];
+    !is_begun(Kind::Echo, behind) && !is_begun(Kind::Reply, behind)
+}
+
 fn no_ports(bytes: &[u8]) -> bool
     requires long { 20 ≤ length bytes.now }
     requires there { (header_of bytes.now).header_length + 8 ≤ length bytes.now }
     ensures { result ≡ has_no_ports bytes.now }
 {
-    let ports = &bytes[header_length(bytes)..];
-    BigEndian::read_u16(&ports[field::SOURCE_PORT]) == 0
-        || BigEndian::read_u16(&ports[field::DESTINATION_PORT]) == 0
+    let protocol = translated_protocol(bytes);
+    let behind = &bytes[header_length(bytes)..];
+    source_port(protocol, behind) == Port(0) || destination_port(protocol, behind) == Port(0)
 }
 
 /// Whether the bytes hold no packet that can be told.
 pub(crate) fn no_packet(bytes: &[u8]) -> bool
     ensures { result ≡ has_no_packet bytes.now }
 {
-    no_header(bytes) || no_ports(bytes)
+    no_header(bytes) || no_query(bytes) || no_ports(bytes)
 }
 
 /// The packets inside that aren't refused are those of the grammar; and the numbers that the

@@ -224,14 +224,14 @@ impl Interface {
         self.cache.ask(address, now)
     }
 
-    /// Reads a frame that came in here, by a gateway that is `up` or not; or gives the reason of the
-    /// first step that refuses it.
-    pub fn read_frame(&self, up: bool, bytes: &[u8]) -> Result<Reading, Reason>
+    /// Reads a frame that came in here, on this side of a gateway that is `up` or not; or gives the
+    /// reason of the first step that refuses it.
+    pub fn read_frame(&self, side: Side, up: bool, bytes: &[u8]) -> Result<Reading, Reason>
         ensures reading { result
-            ≡ reading_of self.now.network (is_active self.now) up bytes.now }
-        ensures carries { IfOk result (Carries bytes.now) }
+            ≡ reading_of side self.now.network (is_active self.now) up bytes.now }
+        ensures carries { IfOk result (Carries side bytes.now) }
     {
-        packet_rules::read_frame(&self.network, self.is_active(), up, bytes)
+        packet_rules::read_frame(side, &self.network, self.is_active(), up, bytes)
     }
 
     /// The hardware address by which an ARP packet is answered here, where it asks for an address of

@@ -1,4 +1,4 @@
--- What a packet carries, where it is translated.
+-- UDP datagrams and TCP segments, as packets carry them.
 use Rattle.std.specs.Prelude.{◌⊎◌, Bool, ◌==◌, not, ◌&&◌, List, [], ◌∷◌, ℕ, Option, if◌then◌else◌}
 use Rattle.addresses.specs.declared.transport.Protocol.{Protocol}
 use Rattle.addresses.specs.declared.transport.Protocol.TheVariants.{Tcp as IsOfTcp, Udp as IsOfUdp}

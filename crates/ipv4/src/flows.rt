@@ -7,7 +7,8 @@ ghost use Rattle.ipv4.specs.Header.{payload_of};
 use crate::{Ipv4View, Transport};
 use addresses::{Ip, Port, Protocol};
 
-/// From where to where a packet goes, and by which protocol.
+/// From where to where a packet goes, and by which protocol. Of an ICMP query the identifier is both
+/// ports.
 #[derive(Clone, Copy, Debug, PartialEq, Eq)]
 pub struct Flow {
     pub protocol: Protocol,

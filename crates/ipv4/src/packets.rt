@@ -2,35 +2,43 @@
 ghost use Rattle.std.specs.Prelude.{◌≡◌, ◌↔◌, IsOk, IfOk};
 ghost use Rattle.std.specs.Result.{result_err};
 ghost use Rattle.ipv4.specs.Carried.{IsTransport, transport_refusal};
-ghost use Rattle.ipv4.specs.Flow.{packet_of};
+ghost use Rattle.ipv4.specs.Flow.{flow_of, packet_of};
 
 use crate::tcp::flags;
 use crate::{Flow, Ipv4Fault, Ipv4View, Transport};
 use addresses::TcpFlags;
 
-/// What a UDP or TCP packet says of itself.
+/// What a packet that is translated says of itself.
 #[derive(Clone, Copy, Debug, PartialEq, Eq)]
 pub struct Packet {
     pub flow: Flow,
-    /// The flags of a TCP segment. Of a UDP datagram nobody reads them: they are whatever stands at
-    /// their place.
+    /// The flags of a TCP segment. Of the other protocols nobody reads them: they are whatever stands
+    /// at their place.
     pub flags: TcpFlags,
     /// The IPv4 total length: the bytes of header and payload, without padding.
     pub length: usize,
 }
 
 impl Packet {
-    /// Reads a packet, or refuses it as [`Transport::parse`] does.
+    /// Reads a UDP or TCP packet, or refuses it as [`Transport::parse`] does.
     pub fn parse(view: &Ipv4View<'_>) -> Result<Packet, Ipv4Fault>
         ensures refusal { result_err result ≡ transport_refusal view.now.bytes.now }
         ensures ok { IsOk result ↔ IsTransport view.now.bytes.now }
         ensures packet { IfOk result (λ p. p ≡ packet_of view.now.bytes.now) }
     {
         let transport = Transport::parse(view)?;
-        Ok(Packet {
-            flow: Flow::carrying(view, &transport),
+        Ok(Packet::going(view, Flow::carrying(view, &transport)))
+    }
+
+    /// What a packet of this flow says of itself.
+    pub fn going(view: &Ipv4View<'_>, flow: Flow) -> Packet
+        requires { flow ≡ flow_of view.now.bytes.now }
+        ensures { result ≡ packet_of view.now.bytes.now }
+    {
+        Packet {
+            flow,
             flags: flags(view.payload()),
             length: view.total_length(),
-        })
+        }
     }
 }

@@ -2,13 +2,13 @@
 ghost use Rattle.std.specs.Prelude.{◌≡◌, ◌↔◌, IsOk, IfOk, None, List, ℕ};
 ghost use Rattle.std.specs.Result.{result_err};
 ghost use Rattle.ipv4.specs.Header.{payload_of, word_at};
-ghost use Rattle.ipv4.specs.Flow.{protocol_of};
+ghost use Rattle.ipv4.specs.Flow.{destination_place, protocol_of, source_place};
 ghost use Rattle.ipv4.specs.Carried.{IsTransport, transport_refusal, carried_bytes, carried_protocol};
 
 use crate::{Ipv4Fault, Ipv4View, TcpView, UdpView};
 use addresses::{Port, Protocol};
 
-/// What a packet carries, where it is translated.
+/// A UDP datagram or a TCP segment, as a packet carries it.
 #[derive(Clone, Copy)]
 pub enum Transport<'a> {
     Udp(UdpView<'a>),
@@ -34,7 +34,7 @@ impl<'a> Transport<'a> {
                 Ok(segment) => Ok(Transport::Tcp(segment)),
                 Err(fault) => Err(fault),
             },
-            None => Err(Ipv4Fault::NotUdpTcp),
+            Some(Protocol::Icmp) | None => Err(Ipv4Fault::NotUdpTcp),
         }
     }
 
@@ -62,7 +62,8 @@ impl<'a> Transport<'a> {
     }
 
     pub fn source_port(&self) -> Port
-        ensures { result.0 ≡ word_at 0 (carried_bytes self.now) }
+        ensures { result.0
+            ≡ word_at (source_place (carried_protocol self.now)) (carried_bytes self.now) }
     {
         match self {
             Transport::Udp(datagram) => datagram.source_port(),
@@ -71,7 +72,8 @@ impl<'a> Transport<'a> {
     }
 
     pub fn destination_port(&self) -> Port
-        ensures { result.0 ≡ word_at 2 (carried_bytes self.now) }
+        ensures { result.0
+            ≡ word_at (destination_place (carried_protocol self.now)) (carried_bytes self.now) }
     {
         match self {
             Transport::Udp(datagram) => datagram.destination_port(),

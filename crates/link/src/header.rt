@@ -4,7 +4,7 @@
 //!  0                   1                   2                   3
 //!  0 1 2 3 4 5 6 7 8 9 0 1 2 3 4 5 6 7 8 9 0 1 2 3 4 5 6 7 8 9 0 1
 //! +---------------+---------------+---------------+---------------+
-//! |   'N' (4e)    |   'P' (50)    |  version, 2   | sender, 0 / 1 |  0
+//! |   'N' (4e)    |   'P' (50)    |  version, 3   | sender, 0 / 1 |  0
 //! +---------------+---------------+---------------+---------------+
 //! |                   the sender's boot, from 1                   |  4
 //! |                           (8 bytes)                           |
@@ -27,7 +27,7 @@
 //! Numbers are big-endian. Gateway 0 proposes a pair:
 //!
 //! ```text
-//! 4e50 02 00         a datagram of version 2, by gateway 0
+//! 4e50 03 00         a datagram of version 3, by gateway 0
 //! 0000000000000001   which is in its boot 1,
 //! 0000000000000001   and knows the receiver's boot 1;
 //! 01                 it serves,
@@ -75,7 +75,7 @@ mod field {
 }
 
 /// The version of the link that is spoken here.
-const VERSION: u8 = 2;
+const VERSION: u8 = 3;
 
 /// The number behind the last one that a record may have.
 const NUMBERS_END: u64 = 9_223_372_036_854_775_808;

@@ -16,6 +16,7 @@ use Rattle.packet_rules.specs.declared.reasons.Reason.TheVariants.{BadAdvert}
 use Rattle.packet_rules.specs.Adverts.{own_advert, advert_header, advert_packet, advert_frame}
 use Rattle.packet_rules.specs.Networks.{vrrp_mac, is_addressed, is_virtual}
 use Rattle.packet_rules.specs.Steps.{reason_of, size_refusal, up_refusal, destination_refusal, header_refusal, is_vrrp, is_from_peer, advert_reading, ipv4_reading, body_reading, reading_of, unless}
+use Rattle.nat_types.specs.declared.gateways.Side.{Side}
 
 -- the codecs' laws, as far as they speak of an advertisement's packet
 pub record Codecs : Type 0 where
@@ -86,23 +87,23 @@ packet-read c network peer priority interval writable fits router other =
     let foreign = other-number _ _ (λ e. other (sym e ∙ source)) in
     ok-reading _ _ own _ network.own_ip (two-true _ _ none (two-true _ _ named foreign)) read.1 source
 
-body-read : (c : Codecs) (network peer : Network) (priority interval : ℕ) → IsWritable (own_advert network priority interval) → network.own_ip.0 < 2 ^ 32
+body-read : (c : Codecs) (side : Side) (network peer : Network) (priority interval : ℕ) → IsWritable (own_advert network priority interval) → network.own_ip.0 < 2 ^ 32
     → peer.interface.virtual_router ≡ network.interface.virtual_router → peer.own_ip.0 ≢ network.own_ip.0
-    → body_reading peer (frame_of (advert_frame network priority interval)) ≡ Ok (Advert (own_advert network priority interval) network.own_ip)
+    → body_reading side peer (frame_of (advert_frame network priority interval)) ≡ Ok (Advert (own_advert network priority interval) network.own_ip)
 unfolding body_reading ipv4_reading header_refusal is_vrrp
-body-read c network peer priority interval writable fits router other =
+body-read c side network peer priority interval writable fits router other =
     let packet = advert_packet network.own_ip.0 (own_advert network priority interval) in
     passes (option_map reason_of (ipv4_refusal packet)) _ _
     (ap (option_map reason_of) (c.ipv4 packet (packet-ipv4 _ _)))
     (packet-read c network peer priority interval writable fits router other)
 
-pub advert-read : (c : Codecs) (network peer : Network) (active : Bool) (priority interval : ℕ) → IsWritable (own_advert network priority interval) → network.own_ip.0 < 2 ^ 32
+pub advert-read : (c : Codecs) (side : Side) (network peer : Network) (active : Bool) (priority interval : ℕ) → IsWritable (own_advert network priority interval) → network.own_ip.0 < 2 ^ 32
     → peer.interface.virtual_router ≡ network.interface.virtual_router → peer.own_ip.0 ≢ network.own_ip.0
-    → reading_of peer active true (advert_frame network priority interval) ≡ Ok (Advert (own_advert network priority interval) network.own_ip)
+    → reading_of side peer active true (advert_frame network priority interval) ≡ Ok (Advert (own_advert network priority interval) network.own_ip)
 unfolding size_refusal up_refusal destination_refusal
-advert-read c network peer active priority interval writable fits router other =
+advert-read c side network peer active priority interval writable fits router other =
     let frame = frame_of (advert_frame network priority interval) in
     passes (size_refusal (advert_frame network priority interval)) _ _ refl
     (passes (up_refusal true) _ _ refl
     (passes (destination_refusal peer active frame) _ _ (no-refusal _ _ (two-true _ _ (addressed peer active) refl))
-    (body-read c network peer priority interval writable fits router other)))
+    (body-read c side network peer priority interval writable fits router other)))

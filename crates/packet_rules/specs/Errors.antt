@@ -1,12 +1,13 @@
 -- ICMP errors about translated packets: which way they go, by which pairs, and the frame by which one is passed on
 -- (RFC 5508, section 4).
-use Rattle.std.specs.Prelude.{◌≡◌, ℕ, Bool, ◌==◌, ◌&&◌, Result, Ok, Err, List, ◌++◌, take, if◌then◌else◌}
+use Rattle.std.specs.Prelude.{◌≡◌, ℕ, Bool, ◌==◌, ◌&&◌, Result, Ok, Err, List, ◌++◌, take, slice_index, if◌then◌else◌}
 use Rattle.addresses.specs.declared.ethernet.Mac.{Mac}
 use Rattle.nat_types.specs.declared.gateways.Side.{Side}
 use Rattle.nat_types.specs.declared.pairs.Endpoint.{Endpoint}
 use Rattle.nat_types.specs.declared.pairs.Key.{Key}
 use Rattle.frames.specs.Frame.{frame_of}
-use Rattle.ipv4.specs.Header.{header_of}
+use Rattle.ipv4.specs.Header.{header_of, payload_of}
+use Rattle.icmp.specs.Error.{is_error}
 use Rattle.icmp.specs.Packet.{error_flow}
 use Rattle.icmp.specs.declared.packets.ErrorFlow.{ErrorFlow}
 use Rattle.rewrite.specs.PassedOn.{error_from, error_to, passed_on}
@@ -35,7 +36,7 @@ endpoint_about flow = record {
 -- 7, 8. the way of an error, by its own addresses; the packet inside has to come from where the error goes
 unfoldable pub error_direction : Networks → Side → ErrorFlow → Result Direction Reason
 error_direction networks side flow =
-    and_then (direction_of networks side flow.source.0 flow.destination.0)
+    and_then (direction_of networks side flow.inside.protocol flow.source.0 flow.destination.0)
     (λ way. if flow.inside.source.0 == flow.destination.0 then Ok way else Err NoBinding)
 
 -- The pairs of an error: inward the one whose key is the protocol and source port inside; outward the one whose endpoint is
@@ -69,10 +70,13 @@ passed_frame networks by next bytes =
     sent_header networks by next
     ++ take (header_of packet).total_length (passed_by networks by packet)
 
--- a frame of an error that was passed on: of EtherType 0x0800 and protocol 1
+-- a frame of an error that was passed on: of EtherType 0x0800 and protocol 1, and its message begins with an error's type
 unfoldable pub is_error_frame : List ℕ → Bool
 is_error_frame bytes =
-    ((frame_of bytes).ethertype == 2048) && ((header_of (frame_of bytes).body).protocol == 1)
+    let packet = (frame_of bytes).body in
+    ((frame_of bytes).ethertype == 2048)
+    && ((header_of packet).protocol == 1)
+    && is_error (slice_index (payload_of packet) 0)
 
 -- a frame's error comes from this address, and the packet inside went to it
 abbrev pub HidesInside : ℕ → List ℕ → Type 0

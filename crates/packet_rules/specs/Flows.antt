@@ -8,7 +8,7 @@ use Rattle.ipv4.specs.declared.packets.Packet.{Packet}
 use Rattle.ipv4.specs.Flow.{flow_of}
 use Rattle.ipv4.specs.Header.{header_of, payload_of}
 use Rattle.ipv4.specs.Segment.{segment_of}
-use Rattle.icmp.specs.Packet.{error_flow, error_packet_of}
+use Rattle.icmp.specs.Packet.{error_flow}
 use Rattle.icmp.specs.declared.packets.ErrorFlow.{ErrorFlow}
 use Rattle.icmp.specs.declared.packets.ErrorPacket.{ErrorPacket}
 

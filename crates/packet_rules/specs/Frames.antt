@@ -1,11 +1,14 @@
 -- The frame by which a packet is sent on.
-use Rattle.std.specs.Prelude.{ℕ, Bool, ◌==◌, ◌&&◌, ◌||◌, List, [], ◌∷◌, ◌++◌, take}
+use Rattle.std.specs.Prelude.{ℕ, Bool, ◌==◌, ◌&&◌, ◌||◌, List, [], ◌∷◌, ◌++◌, take, slice_index}
 use Rattle.addresses.specs.declared.ethernet.Mac.{Mac}
 use Rattle.nat_types.specs.Pair.{Pair}
 use Rattle.frames.specs.Frame.{frame_of, header_bytes}
 use Rattle.ipv4.specs.declared.flows.Flow.{Flow}
 use Rattle.ipv4.specs.Flow.{flow_of}
-use Rattle.ipv4.specs.Header.{header_of}
+use Rattle.ipv4.specs.Header.{header_of, payload_of}
+use Rattle.icmp.specs.Query.{kind_number}
+use Rattle.nat_types.specs.declared.gateways.Side.{Side}
+use Rattle.packet_rules.specs.Queries.{kind_leaving}
 use Rattle.rewrite.specs.Translated.{translated}
 use Rattle.packet_rules.specs.declared.networks.Networks.{Networks}
 use Rattle.packet_rules.specs.declared.networks.Direction as way
@@ -73,8 +76,12 @@ sent_frame networks translation next bytes =
     sent_header networks translation next
     ++ take (header_of packet).total_length (translated_by networks translation packet)
 
--- a frame whose packet was translated: of EtherType 0x0800 and protocol 6 or 17
-unfoldable pub is_translation : List ℕ → Bool
-is_translation bytes =
-    let protocol = (header_of (frame_of bytes).body).protocol in
-    ((frame_of bytes).ethertype == 2048) && ((protocol == 6) || (protocol == 17))
+-- a frame whose packet was translated and that left at this side: of EtherType 0x0800, and of protocol 6
+-- or 17, or of protocol 1 with a message that begins with 8 at the outside, with 0 at the inside
+unfoldable pub is_translation : Side → List ℕ → Bool
+is_translation exit bytes =
+    let packet = (frame_of bytes).body in
+    let protocol = (header_of packet).protocol in
+    ((frame_of bytes).ethertype == 2048)
+    && ((protocol == 6) || (protocol == 17)
+    || ((protocol == 1) && (slice_index (payload_of packet) 0 == kind_number (kind_leaving exit))))

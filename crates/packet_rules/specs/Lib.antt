@@ -4,5 +4,6 @@ pub mod Errors
 pub mod Flows
 pub mod Frames
 pub mod Networks
+pub mod Queries
 pub mod Reasons
 pub mod Steps

@@ -2,6 +2,9 @@
 use Rattle.std.specs.Prelude.{◌≡◌, ℕ, ◌-◌, ◌/◌, ◌^◌, Bool, not, ◌==◌, ◌&&◌, ◌||◌, Result, Ok, Err, List, [], ◌∷◌, length, if◌then◌else◌}
 use Rattle.std.specs.Str.{bytes_eq}
 use Rattle.addresses.specs.Address.{virtual_mac}
+use Rattle.addresses.specs.Transport.{same_protocol}
+use Rattle.addresses.specs.declared.transport.Protocol.{Protocol}
+use Rattle.addresses.specs.declared.transport.Protocol.TheVariants.{Icmp}
 use Rattle.nat_types.specs.declared.gateways.GatewayId.{GatewayId}
 use Rattle.nat_types.specs.declared.gateways.Side.{Side}
 use Rattle.nat_types.specs.declared.gateways.Side.TheVariants.{Inside, Outside}
@@ -79,13 +82,18 @@ unfoldable pub is_martian : ℕ → Bool
 is_martian address = let first = address / 2 ^ 24 in
     (first == 0) || (first == 127) || (address / 2 ^ 28 == 14) || (address / 2 ^ 28 == 15)
 
+-- 7. a packet to the outside virtual address goes back in by the pair of its port; but no host stands
+-- behind the identifier of a query
+unfoldable pub hairpin_direction : Protocol → Result Direction Reason
+hairpin_direction protocol = (if same_protocol protocol Icmp then Err NoBinding else Ok Hairpin)
+
 -- 7. the way of a packet from the inside
-unfoldable pub inside_direction : Networks → ℕ → ℕ → Result Direction Reason
-inside_direction networks source destination =
+unfoldable pub inside_direction : Networks → Protocol → ℕ → ℕ → Result Direction Reason
+inside_direction networks protocol source destination =
     (if not (lies_in source networks.inside.interface)
     || (source == networks.inside.interface.virtual_ip.0)
     || is_martian source then Err NoBinding
-    else (if destination == networks.outside.interface.virtual_ip.0 then Ok Hairpin
+    else (if destination == networks.outside.interface.virtual_ip.0 then hairpin_direction protocol
     else (if lies_in destination networks.inside.interface
     || is_martian destination then Err NoBinding
     else Ok Outward)))
@@ -100,9 +108,11 @@ outside_direction networks source destination =
     else Ok Inward))
 
 -- the way of a packet
-abbrev pub direction_of : Networks → Side → ℕ → ℕ → Result Direction Reason
-direction_of networks Inside source destination = inside_direction networks source destination
-direction_of networks Outside source destination = outside_direction networks source destination
+abbrev pub direction_of : Networks → Side → Protocol → ℕ → ℕ → Result Direction Reason
+direction_of networks Inside protocol source destination =
+    inside_direction networks protocol source destination
+direction_of networks Outside protocol source destination =
+    outside_direction networks source destination
 
 -- the next hop of a packet that leaves: its destination where that lies in the outside network,
 -- else the router

@@ -1,27 +1,31 @@
 -- Which of the first steps of the packet path refuses a frame, and what a frame that passes is read
 -- as.
-use Rattle.std.specs.Prelude.{◌≤◌, ◌≡◌, ℕ, Bool, not, ◌==◌, ◌&&◌, ◌||◌, nat_le, Option, Some, None, is_none, Result, Ok, Err, List, length, if◌then◌else◌}
+use Rattle.std.specs.Prelude.{◌≤◌, ◌≡◌, ℕ, Bool, not, ◌==◌, ◌&&◌, ◌||◌, nat_le, Option, Some, None, is_none, Result, Ok, Err, List, length, slice_index, if◌then◌else◌}
 use Rattle.std.specs.Option.{option_map}
 use Rattle.frames.specs.Frame.{Frame, frame_of}
 use Rattle.ipv4.specs.Header.{IsIpv4, header_of, payload_of, ipv4_refusal}
-use Rattle.ipv4.specs.Carried.{IsTransport, transport_refusal as carried_refusal}
+use Rattle.ipv4.specs.Carried.{transport_refusal as carried_refusal}
 use Rattle.ipv4.specs.Flow.{packet_of as packet_read}
 use Rattle.icmp.specs.declared.errors.TheConstants.{PROTOCOL}
 use Rattle.icmp.specs.declared.faults.IcmpFault.{IcmpFault}
-use Rattle.icmp.specs.declared.faults.IcmpFault.TheVariants.{NotError, BadError}
-use Rattle.icmp.specs.Packet.{IsErrorPacket, error_packet_of, packet_refusal}
+use Rattle.icmp.specs.declared.faults.IcmpFault.TheVariants.{NotError, BadError, NotQuery, BadQuery}
+use Rattle.icmp.specs.Error.{has_error_kind}
+use Rattle.icmp.specs.Packet.{IsErrorPacket, error_packet_of, is_about, packet_refusal}
+use Rattle.icmp.specs.Query.{IsTranslatable, kind_number, query_packet_refusal}
 use Rattle.ipv4.specs.declared.faults.Ipv4Fault as fault
 use Rattle.ipv4.specs.declared.faults.Ipv4Fault.{Ipv4Fault}
 use Rattle.arp.specs.Packet.{arp_refusal, packet_of}
 use Rattle.vrrp_packet.specs.Message.{advert_refusal, advert_of}
 use Rattle.packet_rules.specs.declared.reasons.Reason.{Reason}
-use Rattle.packet_rules.specs.declared.reasons.Reason.TheVariants.{ShortFrame, NotMine, BadHeader, BadLength, BadHeaderSum, Fragment, TtlOver, NotUdpTcp, BadTransport, BadArp, BadAdvert, NotUp}
+use Rattle.packet_rules.specs.declared.reasons.Reason.TheVariants.{ShortFrame, NotMine, BadHeader, BadLength, BadHeaderSum, Fragment, TtlOver, NotUdpTcp, BadTransport, BadArp, BadAdvert, NotUp, NoBinding}
 use Rattle.packet_rules.specs.declared.readings.Reading.{Reading}
 use Rattle.packet_rules.specs.declared.readings.Reading.TheVariants.{Arp, Advert, Packet, Error}
 use Rattle.packet_rules.specs.declared.networks.Network.{Network}
 use Rattle.frames.specs.declared.ethernet.TheConstants.{LONGEST}
 use Rattle.packet_rules.specs.Flows.{error_in, packet_in}
 use Rattle.packet_rules.specs.Networks.{is_addressed, is_virtual}
+use Rattle.packet_rules.specs.Queries.{kind_entering, kind_leaving}
+use Rattle.nat_types.specs.declared.gateways.Side.{Side}
 
 -- the reason for a fault of the packet
 abbrev pub reason_of : Ipv4Fault → Reason
@@ -33,10 +37,12 @@ reason_of fault.TheVariants.Fragment = Fragment
 reason_of fault.TheVariants.NotUdpTcp = NotUdpTcp
 reason_of fault.TheVariants.BadTransport = BadTransport
 
--- the reason for a fault of an error
+-- the reason for a fault of an ICMP message
 abbrev pub reason_of_icmp : IcmpFault → Reason
 reason_of_icmp NotError = NotUdpTcp
 reason_of_icmp BadError = BadTransport
+reason_of_icmp NotQuery = NotUdpTcp
+reason_of_icmp BadQuery = BadTransport
 
 -- 1. a frame has 14 to 1,514 bytes
 unfoldable pub size_refusal : List ℕ → Option Reason
@@ -90,13 +96,23 @@ virtual_refusal network frame = (if is_virtual network frame.dst then None else 
 unfoldable pub transport_refusal : List ℕ → Option Reason
 transport_refusal packet = option_map reason_of (carried_refusal packet)
 
--- 6. a packet of ICMP carries an error about such a packet
+-- 6. a packet of ICMP carries a query of the kind that is taken at the side
+unfoldable pub query_refusal : Side → List ℕ → Option Reason
+query_refusal side packet =
+    option_map reason_of_icmp (query_packet_refusal (kind_entering side) packet)
+
+-- 6. a packet of ICMP carries an error about a packet that is translated
 unfoldable pub error_refusal : List ℕ → Option Reason
 error_refusal packet = option_map reason_of_icmp (packet_refusal packet)
 
 -- 6. its time to live isn't over
 unfoldable pub ttl_refusal : List ℕ → Option Reason
 ttl_refusal packet = (if nat_le 2 (header_of packet).ttl then None else Some TtlOver)
+
+-- 7, 8. an error goes the other way than the packet that it is about: a query inside is of the kind that
+-- leaves at the side
+unfoldable pub about_refusal : Side → List ℕ → Option Reason
+about_refusal side packet = (if is_about (kind_leaving side) packet then None else Some NoBinding)
 
 -- a step, where the one before it doesn't refuse
 abbrev pub unless : {X : Type 0} → Option Reason → Result X Reason → Result X Reason
@@ -115,48 +131,69 @@ transport_reading packet =
     unless (ttl_refusal packet) (
     Ok (Packet (packet_read packet))))
 
+-- 6. an ICMP query
+unfoldable pub query_reading : Side → List ℕ → Result Reading Reason
+query_reading side packet =
+    unless (query_refusal side packet) (
+    unless (ttl_refusal packet) (
+    Ok (Packet (packet_read packet))))
+
 -- 6. an ICMP error
-unfoldable pub error_reading : List ℕ → Result Reading Reason
-error_reading packet =
+unfoldable pub error_reading : Side → List ℕ → Result Reading Reason
+error_reading side packet =
     unless (error_refusal packet) (
     unless (ttl_refusal packet) (
-    Ok (Error (error_packet_of packet))))
+    unless (about_refusal side packet) (
+    Ok (Error (error_packet_of packet)))))
+
+-- 6. a packet of ICMP
+unfoldable pub icmp_reading : Side → List ℕ → Result Reading Reason
+icmp_reading side packet =
+    (if has_error_kind (payload_of packet) then error_reading side packet
+    else query_reading side packet)
 
 -- 5, 6. a packet that isn't VRRP's
-unfoldable pub packet_reading : Network → Frame → Result Reading Reason
-packet_reading network frame =
+unfoldable pub packet_reading : Side → Network → Frame → Result Reading Reason
+packet_reading side network frame =
     unless (virtual_refusal network frame) (
-    (if (header_of frame.body).protocol == PROTOCOL then error_reading frame.body
+    (if (header_of frame.body).protocol == PROTOCOL then icmp_reading side frame.body
     else transport_reading frame.body))
 
 -- 4 to 6. an IPv4 packet
-unfoldable pub ipv4_reading : Network → Frame → Result Reading Reason
-ipv4_reading network frame =
+unfoldable pub ipv4_reading : Side → Network → Frame → Result Reading Reason
+ipv4_reading side network frame =
     unless (header_refusal frame.body) (
     (if is_vrrp frame.body then advert_reading network frame.body
-    else packet_reading network frame))
+    else packet_reading side network frame))
 
 -- 3 to 6. what the frame carries
-unfoldable pub body_reading : Network → Frame → Result Reading Reason
-body_reading network frame =
-    (if frame.ethertype == 2054 then arp_reading frame.body else ipv4_reading network frame)
+unfoldable pub body_reading : Side → Network → Frame → Result Reading Reason
+body_reading side network frame =
+    (if frame.ethertype == 2054 then arp_reading frame.body else ipv4_reading side network frame)
 
--- what a frame is read as by a gateway that is up or not, at an interface that is Active or not;
--- or the reason of the first step that refuses it
-abbrev pub reading_of : Network → Bool → Bool → List ℕ → Result Reading Reason
-reading_of network active up bytes =
+-- what a frame is read as that came in at this side, by a gateway that is up or not, at an interface
+-- that is Active or not; or the reason of the first step that refuses it
+abbrev pub reading_of : Side → Network → Bool → Bool → List ℕ → Result Reading Reason
+reading_of side network active up bytes =
     let frame = frame_of bytes in
     unless (size_refusal bytes) (
     unless (up_refusal up) (
     unless (destination_refusal network active frame) (
-    body_reading network frame)))
+    body_reading side network frame)))
+
+-- the packet of a frame that came in at this side, where it is a query, is of the side's kind
+abbrev pub IsOfSide : Side → List ℕ → Type 0
+IsOfSide side bytes =
+    let packet = (frame_of bytes).body in
+    (header_of packet).protocol ≡ PROTOCOL
+    → slice_index (payload_of packet) 0 ≡ kind_number (kind_entering side)
 
 -- what is known of a frame whose packet passes, and what a translation asks for
 pub record IsForwardable (bytes : List ℕ) : Type 0 where
   pub whole : 14 ≤ length bytes
   pub short : length bytes ≤ LONGEST
   pub ipv4 : IsIpv4 (frame_of bytes).body
-  pub transport : IsTransport (frame_of bytes).body
+  pub translatable : IsTranslatable (frame_of bytes).body
   pub ttl : 2 ≤ (header_of (frame_of bytes).body).ttl
 
 -- what is known of a frame whose error passes, and what its passing on asks for
@@ -169,8 +206,9 @@ pub record IsPassable (bytes : List ℕ) : Type 0 where
 
 -- what is known of a frame that is read as this: of an ARP packet its sender's six bytes, of an
 -- advertisement its interval
-abbrev pub Carries : List ℕ → Reading → Type 0
-Carries bytes (Arp packet) = length packet.sender_mac.0 ≡ 6
-Carries bytes (Advert advert from) = (1 ≤ advert.interval) × (advert.interval ≤ 4095)
-Carries bytes (Packet packet) = IsForwardable bytes × (packet ≡ packet_in bytes)
-Carries bytes (Error packet) = IsPassable bytes × (packet ≡ error_in bytes)
+abbrev pub Carries : Side → List ℕ → Reading → Type 0
+Carries side bytes (Arp packet) = length packet.sender_mac.0 ≡ 6
+Carries side bytes (Advert advert from) = (1 ≤ advert.interval) × (advert.interval ≤ 4095)
+Carries side bytes (Packet packet) =
+    IsForwardable bytes × ((packet ≡ packet_in bytes) × IsOfSide side bytes)
+Carries side bytes (Error packet) = IsPassable bytes × (packet ≡ error_in bytes)

@@ -50,7 +50,13 @@ pub fn error_direction(
 ) -> Result<Direction, Reason>
     ensures { result ≡ direction_of_error networks.now side flow }
 {
-    match direction_taken(networks, side, flow.source, flow.destination) {
+    match direction_taken(
+        networks,
+        side,
+        flow.inside.protocol,
+        flow.source,
+        flow.destination,
+    ) {
         Ok(way) => {
             if flow.inside.source == flow.destination {
                 Ok(way)

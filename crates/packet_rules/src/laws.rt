@@ -13,12 +13,14 @@ ghost use Rattle.packet_rules.specs.declared.readings.Reading.TheVariants.{Adver
 ghost use Rattle.packet_rules.specs.Adverts.{own_advert, advert_frame};
 ghost use Rattle.packet_rules.specs.Arping.{answer_frame, request_frame, gratuitous_frame};
 ghost use Rattle.packet_rules.specs.Errors.{is_error_frame, passed_frame};
-ghost use Rattle.packet_rules.specs.Frames.{sent_frame, is_translation};
-ghost use Rattle.packet_rules.specs.Networks.{IsWired};
-ghost use Rattle.packet_rules.specs.Steps.{reading_of, IsForwardable, IsPassable, Carries};
+ghost use Rattle.packet_rules.specs.Frames.{sent_frame, is_translation, way_of};
+ghost use Rattle.nat_types.specs.declared.gateways.Side.{Side as SideValue};
+ghost use Rattle.packet_rules.specs.Flows.{flow_in};
+ghost use Rattle.packet_rules.specs.Networks.{IsWired, direction_of, exit_of};
+ghost use Rattle.packet_rules.specs.Steps.{reading_of, IsForwardable, IsOfSide, IsPassable, Carries};
 
 use arp::arp_grammar;
-use icmp::error_packet_grammar;
+use icmp::{error_packet_grammar, query_packet_grammar};
 use ipv4::{ipv4_grammar, transport_grammar};
 use vrrp_packet::{advert_grammar, written_is_read};
 
@@ -29,38 +31,43 @@ pub fn limits_law()
 
 /// What is known of a frame by what it is read as.
 pub fn readings_law()
-    ensures { (network : NetworkValue) (active up : Bool) (bytes : List ℕ)
+    ensures { (side : SideValue) (network : NetworkValue) (active up : Bool) (bytes : List ℕ)
         (reading : ReadingValue)
-        → reading_of network active up bytes ≡ Ok reading → Carries bytes reading }
+        → reading_of side network active up bytes ≡ Ok reading → Carries side bytes reading }
 {
     arp_grammar();
     ipv4_grammar();
     transport_grammar();
     error_packet_grammar();
+    query_packet_grammar();
     advert_grammar();
 }
 
 /// The frame by which a packet is sent on counts as a translation, and that by which an error is
 /// passed on as an error; no frame of ARP or VRRP does as either.
 pub fn frames_law()
-    ensures sent { (networks : NetworksValue) (t : TranslationValue) (next : MacValue)
-        (bytes : List ℕ) → IsWired networks → length next.0 ≡ 6 → IsForwardable bytes
-        → is_translation (sent_frame networks t next bytes) ≡ true }
+    ensures sent { (networks : NetworksValue) (side : SideValue) (t : TranslationValue)
+        (next : MacValue) (bytes : List ℕ) → IsWired networks → length next.0 ≡ 6
+        → IsForwardable bytes → IsOfSide side bytes → (let flow = flow_in bytes in
+        direction_of networks side flow.protocol flow.source.0 flow.destination.0
+        ≡ Ok (way_of t))
+        → is_translation (exit_of (way_of t)) (sent_frame networks t next bytes) ≡ true }
     ensures passed { (networks : NetworksValue) (t : TranslationValue) (next : MacValue)
         (bytes : List ℕ) → IsWired networks → length next.0 ≡ 6 → IsPassable bytes
         → is_error_frame (passed_frame networks t next bytes) ≡ true }
-    ensures passed_apart { (networks : NetworksValue) (t : TranslationValue) (next : MacValue)
-        (bytes : List ℕ) → IsWired networks → length next.0 ≡ 6 → IsPassable bytes
-        → is_translation (passed_frame networks t next bytes) ≡ false }
-    ensures answer { (network : NetworkValue) (p : ArpValue) (mac : MacValue)
+    ensures passed_apart { (networks : NetworksValue) (exit : SideValue) (t : TranslationValue)
+        (next : MacValue) (bytes : List ℕ) → IsWired networks → length next.0 ≡ 6
+        → IsPassable bytes → is_translation exit (passed_frame networks t next bytes) ≡ false }
+    ensures answer { (exit : SideValue) (network : NetworkValue) (p : ArpValue) (mac : MacValue)
         → length network.own_mac.0 ≡ 6 → length p.sender_mac.0 ≡ 6
-        → is_translation (answer_frame network p mac) ≡ false }
-    ensures request { (network : NetworkValue) (ip : IpValue) → length network.own_mac.0 ≡ 6
-        → is_translation (request_frame network ip) ≡ false }
-    ensures gratuitous { (network : NetworkValue)
-        → is_translation (gratuitous_frame network) ≡ false }
-    ensures advert { (network : NetworkValue) (priority interval : ℕ)
-        → is_translation (advert_frame network priority interval) ≡ false }
+        → is_translation exit (answer_frame network p mac) ≡ false }
+    ensures request { (exit : SideValue) (network : NetworkValue) (ip : IpValue)
+        → length network.own_mac.0 ≡ 6
+        → is_translation exit (request_frame network ip) ≡ false }
+    ensures gratuitous { (exit : SideValue) (network : NetworkValue)
+        → is_translation exit (gratuitous_frame network) ≡ false }
+    ensures advert { (exit : SideValue) (network : NetworkValue) (priority interval : ℕ)
+        → is_translation exit (advert_frame network priority interval) ≡ false }
     ensures answer_no_error { (network : NetworkValue) (p : ArpValue) (mac : MacValue)
         → length network.own_mac.0 ≡ 6 → length p.sender_mac.0 ≡ 6
         → is_error_frame (answer_frame network p mac) ≡ false }
@@ -74,11 +81,11 @@ pub fn frames_law()
 
 /// What a router advertises, the other gateway reads at its interface.
 pub fn advert_law()
-    ensures { (network peer : NetworkValue) (active : Bool) (priority interval : ℕ)
-        → IsWritable (own_advert network priority interval) → network.own_ip.0 < 2 ^ 32
+    ensures { (side : SideValue) (network peer : NetworkValue) (active : Bool)
+        (priority interval : ℕ) → IsWritable (own_advert network priority interval) → network.own_ip.0 < 2 ^ 32
         → peer.interface.virtual_router ≡ network.interface.virtual_router
         → peer.own_ip.0 ≢ network.own_ip.0
-        → reading_of peer active true (advert_frame network priority interval)
+        → reading_of side peer active true (advert_frame network priority interval)
         ≡ Ok (Advert (own_advert network priority interval) network.own_ip) }
 {
     ipv4_grammar();

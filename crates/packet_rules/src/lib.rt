@@ -9,6 +9,7 @@ mod errors;
 mod flows;
 mod laws;
 mod networks;
+mod queries;
 mod readings;
 mod reasons;
 mod steps;

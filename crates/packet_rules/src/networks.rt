@@ -1,9 +1,9 @@
 //! The two networks: whom a frame addresses, which way its packet goes, and to whom next.
 ghost use Rattle.std.specs.Prelude.{◌≡◌, length};
-ghost use Rattle.packet_rules.specs.Networks.{network_of, networks_of, IsWired, is_virtual, is_addressed, lies_in, is_martian, inside_direction, outside_direction, direction_of, outside_hop, exit_of};
+ghost use Rattle.packet_rules.specs.Networks.{network_of, networks_of, IsWired, is_virtual, is_addressed, lies_in, is_martian, hairpin_direction, inside_direction, outside_direction, direction_of, outside_hop, exit_of};
 
 use crate::Reason;
-use addresses::{Ip, Mac};
+use addresses::{Ip, Mac, Protocol};
 use nat_types::{GatewayId, Side};
 use settings::{InterfaceSettings, Settings};
 
@@ -143,20 +143,33 @@ fn is_martian(address: Ip) -> bool
     first == 0 || first == 127 || address.0 >> 28 == 14 || address.0 >> 28 == 15
 }
 
+/// Which way a packet goes that is for the outside virtual address: back in, by the pair of its port.
+/// No host stands behind the identifier of a query.
+#[tactic(auto, unfolding(crate::specs::Networks::hairpin_direction))]
+fn direction_of_hairpin(protocol: Protocol) -> Result<Direction, Reason>
+    ensures { result ≡ hairpin_direction protocol }
+{
+    match protocol {
+        Protocol::Icmp => Err(Reason::NoBinding),
+        Protocol::Tcp | Protocol::Udp => Ok(Direction::Hairpin),
+    }
+}
+
 #[tactic(auto, unfolding(crate::specs::Networks::inside_direction))]
 fn direction_from_inside(
     networks: &Networks,
+    protocol: Protocol,
     source: Ip,
     destination: Ip,
 ) -> Result<Direction, Reason>
-    ensures { result ≡ inside_direction networks.now source.0 destination.0 }
+    ensures { result ≡ inside_direction networks.now protocol source.0 destination.0 }
 {
     let inside = &networks.inside.interface;
     if !contains(inside, source) || source == inside.virtual_ip || is_martian(source) {
         return Err(Reason::NoBinding);
     }
     if destination == networks.outside.interface.virtual_ip {
-        return Ok(Direction::Hairpin);
+        return direction_of_hairpin(protocol);
     }
     if contains(inside, destination) || is_martian(destination) {
         return Err(Reason::NoBinding);
@@ -183,17 +196,18 @@ fn direction_from_outside(
     Ok(Direction::Inward)
 }
 
-/// Which way a packet goes that came in on this side.
+/// Which way a packet of this protocol goes that came in on this side.
 pub fn direction_taken(
     networks: &Networks,
     side: Side,
+    protocol: Protocol,
     source: Ip,
     destination: Ip,
 ) -> Result<Direction, Reason>
-    ensures { result ≡ direction_of networks.now side source.0 destination.0 }
+    ensures { result ≡ direction_of networks.now side protocol source.0 destination.0 }
 {
     match side {
-        Side::Inside => direction_from_inside(networks, source, destination),
+        Side::Inside => direction_from_inside(networks, protocol, source, destination),
         Side::Outside => direction_from_outside(networks, source, destination),
     }
 }

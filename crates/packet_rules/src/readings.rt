@@ -13,7 +13,7 @@ pub enum Reading {
     /// An advertisement of the interface's virtual router, and the primary address that it comes
     /// from (RFC 9568).
     Advert(Advert, Ip),
-    /// A UDP or TCP packet to be translated, by what was read of it.
+    /// A UDP or TCP packet or an ICMP query to be translated, by what was read of it.
     Packet(Packet),
     /// An ICMP error about such a packet, by what was read of it (RFC 792).
     Error(ErrorPacket),

@@ -21,9 +21,9 @@ pub enum Reason {
     Fragment,
     #[error("the time to live is over")]
     TtlOver,
-    #[error("neither UDP nor TCP")]
+    #[error("neither UDP, TCP, a ping nor an ICMP error")]
     NotUdpTcp,
-    #[error("the UDP or TCP header is wrong")]
+    #[error("the UDP, TCP or ICMP header is wrong")]
     BadTransport,
     #[error("the ARP packet is wrong")]
     BadArp,

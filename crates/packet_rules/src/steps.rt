@@ -5,15 +5,17 @@ ghost use Rattle.frames.specs.Frame.{frame_of};
 ghost use Rattle.frames.specs.declared.ethernet.TheConstants.{LONGEST};
 ghost use Rattle.ipv4.specs.Header.{IsIpv4, header_of};
 ghost use Rattle.ipv4.specs.Flow.{packet_of};
-ghost use Rattle.icmp.specs.Packet.{error_packet_of};
-ghost use Rattle.packet_rules.specs.Steps.{reason_of, reason_of_icmp, size_refusal, destination_refusal, header_refusal, virtual_refusal, transport_refusal, error_refusal, ttl_refusal, is_vrrp, is_from_peer, arp_reading, advert_reading, transport_reading, error_reading, packet_reading, ipv4_reading, body_reading, reading_of, Carries};
+ghost use Rattle.icmp.specs.Packet.{IsErrorPacket, error_packet_of};
+ghost use Rattle.packet_rules.specs.Steps.{reason_of, reason_of_icmp, size_refusal, destination_refusal, header_refusal, virtual_refusal, transport_refusal, query_refusal, error_refusal, about_refusal, ttl_refusal, is_vrrp, is_from_peer, arp_reading, advert_reading, transport_reading, query_reading, error_reading, icmp_reading, packet_reading, ipv4_reading, body_reading, reading_of, Carries};
 
 use crate::laws::readings_law;
 use crate::networks::{Network, is_for_gateway, is_to_virtual};
+use crate::queries::{kind_entering, kind_leaving};
 use crate::{Reading, Reason};
 use frames::{EthView, EtherType};
 use icmp::{ErrorPacket, IcmpFault};
 use ipv4::{Ipv4Fault, Ipv4View, Packet};
+use nat_types::Side;
 use vrrp_packet::Advert;
 
 fn reason_for(fault: Ipv4Fault) -> Reason
@@ -30,12 +32,14 @@ fn reason_for(fault: Ipv4Fault) -> Reason
     }
 }
 
-fn reason_for_error(fault: IcmpFault) -> Reason
+fn reason_for_icmp(fault: IcmpFault) -> Reason
     ensures { result ≡ reason_of_icmp fault }
 {
     match fault {
         IcmpFault::NotError => Reason::NotUdpTcp,
         IcmpFault::BadError => Reason::BadTransport,
+        IcmpFault::NotQuery => Reason::NotUdpTcp,
+        IcmpFault::BadQuery => Reason::BadTransport,
     }
 }
 
@@ -137,14 +141,26 @@ fn read_transport(view: &Ipv4View<'_>) -> Result<Packet, Reason>
     }
 }
 
+#[tactic(auto, unfolding(crate::specs::Steps::query_refusal))]
+fn read_query(side: Side, view: &Ipv4View<'_>) -> Result<Packet, Reason>
+    ensures refusal { result_err result ≡ query_refusal side view.now.bytes.now }
+    ensures packet { IfOk result (λ p. p ≡ packet_of view.now.bytes.now) }
+{
+    match icmp::query_packet(kind_entering(side), view) {
+        Ok(packet) => Ok(packet),
+        Err(fault) => Err(reason_for_icmp(fault)),
+    }
+}
+
 #[tactic(auto, unfolding(crate::specs::Steps::error_refusal))]
 fn read_error(view: &Ipv4View<'_>) -> Result<ErrorPacket, Reason>
     ensures refusal { result_err result ≡ error_refusal view.now.bytes.now }
     ensures packet { IfOk result (λ p. p ≡ error_packet_of view.now.bytes.now) }
+    ensures error { OnOk result (IsErrorPacket view.now.bytes.now) }
 {
     match ErrorPacket::parse(view) {
         Ok(packet) => Ok(packet),
-        Err(fault) => Err(reason_for_error(fault)),
+        Err(fault) => Err(reason_for_icmp(fault)),
     }
 }
 
@@ -170,64 +186,109 @@ fn take_transport(view: &Ipv4View<'_>) -> Result<Reading, Reason>
     Ok(Reading::Packet(packet))
 }
 
-/// A packet of ICMP: an error, or it is refused.
+/// Whether the packet inside an error went the other way: a query is of the kind that leaves where the
+/// error comes in.
+#[tactic(auto, unfolding(crate::specs::Steps::about_refusal))]
+fn test_about(side: Side, view: &Ipv4View<'_>) -> Result<(), Reason>
+    requires { IsErrorPacket view.now.bytes.now }
+    ensures { result_err result ≡ about_refusal side view.now.bytes.now }
+{
+    if ErrorPacket::is_about(kind_leaving(side), view) {
+        Ok(())
+    } else {
+        Err(Reason::NoBinding)
+    }
+}
+
+/// An ICMP query.
+#[tactic(auto, unfolding(crate::specs::Steps::query_reading))]
+fn take_query(side: Side, view: &Ipv4View<'_>) -> Result<Reading, Reason>
+    ensures { result ≡ query_reading side view.now.bytes.now }
+{
+    let packet = read_query(side, view)?;
+    test_ttl(view)?;
+    Ok(Reading::Packet(packet))
+}
+
+/// An ICMP error.
 #[tactic(auto, unfolding(crate::specs::Steps::error_reading))]
-fn take_error(view: &Ipv4View<'_>) -> Result<Reading, Reason>
-    ensures { result ≡ error_reading view.now.bytes.now }
+fn take_error(side: Side, view: &Ipv4View<'_>) -> Result<Reading, Reason>
+    ensures { result ≡ error_reading side view.now.bytes.now }
 {
     let packet = read_error(view)?;
     test_ttl(view)?;
+    test_about(side, view)?;
     Ok(Reading::Error(packet))
+}
+
+/// A packet of ICMP: an error by its type, else a query, or it is refused.
+#[tactic(auto, unfolding(crate::specs::Steps::icmp_reading))]
+fn take_icmp(side: Side, view: &Ipv4View<'_>) -> Result<Reading, Reason>
+    ensures { result ≡ icmp_reading side view.now.bytes.now }
+{
+    if icmp::is_error_message(view.payload()) {
+        take_error(side, view)
+    } else {
+        take_query(side, view)
+    }
 }
 
 /// A packet that isn't VRRP's.
 #[tactic(auto, unfolding(crate::specs::Steps::packet_reading))]
 fn read_packet(
+    side: Side,
     network: &Network,
     frame: &EthView<'_>,
     view: &Ipv4View<'_>,
 ) -> Result<Reading, Reason>
     requires { view.now.bytes.now ≡ (frame_of frame.now.bytes.now).body }
-    ensures reading { result ≡ packet_reading network.now (frame_of frame.now.bytes.now) }
+    ensures reading { result ≡ packet_reading side network.now (frame_of frame.now.bytes.now) }
 {
     test_virtual(network, frame)?;
     if view.protocol() == icmp::PROTOCOL {
-        take_error(view)
+        take_icmp(side, view)
     } else {
         take_transport(view)
     }
 }
 
 #[tactic(auto, unfolding(crate::specs::Steps::ipv4_reading))]
-fn read_ipv4(network: &Network, frame: &EthView<'_>) -> Result<Reading, Reason>
-    ensures { result ≡ ipv4_reading network.now (frame_of frame.now.bytes.now) }
+fn read_ipv4(side: Side, network: &Network, frame: &EthView<'_>) -> Result<Reading, Reason>
+    ensures { result ≡ ipv4_reading side network.now (frame_of frame.now.bytes.now) }
 {
     let packet = view_packet(frame.body())?;
     if is_for_vrrp(&packet) {
         read_advert(network, &packet)
     } else {
-        read_packet(network, frame, &packet)
+        read_packet(side, network, frame, &packet)
     }
 }
 
-/// Reads a frame that came in on a network, at an interface that is `active` or not, by a gateway
+/// Reads a frame that came in on a side's network, at an interface that is `active` or not, by a gateway
 /// that is `up` or not; or gives the reason of the first step that refuses it.
 pub fn read_frame(
+    side: Side,
     network: &Network,
     active: bool,
     up: bool,
     bytes: &[u8],
 ) -> Result<Reading, Reason>
-    ensures reading { result ≡ reading_of network.now active up bytes.now }
-    ensures carries { IfOk result (Carries bytes.now) }
+    ensures reading { result ≡ reading_of side network.now active up bytes.now }
+    ensures carries { IfOk result (Carries side bytes.now) }
 {
     readings_law();
-    take_steps(network, active, up, bytes)
+    take_steps(side, network, active, up, bytes)
 }
 
 #[tactic(auto, unfolding(crate::specs::Steps::up_refusal, crate::specs::Steps::body_reading))]
-fn take_steps(network: &Network, active: bool, up: bool, bytes: &[u8]) -> Result<Reading, Reason>
-    ensures { result ≡ reading_of network.now active up bytes.now }
+fn take_steps(
+    side: Side,
+    network: &Network,
+    active: bool,
+    up: bool,
+    bytes: &[u8],
+) -> Result<Reading, Reason>
+    ensures { result ≡ reading_of side network.now active up bytes.now }
 {
     let frame = view_frame(bytes)?;
     if !up {
@@ -237,6 +298,6 @@ fn take_steps(network: &Network, active: bool, up: bool, bytes: &[u8]) -> Result
     if frame.ethertype() == EtherType::ARP {
         read_arp(frame.body())
     } else {
-        read_ipv4(network, &frame)
+        read_ipv4(side, network, &frame)
     }
 }

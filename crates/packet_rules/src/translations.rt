@@ -2,8 +2,8 @@
 ghost use Rattle.std.specs.Prelude.{◌≡◌, ◌+◌, ◌-◌, ◌≤◌, ◌++◌, length, take, drop, vec_len, vec_capacity};
 ghost use Rattle.frames.specs.Frame.{frame_of};
 ghost use Rattle.ipv4.specs.Header.{IsIpv4, header_of};
-ghost use Rattle.ipv4.specs.Carried.{IsTransport};
 ghost use Rattle.ipv4.specs.Flow.{flow_of};
+ghost use Rattle.icmp.specs.Query.{IsTranslatable};
 ghost use Rattle.packet_rules.specs.Steps.{IsForwardable};
 ghost use Rattle.packet_rules.specs.Flows.{packet_in};
 ghost use Rattle.packet_rules.specs.Frames.{way_of, new_flow, translated_by, hop_of, sent_header, sent_frame};
@@ -99,7 +99,7 @@ fn flow_by(networks: &Networks, translation: &Translation, old: Flow) -> Flow
 #[tactic(auto, unfolding(crate::specs::Frames::translated_by))]
 fn translate(packet: &mut [u8], old: Flow, networks: &Networks, translation: &Translation)
     requires ipv4 { IsIpv4 packet.old }
-    requires transport { IsTransport packet.old }
+    requires translatable { IsTranslatable packet.old }
     requires ttl { 2 ≤ (header_of packet.old).ttl }
     requires read { old ≡ flow_of packet.old }
     ensures { packet.new ≡ translated_by networks.now translation.now packet.old }
@@ -114,7 +114,7 @@ fn translate(packet: &mut [u8], old: Flow, networks: &Networks, translation: &Tr
 fn translate_body(frame: &mut [u8], old: Flow, networks: &Networks, translation: &Translation)
     requires whole { 14 ≤ length frame.old }
     requires ipv4 { IsIpv4 (frame_of frame.old).body }
-    requires transport { IsTransport (frame_of frame.old).body }
+    requires translatable { IsTranslatable (frame_of frame.old).body }
     requires ttl { 2 ≤ (header_of (frame_of frame.old).body).ttl }
     requires read { old ≡ flow_of (frame_of frame.old).body }
     ensures { frame.new
@@ -153,7 +153,7 @@ fn translate_frame(
 )
     requires whole { 14 ≤ length frame.old }
     requires ipv4 { IsIpv4 (frame_of frame.old).body }
-    requires transport { IsTransport (frame_of frame.old).body }
+    requires translatable { IsTranslatable (frame_of frame.old).body }
     requires ttl { 2 ≤ (header_of (frame_of frame.old).body).ttl }
     requires read { old ≡ flow_of (frame_of frame.old).body }
     ensures bytes { frame.new ≡ sent_header networks.now translation.now next_mac
@@ -175,7 +175,7 @@ fn translate_tail(
 )
     requires whole { start + 14 ≤ vec_len list.old }
     requires ipv4 { IsIpv4 (frame_of (drop start list.old.items)).body }
-    requires transport { IsTransport (frame_of (drop start list.old.items)).body }
+    requires translatable { IsTranslatable (frame_of (drop start list.old.items)).body }
     requires ttl { 2 ≤ (header_of (frame_of (drop start list.old.items)).body).ttl }
     requires read { old ≡ flow_of (frame_of (drop start list.old.items)).body }
     ensures items { list.new.items ≡ take start list.old.items

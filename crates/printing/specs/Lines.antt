@@ -4,7 +4,7 @@ use Rattle.hex.specs.Hex.{encode_lower}
 use Rattle.addresses.specs.declared.internet.Ip.{Ip}
 use Rattle.addresses.specs.declared.transport.Port.{Port}
 use Rattle.addresses.specs.declared.transport.Protocol.{Protocol}
-use Rattle.addresses.specs.declared.transport.Protocol.TheVariants.{Tcp, Udp}
+use Rattle.addresses.specs.declared.transport.Protocol.TheVariants.{Icmp, Tcp, Udp}
 use Rattle.nat_types.specs.declared.events.WorldEvent.{WorldEvent}
 use Rattle.nat_types.specs.declared.events.WorldEvent.TheVariants as events
 use Rattle.nat_types.specs.declared.gateways.GatewayId.{GatewayId}
@@ -33,6 +33,7 @@ side_text Inside = codes "inside"
 side_text Outside = codes "outside"
 
 abbrev pub protocol_text : Protocol → List ℕ
+protocol_text Icmp = codes "icmp"
 protocol_text Tcp = codes "tcp"
 protocol_text Udp = codes "udp"
 

@@ -31,6 +31,7 @@ fn protocol_text(protocol: Protocol) -> &'static str
     ensures { result.now ≡ protocol_text protocol }
 {
     match protocol {
+        Protocol::Icmp => "icmp",
         Protocol::Tcp => "tcp",
         Protocol::Udp => "udp",
     }

@@ -79,9 +79,18 @@ fn write_peer<O: Write>(output: &mut O, peer: &PeerReport) -> io::Result<()> {
     }
 }
 
+/// A protocol's name, as wide as all names.
+fn protocol_name(protocol: Protocol) -> &'static str {
+    match protocol {
+        Protocol::Icmp => "icmp    ",
+        Protocol::Tcp => "tcp     ",
+        Protocol::Udp => "udp     ",
+    }
+}
+
 /// How many entries of a protocol have each state, and its free ports.
 fn write_protocol<O: Write>(output: &mut O, report: &Report, protocol: Protocol) -> io::Result<()> {
-    write!(output, "{protocol}     ")?;
+    write!(output, "{}", protocol_name(protocol))?;
     for state in STATES {
         let count = Grouped(report.gateway.pairs.of(protocol, state));
         write!(output, " {} {count},", state_name(state))?;

@@ -4,7 +4,7 @@ use Rattle.std.specs.Prelude.{IfOk}
 use Rattle.std.proofs.lemmas.Bool.{eqb-true}
 use Rattle.addresses.specs.Transport.{protocol_number, protocol_numbered}
 use Rattle.addresses.specs.declared.transport.Protocol.{Protocol}
-use Rattle.addresses.specs.declared.transport.Protocol.TheVariants.{Tcp, Udp}
+use Rattle.addresses.specs.declared.transport.Protocol.TheVariants.{Icmp, Tcp, Udp}
 use Rattle.bindings.specs.declared.entries.Entry.{Entry}
 use Rattle.nat_types.specs.declared.pairs.EntryState.{EntryState}
 use Rattle.nat_types.specs.declared.pairs.EntryState.TheVariants.{Pending, Doomed, Live, Closing, Held}
@@ -21,15 +21,19 @@ use Rattle.reports.proofs.Formats.{IsFormat, both-format, chosen, coded-format, 
 
 protocol-back : (n : ℕ) (x : Protocol) → protocol_numbered n ≡ Some x → n ≡ protocol_number x
 protocol-back n x e =
-    elim (chosen (eqb n 6) _ _ _ e) [
-      | inl w ↦ subst (λ (y : Protocol). n ≡ protocol_number y) (some_is Tcp x w.1) (eqb-true n 6 w.0)
-      | inr v ↦ elim (chosen (eqb n 17) _ _ _ v.1) [
-        | inl w ↦ subst (λ (y : Protocol). n ≡ protocol_number y) (some_is Udp x w.1) (eqb-true n 17 w.0)
-        | inr w ↦ let nothing = w.1 in absurd cc
+    elim (chosen (eqb n 1) _ _ _ e) [
+      | inl w ↦ subst (λ (y : Protocol). n ≡ protocol_number y) (some_is Icmp x w.1) (eqb-true n 1 w.0)
+      | inr u ↦ elim (chosen (eqb n 6) _ _ _ u.1) [
+        | inl w ↦ subst (λ (y : Protocol). n ≡ protocol_number y) (some_is Tcp x w.1) (eqb-true n 6 w.0)
+        | inr v ↦ elim (chosen (eqb n 17) _ _ _ v.1) [
+          | inl w ↦ subst (λ (y : Protocol). n ≡ protocol_number y) (some_is Udp x w.1) (eqb-true n 17 w.0)
+          | inr w ↦ let nothing = w.1 in absurd cc
+        ]
       ]
     ]
 
 protocol-forth : (x : Protocol) → protocol_numbered (protocol_number x) ≡ Some x
+protocol-forth Icmp = refl
 protocol-forth Tcp = refl
 protocol-forth Udp = refl
 

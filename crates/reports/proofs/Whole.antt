@@ -75,8 +75,9 @@ pairs-format = many-format PAIR_COUNTS (number 8) (Fits 8) eight
 
 ports-format : IsFormat ports PortsFit
 unfolding ports
-ports-format = seen-format _ (λ r. (r.owned, (r.free_tcp, r.free_udp))) _ _ (λ x. refl) (λ r. refl)
-    (both-format (number 8) (both (number 8) (number 8)) _ _ eight (both-format (number 8) (number 8) _ _ eight eight))
+ports-format = seen-format _ (λ r. (r.owned, (r.free_icmp, (r.free_tcp, r.free_udp)))) _ _ (λ x. refl) (λ r. refl)
+    (both-format (number 8) (both (number 8) (both (number 8) (number 8))) _ _ eight
+    (both-format (number 8) (both (number 8) (number 8)) _ _ eight (both-format (number 8) (number 8) _ _ eight eight)))
 
 waiting-format : IsFormat waiting WaitingFits
 unfolding waiting

@@ -1,7 +1,7 @@
 -- What a box has counted, and the entries that a table has: lists of counts, each at a place of its own.
 use Rattle.std.specs.Prelude.{ℕ, ◌+◌, ◌*◌, List, min, set, get_or}
 use Rattle.addresses.specs.declared.transport.Protocol.{Protocol}
-use Rattle.addresses.specs.declared.transport.Protocol.TheVariants.{Tcp, Udp}
+use Rattle.addresses.specs.declared.transport.Protocol.TheVariants.{Icmp, Tcp, Udp}
 use Rattle.nat_types.specs.declared.pairs.EntryState.{EntryState}
 use Rattle.nat_types.specs.declared.pairs.EntryState.TheVariants.{Pending, Doomed, Live, Closing, Held}
 use Rattle.bindings.specs.declared.entries.Entry.{Entry}
@@ -43,8 +43,9 @@ counted origin what more counts = more_at (key_of origin what) more counts
 -- ---- entries by protocol and state
 
 abbrev pub protocol_place : Protocol → ℕ
-protocol_place Tcp = 0
-protocol_place Udp = 1
+protocol_place Icmp = 0
+protocol_place Tcp = 1
+protocol_place Udp = 2
 
 abbrev pub state_place : EntryState → ℕ
 state_place Pending = 0

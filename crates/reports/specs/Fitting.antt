@@ -29,7 +29,7 @@ abbrev pub PeerFits : PeerReport → Type 0
 PeerFits r = Fits 8 r.boot × (FitsIf r.heard × Unit {0})
 
 abbrev pub PortsFit : PortCounts → Type 0
-PortsFit r = Fits 8 r.owned × (Fits 8 r.free_tcp × Fits 8 r.free_udp)
+PortsFit r = Fits 8 r.owned × (Fits 8 r.free_icmp × (Fits 8 r.free_tcp × Fits 8 r.free_udp))
 
 abbrev pub WaitingFits : WaitingCounts → Type 0
 WaitingFits r = Fits 8 r.pair × Fits 8 r.next_hop

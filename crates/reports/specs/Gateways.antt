@@ -1,7 +1,7 @@
 -- What a report says of a gateway.
 use Rattle.std.specs.Prelude.{ℕ}
 use Rattle.addresses.specs.declared.transport.Protocol.{Protocol}
-use Rattle.addresses.specs.declared.transport.Protocol.TheVariants.{Tcp, Udp}
+use Rattle.addresses.specs.declared.transport.Protocol.TheVariants.{Icmp, Tcp, Udp}
 use Rattle.nat_types.specs.declared.gateways.Side.{Side}
 use Rattle.nat_types.specs.declared.gateways.Side.TheVariants.{Inside, Outside}
 use Rattle.reports.specs.declared.gateways.PortCounts.{PortCounts}
@@ -13,5 +13,6 @@ side_of sides Inside = sides.inside
 side_of sides Outside = sides.outside
 
 abbrev pub free_of : PortCounts → Protocol → ℕ
+free_of ports Icmp = ports.free_icmp
 free_of ports Tcp = ports.free_tcp
 free_of ports Udp = ports.free_udp

@@ -55,9 +55,9 @@ unfoldable pub pairs : Format (List ℕ)
 pairs = many PAIR_COUNTS (number 8)
 
 unfoldable pub ports : Format PortCounts
-ports = seen_as (λ p. record { owned = p.0; free_tcp = p.1.0; free_udp = p.1.1 })
-    (λ r. (r.owned, (r.free_tcp, r.free_udp)))
-    (both (number 8) (both (number 8) (number 8)))
+ports = seen_as (λ p. record { owned = p.0; free_icmp = p.1.0; free_tcp = p.1.1.0; free_udp = p.1.1.1 })
+    (λ r. (r.owned, (r.free_icmp, (r.free_tcp, r.free_udp))))
+    (both (number 8) (both (number 8) (both (number 8) (number 8))))
 
 unfoldable pub waiting : Format WaitingCounts
 waiting = seen_as (λ p. record { pair = p.0; next_hop = p.1 })

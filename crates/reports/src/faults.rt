@@ -6,7 +6,7 @@ use std::alloc::AllocError;
 use thiserror::Error;
 
 /// The version of the bytes that are written and read here: the first of them.
-pub const VERSION: u8 = 1;
+pub const VERSION: u8 = 2;
 
 /// Why bytes are no report, or no page.
 #[derive(Clone, Copy, Debug, PartialEq, Eq, Error)]

@@ -21,6 +21,8 @@ pub struct PeerReport {
 pub struct PortCounts {
     /// How many the gateway owns; 0 where it isn't synced.
     pub owned: u64,
+    /// Those of them on which no entry of ICMP stands.
+    pub free_icmp: u64,
     /// Those of them on which no entry of TCP stands.
     pub free_tcp: u64,
     /// Those of them on which no entry of UDP stands.
@@ -58,6 +60,7 @@ impl PortCounts {
         ensures { result ≡ free_of self.now protocol }
     {
         match protocol {
+            Protocol::Icmp => self.free_icmp,
             Protocol::Tcp => self.free_tcp,
             Protocol::Udp => self.free_udp,
         }

@@ -26,7 +26,7 @@ use std::marker::Model;
 /// The most entries of a page.
 pub const MOST_ENTRIES: usize = 128;
 
-/// Some entries of a table, by protocol (tcp first) and port.
+/// Some entries of a table, by protocol (icmp first) and port.
 #[derive(Debug, Drop)]
 pub struct Page {
     entries: Vec<Entry>,

@@ -9,7 +9,7 @@ use nat_types::EntryState;
 use std::marker::Model;
 
 /// All protocols that are translated, in the order of the table.
-pub const PROTOCOLS: [Protocol; 2] = [Protocol::Tcp, Protocol::Udp];
+pub const PROTOCOLS: [Protocol; 3] = [Protocol::Icmp, Protocol::Tcp, Protocol::Udp];
 
 /// All states of an entry.
 pub const STATES: [EntryState; 5] = [
@@ -21,7 +21,7 @@ pub const STATES: [EntryState; 5] = [
 ];
 
 /// How many counts there are: one of each protocol and state.
-pub const PAIR_COUNTS: usize = 10;
+pub const PAIR_COUNTS: usize = 15;
 
 /// How many entries of a table have each protocol and state. A count stops at 2^64 - 1.
 #[derive(Clone, Copy, Debug, PartialEq, Eq)]
@@ -68,18 +68,19 @@ impl PairCounts {
 
 fn pair_place(protocol: Protocol, state: EntryState) -> usize
     ensures value { result ≡ place_in protocol state }
-    ensures small { result < 10 }
+    ensures small { result < 15 }
 {
     5 * protocol_place(protocol) + state_place(state)
 }
 
 fn protocol_place(protocol: Protocol) -> usize
     ensures value { result ≡ protocol_in protocol }
-    ensures small { result < 2 }
+    ensures small { result < 3 }
 {
     match protocol {
-        Protocol::Tcp => 0,
-        Protocol::Udp => 1,
+        Protocol::Icmp => 0,
+        Protocol::Tcp => 1,
+        Protocol::Udp => 2,
     }
 }
 

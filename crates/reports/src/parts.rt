@@ -124,9 +124,9 @@ fn take_peer(bytes: &[u8]) -> Option<(PeerReport, &[u8])>
 
 #[tactic(auto, unfolding(crate::specs::Parts::pairs))]
 fn put_pairs(out: &mut Bytes, counts: &PairCounts)
-    requires { length out.old.items + 80 ≤ LONGEST }
+    requires { length out.old.items + 120 ≤ LONGEST }
     ensures items { out.new.items ≡ out.old.items ++ pairs.spelled counts.now }
-    ensures len { length out.new.items ≡ length out.old.items + 80 }
+    ensures len { length out.new.items ≡ length out.old.items + 120 }
     ensures fits { NumbersFit PAIR_COUNTS counts.now }
 {
     put_numbers(out, &counts.counts);
@@ -143,12 +143,13 @@ fn take_pairs(bytes: &[u8]) -> Option<(PairCounts, &[u8])>
 
 #[tactic(auto, unfolding(crate::specs::Parts::ports))]
 fn put_ports(out: &mut Bytes, counts: &PortCounts)
-    requires { length out.old.items + 24 ≤ LONGEST }
+    requires { length out.old.items + 32 ≤ LONGEST }
     ensures items { out.new.items ≡ out.old.items ++ ports.spelled counts.now }
-    ensures len { length out.new.items ≡ length out.old.items + 24 }
+    ensures len { length out.new.items ≡ length out.old.items + 32 }
     ensures fits { PortsFit counts.now }
 {
     put_number(out, counts.owned);
+    put_number(out, counts.free_icmp);
     put_number(out, counts.free_tcp);
     put_number(out, counts.free_udp);
 }
@@ -158,10 +159,12 @@ fn take_ports(bytes: &[u8]) -> Option<(PortCounts, &[u8])>
     ensures { option_map (λ x. (x.0, x.1.now)) result ≡ ports.read bytes.now }
 {
     let (owned, rest) = take_number(bytes)?;
+    let (free_icmp, rest) = take_number(rest)?;
     let (free_tcp, rest) = take_number(rest)?;
     let (free_udp, rest) = take_number(rest)?;
     let counts = PortCounts {
         owned,
+        free_icmp,
         free_tcp,
         free_udp,
     };

@@ -49,7 +49,7 @@ fn take_counters(bytes: &[u8]) -> Option<(Counters, &[u8])>
 
 #[tactic(auto, unfolding(crate::specs::Reports::report))]
 fn put_report(out: &mut Bytes, report: &Report)
-    requires { length out.old.items + 1009 ≤ LONGEST }
+    requires { length out.old.items + 1057 ≤ LONGEST }
     ensures items { out.new.items ≡ out.old.items ++ report_format.spelled report.now }
     ensures fits { ReportFits report.now }
 {

@@ -3,7 +3,7 @@ use Rattle.std.proofs.Common.{◌≡◌, ℕ, suc, ◌+◌, ◌*◌, ◌<◌, �
 use Rattle.std.specs.List.{filter, AllByRecursion}
 use Rattle.std.proofs.lemmas.Bool.{both_ways, cond-true, cond-false, eq-eqb, ltb-true, lt-ltb, le-ltb}
 use Rattle.addresses.specs.declared.transport.Protocol.{Protocol}
-use Rattle.addresses.specs.declared.transport.Protocol.TheVariants.{Tcp, Udp}
+use Rattle.addresses.specs.declared.transport.Protocol.TheVariants.{Icmp, Tcp, Udp}
 use Rattle.addresses.specs.Transport.{same_protocol, protocol_number}
 use Rattle.nat_types.specs.declared.pairs.Key.{Key}
 use Rattle.nat_types.specs.declared.pairs.Pair.{Pair}
@@ -32,8 +32,13 @@ unfolding same_key
 same-place a b small other same = at a.protocol b.protocol same
   where
     at : (p q : Protocol) → 65536 * protocol_number p + a.port.0 ≡ 65536 * protocol_number q + b.port.0 → (same_protocol q p && (b.port.0 == a.port.0)) ≡ true
+    at Icmp Icmp h = eq-eqb b.port.0 a.port.0 (omega arith)
+    at Icmp Tcp h = absurd (omega arith)
+    at Icmp Udp h = absurd (omega arith)
+    at Tcp Icmp h = absurd (omega arith)
     at Tcp Tcp h = eq-eqb b.port.0 a.port.0 (omega arith)
     at Tcp Udp h = absurd (omega arith)
+    at Udp Icmp h = absurd (omega arith)
     at Udp Tcp h = absurd (omega arith)
     at Udp Udp h = eq-eqb b.port.0 a.port.0 (omega arith)
 
@@ -141,6 +146,7 @@ pub place-on : (last : Option Key) (es : List Entry) (e : Entry) → after_key l
 place-on None es e h = at e.pair.key.protocol
   where
     at : (p : Protocol) → 0 < 65536 * protocol_number p + e.pair.key.port.0
+    at Icmp = omega arith
     at Tcp = omega arith
     at Udp = omega arith
 place-on (Some k) es e h = ltb-true (key_place k) (place_of e.pair) (find-passes (stands_behind (Some k)) es e h)
@@ -149,5 +155,6 @@ pub place-small : (k : Key) → k.port.0 < 65536 → key_place k < 2000000
 place-small k small = at k.protocol
   where
     at : (p : Protocol) → 65536 * protocol_number p + k.port.0 < 2000000
+    at Icmp = omega arith
     at Tcp = omega arith
     at Udp = omega arith

@@ -25,7 +25,7 @@ is_settled Held = true
 abbrev pub owners_of : List PortBounds → List Record
 owners_of runs = map (λ run. Owner run.lowest run.highest) runs
 
--- a Put for each settled pair, by protocol (tcp first) and port
+-- a Put for each settled pair, by protocol (icmp first) and port
 abbrev pub puts_of : List Entry → List Record
 puts_of entries = map (λ p. Put p) (pairs_in is_settled entries)
 

@@ -1,4 +1,6 @@
+mod Begins
 mod Moved
 mod Parts
 mod Rights
 mod Shows
+pub mod Offered

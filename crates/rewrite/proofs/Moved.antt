@@ -1,13 +1,13 @@
 -- How whole sums change with addresses and ports.
 use Rattle.std.proofs.lemmas.List.{get_or-drop}
-use Rattle.std.proofs.Common.{◌≡◌, ℕ, ◌+◌, ◌-◌, ◌*◌, ◌/◌, ◌%◌, ◌<◌, ◌≤◌, List, [], ◌∷◌, ◌++◌, length, take, drop, append_assoc, slice_index, arith, refl, ap, ◌∙◌}
+use Rattle.std.proofs.Common.{◌≡◌, Bool, true, false, if◌then◌else◌, ◌==◌, ℕ, ◌+◌, ◌-◌, ◌*◌, ◌/◌, ◌%◌, ◌<◌, ◌≤◌, List, [], ◌∷◌, ◌++◌, length, take, drop, append_assoc, slice_index, arith, refl, ap, ◌∙◌}
 use Rattle.byteorder.specs.Endian.{big_number, big_bytes}
 use Rattle.frames.specs.Bytes.{Puts}
 use Rattle.sums.specs.Sum.{word_sum, ones_sum, checksum_of, IsRight, IsUpdate}
 use Rattle.sums.proofs.Offered.{word_sum-replace}
 use Rattle.ipv4.specs.declared.flows.Flow.{Flow}
-use Rattle.rewrite.specs.Sums.{address_sum, flow_sum}
-use Rattle.rewrite.specs.Translated.{header_unsummed, header_with, tcp_sum, segment_with_ports, moved_sum, with_word, tcp_checksum, tcp_with}
+use Rattle.rewrite.specs.Sums.{address_sum, flow_sum, new_identifier}
+use Rattle.rewrite.specs.Translated.{header_unsummed, header_with, tcp_sum, segment_with_ports, moved_sum, with_word, query_identified, query_moved, query_sum, query_with, tcp_checksum, tcp_with}
 use Rattle.ipv4.specs.Header.{word_at}
 
 -- the two words of an address, by the four bytes that it is written as
@@ -49,6 +49,38 @@ tcp-rewritten old new s s1 s2 s3 t sum old_fits new_fits long is_source is_desti
     let is_sum : sum ≡ moved_sum t before after = moved_sum-update t (flow_sum old) (flow_sum new) before after sum (tcp_sum-moved old new s old_fits new_fits long is_source is_destination) is_update in
     let is_field : sum ≡ tcp_checksum old new s = is_sum ∙ ap (λ x. moved_sum x before after) is_t in
     tcp-put new s s1 s2 s3 sum long p1 p2 p3 ∙ ap (λ x. with_word 16 x (segment_with_ports new s)) is_field
+
+-- the identifier and the checksum of a query, written one after the other
+pub query-put : (s s1 s2 : List ℕ) (identifier field : ℕ) → Puts 4 (big_bytes 2 identifier) s s1 → Puts 2 (big_bytes 2 field) s1 s2 → s2 ≡ with_word 2 field (with_word 4 identifier s)
+query-put s s1 s2 identifier field p1 p2 = p2 ∙ ap (λ (x : List ℕ). take 2 x ++ big_bytes 2 field ++ drop 4 x) p1
+
+-- an update by the identifier is the sum that is asked for
+pub moved-by : (t old new u : ℕ) → IsUpdate (t % 65535) old new u → u ≡ moved_sum t old new
+moved-by t old new u is = moved_sum-update t old new old new u (omega arith) (is.0, omega (arith, is))
+
+-- sums that are moved by the same difference
+moved-same : (t old new s s2 : ℕ) → s2 + old ≡ s + new → moved_sum t old new ≡ moved_sum t s s2
+moved-same t old new s s2 same = moved_sum-update t old new s s2 (moved_sum t old new) same (omega arith, omega arith)
+
+-- the whole sum of a query changes by the difference of the identifiers
+query_sum-moved : (new : ℕ) (message : List ℕ) → new < 65536 → 8 ≤ length message → query_sum (with_word 4 new message) + word_at 4 message ≡ query_sum message + new
+query_sum-moved new (a ∷ b ∷ c ∷ d ∷ e ∷ f ∷ g ∷ h ∷ rest) fits long = omega arith
+query_sum-moved new _ fits long = absurd (omega arith)
+
+if-fits : (b : Bool) (x y : ℕ) → x < 65536 → y < 65536 → (if b then x else y) < 65536
+if-fits true x y x_fits y_fits = x_fits
+if-fits false x y x_fits y_fits = y_fits
+
+-- so a query that is moved by its identifier is the one by whole sums
+pub query-moved : (old new : Flow) (message : List ℕ) → InRange new → 8 ≤ length message → old.source_port.0 ≡ big_number 2 (drop 4 message) → query_moved old new message ≡ query_with old new message
+query-moved old new message fits long is_identifier =
+    let id = new_identifier old new in
+    let t = word_at 2 message in
+    let small : id < 65536 = if-fits (new.source_port.0 == old.source_port.0) new.destination_port.0 new.source_port.0 fits.destination_port fits.source_port in
+    let before = query_sum message in
+    let after = query_sum (query_identified old new message) in
+    let same : after + old.source_port.0 ≡ before + id = ap (λ (x : ℕ). after + x) is_identifier ∙ query_sum-moved id message small long in
+    ap (λ (x : ℕ). with_word 2 x (query_identified old new message)) (moved-same t old.source_port.0 id before after same)
 
 -- the TTL, the checksum and the addresses, written one after the other
 pub header-put : (new : Flow) (h h1 h2 h3 h4 : List ℕ) (ttl field : ℕ) → 20 ≤ length h → ttl ≡ slice_index h 8 - 1 → Puts 8 (ttl ∷ []) h h1 → Puts 10 (big_bytes 2 field) h1 h2 → Puts 12 (big_bytes 4 new.source.0) h2 h3 → Puts 16 (big_bytes 4 new.destination.0) h3 h4 → h4 ≡ with_word 10 field (header_unsummed new h)

@@ -1,12 +1,14 @@
 -- Words of a packet in its parts, and a packet of its parts.
-use Rattle.std.proofs.Common.{◌≡◌, ℕ, ◌+◌, ◌-◌, ◌*◌, ◌≤◌, List, ◌++◌, length, take, drop, slice_index, arith, ap, ap₂, sym, ◌∙◌, append_assoc}
+use Rattle.std.proofs.Common.{◌≡◌, inl, inr, if◌then◌else◌, ◌==◌, subst, ℕ, ◌+◌, ◌-◌, ◌*◌, ◌≤◌, List, ◌++◌, length, take, drop, slice_index, arith, ap, ap₂, sym, ◌∙◌, append_assoc}
 use Rattle.std.proofs.lemmas.List.{drop-drop, get_or-take, get_or-drop, length-take}
 use Rattle.byteorder.specs.Endian.{big_number}
 use Rattle.ipv4.specs.Header.{word_at, header_of, payload_of}
 use Rattle.ipv4.specs.declared.flows.Flow.{Flow}
 use Rattle.addresses.specs.declared.transport.Protocol.{Protocol}
-use Rattle.addresses.specs.declared.transport.Protocol.TheVariants.{Udp, Tcp}
-use Rattle.ipv4.specs.Flow.{protocol_of, flow_of}
+use Rattle.addresses.specs.declared.transport.Protocol.TheVariants.{Icmp, Udp, Tcp}
+use Rattle.ipv4.specs.Datagram.{IsDatagram}
+use Rattle.ipv4.specs.Flow.{destination_place, flow_of, protocol_of, source_place}
+use Rattle.icmp.specs.Query.{IsTranslatable}
 use Rattle.rewrite.specs.Sums.{shortest}
 use Rattle.rewrite.specs.Translated.{header_with, segment_with, length_in, translated}
 
@@ -38,13 +40,42 @@ translated-parts new packet h n is_h is_n =
 
 -- the shortest segment has its ports
 pub shortest-ports : (p : Protocol) (n : ℕ) → shortest p ≤ n → 8 ≤ n
+shortest-ports Icmp n h = h
 shortest-ports Udp n h = h
 shortest-ports Tcp n h = omega arith
+
+-- they lie in its first 8 bytes
+pub places-fit : (p : Protocol) → (source_place p + 2 ≤ 8) × (destination_place p + 2 ≤ 8)
+places-fit Icmp = (omega arith, omega arith)
+places-fit Udp = (omega arith, omega arith)
+places-fit Tcp = (omega arith, omega arith)
 
 -- a word of the segment, in the packet's payload and in the bytes behind the header
 pub word_at-segment : (place n : ℕ) (packet rest : List ℕ) → rest ≡ drop (header_of packet).header_length packet → place + 2 ≤ length (payload_of packet) → place + 2 ≤ n → word_at place (payload_of packet) ≡ word_at place (take n rest)
 word_at-segment place n packet rest is_rest in_payload in_segment =
     word_at-payload place packet in_payload ∙ (ap (word_at place) (sym is_rest) ∙ sym (word_at-take place n rest in_segment))
+
+-- what a packet carries that can be translated, by the number of its protocol
+pub record IsOfSome (packet : List ℕ) (p : Protocol) : Type 0 where
+  pub shortest_fits : shortest p ≤ length (payload_of packet)
+  pub datagram : p ≡ Udp → IsDatagram (payload_of packet)
+
+abbrev pub by-number : (number : ℕ) → Protocol
+by-number number = (if number == 1 then Icmp else if number == 6 then Tcp else Udp)
+
+pub some-protocol : (packet : List ℕ) → IsTranslatable packet → IsOfSome packet (protocol_of packet)
+some-protocol packet (inl (inl udp)) =
+    let is : Udp ≡ protocol_of packet = sym (ap by-number udp.protocol) in
+    subst (IsOfSome packet) is (record { shortest_fits = udp.datagram.long; datagram = λ e. udp.datagram })
+some-protocol packet (inl (inr tcp)) =
+    let is : Tcp ≡ protocol_of packet = sym (ap by-number tcp.protocol) in
+    subst (IsOfSome packet) is (record { shortest_fits = tcp.segment.long; datagram = λ e. absurd (cc) })
+some-protocol packet (inr (inl echo)) =
+    let is : Icmp ≡ protocol_of packet = sym (ap by-number echo.protocol) in
+    subst (IsOfSome packet) is (record { shortest_fits = echo.query.long; datagram = λ e. absurd (cc) })
+some-protocol packet (inr (inr reply)) =
+    let is : Icmp ≡ protocol_of packet = sym (ap by-number reply.protocol) in
+    subst (IsOfSome packet) is (record { shortest_fits = reply.query.long; datagram = λ e. absurd (cc) })
 
 -- two parts rewritten, each by a function of what it was, and the rest
 pub joined-parts : (H : List ℕ → List ℕ) (M : Flow → List ℕ → List ℕ) (a b : List ℕ) (f f' : Flow) (packet rest front : List ℕ) (h h' n n' : ℕ) → h ≡ h' → n ≡ n' → f ≡ f' → front ≡ take h packet → rest ≡ drop h packet → a ≡ H front → b ≡ M f (take n rest) → a ++ (b ++ drop n rest) ≡ H (take h' packet) ++ M f' (take n' (drop h' packet)) ++ drop n' (drop h' packet)

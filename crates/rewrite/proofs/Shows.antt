@@ -4,14 +4,14 @@ use Rattle.std.proofs.lemmas.Bool.Decides.{nat_tests}
 use Rattle.std.proofs.lemmas.List.{get_or-take, length-take-le}
 use Rattle.std.proofs.Math.Seq.{drop-append_seam, take-append_seam}
 use Rattle.addresses.specs.declared.transport.Protocol.{Protocol}
-use Rattle.addresses.specs.declared.transport.Protocol.TheVariants.{Udp, Tcp}
+use Rattle.addresses.specs.declared.transport.Protocol.TheVariants.{Icmp, Udp, Tcp}
 use Rattle.ipv4.specs.Header.{IsIpv4, header_of, payload_of}
 use Rattle.ipv4.specs.declared.flows.Flow.{Flow}
 use Rattle.icmp.specs.Error.{inside_of}
 use Rattle.icmp.specs.Packet.{IsErrorPacket, error_flow}
 use Rattle.icmp.specs.Quoted.{IsQuoted, behind}
 use Rattle.icmp.specs.declared.packets.ErrorFlow.{ErrorFlow}
-use Rattle.rewrite.specs.Translated.{with_word, header_with, rest_of}
+use Rattle.rewrite.specs.Translated.{with_word, header_with, query_moved, rest_of}
 use Rattle.rewrite.specs.PassedOn.{checksummed, inside_header, ports_inside, udp_inside, behind_with, inside_with, message_with, own_flow, passed_on}
 use Rattle.rewrite.proofs.Parts.{word_at-take}
 
@@ -24,15 +24,15 @@ pub own-source : (f : Flow) (header rest more : List ℕ) → 20 ≤ length head
 own-source f (b0 ∷ b1 ∷ b2 ∷ b3 ∷ b4 ∷ b5 ∷ b6 ∷ b7 ∷ b8 ∷ b9 ∷ b10 ∷ b11 ∷ b12 ∷ b13 ∷ b14 ∷ b15 ∷ b16 ∷ b17 ∷ b18 ∷ b19 ∷ options) rest more long fits = number-written f.source.0 fits
 own-source f _ rest more long fits = absurd (omega arith)
 
-own-length : (f : Flow) (header rest more : List ℕ) → 20 ≤ length header → (header_of ((header_with f header ++ rest) ++ more)).header_length ≡ (header_of header).header_length
+pub own-length : (f : Flow) (header rest more : List ℕ) → 20 ≤ length header → (header_of ((header_with f header ++ rest) ++ more)).header_length ≡ (header_of header).header_length
 own-length f (b0 ∷ b1 ∷ b2 ∷ b3 ∷ b4 ∷ b5 ∷ b6 ∷ b7 ∷ b8 ∷ b9 ∷ b10 ∷ b11 ∷ b12 ∷ b13 ∷ b14 ∷ b15 ∷ b16 ∷ b17 ∷ b18 ∷ b19 ∷ options) rest more long = refl
 own-length f _ rest more long = absurd (omega arith)
 
-own-total : (f : Flow) (header rest more : List ℕ) → 20 ≤ length header → (header_of ((header_with f header ++ rest) ++ more)).total_length ≡ (header_of header).total_length
+pub own-total : (f : Flow) (header rest more : List ℕ) → 20 ≤ length header → (header_of ((header_with f header ++ rest) ++ more)).total_length ≡ (header_of header).total_length
 own-total f (b0 ∷ b1 ∷ b2 ∷ b3 ∷ b4 ∷ b5 ∷ b6 ∷ b7 ∷ b8 ∷ b9 ∷ b10 ∷ b11 ∷ b12 ∷ b13 ∷ b14 ∷ b15 ∷ b16 ∷ b17 ∷ b18 ∷ b19 ∷ options) rest more long = refl
 own-total f _ rest more long = absurd (omega arith)
 
-own-size : (f : Flow) (header : List ℕ) → 20 ≤ length header → length (header_with f header) ≡ length header
+pub own-size : (f : Flow) (header : List ℕ) → 20 ≤ length header → length (header_with f header) ≡ length header
 own-size f (b0 ∷ b1 ∷ b2 ∷ b3 ∷ b4 ∷ b5 ∷ b6 ∷ b7 ∷ b8 ∷ b9 ∷ b10 ∷ b11 ∷ b12 ∷ b13 ∷ b14 ∷ b15 ∷ b16 ∷ b17 ∷ b18 ∷ b19 ∷ options) long = refl
 own-size f _ long = absurd (omega arith)
 
@@ -49,6 +49,10 @@ inside-size f _ long = absurd (omega arith)
 udp-size : (old new : Flow) (bytes : List ℕ) → 8 ≤ length bytes → length (udp_inside old new bytes) ≡ length bytes
 udp-size old new (b0 ∷ b1 ∷ b2 ∷ b3 ∷ b4 ∷ b5 ∷ b6 ∷ b7 ∷ rest) long = refl
 udp-size old new _ long = absurd (omega arith)
+
+query-size : (old new : Flow) (bytes : List ℕ) → 8 ≤ length bytes → length (query_moved old new bytes) ≡ length bytes
+query-size old new (b0 ∷ b1 ∷ b2 ∷ b3 ∷ b4 ∷ b5 ∷ b6 ∷ b7 ∷ rest) long = refl
+query-size old new _ long = absurd (omega arith)
 
 ports-size : (new : Flow) (bytes : List ℕ) → 8 ≤ length bytes → length (ports_inside new bytes) ≡ length bytes
 ports-size new (b0 ∷ b1 ∷ b2 ∷ b3 ∷ b4 ∷ b5 ∷ b6 ∷ b7 ∷ rest) long = refl
@@ -72,6 +76,7 @@ le-told : (m n : ℕ) → nat_le m n ≡ true → m ≤ n
 le-told m n e = grind (arith, nat_tests)
 
 behind-size : (p : Protocol) (old new : Flow) (bytes : List ℕ) → 8 ≤ length bytes → length (behind_with p old new bytes) ≡ length bytes
+behind-size Icmp old new bytes long = query-size old new bytes long
 behind-size Udp old new bytes long = udp-size old new bytes long
 behind-size Tcp old new bytes long = tcp-size-by old new bytes (nat_le 18 (length bytes)) _ (λ e. le-told 18 (length bytes) e) long
 
@@ -90,7 +95,7 @@ message-inside : (message packet : List ℕ) → 8 ≤ length message → drop 8
 message-inside (m0 ∷ m1 ∷ m2 ∷ m3 ∷ m4 ∷ m5 ∷ m6 ∷ m7 ∷ rest) packet long = refl
 message-inside _ packet long = absurd (omega arith)
 
-message-size : (message packet : List ℕ) → 8 ≤ length message → length (checksummed 2 (take 8 message ++ packet)) ≡ 8 + length packet
+pub message-size : (message packet : List ℕ) → 8 ≤ length message → length (checksummed 2 (take 8 message ++ packet)) ≡ 8 + length packet
 message-size (m0 ∷ m1 ∷ m2 ∷ m3 ∷ m4 ∷ m5 ∷ m6 ∷ m7 ∷ rest) packet long = omega arith
 message-size _ packet long = absurd (omega arith)
 
@@ -143,3 +148,8 @@ passed-destination new packet ip e fits =
     let inside : inside_of (payload_of (passed_on new packet)) ≡ inside_with old new.inside q = ap (drop 8) (passed-message new packet ip e) ∙ message-inside message (inside_with old new.inside q) e.error.long in
     ap (λ (bytes : List ℕ). (header_of bytes).destination) inside
     ∙ inside-destination new.inside (take h q) (behind_with old.protocol old new.inside (behind q)) (omega (arith, size, e.error.inside.holds_fields)) fits
+
+-- the first byte of the message stays
+pub message-first : (message packet : List ℕ) → 8 ≤ length message → slice_index (checksummed 2 (take 8 message ++ packet)) 0 ≡ slice_index message 0
+message-first (m0 ∷ m1 ∷ m2 ∷ m3 ∷ m4 ∷ m5 ∷ m6 ∷ m7 ∷ rest) packet long = refl
+message-first _ packet long = absurd (omega arith)

@@ -5,14 +5,14 @@ use Rattle.sums.specs.Sum.{checksum_of}
 use Rattle.addresses.specs.declared.internet.Ip.{Ip}
 use Rattle.addresses.specs.declared.transport.Port.{Port}
 use Rattle.addresses.specs.declared.transport.Protocol.{Protocol}
-use Rattle.addresses.specs.declared.transport.Protocol.TheVariants.{Udp, Tcp}
+use Rattle.addresses.specs.declared.transport.Protocol.TheVariants.{Icmp, Udp, Tcp}
 use Rattle.ipv4.specs.Header.{word_at, header_of}
 use Rattle.ipv4.specs.declared.flows.Flow.{Flow}
 use Rattle.icmp.specs.Packet.{error_flow}
 use Rattle.icmp.specs.Quoted.{behind}
 use Rattle.icmp.specs.declared.packets.ErrorFlow.{ErrorFlow}
 use Rattle.rewrite.specs.Sums.{flow_sum}
-use Rattle.rewrite.specs.Translated.{with_word, header_with, header_bytes, rest_of, moved_sum, udp_field}
+use Rattle.rewrite.specs.Translated.{with_word, header_with, header_bytes, rest_of, moved_sum, query_moved, udp_field}
 
 -- bytes with another 32-bit number at a place
 abbrev pub with_long : ℕ → ℕ → List ℕ → List ℕ
@@ -52,6 +52,7 @@ tcp_inside old new bytes =
 
 -- what stands behind the header of the packet inside
 abbrev pub behind_with : Protocol → Flow → Flow → List ℕ → List ℕ
+behind_with Icmp = query_moved
 behind_with Udp = udp_inside
 behind_with Tcp = tcp_inside
 

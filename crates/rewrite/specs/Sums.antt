@@ -1,7 +1,7 @@
 -- The words that a translation replaces, added up.
-use Rattle.std.specs.Prelude.{ℕ, ◌+◌, ◌/◌, ◌%◌}
+use Rattle.std.specs.Prelude.{ℕ, ◌+◌, ◌/◌, ◌%◌, ◌==◌, if◌then◌else◌}
 use Rattle.addresses.specs.declared.transport.Protocol.{Protocol}
-use Rattle.addresses.specs.declared.transport.Protocol.TheVariants.{Udp, Tcp}
+use Rattle.addresses.specs.declared.transport.Protocol.TheVariants.{Icmp, Udp, Tcp}
 use Rattle.ipv4.specs.declared.flows.Flow.{Flow}
 
 -- the two words of an address
@@ -14,7 +14,14 @@ flow_sum flow =
     address_sum flow.source.0 + address_sum flow.destination.0
     + flow.source_port.0 + flow.destination_port.0
 
--- the fewest bytes of a segment
+-- the identifier of a query whose flow was `old` and becomes `new`: the identifier stands for both
+-- ports, so it is the one that changed
+abbrev pub new_identifier : Flow → Flow → ℕ
+new_identifier old new =
+    (if new.source_port.0 == old.source_port.0 then new.destination_port.0 else new.source_port.0)
+
+-- the fewest bytes of a segment or query
 abbrev pub shortest : Protocol → ℕ
+shortest Icmp = 8
 shortest Udp = 8
 shortest Tcp = 20

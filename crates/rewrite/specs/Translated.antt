@@ -1,15 +1,17 @@
--- What a translated packet is, with checksums by whole sums (RFC 791, RFC 768, RFC 9293, RFC 1624).
+-- What a translated packet is, with checksums by whole sums (RFC 791, RFC 792, RFC 768,
+-- RFC 9293, RFC 1624).
 use Rattle.std.specs.Prelude.{ℕ, ◌+◌, ◌-◌, ◌*◌, ◌%◌, ◌==◌, if◌then◌else◌, List, [], ◌∷◌, ◌++◌, length, take, drop, slice_index}
 use Rattle.byteorder.specs.Endian.{big_bytes}
 use Rattle.sums.specs.Sum.{word_sum, checksum_of}
 use Rattle.addresses.specs.declared.internet.Ip.{Ip}
 use Rattle.addresses.specs.declared.transport.Port.{Port}
 use Rattle.addresses.specs.declared.transport.Protocol.{Protocol}
-use Rattle.addresses.specs.declared.transport.Protocol.TheVariants.{Udp, Tcp}
+use Rattle.addresses.specs.declared.transport.Protocol.TheVariants.{Icmp, Udp, Tcp}
 use Rattle.ipv4.specs.Header.{word_at, header_of, payload_of}
 use Rattle.ipv4.specs.Datagram.{datagram_of}
 use Rattle.ipv4.specs.Flow.{protocol_of, flow_of}
 use Rattle.ipv4.specs.declared.flows.Flow.{Flow}
+use Rattle.rewrite.specs.Sums.{new_identifier}
 
 -- bytes with another 16-bit number at a place
 abbrev pub with_word : ℕ → ℕ → List ℕ → List ℕ
@@ -88,13 +90,40 @@ abbrev pub tcp_with : Flow → Flow → List ℕ → List ℕ
 tcp_with old new segment =
     with_word 16 (tcp_checksum old new segment) (segment_with_ports new segment)
 
--- a segment of either protocol
+-- the whole sum of a query with the checksum field as 0: nothing is put in front of it
+abbrev pub query_sum : List ℕ → ℕ
+query_sum message = word_sum (with_word 2 0 message)
+
+-- a query with the identifier of the new flow
+abbrev pub query_identified : Flow → Flow → List ℕ → List ℕ
+query_identified old new message = with_word 4 (new_identifier old new) message
+
+-- its checksum, where 0 is a sum as any other
+abbrev pub query_checksum : Flow → Flow → List ℕ → ℕ
+query_checksum old new message =
+    moved_sum (word_at 2 message) (query_sum message) (query_sum (query_identified old new message))
+
+-- the beginning of a query, its checksum moved from the identifier of `old` to that of `new`: the query
+-- may be cut, so that nothing else of it is asked
+abbrev pub query_moved : Flow → Flow → List ℕ → List ℕ
+query_moved old new message =
+    with_word 2 (moved_sum (word_at 2 message) old.source_port.0 (new_identifier old new))
+    (query_identified old new message)
+
+-- a query with that identifier and its checksum
+abbrev pub query_with : Flow → Flow → List ℕ → List ℕ
+query_with old new message =
+    with_word 2 (query_checksum old new message) (query_identified old new message)
+
+-- a segment or query
 abbrev pub segment_with : Protocol → Flow → Flow → List ℕ → List ℕ
+segment_with Icmp = query_with
 segment_with Udp = udp_with
 segment_with Tcp = tcp_with
 
 -- the bytes of a segment in a payload: a UDP segment is as long as its length field says
 abbrev pub length_in : Protocol → List ℕ → ℕ
+length_in Icmp payload = length payload
 length_in Udp payload = (datagram_of payload).udp_length
 length_in Tcp payload = length payload
 
@@ -106,7 +135,7 @@ header_bytes packet = take (header_of packet).header_length packet
 abbrev pub rest_of : List ℕ → List ℕ
 rest_of packet = drop (header_of packet).header_length packet
 
--- a UDP or TCP packet sent another way: its header, its segment, and what lies behind unchanged
+-- a packet sent another way: its header, its segment, and what lies behind unchanged
 abbrev pub translated : Flow → List ℕ → List ℕ
 translated new packet =
     let n = length_in (protocol_of packet) (payload_of packet) in

@@ -7,7 +7,7 @@ ghost use Rattle.rewrite.specs.Translated.{with_word};
 ghost use Rattle.rewrite.specs.PassedOn.{with_long, checksummed, inside_header, ports_inside, moved_field, udp_inside, tcp_inside, behind_with, inside_with};
 
 use crate::flows::update_flow;
-use crate::segments::udp_field;
+use crate::segments::{rewrite_identifier, udp_field};
 use addresses::Protocol;
 use byteorder::{BigEndian, ByteOrder};
 use icmp::QuotedView;
@@ -81,6 +81,7 @@ fn rewrite_behind(behind: &mut [u8], old: Flow, new: Flow)
     ensures { behind.new ≡ behind_with old.protocol old new behind.old }
 {
     match old.protocol {
+        Protocol::Icmp => rewrite_identifier(behind, old, new),
         Protocol::Udp => rewrite_udp_inside(behind, old, new),
         Protocol::Tcp => rewrite_tcp_inside(behind, old, new),
     }
@@ -112,7 +113,7 @@ fn rewrite_tcp_inside(behind: &mut [u8], old: Flow, new: Flow)
     BigEndian::write_u16(&mut behind[TCP_CHECKSUM], sum);
 }
 
-/// Writes the ports of either protocol: a TCP header begins with them as UDP's does.
+/// Writes the ports of UDP or TCP: a TCP header begins with them as UDP's does.
 fn write_ports(behind: &mut [u8], new: Flow)
     requires { 8 ≤ length behind.old }
     ensures ports { behind.new ≡ ports_inside new behind.old }

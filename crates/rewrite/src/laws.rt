@@ -7,9 +7,10 @@ ghost use Rattle.addresses.specs.declared.transport.Port.{Port as PortValue};
 ghost use Rattle.ipv4.specs.Header.{word_at, header_of, payload_of, IsIpv4};
 ghost use Rattle.icmp.specs.Error.{inside_of};
 ghost use Rattle.icmp.specs.Packet.{IsErrorPacket, error_flow};
+ghost use Rattle.icmp.specs.Query.{query_of};
 ghost use Rattle.icmp.specs.declared.packets.ErrorFlow.{ErrorFlow as ErrorFlowValue};
 ghost use Rattle.rewrite.specs.PassedOn.{error_outward_of, inside_header, message_with, passed_on};
-ghost use Rattle.rewrite.specs.Translated.{header_with, moved_sum, summed, udp_with, tcp_with};
+ghost use Rattle.rewrite.specs.Translated.{header_with, moved_sum, query_with, summed, udp_with, tcp_with};
 
 /// A checksum moved from a whole sum `s` to `s2` is a number below 65535 that is as right as it
 /// was.
@@ -48,6 +49,16 @@ pub fn tcp_law()
     ensures right { (old new : FlowValue) (segment : List ℕ) → 20 ≤ length segment
         → IsRight (summed old 6 segment)
         → IsRight (summed new 6 (tcp_with old new segment)) }
+{}
+
+/// A right checksum of a query stays right, and a wrong one wrong by as much: it counts nothing but the
+/// message.
+pub fn query_law()
+    ensures same { (old new : FlowValue) (message : List ℕ) → 8 ≤ length message
+        → word_sum (query_with old new message) % 65535 ≡ word_sum message % 65535 }
+    ensures right { (old new : FlowValue) (message : List ℕ) → 8 ≤ length message
+        → 0 < (query_of (query_with old new message)).identifier → IsRight message
+        → IsRight (query_with old new message) }
 {}
 
 /// Of an error that is passed on the message, with its checksum, and the header inside are right; its

@@ -19,5 +19,5 @@ mod packets;
 mod segments;
 
 pub use errors::{error_hairpin, error_inward, error_outward, rewrite_error};
-pub use laws::{error_law, header_law, hides_inside, moved_sum_law, tcp_law, udp_law};
+pub use laws::{error_law, header_law, hides_inside, moved_sum_law, query_law, tcp_law, udp_law};
 pub use packets::{RewriteFault, hairpin, inward, outward, rewrite_packet};

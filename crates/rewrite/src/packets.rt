@@ -1,15 +1,15 @@
 //! Whole packets, outward, inward and back in.
 ghost use Rattle.std.specs.Prelude.{◌≡◌, ◌≤◌, ◌↔◌, IsOk, OnOk, OnErr, length};
-ghost use Rattle.ipv4.specs.Carried.{IsTransport};
 ghost use Rattle.ipv4.specs.Flow.{protocol_of, flow_of};
 ghost use Rattle.ipv4.specs.Header.{header_of, payload_of, IsIpv4};
+ghost use Rattle.icmp.specs.Query.{IsTranslatable};
 ghost use Rattle.rewrite.specs.Sums.{shortest};
 ghost use Rattle.rewrite.specs.Translated.{length_in, translated, outward_of, inward_of, hairpin_of};
 
 use crate::headers::rewrite_header;
 use crate::segments::rewrite_segment;
-use addresses::{Ip, Port};
-use ipv4::{Flow, Ipv4View, Transport};
+use addresses::{Ip, Port, Protocol};
+use ipv4::{Flow, Ipv4View, UdpView};
 use thiserror::Error;
 
 /// Why a packet isn't translated.
@@ -23,24 +23,24 @@ pub enum RewriteFault {
 /// Sends a packet on as if from another address and port. Bytes behind the segment stay.
 pub fn outward(packet: &mut [u8], from: Ip, port: Port) -> Result<(), RewriteFault>
     requires ipv4 { IsIpv4 packet.old }
-    requires transport { IsTransport packet.old }
+    requires translatable { IsTranslatable packet.old }
     ensures when { IsOk result ↔ (2 ≤ (header_of packet.old).ttl) }
     ensures ok { OnOk result (packet.new ≡ outward_of from port packet.old) }
     ensures err { OnErr result (packet.new ≡ packet.old) }
 {
-    let old = Flow::of(&Ipv4View { bytes: packet });
+    let old = flow_of(packet);
     rewrite_packet(packet, old, sent_from(old, from, port))
 }
 
 /// Sends a packet on to another address and port. Bytes behind the segment stay.
 pub fn inward(packet: &mut [u8], to: Ip, port: Port) -> Result<(), RewriteFault>
     requires ipv4 { IsIpv4 packet.old }
-    requires transport { IsTransport packet.old }
+    requires translatable { IsTranslatable packet.old }
     ensures when { IsOk result ↔ (2 ≤ (header_of packet.old).ttl) }
     ensures ok { OnOk result (packet.new ≡ inward_of to port packet.old) }
     ensures err { OnErr result (packet.new ≡ packet.old) }
 {
-    let old = Flow::of(&Ipv4View { bytes: packet });
+    let old = flow_of(packet);
     rewrite_packet(packet, old, sent_to(old, to, port))
 }
 
@@ -54,14 +54,28 @@ pub fn hairpin(
     to_port: Port,
 ) -> Result<(), RewriteFault>
     requires ipv4 { IsIpv4 packet.old }
-    requires transport { IsTransport packet.old }
+    requires translatable { IsTranslatable packet.old }
     ensures when { IsOk result ↔ (2 ≤ (header_of packet.old).ttl) }
     ensures ok { OnOk result (packet.new ≡ hairpin_of from port to to_port packet.old) }
     ensures err { OnErr result (packet.new ≡ packet.old) }
 {
-    let old = Flow::of(&Ipv4View { bytes: packet });
+    let old = flow_of(packet);
     let new = sent_to(sent_from(old, from, port), to, to_port);
     rewrite_packet(packet, old, new)
+}
+
+/// The flow of a packet.
+fn flow_of(packet: &[u8]) -> Flow
+    requires ipv4 { IsIpv4 packet.now }
+    requires translatable { IsTranslatable packet.now }
+    ensures { result ≡ flow_of packet.now }
+{
+    let view = Ipv4View { bytes: packet };
+    if view.protocol() == icmp::PROTOCOL {
+        icmp::query_flow(&view)
+    } else {
+        Flow::of(&view)
+    }
 }
 
 /// The flow, as if from another address and port.
@@ -90,7 +104,7 @@ fn sent_to(flow: Flow, to: Ip, port: Port) -> Flow
 /// segment stay.
 pub fn rewrite_packet(packet: &mut [u8], old: Flow, new: Flow) -> Result<(), RewriteFault>
     requires ipv4 { IsIpv4 packet.old }
-    requires transport { IsTransport packet.old }
+    requires translatable { IsTranslatable packet.old }
     requires flow { old ≡ flow_of packet.old }
     ensures when { IsOk result ↔ (2 ≤ (header_of packet.old).ttl) }
     ensures ok { OnOk result (packet.new ≡ translated new packet.old) }
@@ -99,7 +113,7 @@ pub fn rewrite_packet(packet: &mut [u8], old: Flow, new: Flow) -> Result<(), Rew
     if time_to_live(packet) < 2 {
         return Err(RewriteFault::TtlOver);
     }
-    let length = segment_length(packet);
+    let length = segment_length(old.protocol, packet);
     let (header, rest) = packet.split_at_mut(header_length(packet));
     rewrite_header(header, new);
     rewrite_segment(&mut rest[..length], old, new);
@@ -120,16 +134,18 @@ pub(crate) fn header_length(packet: &[u8]) -> usize
     Ipv4View { bytes: packet }.header_length()
 }
 
-/// The bytes of the UDP datagram or TCP segment.
-fn segment_length(packet: &[u8]) -> usize
+/// The bytes of the UDP datagram, TCP segment or query.
+fn segment_length(protocol: Protocol, packet: &[u8]) -> usize
     requires ipv4 { IsIpv4 packet.now }
-    requires transport { IsTransport packet.now }
+    requires translatable { IsTranslatable packet.now }
+    requires protocol { protocol ≡ protocol_of packet.now }
     ensures value { result ≡ length_in (protocol_of packet.now) (payload_of packet.now) }
     ensures low { shortest (protocol_of packet.now) ≤ result }
     ensures high { result ≤ length (payload_of packet.now) }
 {
-    match Transport::of(&Ipv4View { bytes: packet }) {
-        Transport::Udp(datagram) => datagram.length(),
-        Transport::Tcp(segment) => segment.bytes.len(),
+    let bytes = Ipv4View { bytes: packet }.payload();
+    match protocol {
+        Protocol::Udp => UdpView { bytes }.length(),
+        Protocol::Icmp | Protocol::Tcp => bytes.len(),
     }
 }

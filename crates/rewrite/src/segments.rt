@@ -1,13 +1,17 @@
-//! UDP datagrams and TCP segments: other ports, and a checksum that follows.
+//! UDP datagrams, TCP segments and ICMP queries: other ports, or another identifier, and a checksum
+//! that follows.
 ghost use Rattle.std.specs.Prelude.{◌≡◌, ◌≤◌, length, drop};
 ghost use Rattle.byteorder.specs.Endian.{big_number};
 ghost use Rattle.sums.specs.Sum.{IsUpdate};
-ghost use Rattle.rewrite.specs.Sums.{shortest, flow_sum};
-ghost use Rattle.rewrite.specs.Translated.{udp_field, udp_with, tcp_with, segment_with};
+ghost use Rattle.ipv4.specs.Flow.{destination_place, source_place};
+ghost use Rattle.rewrite.specs.Sums.{shortest, flow_sum, new_identifier};
+ghost use Rattle.rewrite.specs.Translated.{moved_sum, udp_field, udp_with, tcp_with, query_moved, query_with, segment_with};
 
 use crate::flows::update_flow;
-use addresses::Protocol;
+use addresses::{Port, Protocol};
+use icmp::QueryViewMut;
 use ipv4::{Flow, TcpViewMut, UdpViewMut};
+use sums::update;
 
 /// The checksum of a UDP header, where the field was `old` and the sum is now `sum`.
 pub(crate) fn udp_field(old: u16, sum: u16) -> u16
@@ -56,14 +60,58 @@ fn rewrite_tcp(segment: &mut [u8], old: Flow, new: Flow)
     view.set_checksum(checksum);
 }
 
+/// The identifier of a query whose flow was `old` and becomes `new`: it stands for both ports, so it
+/// is the one that changed.
+pub(crate) fn identifier_after(old: Flow, new: Flow) -> Port
+    ensures { result.0 ≡ new_identifier old new }
+{
+    if new.source_port == old.source_port {
+        new.destination_port
+    } else {
+        new.source_port
+    }
+}
+
+/// A query's checksum after its identifier has changed from `old` to `new`.
+fn moved_by(checksum: u16, old: Port, new: Port) -> u16
+    ensures { result ≡ moved_sum checksum old.0 new.0 }
+{
+    update(checksum % 65535, old.0, new.0)
+}
+
+/// Writes the identifier of a query, of which 8 bytes are there at least, and lets the checksum follow:
+/// it counts nothing but the message, and 0 is a sum as any other.
+pub(crate) fn rewrite_identifier(message: &mut [u8], old: Flow, new: Flow)
+    requires { 8 ≤ length message.old }
+    ensures { message.new ≡ query_moved old new message.old }
+{
+    let identifier = identifier_after(old, new);
+    let mut view = QueryViewMut::new(message);
+    let checksum = moved_by(view.checksum(), old.source_port, identifier);
+    view.set_identifier(identifier);
+    view.set_checksum(checksum);
+}
+
+/// Writes the identifier of a whole query.
+fn rewrite_query(message: &mut [u8], old: Flow, new: Flow)
+    requires long { 8 ≤ length message.old }
+    requires identifier { old.source_port.0 ≡ big_number 2 (drop 4 message.old) }
+    ensures { message.new ≡ query_with old new message.old }
+{
+    rewrite_identifier(message, old, new);
+}
+
 /// The same for the protocol of the flow.
 pub fn rewrite_segment(segment: &mut [u8], old: Flow, new: Flow)
     requires long { shortest old.protocol ≤ length segment.old }
-    requires source_port { old.source_port.0 ≡ big_number 2 segment.old }
-    requires destination_port { old.destination_port.0 ≡ big_number 2 (drop 2 segment.old) }
+    requires source_port { old.source_port.0
+        ≡ big_number 2 (drop (source_place old.protocol) segment.old) }
+    requires destination_port { old.destination_port.0
+        ≡ big_number 2 (drop (destination_place old.protocol) segment.old) }
     ensures { segment.new ≡ segment_with old.protocol old new segment.old }
 {
     match old.protocol {
+        Protocol::Icmp => rewrite_query(segment, old, new),
         Protocol::Udp => rewrite_udp(segment, old, new),
         Protocol::Tcp => rewrite_tcp(segment, old, new),
     }

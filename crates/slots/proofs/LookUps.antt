@@ -2,7 +2,7 @@
 use Rattle.std.proofs.Common.{◌≡◌, cond, Option, Some, List, [], ◌∷◌, ◌&&◌, ◌==◌, refl, ap, sym, ◌∙◌}
 use Rattle.std.specs.Map.{lookup}
 use Rattle.addresses.specs.declared.transport.Protocol.{Protocol}
-use Rattle.addresses.specs.declared.transport.Protocol.TheVariants.{Tcp, Udp}
+use Rattle.addresses.specs.declared.transport.Protocol.TheVariants.{Icmp, Tcp, Udp}
 use Rattle.nat_types.specs.declared.pairs.Endpoint.{Endpoint}
 use Rattle.addresses.specs.Transport.{same_protocol}
 use Rattle.addresses.specs.contracts.transport.ProtocolPartialEq.TheImpl.{eq-value as protocol_eq}
@@ -12,8 +12,13 @@ use Rattle.slots.specs.declared.numbers.SlotNumber.{SlotNumber}
 use Rattle.slots.specs.Endpoints.{look_up, set_at}
 
 protocols : (p q : Protocol) → protocol_eq.it p q ≡ same_protocol p q
+protocols Icmp Icmp = refl
+protocols Icmp Tcp = refl
+protocols Icmp Udp = refl
+protocols Tcp Icmp = refl
 protocols Tcp Tcp = refl
 protocols Tcp Udp = refl
+protocols Udp Icmp = refl
 protocols Udp Tcp = refl
 protocols Udp Udp = refl
 

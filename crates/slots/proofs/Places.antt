@@ -1,29 +1,46 @@
 -- Cells and keys: each cell has a key of its own, and their order is that of the cells.
-use Rattle.std.proofs.Common.{◌≡◌, ℕ, ◌+◌, ◌-◌, ◌<◌, ◌≤◌, Bool, true, false, cond, nat_lt, inl, inr, refl, ap, sym, ◌∙◌, arith}
+use Rattle.std.proofs.Common.{◌≡◌, ℕ, ◌+◌, ◌-◌, ◌*◌, ◌<◌, ◌≤◌, Bool, true, false, cond, nat_lt, ◌⊎◌, inl, inr, refl, ap, sym, ◌∙◌, arith}
 use Rattle.std.proofs.lemmas.Bool.{ltb-true, ltb-false, lt-ltb, le-ltb, cases_lt, cases_eq}
-use Rattle.addresses.specs.declared.transport.Protocol.TheVariants.{Tcp, Udp}
+use Rattle.addresses.specs.declared.transport.Protocol.{Protocol}
+use Rattle.addresses.specs.declared.transport.Protocol.TheVariants.{Icmp, Tcp, Udp}
+use Rattle.addresses.specs.Transport.{protocol_number}
 use Rattle.nat_types.specs.Same.{same_key}
 use Rattle.nat_types.proofs.Offered.{key-false}
 use Rattle.slots.specs.Rows.{key_place}
-use Rattle.slots.specs.Cells.{key_at}
+use Rattle.slots.specs.Cells.{first_cell, key_at}
+
+-- a cell has this place: the blocks of cells are moved to where their protocols' numbers stand
+abbrev IsPlace : ℕ → ℕ → Type 0
+IsPlace c place =
+    ((c < 65536) × (place ≡ 65536 + c))
+    ⊎ (((65536 ≤ c) × ((c < 131072) × (place ≡ 327680 + c))) ⊎ ((131072 ≤ c) × (place ≡ 983040 + c)))
+
+abbrev place_in : ℕ → Protocol → ℕ
+place_in c x = 65536 * protocol_number x + (c - first_cell x)
 
 -- the place of a cell's key
-pub place_at : (c : ℕ) → key_place (key_at c) ≡ cond (nat_lt c 65536) (393216 + c) (1048576 + c)
-place_at c = by (nat_lt c 65536) refl
+place_at : (c : ℕ) → IsPlace c (key_place (key_at c))
+place_at c = by (nat_lt c 65536) (nat_lt c 131072) refl refl
   where
-    by : (b : Bool) → nat_lt c 65536 ≡ b → key_place (cond b (record { protocol = Tcp; port = record { 0 = c } }) (record { protocol = Udp; port = record { 0 = c - 65536 } })) ≡ cond b (393216 + c) (1048576 + c)
-    by true e = refl
-    by false e = omega (arith, ltb-false c 65536 e)
+    by : (a b : Bool) → nat_lt c 65536 ≡ a → nat_lt c 131072 ≡ b → IsPlace c (place_in c (cond a Icmp (cond b Tcp Udp)))
+    by true b e f = inl (ltb-true c 65536 e, omega arith)
+    by false true e f = inr (inl (ltb-false c 65536 e, (ltb-true c 131072 f, omega (arith, ltb-false c 65536 e))))
+    by false false e f = inr (inr (ltb-false c 131072 f, omega (arith, ltb-false c 131072 f)))
 
 -- places rise with the cells
+rising : (c d p q : ℕ) → c < d → IsPlace c p → IsPlace d q → p < q
+rising c d p q h (inl a) (inl b) = let e = a.1 in let f = b.1 in omega (arith, h, e, f)
+rising c d p q h (inl a) (inr (inl b)) = let e = a.1 in let f = b.1.1 in omega (arith, h, e, f)
+rising c d p q h (inl a) (inr (inr b)) = let e = a.1 in let f = b.1 in omega (arith, h, e, f)
+rising c d p q h (inr (inl a)) (inl b) = let e = a.0 in let f = b.0 in absurd (omega (arith, h, e, f))
+rising c d p q h (inr (inl a)) (inr (inl b)) = let e = a.1.1 in let f = b.1.1 in omega (arith, h, e, f)
+rising c d p q h (inr (inl a)) (inr (inr b)) = let e = a.1.1 in let f = b.1 in omega (arith, h, e, f)
+rising c d p q h (inr (inr a)) (inl b) = let e = a.0 in let f = b.0 in absurd (omega (arith, h, e, f))
+rising c d p q h (inr (inr a)) (inr (inl b)) = let e = a.0 in let f = b.1.0 in absurd (omega (arith, h, e, f))
+rising c d p q h (inr (inr a)) (inr (inr b)) = let e = a.1 in let f = b.1 in omega (arith, h, e, f)
+
 pub places_rise : (c d : ℕ) → c < d → key_place (key_at c) < key_place (key_at d)
-places_rise c d h = rw (place_at c, place_at d) (by (nat_lt c 65536) (nat_lt d 65536) refl refl)
-  where
-    by : (a b : Bool) → nat_lt c 65536 ≡ a → nat_lt d 65536 ≡ b → cond a (393216 + c) (1048576 + c) < cond b (393216 + d) (1048576 + d)
-    by true true e f = omega (arith, h)
-    by true false e f = omega (arith, h)
-    by false true e f = absurd (omega (arith, h, ltb-false c 65536 e, ltb-true d 65536 f))
-    by false false e f = omega (arith, h)
+places_rise c d h = rising c d (key_place (key_at c)) (key_place (key_at d)) h (place_at c) (place_at d)
 
 pub place_order : (c d : ℕ) → nat_lt (key_place (key_at c)) (key_place (key_at d)) ≡ nat_lt c d
 place_order c d =

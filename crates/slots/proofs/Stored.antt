@@ -103,7 +103,7 @@ module _ {T : Type 0} where
     pub made : rows_in slots cells ≡ rows
     pub stored : IsStored slots cells places
 
-  pub empty-stored : (slots : Slab T) (cells : List (Option SlotNumber)) (room : ℕ) → slots.slots ≡ [] → length cells ≡ 131072 → ((i : ℕ) → get_or cells i None ≡ None) → room ≤ slots.capacity → Changed slots cells room []
+  pub empty-stored : (slots : Slab T) (cells : List (Option SlotNumber)) (room : ℕ) → slots.slots ≡ [] → length cells ≡ 196608 → ((i : ℕ) → get_or cells i None ≡ None) → room ≤ slots.capacity → Changed slots cells room []
   empty-stored slots cells room empty all none fits =
       let rows = rows-none (item_at slots) 0 cells none in
       record {
@@ -117,7 +117,7 @@ module _ {T : Type 0} where
         };
       }
 
-  pub insert-stored : (slots slots2 : Slab T) (cells : List (Option SlotNumber)) (room c : ℕ) (n : SlotNumber) (t : T) → IsStored slots cells room → c < 131072 → row_of (rows_in slots cells) (key_at c) ≡ None
+  pub insert-stored : (slots slots2 : Slab T) (cells : List (Option SlotNumber)) (room c : ℕ) (n : SlotNumber) (t : T) → IsStored slots cells room → c < 196608 → row_of (rows_in slots cells) (key_at c) ≡ None
       → slab_get slots n.0 ≡ None → Updates slots slots2 n.0 (Some t) → slab_len slots2 ≡ slab_len slots + 1 → slots2.capacity ≡ slots.capacity
       → Changed slots2 (set cells c (Some n)) room (put_in (record { key = key_at c; number = n; item = t }) (rows_in slots cells))
   insert-stored slots slots2 cells room c n t s within vacant free updates len capacity =
@@ -150,7 +150,7 @@ module _ {T : Type 0} where
         };
       }
 
-  pub remove-stored : (slots slots2 : Slab T) (cells : List (Option SlotNumber)) (room c : ℕ) (n : SlotNumber) → IsStored slots cells room → c < 131072 → get_or cells c None ≡ Some n
+  pub remove-stored : (slots slots2 : Slab T) (cells : List (Option SlotNumber)) (room c : ℕ) (n : SlotNumber) → IsStored slots cells room → c < 196608 → get_or cells c None ≡ Some n
       → Updates slots slots2 n.0 None → slab_len slots2 + 1 ≡ slab_len slots → slots2.capacity ≡ slots.capacity
       → Changed slots2 (set cells c None) room (without (key_at c) (rows_in slots cells))
   remove-stored slots slots2 cells room c n s within has updates len capacity =

@@ -4,7 +4,7 @@ use Rattle.std.proofs.Common.{get_or}
 use Rattle.std.specs.List.{cons_option}
 use Rattle.std.specs.Option.{option_map}
 use Rattle.addresses.specs.declared.transport.Protocol.{Protocol}
-use Rattle.addresses.specs.declared.transport.Protocol.TheVariants.{Tcp, Udp}
+use Rattle.addresses.specs.declared.transport.Protocol.TheVariants.{Icmp, Tcp, Udp}
 use Rattle.nat_types.specs.declared.pairs.Key.{Key}
 use Rattle.slab.specs.Slab.{Slab, slab_len}
 use Rattle.slab.specs.Slab.{get as slab_get}
@@ -21,8 +21,9 @@ HasBlocks cells marks = length cells ≤ 256 * length marks
 
 -- where a protocol's cells begin
 abbrev pub first_cell : Protocol → ℕ
-first_cell Tcp = 0
-first_cell Udp = 65536
+first_cell Icmp = 0
+first_cell Tcp = 65536
+first_cell Udp = 131072
 
 -- the cell of a key
 abbrev pub cell_of : Key → ℕ
@@ -33,11 +34,13 @@ abbrev pub cell_behind : Option Key → ℕ
 cell_behind None = 0
 cell_behind (Some key) = suc (cell_of key)
 
+-- the protocol to which a cell belongs
+abbrev pub protocol_at : ℕ → Protocol
+protocol_at cell = (if nat_lt cell 65536 then Icmp else (if nat_lt cell 131072 then Tcp else Udp))
+
 -- the key of a cell
 abbrev pub key_at : ℕ → Key
-key_at cell =
-    (if nat_lt cell 65536 then record { protocol = Tcp; port = record { 0 = cell } }
-    else record { protocol = Udp; port = record { 0 = cell - 65536 } })
+key_at cell = record { protocol = protocol_at cell; port = record { 0 = cell - first_cell (protocol_at cell) } }
 
 module _ {T : Type 0} where
   -- what a slot has
@@ -55,7 +58,7 @@ module _ {T : Type 0} where
 
   -- each cell has a slot of its own, and no other slot is in use
   pub record IsStored (slots : Slab T) (cells : List (Option SlotNumber)) (places : ℕ) : Type 0 where
-    pub all : length cells ≡ 131072
+    pub all : length cells ≡ 196608
     pub used : (i : ℕ) (n : SlotNumber) → get_or cells i None ≡ Some n → IsSome (item_at slots n)
     pub distinct : (i j : ℕ) (n : SlotNumber) → get_or cells i None ≡ Some n → get_or cells j None ≡ Some n → i ≡ j
     pub count : length (rows_from (item_at slots) 0 cells) ≡ slab_len slots

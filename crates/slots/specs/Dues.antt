@@ -9,11 +9,11 @@ use Rattle.slots.specs.Cells.{cell_of, key_at}
 abbrev pub moment_of : List (Option ℕ) → Key → Option ℕ
 moment_of dues key = get_or dues (cell_of key) None
 
--- the keys whose moment is at most this one, by protocol (tcp first) and port
+-- the keys whose moment is at most this one, by protocol (icmp first) and port
 abbrev pub due_keys : ℕ → List (Option ℕ) → List Key
 due_keys now dues = map key_at (due_slots now dues)
 
 -- there is a moment or none for each cell, and room for all cells that may be due at once
 pub record HasAllCells (dues : List (Option ℕ)) (places : ℕ) : Type 0 where
-  pub all : length dues ≡ 131072
-  pub room : 131072 ≤ places
+  pub all : length dues ≡ 196608
+  pub room : 196608 ≤ places

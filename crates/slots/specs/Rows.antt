@@ -1,4 +1,4 @@
--- What callers see of slots: items under keys, by protocol (tcp first) and port, each with the number of its slot.
+-- What callers see of slots: items under keys, by protocol (icmp first) and port, each with the number of its slot.
 use Rattle.std.specs.Prelude.{ℕ, suc, ◌+◌, ◌*◌, ◌≤◌, Bool, true, not, nat_lt, List, [], ◌∷◌, map, Option, None, Some, cond, if◌then◌else◌}
 use Rattle.std.specs.List.{find, filter}
 use Rattle.std.specs.Option.{option_map}
@@ -13,12 +13,12 @@ pub record Row (T : Type 0) : Type 0 where
   pub number : SlotNumber
   pub item : T
 
--- the rows by protocol (tcp first) and port, and how many there is room for
+-- the rows by protocol (icmp first) and port, and how many there is room for
 pub record PortSlots (T : Type 0) : Type 0 where
   pub rows : List (Row T)
   pub room : ℕ
 
--- a key's place in the order by protocol (tcp first) and port
+-- a key's place in the order by protocol (icmp first) and port
 abbrev pub key_place : Key → ℕ
 key_place key = 65536 * protocol_number key.protocol + key.port.0
 

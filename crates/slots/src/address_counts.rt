@@ -1,5 +1,5 @@
 //! How many endpoints of each inside address have a slot.
-ghost use Rattle.std.specs.Prelude.{◌≡◌, ◌+◌, ◌-◌, ◌<◌, ◌≤◌, OnOk, if◌then◌else◌};
+ghost use Rattle.std.specs.Prelude.{◌≡◌, ◌+◌, ◌-◌, ◌<◌, ◌≤◌, IsOk, OnOk, if◌then◌else◌};
 ghost use Rattle.indexmap.specs.IndexMap.{spare};
 ghost use Rattle.addresses.specs.declared.internet.Ip.{Ip as Address};
 ghost use Rattle.slots.specs.Counts.{count_at, is_address, one_at, AreHeld};
@@ -58,6 +58,7 @@ impl<S: BuildHasher + Drop> AddressCounts<S> {
         ensures room { OnOk result (more ≤ self.new.spare) }
         ensures spare { self.old.spare ≤ self.new.spare }
         ensures same { self.new.entries ≡ self.old.entries }
+        ensures succeeds { more ≤ self.old.spare → IsOk result }
     {
         self.counts.reserve(more)
     }

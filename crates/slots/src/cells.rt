@@ -25,7 +25,7 @@ impl Model for Cells {
     ghost view = { λ c. c.numbers.items };
 
     ghost invariant = { λ c. AreMarked c.numbers.items c.marks.items
-        × HasBlocks c.numbers.items c.marks.items × (length c.numbers.items ≤ 131072) };
+        × HasBlocks c.numbers.items c.marks.items × (length c.numbers.items ≤ 196608) };
 }
 
 fn empty_cells(alloc: Global, count: usize) -> Result<Vec<Option<SlotNumber>>, AllocError>
@@ -44,7 +44,7 @@ fn unmarked(alloc: Global, count: usize) -> Result<Vec<bool>, AllocError>
 fn next_used(numbers: &[Option<SlotNumber>], marks: &[bool], from: usize) -> Option<usize>
     requires marked { AreMarked numbers.now marks.now }
     requires blocks { HasBlocks numbers.now marks.now }
-    requires count { length numbers.now ≤ 131072 }
+    requires count { length numbers.now ≤ 196608 }
     ensures within { IfSome result (λ i. (from ≤ i) × (i < length numbers.now)) }
     ensures used { IfSome result (λ i. IsSome (get_or numbers.now i None)) }
     ensures before { IfSome result (λ i. (k : ℕ) → from ≤ k → k < i
@@ -85,7 +85,7 @@ impl Cells {
     /// So many empty cells, in so many blocks of 256.
     pub(crate) fn new(alloc: Global, count: usize, blocks: usize) -> Result<Cells, AllocError>
         requires blocks { count ≤ 256 * blocks }
-        requires count { count ≤ 131072 }
+        requires count { count ≤ 196608 }
         ensures length { IfOk result (λ c. length c ≡ count) }
         ensures none { IfOk result (λ c. (k : ℕ) → get_or c k None ≡ None) }
     {

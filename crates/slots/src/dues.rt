@@ -33,12 +33,12 @@ impl Model for Dues {
 
 /// Takes the due slots out of the timers, and lists them, lowest first.
 fn list_due(timers: &mut Timers, now: u64, found: &mut Vec<usize>)
-    requires all { length timers.old ≡ 131072 }
+    requires all { length timers.old ≡ 196608 }
     requires empty { found.old.items ≡ [] }
-    requires room { 131072 ≤ vec_capacity found.old }
+    requires room { 196608 ≤ vec_capacity found.old }
     ensures cleared { timers.new ≡ map (cleared now) timers.old }
     ensures found { found.new.items ≡ due_slots now timers.old }
-    ensures room { 131072 ≤ vec_capacity found.new }
+    ensures room { 196608 ≤ vec_capacity found.new }
 {
     match timers.due(now, found) {
         Ok(()) => {}
@@ -49,7 +49,7 @@ fn list_due(timers: &mut Timers, now: u64, found: &mut Vec<usize>)
 
 /// Lists the keys of these cells.
 fn list_keys(cells: &[usize], out: &mut Vec<Key>)
-    requires within { All (λ cell. cell < 131072) cells.now }
+    requires within { All (λ cell. cell < 196608) cells.now }
     requires room { vec_len out.old + length cells.now ≤ vec_capacity out.old }
     ensures keys { out.new.items ≡ out.old.items ++ map key_at cells.now }
     ensures capacity { vec_capacity out.new ≡ vec_capacity out.old }
@@ -71,7 +71,7 @@ impl Dues {
 
     /// Reminds the prover of how many moments there may be; it does nothing when it runs.
     pub fn recall(&self)
-        ensures count { length self.now ≡ 131072 }
+        ensures count { length self.now ≡ 196608 }
     {
         let _ = &self.found;
     }
@@ -92,10 +92,10 @@ impl Dues {
         self.timers.set(cell_of_key(key), due);
     }
 
-    /// Appends the keys whose moment is at most `now`, by protocol (tcp first) and port, and clears
+    /// Appends the keys whose moment is at most `now`, by protocol (icmp first) and port, and clears
     /// them.
     pub fn take(&mut self, now: u64, out: &mut Vec<Key>)
-        requires room { vec_len out.old + 131072 ≤ vec_capacity out.old }
+        requires room { vec_len out.old + 196608 ≤ vec_capacity out.old }
         ensures keys { out.new.items ≡ out.old.items ++ due_keys now self.old }
         ensures cleared { self.new ≡ map (cleared now) self.old }
         ensures capacity { vec_capacity out.new ≡ vec_capacity out.old }

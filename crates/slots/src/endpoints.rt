@@ -1,5 +1,5 @@
 //! The slots of endpoints.
-ghost use Rattle.std.specs.Prelude.{◌≡◌, ◌+◌, ◌<◌, ◌≤◌, None, Some, IsSome, IfOk, OnOk, OnErr};
+ghost use Rattle.std.specs.Prelude.{◌≡◌, ◌+◌, ◌<◌, ◌≤◌, None, Some, IsSome, IfOk, IsOk, OnOk, OnErr};
 ghost use Rattle.addresses.specs.declared.internet.Ip.{Ip as Address};
 ghost use Rattle.nat_types.specs.declared.pairs.Endpoint.{Endpoint as InsidePort};
 ghost use Rattle.slots.specs.Counts.{one_at};
@@ -59,6 +59,7 @@ impl<S: BuildHasher + Copy + Drop> EndpointIndex<S> {
         ensures room { OnOk result (more ≤ self.new.spare) }
         ensures spare { self.old.spare ≤ self.new.spare }
         ensures same { self.new.entries ≡ self.old.entries }
+        ensures succeeds { more ≤ self.old.spare → IsOk result }
     {
         if more > MOST - self.numbers.len() {
             return Err(AllocError);

@@ -1,10 +1,10 @@
 //! Items in slots, with a cell for each protocol and port.
-ghost use Rattle.std.specs.Prelude.{◌≡◌, ◌+◌, ◌<◌, [], None, Some, length, IfOk, IfSome, option_copied};
+ghost use Rattle.std.specs.Prelude.{◌≡◌, ◌+◌, ◌<◌, ◌≤◌, [], None, Some, length, IfOk, IfSome, option_copied};
 ghost use Rattle.std.specs.List.{find};
 ghost use Rattle.std.specs.Borrow.{sem};
 ghost use Rattle.std.specs.Option.{option_map, option_copied_mut};
 ghost use Rattle.nat_types.specs.declared.pairs.Key.{Key as OutsidePort};
-ghost use Rattle.slots.specs.Cells.{cell_of, cell_behind, first_cell, key_at};
+ghost use Rattle.slots.specs.Cells.{cell_of, cell_behind, first_cell, key_at, protocol_at};
 ghost use Rattle.slots.specs.Rows.{row_of, item_of, number_of, put_in, without, stands_behind, Rises};
 
 use crate::SlotNumber;
@@ -15,13 +15,13 @@ use slab::Slab;
 use std::alloc::{AllocError, Global};
 use std::marker::Model;
 
-/// How many cells there are: one for each port of both protocols.
-pub const CELLS: usize = 131_072;
+/// How many cells there are: one for each port of each protocol.
+pub const CELLS: usize = 196_608;
 
 /// How many blocks of 256 cells these are.
-const BLOCKS: usize = 512;
+const BLOCKS: usize = 768;
 
-/// Items in slots, by protocol (tcp first) and port.
+/// Items in slots, by protocol (icmp first) and port.
 #[derive(Drop)]
 pub struct PortSlots<T> {
     slots: Slab<T>,
@@ -46,14 +46,31 @@ fn first_cell_of(protocol: Protocol) -> usize
     ensures { result ≡ first_cell protocol }
 {
     match protocol {
-        Protocol::Tcp => 0,
-        Protocol::Udp => 65536,
+        Protocol::Icmp => 0,
+        Protocol::Tcp => 65536,
+        Protocol::Udp => 131072,
+    }
+}
+
+/// The protocol to which a cell belongs.
+fn protocol_of_cell(cell: usize) -> Protocol
+    requires { cell < 196608 }
+    ensures protocol { result ≡ protocol_at cell }
+    ensures begins { first_cell result ≤ cell }
+    ensures ends { cell < first_cell result + 65536 }
+{
+    if cell < 65536 {
+        Protocol::Icmp
+    } else if cell < 131072 {
+        Protocol::Tcp
+    } else {
+        Protocol::Udp
     }
 }
 
 pub(crate) fn cell_of_key(key: Key) -> usize
     ensures cell { result ≡ cell_of key }
-    ensures within { result < 131072 }
+    ensures within { result < 196608 }
     ensures key { key_at result ≡ key }
 {
     first_cell_of(key.protocol) + usize::from(key.port.0)
@@ -62,26 +79,18 @@ pub(crate) fn cell_of_key(key: Key) -> usize
 /// Reminds the prover of the cell of a key; it does nothing when it runs.
 pub fn recall_cell(key: Key)
     ensures own { key_at (cell_of key) ≡ key }
-    ensures within { cell_of key < 131072 }
+    ensures within { cell_of key < 196608 }
 {
     let _ = cell_of_key(key);
 }
 
 pub(crate) fn key_of_cell(cell: usize) -> Key
-    requires { cell < 131072 }
+    requires { cell < 196608 }
     ensures { result ≡ key_at cell }
 {
-    if cell < 65536 {
-        Key {
-            protocol: Protocol::Tcp,
-            port: Port(cell as u16),
-        }
-    } else {
-        Key {
-            protocol: Protocol::Udp,
-            port: Port((cell - 65536) as u16),
-        }
-    }
+    let protocol = protocol_of_cell(cell);
+    let port = Port((cell - first_cell_of(protocol)) as u16);
+    Key { protocol, port }
 }
 
 /// The cell behind a key's, or the first of all.

@@ -3,7 +3,7 @@ use Rattle.std.proofs.Common.{◌≡◌, ℕ, ◌+◌, ◌≤◌, Bool, true, fa
 use Rattle.std.proofs.lemmas.Bool.{and_parts, and_from, both_ways}
 use Rattle.std.proofs.lemmas.List.{reverse-append}
 use Rattle.addresses.specs.declared.transport.Protocol.{Protocol}
-use Rattle.addresses.specs.declared.transport.Protocol.TheVariants.{Tcp, Udp}
+use Rattle.addresses.specs.declared.transport.Protocol.TheVariants.{Icmp, Tcp, Udp}
 use Rattle.nat_types.specs.Same.{same, same_pair}
 use Rattle.nat_types.proofs.Offered.{same-eq, same-true, pair-true}
 use Rattle.nat_types.specs.declared.gateways.GatewayId.{GatewayId}
@@ -13,7 +13,8 @@ use Rattle.nat_types.specs.declared.notes.Note.{Note}
 use Rattle.nat_types.specs.declared.pairs.Key.{Key}
 use Rattle.nat_types.specs.declared.pairs.Pair.{Pair}
 use Rattle.activity.specs.Lives.{Activity, is_idle}
-use Rattle.activity.specs.Rests.{HaveRested, IsAmong, least_rest}
+use Rattle.activity.specs.Rests.{HaveRested, IsAmong}
+use Rattle.activity.specs.Lives.{least_rest}
 use Rattle.activity.proofs.Offered.{looks-is, accounts-idle, accounts-unused}
 use Rattle.bindings.specs.declared.entries.Entry.{Entry}
 use Rattle.bindings.specs.Entries.{slot_of, translates}
@@ -58,6 +59,7 @@ listed g pair use_at (note ∷ notes) is =
     listed-after g pair use_at note.by note.at note.what (UsedInLife g pair use_at notes) (uses_of g notes pair) (listed g pair use_at notes) is
 
 by-protocol : (protocol : Protocol) (use_at now : ℕ) → use_at + least_rest protocol ≤ now → use_at + rest_of protocol ≤ now
+by-protocol Icmp use_at now h = h
 by-protocol Tcp use_at now h = h
 by-protocol Udp use_at now h = h
 

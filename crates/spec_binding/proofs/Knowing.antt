@@ -5,7 +5,7 @@ use Rattle.std.specs.Option.{option_map}
 use Rattle.std.proofs.lemmas.Bool.{both_ways, cases_Bool, cond-true, cond-false, false_from_ne_true, le-leb, leb-true}
 use Rattle.std.proofs.lemmas.List.{length-map}
 use Rattle.addresses.specs.declared.transport.Protocol.{Protocol}
-use Rattle.addresses.specs.declared.transport.Protocol.TheVariants.{Tcp, Udp}
+use Rattle.addresses.specs.declared.transport.Protocol.TheVariants.{Icmp, Tcp, Udp}
 use Rattle.nat_types.specs.Same.{same_key}
 use Rattle.nat_types.proofs.Offered.{key-eq, key-true}
 use Rattle.nat_types.specs.declared.pairs.EntryState.{EntryState}
@@ -14,10 +14,11 @@ use Rattle.nat_types.specs.declared.pairs.Key.{Key}
 use Rattle.nat_types.specs.declared.pairs.Pair.{Pair}
 use Rattle.activity.specs.declared.packets.Packet.{Packet}
 use Rattle.activity.specs.Lives.{History, Activity, Agrees, came, is_unused, life_begun, life_carried, life_renewed, renewed, with_packet}
-use Rattle.activity.specs.Rests.{HaveRested, least_rest}
+use Rattle.activity.specs.Rests.{HaveRested}
+use Rattle.activity.specs.Lives.{least_rest}
 use Rattle.activity.specs.Places.{is_nowhere}
 use Rattle.activity.specs.Kept.{session_place}
-use Rattle.activity.proofs.Offered.{agrees-tcp, agrees-udp, accounts-came, accounts-renewed, accounts-anew, accounts-later, accounts-more, rested-later}
+use Rattle.activity.proofs.Offered.{agrees-tcp, agrees-plain, accounts-came, accounts-renewed, accounts-anew, accounts-later, accounts-more, rested-later}
 use Rattle.bindings.specs.declared.entries.Entry.{Entry}
 use Rattle.bindings.specs.Entries.{has_key, slot_of, entry_in, is_pair, translates, HasDistinctKeys}
 use Rattle.bindings.specs.Lists.{place_in, put_in, with_state, without}
@@ -52,7 +53,8 @@ agrees-renewed : (protocol : Protocol) (past : History) (life : Activity) (now :
 agrees-renewed protocol past life now a = record { last = refl; unused = a.unused ∙ both-true (is_unused past); sessions = λ t. refl; crowded = λ t. refl }
 
 agrees-carried : (protocol : Protocol) (past : History) (life : Activity) (p : Packet) → Agrees protocol past life → Agrees protocol (with_packet p past) (life_carried protocol p life)
-agrees-carried Udp past life p a = agrees-udp past (life_carried Udp p life) p refl refl
+agrees-carried Icmp past life p a = agrees-plain Icmp past (life_carried Icmp p life) p (λ same. cc) refl refl
+agrees-carried Udp past life p a = agrees-plain Udp past (life_carried Udp p life) p (λ same. cc) refl refl
 agrees-carried Tcp past life p a = agrees-tcp past life (life_carried Tcp p life) p (is_nowhere (session_place p life.sessions)) a refl refl refl refl refl
 
 length-with : (f : Activity → Activity) (k : Key) (es : List Entry) (ls : List Activity) → length ls ≡ length es → length (lives_with f k es ls) ≡ length es

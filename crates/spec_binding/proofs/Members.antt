@@ -8,7 +8,7 @@ use Rattle.nat_types.specs.declared.pairs.Endpoint.{Endpoint}
 use Rattle.nat_types.specs.declared.pairs.Key.{Key}
 use Rattle.addresses.specs.declared.transport.Port.{Port}
 use Rattle.addresses.specs.declared.transport.Protocol.{Protocol}
-use Rattle.addresses.specs.declared.transport.Protocol.TheVariants.{Tcp, Udp}
+use Rattle.addresses.specs.declared.transport.Protocol.TheVariants.{Icmp, Tcp, Udp}
 use Rattle.bindings.specs.declared.entries.Entry.{Entry}
 use Rattle.bindings.specs.declared.entries.PortBounds.{PortBounds}
 use Rattle.bindings.specs.Entries.{slot_of}
@@ -119,13 +119,15 @@ free-none (Some x) = free-slot x.state x.pair.endpoint
 
 pub vacant-is : (es : List Entry) (p : ℕ) → is_vacant es p ≡ true → IsVacant (slots_of es) p
 vacant-is es p h k e =
-    let parts = and_parts (is_free_in es Tcp p) (is_free_in es Udp p) h in
+    let first = and_parts (is_free_in es Icmp p) (is_free_in es Tcp p && is_free_in es Udp p) h in
+    let rest = and_parts (is_free_in es Tcp p) (is_free_in es Udp p) first.1 in
     let there : slot_of es k ≡ slot_of es (key_of k.protocol p) = ap (slot_of es) (ap (λ (z : ℕ). key_of k.protocol z) e) in
-    ap machine_slot (there ∙ at k.protocol parts.0 parts.1)
+    ap machine_slot (there ∙ at k.protocol first.0 rest.0 rest.1)
   where
-    at : (q : Protocol) → is_free_in es Tcp p ≡ true → is_free_in es Udp p ≡ true → slot_of es (key_of q p) ≡ None
-    at Tcp a b = none_from_is_none (slot_of es (key_of Tcp p)) a
-    at Udp a b = none_from_is_none (slot_of es (key_of Udp p)) b
+    at : (q : Protocol) → is_free_in es Icmp p ≡ true → is_free_in es Tcp p ≡ true → is_free_in es Udp p ≡ true → slot_of es (key_of q p) ≡ None
+    at Icmp a b c = none_from_is_none (slot_of es (key_of Icmp p)) a
+    at Tcp a b c = none_from_is_none (slot_of es (key_of Tcp p)) b
+    at Udp a b c = none_from_is_none (slot_of es (key_of Udp p)) c
 
 -- ---- what becomes owned
 

@@ -16,7 +16,7 @@ use Rattle.spec_pair.specs.Box.{Letter}
 use Rattle.spec_pair.specs.Mapped.{machine_record}
 use Rattle.spec_pair.specs.Ownership.{AreDistinct, has}
 use Rattle.spec_pair.specs.RecordTable.{becomes_owned, is_free, key_of}
-use Rattle.addresses.specs.declared.transport.Protocol.TheVariants.{Tcp, Udp}
+use Rattle.addresses.specs.declared.transport.Protocol.TheVariants.{Icmp, Tcp, Udp}
 use Rattle.spec_pair.specs.Talk as machine
 use Rattle.spec_pair.specs.Talk.{MachineRecord}
 use Rattle.spec_pair.proofs.Offered.{got}
@@ -110,8 +110,9 @@ module _ (now : ℕ) (c : Book) (e : Link) (h : List Record) (n : ℕ) (letters 
 
     becomes : (p : ℕ) → becomes_owned (ranges_of c) (box_at c e h n) p ≡ is_gained c p
     becomes p =
-        ap (λ b. is_theirs c p && (b && is_free (slots_of c.entries (key_of Udp p)))) (free-none (slot_of c.entries (key_of Tcp p)))
-        ∙ ap (λ b. is_theirs c p && ((is_none_at (key_of Tcp p)) && b)) (free-none (slot_of c.entries (key_of Udp p)))
+        ap (λ b. is_theirs c p && (b && (is_free (slots_of c.entries (key_of Tcp p)) && is_free (slots_of c.entries (key_of Udp p))))) (free-none (slot_of c.entries (key_of Icmp p)))
+        ∙ ap (λ b. is_theirs c p && (is_none_at (key_of Icmp p) && (b && is_free (slots_of c.entries (key_of Udp p))))) (free-none (slot_of c.entries (key_of Tcp p)))
+        ∙ ap (λ b. is_theirs c p && (is_none_at (key_of Icmp p) && (is_none_at (key_of Tcp p) && b))) (free-none (slot_of c.entries (key_of Udp p)))
       where
         is_none_at : Key → Bool
         is_none_at k = is_none (slot_of c.entries k)

@@ -18,7 +18,8 @@ use Rattle.nat_types.specs.declared.records.Record.{Record}
 use Rattle.nat_types.specs.declared.records.Record.TheVariants as rec
 use Rattle.activity.specs.declared.packets.Packet.{Packet}
 use Rattle.activity.specs.Lives.{life_begun, life_carried}
-use Rattle.activity.specs.Rests.{HaveRested, least_rest}
+use Rattle.activity.specs.Rests.{HaveRested}
+use Rattle.activity.specs.Lives.{least_rest}
 use Rattle.bindings.specs.declared.entries.Entry.{Entry}
 use Rattle.bindings.specs.Entries.{slot_of, entry_of, entry_in, translates}
 use Rattle.bindings.specs.Lists.{place_in, put_in, without}

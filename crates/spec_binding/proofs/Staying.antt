@@ -17,7 +17,8 @@ use Rattle.nat_types.specs.declared.pairs.Pair.{Pair}
 use Rattle.nat_types.specs.declared.records.Record.{Record}
 use Rattle.nat_types.specs.declared.records.Record.TheVariants as rec
 use Rattle.activity.specs.Lives.{Activity, life_begun, life_renewed}
-use Rattle.activity.specs.Rests.{HaveRested, least_rest}
+use Rattle.activity.specs.Rests.{HaveRested}
+use Rattle.activity.specs.Lives.{least_rest}
 use Rattle.bindings.specs.declared.entries.Entry.{Entry}
 use Rattle.bindings.specs.Entries.{has_key, slot_of, entry_of, entry_in, place_of, translates}
 use Rattle.bindings.specs.Lists.{place_in, put_in, with_state, without}

@@ -8,7 +8,8 @@ use Rattle.nat_types.specs.declared.notes.NoteKind.TheVariants.{Used, Released, 
 use Rattle.nat_types.specs.declared.notes.Note.{Note}
 use Rattle.nat_types.specs.Same.{same, same_pair}
 use Rattle.activity.specs.Lives.{History, Activity}
-use Rattle.activity.specs.Rests.{AccountsFor, HaveRested, least_rest}
+use Rattle.activity.specs.Rests.{AccountsFor, HaveRested}
+use Rattle.activity.specs.Lives.{least_rest}
 use Rattle.bindings.specs.declared.entries.Entry.{Entry}
 use Rattle.bindings.specs.Entries.{slot_of, translates}
 use Rattle.bindings.specs.Lives.{HasPast}

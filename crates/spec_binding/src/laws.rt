@@ -271,7 +271,7 @@ pub fn records_come()
 {}
 
 /// A ledger that accounts for a trace (`Accounts`, the newest note first) does so whatever becomes of it, with what is
-/// noted of it put in front; so each release comes where its pair is idle: at least 30,000 cs (UDP) or 24,000 cs (TCP)
+/// noted of it put in front; so each release comes where its pair is idle: at least 30,000 cs (UDP), 24,000 cs (TCP) or 6,000 cs (ICMP)
 /// after each use of it by the gateway in the same life. It begins so at each boot of the gateway (`begun`, `founded`).
 pub fn accounts_kept()
     ensures begun { (now : ℕ) (id : GatewayId) (zero one : PortBounds) (limit : Option ℕ)

@@ -6,11 +6,11 @@ use Rattle.nat_types.specs.declared.gateways.GatewayId.{GatewayId}
 use Rattle.nat_types.specs.declared.gateways.GatewayId.TheVariants.{Zero, One}
 use Rattle.nat_types.specs.declared.pairs.Endpoint.{Endpoint}
 use Rattle.nat_types.specs.declared.pairs.Key.{Key}
-use Rattle.addresses.specs.declared.transport.Protocol.TheVariants.{Tcp, Udp}
+use Rattle.addresses.specs.declared.transport.Protocol.TheVariants.{Icmp, Tcp, Udp}
 use Rattle.spec_pair.specs.Acts.{IsMisplaced, AreGot, Take, LoadOwner, LoadDone, LoadSkip, TakePorts, LosePorts}
 use Rattle.spec_pair.specs.Box.{Box, StandsNext, Letter}
 use Rattle.spec_pair.specs.Ownership.{has, Ranges, keyed}
-use Rattle.spec_pair.specs.RecordTable.{Absent, Proposed, Bound, Finding, Finds, Facts, AreFacts, is_free, key_of, accepted, refused, asked, agreed_to, denied, proposed, installed, is_senders, becomes_owned, act_at_synced, act_at_unsynced, act_unless_promised, act_by_table, put_in, DoesTake}
+use Rattle.spec_pair.specs.RecordTable.{Absent, Proposed, Bound, Finding, Finds, Facts, AreFacts, is_free, key_of, accepted, refused, asked, agreed_to, denied, proposed, installed, is_senders, becomes_owned, has_no_entry, act_at_synced, act_at_unsynced, act_unless_promised, act_by_table, put_in, DoesTake}
 use Rattle.spec_pair.specs.Talk.{Slot, Free, Pending, Doomed, Live, Closing, Held, MachineRecord, Install, Accept, Refuse, Ask, Yes, No, Begin, Put, Done, Want, Grant, Owner, Deed, Skip, Yield, Reject, held, MayDo, taken_by}
 
 free_is : (s : Slot) → is_free s ≡ true → s ≡ Free
@@ -41,9 +41,10 @@ pub got : (r : Ranges) (a : Box) (ports : List ℕ) → AreGot r a ports (filter
 got r a ports p = (
   λ h. (and_parts (has p ports) (becomes_owned r a p) (sym (has-filter (becomes_owned r a) p ports) ∙ h)).0,
   λ h inside off free. has-filter (becomes_owned r a) p ports ∙ and_from (has p ports) (becomes_owned r a p) h
-      (and_from (r.in_ranges p && not (a.owned p)) (is_free (a.table (key_of Tcp p)) && is_free (a.table (key_of Udp p)))
+      (and_from (r.in_ranges p && not (a.owned p)) (has_no_entry r a p)
       (and_from (r.in_ranges p) (not (a.owned p)) inside (ap not off))
-      (and_from (is_free (a.table (key_of Tcp p))) (is_free (a.table (key_of Udp p))) (ap is_free (free (key_of Tcp p) refl)) (ap is_free (free (key_of Udp p) refl)))),
+      (and_from (is_free (a.table (key_of Icmp p))) (is_free (a.table (key_of Tcp p)) && is_free (a.table (key_of Udp p))) (ap is_free (free (key_of Icmp p) refl))
+      (and_from (is_free (a.table (key_of Tcp p))) (is_free (a.table (key_of Udp p))) (ap is_free (free (key_of Tcp p) refl)) (ap is_free (free (key_of Udp p) refl))))),
 )
 
 -- the deeds of the table may be done, and take the record

@@ -1,4 +1,4 @@
--- The ports that the two may give, whose they are, and runs of them. A port is its number, owned for both protocols together.
+-- The ports that the two may give, whose they are, and runs of them. A port is its number, owned for all protocols together.
 use Rattle.std.specs.Prelude.{Bool, IsTrue, List, [], cond, false, nat_lt, not, true, ℕ, ◌&&◌, ◌<◌, ◌==◌, ◌||◌, ◌∷◌, ◌≡◌, ◌≤◌}
 use Rattle.nat_types.specs.Same.{same, other}
 use Rattle.nat_types.specs.declared.gateways.GatewayId.{GatewayId}
@@ -83,7 +83,7 @@ AreDistinct (q ∷ qs) = (has q qs ≡ false) × AreDistinct qs
 abbrev pub no_port : ℕ → Bool
 no_port p = false
 
--- whether the port of a key is among these: a port is owned for both protocols together
+-- whether the port of a key is among these: a port is owned for all protocols together
 abbrev pub keyed : (ℕ → Bool) → Key → Bool
 keyed owned k = owned k.port.0
 

@@ -1,7 +1,7 @@
 -- What each record does where it is taken (docs/PROTOCOL.md): a row a line.
 use Rattle.std.specs.Prelude.{Bool, IsTrue, List, None, Option, Some, [], cond, false, not, suc, true, ℕ, ◌&&◌, ◌∷◌, ◌≡◌, ◌↔◌}
 use Rattle.addresses.specs.declared.transport.Protocol.{Protocol}
-use Rattle.addresses.specs.declared.transport.Protocol.TheVariants.{Tcp, Udp}
+use Rattle.addresses.specs.declared.transport.Protocol.TheVariants.{Icmp, Tcp, Udp}
 use Rattle.nat_types.specs.Same.{same}
 use Rattle.nat_types.specs.declared.gateways.GatewayId.{GatewayId}
 use Rattle.nat_types.specs.declared.gateways.GatewayId.TheVariants.{One}
@@ -102,11 +102,13 @@ module _ (r : Ranges) where
   installed i a k e found =
       cond (is_senders a k && is_free (a.table k)) (proposed i k e found) (Reject k e)
 
+  -- no protocol has an entry at the port
+  abbrev pub has_no_entry : Box → ℕ → Bool
+  has_no_entry a p = is_free (a.table (key_of Icmp p)) && (is_free (a.table (key_of Tcp p)) && is_free (a.table (key_of Udp p)))
+
   -- of granted ports those become owned that lie in the ranges, aren't owned, and have no entry
   abbrev pub becomes_owned : Box → ℕ → Bool
-  becomes_owned a p =
-      (r.in_ranges p && not (a.owned p))
-      && (is_free (a.table (key_of Tcp p)) && is_free (a.table (key_of Udp p)))
+  becomes_owned a p = (r.in_ranges p && not (a.owned p)) && has_no_entry a p
 
   module _ (i : GatewayId) (a : Box) (l : Letter) (n : ℕ) (f : Facts) where
     -- at a synced gateway that isn't lone

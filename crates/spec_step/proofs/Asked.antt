@@ -29,7 +29,7 @@ use Rattle.spec_step.specs.Verdict.{exit_by, hop_by, look_for, next_by, plan_by,
 use Rattle.spec_step.proofs.Sends.{AreFound}
 
 pub record IsAsked (g : Shown) (side : Side) (flow : Flow) (by : Translation) (hop : Ip) : Type 0 where
-  pub way : direction_of g.networks side flow.source.0 flow.destination.0 ≡ Ok (way_of by)
+  pub way : direction_of g.networks side flow.protocol flow.source.0 flow.destination.0 ≡ Ok (way_of by)
   pub pairs : AreFound g flow by
   pub hop_is : hop ≡ hop_by g by flow
   pub unknown : next_by g by flow ≡ None
@@ -43,7 +43,7 @@ PlanSays g side flow (Err reason) = Unit {0}
 
 module _ (g : Shown) (side : Side) (flow : Flow) where
   abbrev Goes-by : Translation → Type 0
-  Goes-by by = (direction_of g.networks side flow.source.0 flow.destination.0 ≡ Ok (way_of by)) × AreFound g flow by
+  Goes-by by = (direction_of g.networks side flow.protocol flow.source.0 flow.destination.0 ≡ Ok (way_of by)) × AreFound g flow by
 
   to-says : (by : Translation) → Goes-by by → (o : Option Mac) → next_by g by flow ≡ o → PlanSays g side flow (plan_to g by (hop_by g by flow) o)
   to-says by goes (Some next) is = tt
@@ -64,7 +64,7 @@ module _ (g : Shown) (side : Side) (flow : Flow) where
   from-says by want.NotNow is goes = tt
   from-says by want.HostLimit is goes = tt
 
-  on-says : (w : Direction) → direction_of g.networks side flow.source.0 flow.destination.0 ≡ Ok w → PlanSays g side flow (plan_on g flow w)
+  on-says : (w : Direction) → direction_of g.networks side flow.protocol flow.source.0 flow.destination.0 ≡ Ok w → PlanSays g side flow (plan_on g flow w)
   on-says way.Outward there = from-says Outward (look_for g flow) refl (λ port is. (there, (port, (is, refl))))
   on-says way.Inward there = at (target_pair g flow) refl
     where
@@ -78,8 +78,8 @@ module _ (g : Shown) (side : Side) (flow : Flow) where
       at (Err reason) target = tt
 
   pub plan-says : PlanSays g side flow (plan_of g side flow)
-  plan-says = at (direction_of g.networks side flow.source.0 flow.destination.0) refl
+  plan-says = at (direction_of g.networks side flow.protocol flow.source.0 flow.destination.0) refl
     where
-      at : (r : Result Direction Reason) → direction_of g.networks side flow.source.0 flow.destination.0 ≡ r → PlanSays g side flow (and_then r (plan_on g flow))
+      at : (r : Result Direction Reason) → direction_of g.networks side flow.protocol flow.source.0 flow.destination.0 ≡ r → PlanSays g side flow (and_then r (plan_on g flow))
       at (Ok w) there = on-says w there
       at (Err reason) there = tt

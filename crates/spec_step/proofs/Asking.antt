@@ -35,7 +35,7 @@ use Rattle.packet_rules.specs.declared.translations.Translation.TheVariants.{Out
 use Rattle.packet_rules.specs.Arping.{request_frame}
 use Rattle.packet_rules.specs.Flows.{flow_in, source_of, error_flow_in}
 use Rattle.packet_rules.specs.Frames.{hop_of, sent_frame, way_of}
-use Rattle.packet_rules.specs.Steps.{IsForwardable, IsPassable}
+use Rattle.packet_rules.specs.Steps.{IsForwardable, IsOfSide, IsPassable}
 use Rattle.packet_rules.specs.Networks.{direction_of}
 use Rattle.packet_rules.specs.Errors.{passed_frame, AreErrorPairs, error_direction}
 use Rattle.interfaces.specs.Stations.{is_active}
@@ -250,7 +250,7 @@ asks-then h h2 f g a b c x y =
       due = due-append a.shown (known_of c.shown) has x.askings z.askings
           (due-more (known_of c.shown) (MayGoBy a.shown x.notes) has more a.shown a.shown (λ side host t. t) (λ side host t. t) x.askings due1)
           (due-more (known_of c.shown) (MayGoBy b.shown z.notes) has then_has a.shown b.shown near_end again_end z.askings z.due);
-      others = filter-append (λ (f : Sent). is_other f.bytes) x.frames z.frames
+      others = filter-append (λ (f : Sent). is_other f.side f.bytes) x.frames z.frames
           ∙ ap (λ (fs : List Sent). fs ++ other_frames z.frames) x.others
           ∙ ap (λ (fs : List Sent). requests a.shown x.askings ++ fs) (z.others ∙ requests-same a.shown b.shown x.nets z.askings)
           ∙ sym (map-append (request_of a.shown) x.askings z.askings);
@@ -436,9 +436,10 @@ its-pairs g flow (Inward p) synced found = (target-translates g flow p synced fo
 its-pairs g flow (Hairpin own other) synced found = (ap (λ (q : Pair). q.endpoint) found.0.1.1, (target-translates g flow other synced found.1).1)
 
 -- what a packet is read with
-record IsRead (g : Shown) (bytes : List ℕ) (flow : Flow) : Type 0 where
+record IsRead (g : Shown) (side : Side) (bytes : List ℕ) (flow : Flow) : Type 0 where
   synced : is_synced g.ledger.book.stage ≡ true
   passes : IsForwardable bytes
+  of_side : IsOfSide side bytes
   flow_is : flow ≡ flow_in bytes
 
 target-there : (g : Shown) (flow : Flow) (p : Pair) (notes : List Note) → is_synced g.ledger.book.stage ≡ true → target_pair g flow ≡ Ok p → MayGoBy g notes p
@@ -452,13 +453,13 @@ targets-there g flow (Inward p) notes synced found = (target-there g flow p note
 targets-there g flow (Hairpin own other) notes synced found = (target-there g flow other notes synced found.1, tt)
 
 -- what the plan says of a packet's next hop
-next-hop : (g : Shown) (side : Side) (bytes : List ℕ) (flow : Flow) (by : Translation) (hop : Ip) (notes : List Note) → IsRead g bytes flow
-    → direction_of g.networks side flow.source.0 flow.destination.0 ≡ Ok (way_of by) → AreFound g flow by → hop ≡ hop_by g by flow → IsNextHop (known_of g) (MayGoBy g notes) (at_hand side bytes) by (exit_by by) hop
+next-hop : (g : Shown) (side : Side) (bytes : List ℕ) (flow : Flow) (by : Translation) (hop : Ip) (notes : List Note) → IsRead g side bytes flow
+    → direction_of g.networks side flow.protocol flow.source.0 flow.destination.0 ≡ Ok (way_of by) → AreFound g flow by → hop ≡ hop_by g by flow → IsNextHop (known_of g) (MayGoBy g notes) (at_hand side bytes) by (exit_by by) hop
 next-hop g side bytes flow by hop notes read way found hop_is =
     record {
       goes = inl (record {
         passes = read.passes;
-        way = subst (λ (f : Flow). direction_of g.networks side f.source.0 f.destination.0 ≡ Ok (way_of by)) read.flow_is way;
+        way = subst (λ (f : Flow). direction_of g.networks side f.protocol f.source.0 f.destination.0 ≡ Ok (way_of by)) read.flow_is way;
         pairs = subst (λ (f : Flow). AreItsPairs f by) read.flow_is (its-pairs g flow by read.synced found);
       });
       target = targets-there g flow by notes read.synced found;
@@ -466,7 +467,7 @@ next-hop g side bytes flow by hop notes read way found hop_is =
       hop = ap (λ (h : Ip). h.0) (hop_is ∙ ap (hop_by g by) read.flow_is);
     }
 
-asked-by : (g : Shown) (side : Side) (bytes : List ℕ) (flow : Flow) (by : Translation) (hop : Ip) (notes : List Note) → IsRead g bytes flow → IsAsked g side flow by hop
+asked-by : (g : Shown) (side : Side) (bytes : List ℕ) (flow : Flow) (by : Translation) (hop : Ip) (notes : List Note) → IsRead g side bytes flow → IsAsked g side flow by hop
     → IsNextHop (known_of g) (MayGoBy g notes) (at_hand side bytes) by (exit_by by) hop × IsUnknown (known_of g) (exit_by by) hop
 asked-by g side bytes flow by hop notes read a = (
   next-hop g side bytes flow by hop notes read a.way a.pairs a.hop_is,
@@ -477,15 +478,15 @@ asked-by g side bytes flow by hop notes read a = (
 abbrev asking_for : Side → List ℕ → Translation → Ip → Cause → Asking
 asking_for side bytes by hop cause = record { packet = at_hand side bytes; by = by; exit = exit_by by; host = hop; cause = cause }
 
-one-other : (x : Sent) → is_other x.bytes ≡ true → other_frames (x ∷ []) ≡ x ∷ []
+one-other : (x : Sent) → is_other x.side x.bytes ≡ true → other_frames (x ∷ []) ≡ x ∷ []
 one-other x is = rw is refl
 
-behind-other : (x y : Sent) → is_other x.bytes ≡ false → is_other y.bytes ≡ true → other_frames (x ∷ y ∷ []) ≡ y ∷ []
+behind-other : (x y : Sent) → is_other x.side x.bytes ≡ false → is_other y.side y.bytes ≡ true → other_frames (x ∷ y ∷ []) ≡ y ∷ []
 behind-other x y is none = rw (is, none) refl
 
 module _ (frames : Frames) (s two : GatewayAndOutput) (side : Side) (bytes : List ℕ) (by : Translation) (hop : Ip) (x : Sent) (notes : List Note) where
   abbrev IsSentFrom : Type 0
-  IsSentFrom = (two.told.frames ≡ s.told.frames ++ x ∷ []) × ((is_other x.bytes ≡ false) × ((two.told.notes ≡ s.told.notes ++ notes)
+  IsSentFrom = (two.told.frames ≡ s.told.frames ++ x ∷ []) × ((is_other x.side x.bytes ≡ false) × ((two.told.notes ≡ s.told.notes ++ notes)
       × (((p : Pair) → IsTranslated two.shown.ledger.book.entries p → MayGoBy s.shown notes p) × ((two.shown.kept ≡ s.shown.kept) × ((known_of two.shown ≡ known_of s.shown)
       × (SameStations s.shown two.shown × ((AreWired s.shown → AreWired two.shown) × IsNextHop (known_of s.shown) (MayGoBy s.shown notes) (at_hand side bytes) by (exit_by by) hop)))))))
 
@@ -538,7 +539,7 @@ module _ (frames : Frames) (s two : GatewayAndOutput) (side : Side) (bytes : Lis
       at w exit is_exit true asks =
           let e = exit_by by in
           let y : Sent = record { side = e; bytes = request_by two.shown e hop } in
-          let other = request-other frames (station_on two.shown e).network hop (own-six two.shown (wired w.0) e) in
+          let other = request-other frames e (station_on two.shown e).network hop (own-six two.shown (wired w.0) e) in
           let g2 = neighbour_asked two.shown e hop in
           let net = net-stays s.shown two.shown stations.0 e in
           asks-by hand s (framed (scene g2 two.told) e (request_by two.shown e hop)) (x ∷ y ∷ []) notes (ask ∷ []) [] []
@@ -575,7 +576,7 @@ again-asks frames s side bytes by hop says = λ w. at w (asks_again s.shown.mome
         → IsAsking hand nobody s (let y : GatewayAndOutput = cond b (framed (scene (record s.shown { kept = kept }) s.told) exit (request_by s.shown exit hop)) s in y)
     at w true asks =
         let y : Sent = record { side = exit; bytes = request_by s.shown exit hop } in
-        let other = request-other frames (station_on s.shown exit).network hop (own-six s.shown w.0 exit) in
+        let other = request-other frames exit (station_on s.shown exit).network hop (own-six s.shown w.0 exit) in
         let ask = asking_for side bytes by hop Drops in
         asks-by hand s (framed (scene (record s.shown { kept = kept }) s.told) exit (request_by s.shown exit hop)) (y ∷ []) [] (ask ∷ []) [] []
         refl (sym (append-nil s.told.notes)) roots (record { hop = says.0; cause = (says.1, asks) }, tt) (one-other y other) tt refl
@@ -595,7 +596,7 @@ sent-stations s bytes flow (Outward p) next = ((refl, refl), (refl, refl))
 sent-stations s bytes flow (Inward p) next = ((refl, refl), (refl, refl))
 sent-stations s bytes flow (Hairpin own other) next = ((refl, refl), (refl, refl))
 
-plan-asks : Frames → (s : GatewayAndOutput) (side : Side) (bytes : List ℕ) (flow : Flow) (plan : Plan) → IsRead s.shown bytes flow → plan_of s.shown side flow ≡ Ok plan → PlanSays s.shown side flow (Ok plan)
+plan-asks : Frames → (s : GatewayAndOutput) (side : Side) (bytes : List ℕ) (flow : Flow) (plan : Plan) → IsRead s.shown side bytes flow → plan_of s.shown side flow ≡ Ok plan → PlanSays s.shown side flow (Ok plan)
     → Ask-on (at_hand side bytes ∷ []) nobody s (by_plan s side bytes flow plan)
 plan-asks frames s side bytes flow (Send by next) read plan says = λ w.
     let one = wanted_for s flow by in
@@ -607,7 +608,8 @@ plan-asks frames s side bytes flow (Send by next) read plan says = λ w.
     let c = carried-leaves mid flow (flags_in bytes) by in
     let notes = q.notes ++ all_notes mid.shown by in
     let planned = plan-sends s.shown side flow by next plan in
-    let is = sent-no_other frame (frames.sent s.shown.networks by next bytes w.0.0 (next-six s.shown flow by next w.0 planned.next_is) read.passes) in
+    let way = subst (λ (f : Flow). direction_of s.shown.networks side f.protocol f.source.0 f.destination.0 ≡ Ok (way_of by)) read.flow_is planned.way in
+    let is = sent-no_other (exit_by by) frame (frames.sent s.shown.networks side by next bytes w.0.0 (next-six s.shown flow by next w.0 planned.next_is) read.passes read.of_side way) in
     renewed-asks frames s two side bytes by (hop_by s.shown by flow) x notes (
       c.frames ∙ ap (λ (fs : List Sent). fs ++ x ∷ []) q.frames,
       (
@@ -636,7 +638,7 @@ plan-asks frames s side bytes flow (Ask by hop) read plan says = λ w.
     let asked = asked-by s.shown side bytes flow by hop q.notes read says.0 in
     let new : IsNew (known_of s.shown) (MayGoBy s.shown q.notes) (waiting side bytes s.shown.moment (wait.Hop exit hop)) = record { since = refl; asked = refl; wait = (by, asked) } in
     keeping-asks s one (by_plan s side bytes flow (Ask by hop)) side bytes (wait.Hop exit hop) (x ∷ []) (ask ∷ []) q refl refl refl refl (record { hop = asked.0; cause = asked.1 }, tt)
-    (one-other x (request-other frames (station_on s.shown exit).network hop (own-six s.shown w.0 exit))) new refl (λ ws. refl) refl refl ((refl, refl), (refl, refl)) (λ v. v) w
+    (one-other x (request-other frames exit (station_on s.shown exit).network hop (own-six s.shown w.0 exit))) new refl (λ ws. refl) refl refl ((refl, refl), (refl, refl)) (λ v. v) w
 plan-asks frames s side bytes flow (AskAgain by hop) read plan says = again-asks frames s side bytes by hop (asked-by s.shown side bytes flow by hop [] read says)
 plan-asks frames s side bytes flow (WaitFor e) read plan says =
     let one = wanted_by s e in
@@ -644,7 +646,7 @@ plan-asks frames s side bytes flow (WaitFor e) read plan says =
     let new : IsNew (known_of s.shown) (MayGoBy s.shown q.notes) (waiting side bytes s.shown.moment (wait.Pair e)) = record { since = refl; asked = refl; wait = says.0 ∙ ap source_of read.flow_is } in
     keeping-asks s one (by_plan s side bytes flow (WaitFor e)) side bytes (wait.Pair e) [] [] q (sym (append-nil one.told.frames)) refl refl refl tt refl new refl (λ ws. refl) refl refl ((refl, refl), (refl, refl)) (λ v. v)
 
-flow-asks : Frames → (s : GatewayAndOutput) (side : Side) (bytes : List ℕ) (flow : Flow) → IsRead s.shown bytes flow → Ask-on (at_hand side bytes ∷ []) nobody s (flow_taken s side bytes flow)
+flow-asks : Frames → (s : GatewayAndOutput) (side : Side) (bytes : List ℕ) (flow : Flow) → IsRead s.shown side bytes flow → Ask-on (at_hand side bytes ∷ []) nobody s (flow_taken s side bytes flow)
 flow-asks frames s side bytes flow read = at (plan_of s.shown side flow) refl (plan-says s.shown side flow)
   where
     at : (r : Result Plan Reason) → plan_of s.shown side flow ≡ r → PlanSays s.shown side flow r → Ask-on (at_hand side bytes ∷ []) nobody s (by_verdict s side bytes flow r)
@@ -654,8 +656,8 @@ flow-asks frames s side bytes flow read = at (plan_of s.shown side flow) refl (p
 pub packet-asks : Frames → (s : GatewayAndOutput) (side : Side) (bytes : List ℕ) (packet : PacketRead) → reading_on s.shown side bytes ≡ Ok (Packet packet) → Ask-on (at_hand side bytes ∷ []) nobody s (flow_taken s side bytes packet.flow)
 packet-asks frames s side bytes packet is =
     let at = station_on s.shown side in
-    let carries = frames.reads at.network (is_active at) (is_up s.shown) bytes (Packet packet) is in
-    flow-asks frames s side bytes packet.flow (record { synced = reading-synced s.shown side bytes (Packet packet) is; passes = carries.0; flow_is = ap (λ (p : PacketRead). p.flow) carries.1 })
+    let carries = frames.reads side at.network (is_active at) (is_up s.shown) bytes (Packet packet) is in
+    flow-asks frames s side bytes packet.flow (record { synced = reading-synced s.shown side bytes (Packet packet) is; passes = carries.0; of_side = carries.1.1; flow_is = ap (λ (p : PacketRead). p.flow) carries.1.0 })
 
 -- ---- an error
 
@@ -698,7 +700,7 @@ error-plan-asks frames s side bytes flow (Send by next) read says = λ w.
     let two = framed s (exit_by by) frame in
     let x : Sent = record { side = exit_by by; bytes = frame } in
     let six = next-six s.shown (addressed flow) by next w.0 says.1 in
-    let is = error-no_other frame (frames.passed_apart s.shown.networks by next bytes w.0.0 six read.passes) (frames.passed s.shown.networks by next bytes w.0.0 six read.passes) in
+    let is = error-no_other (exit_by by) frame (frames.passed_apart s.shown.networks (exit_by by) by next bytes w.0.0 six read.passes) (frames.passed s.shown.networks by next bytes w.0.0 six read.passes) in
     renewed-asks frames s two side bytes by (error_hop s.shown by flow) x [] (
       refl,
       (
@@ -720,7 +722,7 @@ error-plan-asks frames s side bytes flow (Ask by hop) read says = λ w.
     let asked = error-asked s.shown side bytes flow by hop q.notes read says.0 in
     let new : IsNew (known_of s.shown) (MayGoBy s.shown q.notes) (waiting side bytes s.shown.moment (wait.Hop exit hop)) = record { since = refl; asked = refl; wait = (by, asked) } in
     keeping-asks s s (by_error_plan s side bytes flow (Ask by hop)) side bytes (wait.Hop exit hop) (x ∷ []) (ask ∷ []) q refl refl refl refl (record { hop = asked.0; cause = asked.1 }, tt)
-    (one-other x (request-other frames (station_on s.shown exit).network hop (own-six s.shown w.0 exit))) new refl (λ ws. refl) refl refl ((refl, refl), (refl, refl)) (λ v. v) w
+    (one-other x (request-other frames exit (station_on s.shown exit).network hop (own-six s.shown w.0 exit))) new refl (λ ws. refl) refl refl ((refl, refl), (refl, refl)) (λ v. v) w
 error-plan-asks frames s side bytes flow (AskAgain by hop) read says = again-asks frames s side bytes by hop (error-asked s.shown side bytes flow by hop [] read says)
 error-plan-asks frames s side bytes flow (WaitFor e) read says = absurd says
 
@@ -730,7 +732,7 @@ error-asks frames s side bytes packet is = by (error_plan s.shown side packet.fl
   where
     read : IsErrorRead s.shown bytes packet.flow
     read = let at = station_on s.shown side in
-        let carries = frames.reads at.network (is_active at) (is_up s.shown) bytes (Error packet) is in
+        let carries = frames.reads side at.network (is_active at) (is_up s.shown) bytes (Error packet) is in
         record { synced = reading-synced s.shown side bytes (Error packet) is; passes = carries.0; flow_is = ap (λ (p : ErrorPacket). p.flow) carries.1 }
 
     by : (r : Result Plan Reason) → ErrorSays s.shown side packet.flow r → Ask-on (at_hand side bytes ∷ []) nobody s (by_error_verdict s side bytes packet.flow r)

@@ -81,7 +81,7 @@ pub record Gives (own : List Sent) (s s2 : GatewayAndOutput) : Type 0 where
 gives-then : (f h : List Sent) (a b c : GatewayAndOutput) → Gives f a b → Gives h b c → Gives (f ++ h) a c
 gives-then f h a b c x y = record {
   frames_are = y.frames_are ∙ ap (λ (fs : List Sent). fs ++ h) x.frames_are ∙ append_assoc a.told.frames f h;
-  apart = filter-append (λ (z : Sent). is_other z.bytes) f h ∙ ap (λ (fs : List Sent). fs ++ other_frames h) x.apart ∙ ap (λ (fs : List Sent). f ++ fs) y.apart;
+  apart = filter-append (λ (z : Sent). is_other z.side z.bytes) f h ∙ ap (λ (fs : List Sent). fs ++ other_frames h) x.apart ∙ ap (λ (fs : List Sent). f ++ fs) y.apart;
   notes = y.notes ∙ x.notes;
   entries = y.entries ∙ x.entries;
   kept = y.kept ∙ x.kept;
@@ -104,7 +104,7 @@ gives-nothing s s2 told ledger kept moment near nets fit = record {
   fit = fit;
 }
 
-gives-one : (s : GatewayAndOutput) (side : Side) (bytes : List ℕ) → is_other bytes ≡ true → IsFit s.shown → Gives (let x : Sent = record { side = side; bytes = bytes } in x ∷ []) s (framed s side bytes)
+gives-one : (s : GatewayAndOutput) (side : Side) (bytes : List ℕ) → is_other side bytes ≡ true → IsFit s.shown → Gives (let x : Sent = record { side = side; bytes = bytes } in x ∷ []) s (framed s side bytes)
 gives-one s side bytes none w = record { frames_are = refl; notes = refl; entries = refl; apart = rw none refl; kept = refl; moment = refl; near = λ t host a. sides t host a; nets = (refl, refl); fit = w }
   where
     sides : NearStays s.shown.moment s.shown (framed s side bytes).shown
@@ -142,7 +142,7 @@ others-then owes hand over own a b c owed x y = record {
   owed = owed;
   askings = y.askings;
   due = due-more (known_of c.shown) (MayGoBy b.shown y.notes) (MayGoBy a.shown y.notes) may a.shown b.shown near (λ side host t. subst (λ (ws : List HeldPacket). asks_again (known_of c.shown).moment (wait.Hop side host) ws ≡ true) x.kept t) y.askings y.due;
-  others = filter-append (λ (z : Sent). is_other z.bytes) own y.frames
+  others = filter-append (λ (z : Sent). is_other z.side z.bytes) own y.frames
       ∙ ap (λ (fs : List Sent). fs ++ other_frames y.frames) x.apart
       ∙ ap (λ (fs : List Sent). own ++ fs) (y.others ∙ requests-same a.shown b.shown x.nets y.askings);
   came = y.came;
@@ -200,7 +200,7 @@ answered-gives : Frames → (s : GatewayAndOutput) (station : Interface) (side :
     → Gives (sent_on side (answers_by station p o)) s (answered_by s side p o)
 answered-gives frames s station side p (Some mac) six same w =
     subst (λ (n : Network). Gives (sent_on side (answer_frame n p mac ∷ [])) s (answered_by s side p (Some mac))) same
-    (gives-one s side (answer_frame (station_on s.shown side).network p mac) (answer-other frames (station_on s.shown side).network p mac (own-six s.shown w.0 side) six) w)
+    (gives-one s side (answer_frame (station_on s.shown side).network p mac) (answer-other frames side (station_on s.shown side).network p mac (own-six s.shown w.0 side) six) w)
 answered-gives frames s station side p None six same w = gives-here s w
 
 arp-others : Frames → (s : GatewayAndOutput) (side : Side) (p : ArpPacket) → length p.sender_mac.0 ≡ 6 → IsFit s.shown
@@ -223,7 +223,7 @@ arp-others frames s side p six w =
 
 -- ---- routers
 
-all-framed-gives : (s : GatewayAndOutput) (side : Side) (fs : List (List ℕ)) → AllOther fs → IsFit s.shown → Gives (sent_on side fs) s (all_framed s side fs)
+all-framed-gives : (s : GatewayAndOutput) (side : Side) (fs : List (List ℕ)) → AllOther side fs → IsFit s.shown → Gives (sent_on side fs) s (all_framed s side fs)
 all-framed-gives s side [] all w = gives-here s w
 all-framed-gives s side (f ∷ fs) all w =
     gives-then (let x : Sent = record { side = side; bytes = f } in x ∷ []) (sent_on side fs) s (framed s side f) (all_framed s side (f ∷ fs)) (gives-one s side f all.0 w) (all-framed-gives (framed s side f) side fs all.1 w)
@@ -237,7 +237,7 @@ router-gives frames s side event s2 a w =
     let nearer : IsNearer s.shown.moment (station_on s.shown side) station = λ host t. subst (λ (x : Interface). asks_at host s.shown.moment x.neighbours ≡ true) a.step.rest t in
     let first = station-gives s side station (ap (λ (x : Interface). x.network) a.step.rest) nearer wired w in
     subst (λ (x : GatewayAndOutput). Gives own s x) (sym a.is)
-    (gives-then [] own s mid (acted s side station a.action) first (all-framed-gives mid side (frames_of station a.action) (action-frames frames station a.action) first.fit))
+    (gives-then [] own s mid (acted s side station a.action) first (all-framed-gives mid side (frames_of station a.action) (action-frames frames side station a.action) first.fit))
 
 pub all-framed-shown : (s : GatewayAndOutput) (side : Side) (fs : List (List ℕ)) → (all_framed s side fs).shown ≡ s.shown
 all-framed-shown s side [] = refl
@@ -360,7 +360,7 @@ frame-others : Frames → (s : GatewayAndOutput) (side : Side) (bytes : List ℕ
     → Sends-others (FrameOwes s.shown side r) (packet_as side bytes r) (frees_as s.shown side r) s s2
 frame-others frames s side bytes (Ok (Arp p)) s2 read w does =
     let at = station_on s.shown side in
-    let six = frames.reads at.network (is_active at) _ bytes (Arp p) read in
+    let six = frames.reads side at.network (is_active at) _ bytes (Arp p) read in
     subst (λ (x : GatewayAndOutput). Sends-others (FrameOwes s.shown side (Ok (Arp p))) [] (frees_as s.shown side (Ok (Arp p))) s x) (sym does)
     (arp-others frames s side p six w)
 frame-others frames s side bytes (Ok (Advert a from)) s2 read w does =

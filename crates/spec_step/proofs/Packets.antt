@@ -17,7 +17,8 @@ use Rattle.bindings.specs.declared.entries.Entry.{Entry}
 use Rattle.bindings.specs.Entries.{slot_of}
 use Rattle.frames.specs.Frame.{frame_of}
 use Rattle.ipv4.specs.declared.flows.Flow.{Flow}
-use Rattle.ipv4.specs.Carried.{IsTransport}
+use Rattle.icmp.specs.Query.{IsTranslatable}
+use Rattle.ipv4.specs.Flow.{protocol_of, source_place}
 use Rattle.ipv4.specs.Header.{header_of, payload_of, word_at}
 use Rattle.ipv4.specs.declared.packets.Packet.{Packet as PacketRead}
 use Rattle.activity.specs.declared.packets.Packet.{Packet as Carried}
@@ -71,12 +72,15 @@ source-formed bytes are is =
     let header = header_of body in
     let of_payload : AreBytes (payload_of body) = IsBytes-take (header.total_length - header.header_length) (drop header.header_length body) (IsBytes-drop header.header_length body of_body) in
     let low = big_from-lt 0 4 (drop 12 body) (IsBytes-drop 12 body of_body) in
-    let port = big_from-lt 0 2 (drop 0 (payload_of body)) (IsBytes-drop 0 (payload_of body) of_payload) in
-    record { address = omega (arith, low); port = (above body is.transport, omega (arith, port)) }
+    let place = source_place (protocol_of body) in
+    let port = big_from-lt 0 2 (drop place (payload_of body)) (IsBytes-drop place (payload_of body) of_payload) in
+    record { address = omega (arith, low); port = (above body is.translatable, omega (arith, port)) }
   where
-    above : (body : List ℕ) → IsTransport body → 0 < word_at 0 (payload_of body)
-    above body (inl udp) = udp.datagram.from
-    above body (inr tcp) = tcp.segment.from
+    above : (body : List ℕ) → IsTranslatable body → 0 < word_at (source_place (protocol_of body)) (payload_of body)
+    above body (inl (inl udp)) = rw udp.protocol udp.datagram.from
+    above body (inl (inr tcp)) = rw tcp.protocol tcp.segment.from
+    above body (inr (inl echo)) = rw echo.protocol echo.query.identifier
+    above body (inr (inr reply)) = rw reply.protocol reply.query.identifier
 
 -- a plan waits for an endpoint that a pair can have
 abbrev pub PlanFits : Result Plan Reason → Type 0
@@ -122,7 +126,7 @@ on-fits g flow way.Hairpin formed = at (target_pair g flow)
     at (Err reason) = tt
 
 pub plan-fits : (g : Shown) (side : Side) (flow : Flow) → IsWellFormedEndpoint (source_of flow) → PlanFits (plan_of g side flow)
-plan-fits g side flow formed = at (direction_of g.networks side flow.source.0 flow.destination.0)
+plan-fits g side flow formed = at (direction_of g.networks side flow.protocol flow.source.0 flow.destination.0)
   where
     at : (r : Result Direction Reason) → PlanFits (and_then r (plan_on g flow))
     at (Ok w) = on-fits g flow w formed
@@ -185,7 +189,7 @@ refusal-leaves P s flow HostLimit same wanted = same
 
 -- what is known of a frame by what it is read as
 abbrev pub Reads : Type 0
-Reads = (network : Network) (active up : Bool) (bytes : List ℕ) (reading : Reading) → reading_of network active up bytes ≡ Ok reading → Carries bytes reading
+Reads = (side : Side) (network : Network) (active up : Bool) (bytes : List ℕ) (reading : Reading) → reading_of side network active up bytes ≡ Ok reading → Carries side bytes reading
 
 module _ (letters : List Letter) (words : List ℕ) where
   pub wanted-goes : (s : GatewayAndOutput) (e : Endpoint) → IsWellFormedEndpoint e → Going letters words s (wanted_by s e)
@@ -308,8 +312,8 @@ module _ (letters : List Letter) (words : List ℕ) where
   pub read-formed : Reads → (g : Shown) (side : Side) (bytes : List ℕ) (packet : PacketRead) → AreBytes bytes → reading_on g side bytes ≡ Ok (Packet packet) → IsWellFormedEndpoint (source_of packet.flow)
   read-formed reads g side bytes packet are read =
       let at = station_on g side in
-      let known = reads at.network (is_active at) (is_up g) bytes (Packet packet) read in
-      subst (λ (p : PacketRead). IsWellFormedEndpoint (source_of p.flow)) (sym known.1) (source-formed bytes are known.0)
+      let known = reads side at.network (is_active at) (is_up g) bytes (Packet packet) read in
+      subst (λ (p : PacketRead). IsWellFormedEndpoint (source_of p.flow)) (sym known.1.0) (source-formed bytes are known.0)
 
   retaken-goes : Reads → (s : GatewayAndOutput) (side : Side) (bytes : List ℕ) (r : Result Reading Reason) → reading_on s.shown side bytes ≡ r → AreBytes bytes → Going letters words s (retaken_by s side bytes r)
   retaken-goes reads s side bytes (Ok (Packet packet)) read are = flow-goes s side bytes packet.flow are (read-formed reads s.shown side bytes packet are read)

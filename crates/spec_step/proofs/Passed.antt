@@ -39,7 +39,7 @@ is-passed g side bytes by next passes book synced going next_is =
     }
 
 pub passed-tells : (s : GatewayAndOutput) (side : Side) (bytes : List ℕ) (by : Translation) (next : Mac) → IsPassedOn (known_of s.shown) (MayGoBy s.shown []) (at_hand side bytes) by (passing s.shown bytes by next)
-    → is_translation (passed_frame s.shown.networks by next bytes) ≡ false → is_error_frame (passed_frame s.shown.networks by next bytes) ≡ true
+    → is_translation (exit_by by) (passed_frame s.shown.networks by next bytes) ≡ false → is_error_frame (passed_frame s.shown.networks by next bytes) ≡ true
     → Told (at_hand side bytes ∷ []) s (framed s (exit_by by) (passed_frame s.shown.networks by next bytes))
 passed-tells s side bytes by next passed apart is =
     let d : Sending = record { packet = at_hand side bytes; by = by; sent = passing s.shown bytes by next } in

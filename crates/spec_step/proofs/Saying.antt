@@ -26,7 +26,7 @@ use Rattle.packet_rules.specs.declared.translations.Translation.TheVariants.{Out
 use Rattle.packet_rules.specs.Arping.{request_frame}
 use Rattle.packet_rules.specs.Flows.{error_flow_in, flow_in, source_of}
 use Rattle.packet_rules.specs.Frames.{sent_frame}
-use Rattle.packet_rules.specs.Steps.{IsForwardable, unless, up_refusal, IsPassable}
+use Rattle.packet_rules.specs.Steps.{IsForwardable, IsOfSide, unless, up_refusal, IsPassable}
 use Rattle.packet_rules.specs.Errors.{passed_frame}
 use Rattle.interfaces.specs.Stations.{is_active}
 use Rattle.output.specs.Output.{Sent}
@@ -109,7 +109,7 @@ wanted-for-says s flow (Inward p) formed = saying-nothing s []
 wanted-for-says s flow (Hairpin own other) formed = wanted-says s (source_of flow) formed
 
 -- a frame of another kind
-pub framed-says : (s : GatewayAndOutput) (side : Side) (bytes : List ℕ) → (AreWired s.shown → is_other bytes ≡ true) → Saying [] s (framed s side bytes)
+pub framed-says : (s : GatewayAndOutput) (side : Side) (bytes : List ℕ) → (AreWired s.shown → is_other side bytes ≡ true) → Saying [] s (framed s side bytes)
 framed-says s side bytes none = λ is w. (
   record { tells = framed-tells s side bytes (none w); sound = record { book = is.book; kept = is.kept }; wired = w },
   refl,
@@ -127,14 +127,15 @@ keeping-says s side bytes w are = λ is wired. (
 )
 
 -- what a packet is read with
-record IsRead (s : GatewayAndOutput) (bytes : List ℕ) (flow : Flow) : Type 0 where
+record IsRead (s : GatewayAndOutput) (side : Side) (bytes : List ℕ) (flow : Flow) : Type 0 where
   are : AreBytes bytes
   synced : is_synced s.shown.ledger.book.stage ≡ true
   passes : IsForwardable bytes
+  of_side : IsOfSide side bytes
   flow_is : flow ≡ flow_in bytes
 
-read-from : (s : GatewayAndOutput) (bytes : List ℕ) (flow : Flow) → IsRead s bytes flow → IsWellFormedEndpoint (source_of flow)
-read-from s bytes flow read = subst (λ (f : Flow). IsWellFormedEndpoint (source_of f)) (sym read.flow_is) (source-formed bytes read.are read.passes)
+read-from : (s : GatewayAndOutput) (side : Side) (bytes : List ℕ) (flow : Flow) → IsRead s side bytes flow → IsWellFormedEndpoint (source_of flow)
+read-from s side bytes flow read = subst (λ (f : Flow). IsWellFormedEndpoint (source_of f)) (sym read.flow_is) (source-formed bytes read.are read.passes)
 
 -- ---- a next hop is asked for
 
@@ -164,7 +165,7 @@ renewed-says frames s exit hop = at exit (asks_at hop.0 s.shown.moment (station_
     at side true =
         let mid = scene (neighbour_asked s.shown side hop) s.told in
         λ is w. saying-then [] [] s mid (framed mid side (request_by s.shown side hop)) (asked side)
-        (framed-says mid side (request_by s.shown side hop) (λ x. request-other frames (station_on s.shown side).network hop (own-six s.shown w side))) is w
+        (framed-says mid side (request_by s.shown side hop) (λ x. request-other frames side (station_on s.shown side).network hop (own-six s.shown w side))) is w
     at side false = saying-nothing s []
 
 again-says : Frames → (s : GatewayAndOutput) (exit : Side) (hop : Ip) → Saying [] s (asked_again s exit hop)
@@ -208,13 +209,13 @@ again-says frames s exit hop = at (asks_again s.shown.moment (wait.Hop exit hop)
 
     at : (b : Bool) → Saying [] s (let x : GatewayAndOutput = cond b (framed mid exit (request_by s.shown exit hop)) s in x)
     at true = λ is w. saying-then [] [] s mid (framed mid exit (request_by s.shown exit hop)) asked
-        (framed-says mid exit (request_by s.shown exit hop) (λ x. request-other frames (station_on s.shown exit).network hop (own-six s.shown w exit))) is w
+        (framed-says mid exit (request_by s.shown exit hop) (λ x. request-other frames exit (station_on s.shown exit).network hop (own-six s.shown w exit))) is w
     at false = saying-nothing s []
 
 -- ---- a packet that is sent on
 
 -- from the scene at which its pairs are there
-sending-says : Frames → (s one : GatewayAndOutput) (side : Side) (bytes : List ℕ) (by : Translation) (next : Mac) → IsRead s bytes (flow_in bytes) → plan_of s.shown side (flow_in bytes) ≡ Ok (Send by next)
+sending-says : Frames → (s one : GatewayAndOutput) (side : Side) (bytes : List ℕ) (by : Translation) (next : Mac) → IsRead s side bytes (flow_in bytes) → plan_of s.shown side (flow_in bytes) ≡ Ok (Send by next)
     → one ≡ wanted_for s (flow_in bytes) by → IsBook s.shown.ledger.book → AreWired s.shown
     → Saying (at_hand side bytes ∷ []) one (carried_all (framed one (exit_by by) (sent_frame s.shown.networks by next bytes)) (flow_in bytes) (flags_in bytes) by)
 sending-says frames s one side bytes by next read plan at book wired = λ is w.
@@ -228,7 +229,7 @@ sending-says frames s one side bytes by next read plan at book wired = λ is w.
       record {
         tells = sending-tells one side bytes flow (flags_in bytes) by frame
             (subst (λ (k : Known). IsSentBy k (at_hand side bytes) by (let x : Sent = record { side = exit_by by; bytes = frame } in x)) (sym same) sent)
-            (frames.sent s.shown.networks by next bytes wired.0 (next-six s.shown flow by next wired planned.next_is) read.passes)
+            (frames.sent s.shown.networks side by next bytes wired.0 (next-six s.shown flow by next wired planned.next_is) read.passes read.of_side planned.way)
             (subst (λ (x : GatewayAndOutput). AllTranslate x.shown.ledger.book by) (sym at) found.0);
         sound = record {
           book = subst IsBook (sym c.book) is.book;
@@ -239,14 +240,14 @@ sending-says frames s one side bytes by next read plan at book wired = λ is w.
       c.known,
     )
 
-sent-says : Frames → (s : GatewayAndOutput) (side : Side) (bytes : List ℕ) (by : Translation) (next : Mac) → IsRead s bytes (flow_in bytes) → plan_of s.shown side (flow_in bytes) ≡ Ok (Send by next)
+sent-says : Frames → (s : GatewayAndOutput) (side : Side) (bytes : List ℕ) (by : Translation) (next : Mac) → IsRead s side bytes (flow_in bytes) → plan_of s.shown side (flow_in bytes) ≡ Ok (Send by next)
     → Saying (at_hand side bytes ∷ []) s (by_plan s side bytes (flow_in bytes) (Send by next))
 sent-says frames s side bytes by next read plan =
     let flow = flow_in bytes in
     let one = wanted_for s flow by in
     let frame = sent_frame s.shown.networks by next bytes in
     let two = carried_all (framed one (exit_by by) frame) flow (flags_in bytes) by in
-    let first = wanted-for-says s flow by (read-from s bytes flow read) in
+    let first = wanted-for-says s flow by (read-from s side bytes flow read) in
     λ is w. saying-then (at_hand side bytes ∷ []) [] s two (by_plan s side bytes flow (Send by next))
     (saying-then [] (at_hand side bytes ∷ []) s one two first (sending-says frames s one side bytes by next read plan refl is.book w))
     (renewed-says frames two (exit_by by) (hop_by s.shown by flow)) is w
@@ -257,11 +258,11 @@ addressed flow = record flow.inside { source = flow.source; destination = flow.d
 
 -- ---- any plan, and none
 
-plan-says : Frames → (s : GatewayAndOutput) (side : Side) (bytes : List ℕ) (flow : Flow) (plan : Plan) → IsRead s bytes flow → plan_of s.shown side flow ≡ Ok plan → PlanFits (Ok plan)
+plan-says : Frames → (s : GatewayAndOutput) (side : Side) (bytes : List ℕ) (flow : Flow) (plan : Plan) → IsRead s side bytes flow → plan_of s.shown side flow ≡ Ok plan → PlanFits (Ok plan)
     → Saying (at_hand side bytes ∷ []) s (by_plan s side bytes flow plan)
 plan-says frames s side bytes flow (Send by next) read plan fits =
     let same = read.flow_is in
-    let read2 : IsRead s bytes (flow_in bytes) = record { are = read.are; synced = read.synced; passes = read.passes; flow_is = refl } in
+    let read2 : IsRead s side bytes (flow_in bytes) = record { are = read.are; synced = read.synced; passes = read.passes; of_side = read.of_side; flow_is = refl } in
     subst (λ (f : Flow). Saying (at_hand side bytes ∷ []) s (by_plan s side bytes f (Send by next))) (sym same)
     (sent-says frames s side bytes by next read2 (ap (plan_of s.shown side) (sym same) ∙ plan))
 plan-says frames s side bytes flow (Ask by hop) read plan fits =
@@ -269,9 +270,9 @@ plan-says frames s side bytes flow (Ask by hop) read plan fits =
     let one = wanted_for s flow by in
     let two = keeping one side bytes (wait.Hop (exit_by by) hop) in
     let network = (station_on s.shown (exit_by by)).network in
-    let first = saying-then [] hand s one two (wanted-for-says s flow by (read-from s bytes flow read)) (keeping-says one side bytes (wait.Hop (exit_by by) hop) read.are) in
+    let first = saying-then [] hand s one two (wanted-for-says s flow by (read-from s side bytes flow read)) (keeping-says one side bytes (wait.Hop (exit_by by) hop) read.are) in
     λ is w. saying-then hand [] s two (framed two (exit_by by) (request_frame network hop)) first
-    (framed-says two (exit_by by) (request_frame network hop) (λ x. request-other frames network hop (own-six s.shown w (exit_by by)))) is w
+    (framed-says two (exit_by by) (request_frame network hop) (λ x. request-other frames (exit_by by) network hop (own-six s.shown w (exit_by by)))) is w
 plan-says frames s side bytes flow (AskAgain by hop) read plan fits =
     let hand = at_hand side bytes ∷ [] in
     saying-then hand [] s s (asked_again s (exit_by by) hop) (saying-nothing s hand) (again-says frames s (exit_by by) hop)
@@ -281,13 +282,13 @@ plan-says frames s side bytes flow (WaitFor e) read plan fits =
 refusal-says : (s : GatewayAndOutput) (flow : Flow) (reason : Reason) → IsWellFormedEndpoint (source_of flow) → Saying [] s (by_refusal s flow reason)
 refusal-says s flow reason formed = refusal-leaves (λ x. Saying [] s x) s flow reason (saying-nothing s []) (wanted-says s (source_of flow) formed)
 
-flow-says : Frames → (s : GatewayAndOutput) (side : Side) (bytes : List ℕ) (flow : Flow) → IsRead s bytes flow → Saying (at_hand side bytes ∷ []) s (flow_taken s side bytes flow)
-flow-says frames s side bytes flow read = at (plan_of s.shown side flow) refl (plan-fits s.shown side flow (read-from s bytes flow read))
+flow-says : Frames → (s : GatewayAndOutput) (side : Side) (bytes : List ℕ) (flow : Flow) → IsRead s side bytes flow → Saying (at_hand side bytes ∷ []) s (flow_taken s side bytes flow)
+flow-says frames s side bytes flow read = at (plan_of s.shown side flow) refl (plan-fits s.shown side flow (read-from s side bytes flow read))
   where
     at : (r : Result Plan Reason) → plan_of s.shown side flow ≡ r → PlanFits r → Saying (at_hand side bytes ∷ []) s (by_verdict s side bytes flow r)
     at (Ok plan) is fits = plan-says frames s side bytes flow plan read is fits
     at (Err reason) is fits =
-        saying-then (at_hand side bytes ∷ []) [] s s (by_refusal s flow reason) (saying-nothing s (at_hand side bytes ∷ [])) (refusal-says s flow reason (read-from s bytes flow read))
+        saying-then (at_hand side bytes ∷ []) [] s s (by_refusal s flow reason) (saying-nothing s (at_hand side bytes ∷ [])) (refusal-says s flow reason (read-from s side bytes flow read))
 
 -- ---- frames as they are read
 
@@ -315,8 +316,8 @@ pub packet-says : Frames → (s : GatewayAndOutput) (side : Side) (bytes : List 
     → Saying (at_hand side bytes ∷ []) s (flow_taken s side bytes packet.flow)
 packet-says frames s side bytes packet is are =
     let at = station_on s.shown side in
-    let carries = frames.reads at.network (is_active at) (is_up s.shown) bytes (Packet packet) is in
-    flow-says frames s side bytes packet.flow (record { are = are; synced = reading-synced s.shown side bytes (Packet packet) is; passes = carries.0; flow_is = ap (λ (p : PacketRead). p.flow) carries.1 })
+    let carries = frames.reads side at.network (is_active at) (is_up s.shown) bytes (Packet packet) is in
+    flow-says frames s side bytes packet.flow (record { are = are; synced = reading-synced s.shown side bytes (Packet packet) is; passes = carries.0; of_side = carries.1.1; flow_is = ap (λ (p : PacketRead). p.flow) carries.1.0 })
 
 -- ---- an error
 
@@ -334,7 +335,7 @@ passed-says frames s side bytes by next read goes next_is = λ is w. (
   record {
     tells = passed-tells s side bytes by next
         (is-passed s.shown side bytes by next read.passes is.book read.synced goes next_is)
-        (frames.passed_apart s.shown.networks by next bytes w.0 (six w) read.passes)
+        (frames.passed_apart s.shown.networks (exit_by by) by next bytes w.0 (six w) read.passes)
         (frames.passed s.shown.networks by next bytes w.0 (six w) read.passes);
     sound = record { book = is.book; kept = is.kept };
     wired = w;
@@ -358,7 +359,7 @@ error-plan-says frames s side bytes (Ask by hop) read says =
     let one = keeping s side bytes what in
     let network = (station_on s.shown (exit_by by)).network in
     λ is w. saying-then hand [] s one (framed one (exit_by by) (request_frame network hop)) (keeping-says s side bytes what read.are)
-    (framed-says one (exit_by by) (request_frame network hop) (λ x. request-other frames network hop (own-six s.shown w (exit_by by)))) is w
+    (framed-says one (exit_by by) (request_frame network hop) (λ x. request-other frames (exit_by by) network hop (own-six s.shown w (exit_by by)))) is w
 error-plan-says frames s side bytes (AskAgain by hop) read says =
     let hand = at_hand side bytes ∷ [] in
     saying-then hand [] s s (asked_again s (exit_by by) hop) (saying-nothing s hand) (again-says frames s (exit_by by) hop)
@@ -377,7 +378,7 @@ pub error-packet-says : Frames → (s : GatewayAndOutput) (side : Side) (bytes :
     → Saying (at_hand side bytes ∷ []) s (error_taken s side bytes packet.flow)
 error-packet-says frames s side bytes packet is are =
     let at = station_on s.shown side in
-    let carries = frames.reads at.network (is_active at) (is_up s.shown) bytes (Error packet) is in
+    let carries = frames.reads side at.network (is_active at) (is_up s.shown) bytes (Error packet) is in
     error-says-of frames s side bytes packet.flow (record { are = are; synced = reading-synced s.shown side bytes (Error packet) is; passes = carries.0; flow_is = ap (λ (p : ErrorPacket). p.flow) carries.1 })
 
 -- ---- a frame that is read again

@@ -1,5 +1,5 @@
 -- A packet that is sent on is told of truly.
-use Rattle.std.proofs.Common.{◌≡◌, ℕ, true, false, Some, List, [], ◌∷◌, ◌++◌, length, IsPermutation, refl, sym, ap, subst, ◌∙◌, append_assoc}
+use Rattle.std.proofs.Common.{◌≡◌, ℕ, true, false, Some, Ok, List, [], ◌∷◌, ◌++◌, length, IsPermutation, refl, sym, ap, subst, ◌∙◌, append_assoc}
 use Rattle.std.proofs.lemmas.List.{append-nil}
 use Rattle.std.proofs.lemmas.Grind.{flat_map-append}
 use Rattle.std.proofs.lemmas.List.Sorted.{IsPermutation-refl}
@@ -25,9 +25,9 @@ use Rattle.packet_rules.specs.declared.translations.Translation.TheVariants.{Out
 use Rattle.packet_rules.specs.Adverts.{advert_frame}
 use Rattle.packet_rules.specs.Arping.{answer_frame, gratuitous_frame, request_frame}
 use Rattle.packet_rules.specs.Flows.{flow_in, source_of}
-use Rattle.packet_rules.specs.Frames.{hop_of, is_translation, pairs_of, sent_frame}
-use Rattle.packet_rules.specs.Networks.{IsWired}
-use Rattle.packet_rules.specs.Steps.{IsForwardable, IsPassable}
+use Rattle.packet_rules.specs.Frames.{hop_of, is_translation, pairs_of, sent_frame, way_of}
+use Rattle.packet_rules.specs.Networks.{IsWired, direction_of, exit_of}
+use Rattle.packet_rules.specs.Steps.{IsForwardable, IsOfSide, IsPassable}
 use Rattle.packet_rules.specs.Errors.{is_error_frame, passed_frame}
 use Rattle.output.specs.Output.{Sent}
 use Rattle.spec_step.specs.Others.{is_other, retaken_pairs}
@@ -45,13 +45,14 @@ use Rattle.spec_step.proofs.Translating.{Translates, carry-note, target-translat
 -- what is known of frames: what they are read as, and which of those that are sent are translations
 pub record Frames : Type 0 where
   pub reads : Reads
-  pub sent : (networks : Networks) (t : Translation) (next : Mac) (bytes : List ℕ) → IsWired networks → length next.0 ≡ 6 → IsForwardable bytes → is_translation (sent_frame networks t next bytes) ≡ true
-  pub answer : (network : Network) (p : ArpPacket) (mac : Mac) → length network.own_mac.0 ≡ 6 → length p.sender_mac.0 ≡ 6 → is_translation (answer_frame network p mac) ≡ false
-  pub request : (network : Network) (ip : Ip) → length network.own_mac.0 ≡ 6 → is_translation (request_frame network ip) ≡ false
-  pub gratuitous : (network : Network) → is_translation (gratuitous_frame network) ≡ false
-  pub advert : (network : Network) (priority interval : ℕ) → is_translation (advert_frame network priority interval) ≡ false
+  pub sent : (networks : Networks) (side : Side) (t : Translation) (next : Mac) (bytes : List ℕ) → IsWired networks → length next.0 ≡ 6 → IsForwardable bytes → IsOfSide side bytes
+      → (let flow = flow_in bytes in direction_of networks side flow.protocol flow.source.0 flow.destination.0 ≡ Ok (way_of t)) → is_translation (exit_of (way_of t)) (sent_frame networks t next bytes) ≡ true
+  pub answer : (exit : Side) (network : Network) (p : ArpPacket) (mac : Mac) → length network.own_mac.0 ≡ 6 → length p.sender_mac.0 ≡ 6 → is_translation exit (answer_frame network p mac) ≡ false
+  pub request : (exit : Side) (network : Network) (ip : Ip) → length network.own_mac.0 ≡ 6 → is_translation exit (request_frame network ip) ≡ false
+  pub gratuitous : (exit : Side) (network : Network) → is_translation exit (gratuitous_frame network) ≡ false
+  pub advert : (exit : Side) (network : Network) (priority interval : ℕ) → is_translation exit (advert_frame network priority interval) ≡ false
   pub passed : (networks : Networks) (t : Translation) (next : Mac) (bytes : List ℕ) → IsWired networks → length next.0 ≡ 6 → IsPassable bytes → is_error_frame (passed_frame networks t next bytes) ≡ true
-  pub passed_apart : (networks : Networks) (t : Translation) (next : Mac) (bytes : List ℕ) → IsWired networks → length next.0 ≡ 6 → IsPassable bytes → is_translation (passed_frame networks t next bytes) ≡ false
+  pub passed_apart : (networks : Networks) (exit : Side) (t : Translation) (next : Mac) (bytes : List ℕ) → IsWired networks → length next.0 ≡ 6 → IsPassable bytes → is_translation exit (passed_frame networks t next bytes) ≡ false
   pub answer_no_error : (network : Network) (p : ArpPacket) (mac : Mac) → length network.own_mac.0 ≡ 6 → length p.sender_mac.0 ≡ 6 → is_error_frame (answer_frame network p mac) ≡ false
   pub request_no_error : (network : Network) (ip : Ip) → length network.own_mac.0 ≡ 6 → is_error_frame (request_frame network ip) ≡ false
   pub gratuitous_no_error : (network : Network) → is_error_frame (gratuitous_frame network) ≡ false
@@ -59,17 +60,17 @@ pub record Frames : Type 0 where
 
 -- ---- frames of another kind
 
-pub request-other : Frames → (network : Network) (ip : Ip) → length network.own_mac.0 ≡ 6 → is_other (request_frame network ip) ≡ true
-request-other frames network ip own = other-by _ (frames.request network ip own) (frames.request_no_error network ip own)
+pub request-other : Frames → (exit : Side) (network : Network) (ip : Ip) → length network.own_mac.0 ≡ 6 → is_other exit (request_frame network ip) ≡ true
+request-other frames exit network ip own = other-by exit _ (frames.request exit network ip own) (frames.request_no_error network ip own)
 
-pub advert-other : Frames → (network : Network) (priority interval : ℕ) → is_other (advert_frame network priority interval) ≡ true
-advert-other frames network priority interval = other-by _ (frames.advert network priority interval) (frames.advert_no_error network priority interval)
+pub advert-other : Frames → (exit : Side) (network : Network) (priority interval : ℕ) → is_other exit (advert_frame network priority interval) ≡ true
+advert-other frames exit network priority interval = other-by exit _ (frames.advert exit network priority interval) (frames.advert_no_error network priority interval)
 
-pub gratuitous-other : Frames → (network : Network) → is_other (gratuitous_frame network) ≡ true
-gratuitous-other frames network = other-by _ (frames.gratuitous network) (frames.gratuitous_no_error network)
+pub gratuitous-other : Frames → (exit : Side) (network : Network) → is_other exit (gratuitous_frame network) ≡ true
+gratuitous-other frames exit network = other-by exit _ (frames.gratuitous exit network) (frames.gratuitous_no_error network)
 
-pub answer-other : Frames → (network : Network) (p : ArpPacket) (mac : Mac) → length network.own_mac.0 ≡ 6 → length p.sender_mac.0 ≡ 6 → is_other (answer_frame network p mac) ≡ true
-answer-other frames network p mac own six = other-by _ (frames.answer network p mac own six) (frames.answer_no_error network p mac own six)
+pub answer-other : Frames → (exit : Side) (network : Network) (p : ArpPacket) (mac : Mac) → length network.own_mac.0 ≡ 6 → length p.sender_mac.0 ≡ 6 → is_other exit (answer_frame network p mac) ≡ true
+answer-other frames exit network p mac own six = other-by exit _ (frames.answer exit network p mac own six) (frames.answer_no_error network p mac own six)
 
 pub near-is : (g : Shown) (side : Side) → near_on (known_of g) side ≡ unasked (station_on g side).neighbours
 near-is g Inside = refl
@@ -173,14 +174,14 @@ next-six g flow by next wired is = near-six (hop_by g by flow).0 g.moment (stati
 
 -- the frame of a packet, and the notes of its pairs
 pub sending-tells : (s : GatewayAndOutput) (side : Side) (bytes : List ℕ) (flow : Flow) (flags : TcpFlags) (by : Translation) (frame : List ℕ)
-    → IsSentBy (known_of s.shown) (at_hand side bytes) by (let x : Sent = record { side = exit_by by; bytes = frame } in x) → is_translation frame ≡ true → AllTranslate s.shown.ledger.book by
+    → IsSentBy (known_of s.shown) (at_hand side bytes) by (let x : Sent = record { side = exit_by by; bytes = frame } in x) → is_translation (exit_by by) frame ≡ true → AllTranslate s.shown.ledger.book by
     → Told (at_hand side bytes ∷ []) s (carried_all (framed s (exit_by by) frame) flow flags by)
 sending-tells s side bytes flow flags by frame sent is all =
     let two = carried_all (framed s (exit_by by) frame) flow flags by in
     let c = carried-leaves (framed s (exit_by by) frame) flow flags by in
     let x : Sent = record { side = exit_by by; bytes = frame } in
     let d : Sending = record { packet = at_hand side bytes; by = by; sent = x } in
-    let none = sent-no_error frame is in
+    let none = sent-no_error (exit_by by) frame is in
     record {
       all = record {
         frames = x ∷ [];

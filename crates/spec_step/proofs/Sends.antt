@@ -40,7 +40,7 @@ AreFound g flow (Inward p) = IsTarget g flow p
 AreFound g flow (Hairpin own other) = IsOwn g flow own × IsTarget g flow other
 
 pub record IsPlanned (g : Shown) (side : Side) (flow : Flow) (by : Translation) (next : Mac) : Type 0 where
-  pub way : direction_of g.networks side flow.source.0 flow.destination.0 ≡ Ok (way_of by)
+  pub way : direction_of g.networks side flow.protocol flow.source.0 flow.destination.0 ≡ Ok (way_of by)
   pub pairs : AreFound g flow by
   pub next_is : next_by g by flow ≡ Some next
 
@@ -53,7 +53,7 @@ to-send g by hop None by2 next is = at (has_place g.kept (wait.Hop (exit_by by) 
     at false is = absurd (cc)
 
 by-send : (g : Shown) (side : Side) (flow : Flow) (by by2 : Translation) (next : Mac)
-    → direction_of g.networks side flow.source.0 flow.destination.0 ≡ Ok (way_of by) → AreFound g flow by → plan_by g flow by ≡ Ok (Send by2 next) → IsPlanned g side flow by2 next
+    → direction_of g.networks side flow.protocol flow.source.0 flow.destination.0 ≡ Ok (way_of by) → AreFound g flow by → plan_by g flow by ≡ Ok (Send by2 next) → IsPlanned g side flow by2 next
 by-send g side flow by by2 next way found is =
     let t = to-send g by (hop_by g by flow) (next_by g by flow) by2 next is in
     subst (λ (b : Translation). IsPlanned g side flow b next) t.0 (record { way = way; pairs = found; next_is = t.1 })
@@ -72,7 +72,7 @@ from-send g flow by want.NotNow by2 next is = absurd (cc)
 from-send g flow by want.HostLimit by2 next is = absurd (cc)
 
 on-send : (g : Shown) (side : Side) (flow : Flow) (w : Direction) (by : Translation) (next : Mac)
-    → direction_of g.networks side flow.source.0 flow.destination.0 ≡ Ok w → plan_on g flow w ≡ Ok (Send by next) → IsPlanned g side flow by next
+    → direction_of g.networks side flow.protocol flow.source.0 flow.destination.0 ≡ Ok w → plan_on g flow w ≡ Ok (Send by next) → IsPlanned g side flow by next
 on-send g side flow way.Outward by next there is =
     let f = from-send g flow Outward (look_for g flow) by next is in
     by-send g side flow (Outward (new_pair (source_of flow) f.0)) by next there (f.0, (f.1.0, refl)) f.1.1
@@ -91,8 +91,8 @@ on-send g side flow way.Hairpin by next there is = at (target_pair g flow) refl 
 
 -- a packet that is sent on is so by its way, its pairs and its next hop
 pub plan-sends : (g : Shown) (side : Side) (flow : Flow) (by : Translation) (next : Mac) → plan_of g side flow ≡ Ok (Send by next) → IsPlanned g side flow by next
-plan-sends g side flow by next is = at (direction_of g.networks side flow.source.0 flow.destination.0) refl is
+plan-sends g side flow by next is = at (direction_of g.networks side flow.protocol flow.source.0 flow.destination.0) refl is
   where
-    at : (r : Result Direction Reason) → direction_of g.networks side flow.source.0 flow.destination.0 ≡ r → and_then r (plan_on g flow) ≡ Ok (Send by next) → IsPlanned g side flow by next
+    at : (r : Result Direction Reason) → direction_of g.networks side flow.protocol flow.source.0 flow.destination.0 ≡ r → and_then r (plan_on g flow) ≡ Ok (Send by next) → IsPlanned g side flow by next
     at (Ok w) there is = on-send g side flow w by next there is
     at (Err reason) there is = absurd (cc)

@@ -151,7 +151,7 @@ module _ (h h2 : List AtHand) (a b c : GatewayAndOutput) (same : known_of c.show
       notes = both-notes;
       notes_are = y.all.notes_are ∙ ap (λ ns. ns ++ y.all.notes) x.all.notes_are ∙ append_assoc a.told.notes x.all.notes y.all.notes;
       done = x.all.done ++ y.all.done;
-      translated = filter-append (λ (f : Sent). is_translation f.bytes) x.all.frames y.all.frames ∙ ap (λ fs. fs ++ translated_frames y.all.frames) x.all.translated ∙ ap (λ fs. map (λ (t : Sending). t.sent) x.all.done ++ fs) y.all.translated ∙ sym (map-append (λ (t : Sending). t.sent) x.all.done y.all.done);
+      translated = filter-append (λ (f : Sent). is_translation f.side f.bytes) x.all.frames y.all.frames ∙ ap (λ fs. fs ++ translated_frames y.all.frames) x.all.translated ∙ ap (λ fs. map (λ (t : Sending). t.sent) x.all.done ++ fs) y.all.translated ∙ sym (map-append (λ (t : Sending). t.sent) x.all.done y.all.done);
       used = flat_map-append (λ (n : Note). used_in n.what) x.all.notes y.all.notes ∙ ap (λ ps. ps ++ used_pairs y.all.notes) x.all.used ∙ ap (λ ps. flat_map (λ (t : Sending). pairs_of t.by) x.all.done ++ ps) y.all.used ∙ sym (flat_map-append (λ (t : Sending). pairs_of t.by) x.all.done y.all.done);
       each = each-append (known_of c.shown) x.all.done y.all.done (subst (λ k. AreSent k x.all.done) (sym same) x.all.each) y.all.each;
       passed = x.all.passed ++ y.all.passed;
@@ -191,9 +191,9 @@ tells-unseen s s2 frames notes entries kept =
     tells-quietly s s2 [] frames (notes ∙ sym (append-nil s.told.notes)) refl kept (same-rooted s.shown.ledger.book.entries s2.shown.ledger.book.entries [] entries)
 
 -- a frame of another kind
-pub framed-tells : (s : GatewayAndOutput) (side : Side) (bytes : List ℕ) → is_other bytes ≡ true → Told [] s (framed s side bytes)
+pub framed-tells : (s : GatewayAndOutput) (side : Side) (bytes : List ℕ) → is_other side bytes ≡ true → Told [] s (framed s side bytes)
 framed-tells s side bytes other =
-    let none = other-none bytes other in
+    let none = other-none side bytes other in
     record {
       all = record {
         frames = record { side = side; bytes = bytes } ∷ [];

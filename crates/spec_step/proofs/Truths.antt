@@ -94,7 +94,7 @@ after-wired station p now six w = at (is_learnable station.network p)
 
 answered-says : Frames → (s : GatewayAndOutput) (side : Side) (p : ArpPacket) (o : Option Mac) → length p.sender_mac.0 ≡ 6 → Saying [] s (answered_by s side p o)
 answered-says frames s side p (Some mac) six =
-    framed-says s side (answer_frame (station_on s.shown side).network p mac) (λ w. answer-other frames (station_on s.shown side).network p mac (own-six s.shown w side) six)
+    framed-says s side (answer_frame (station_on s.shown side).network p mac) (λ w. answer-other frames side (station_on s.shown side).network p mac (own-six s.shown w side) six)
 answered-says frames s side p None six = saying-nothing s []
 
 arp-speaks : Frames → (s : GatewayAndOutput) (side : Side) (p : ArpPacket) → length p.sender_mac.0 ≡ 6 → Speaks [] s (arp_taken s side p)
@@ -114,18 +114,18 @@ arp-speaks frames s side p six =
 
 -- ---- routers
 
-abbrev pub AllOther : List (List ℕ) → Type 0
-AllOther fs = AllByRecursion (λ f. is_other f ≡ true) fs
+abbrev pub AllOther : Side → List (List ℕ) → Type 0
+AllOther side fs = AllByRecursion (λ f. is_other side f ≡ true) fs
 
-all-framed-says : (s : GatewayAndOutput) (side : Side) (fs : List (List ℕ)) → AllOther fs → Saying [] s (all_framed s side fs)
+all-framed-says : (s : GatewayAndOutput) (side : Side) (fs : List (List ℕ)) → AllOther side fs → Saying [] s (all_framed s side fs)
 all-framed-says s side [] all = saying-nothing s []
 all-framed-says s side (f ∷ fs) all =
     saying-then [] [] s (framed s side f) (all_framed s side (f ∷ fs)) (framed-says s side f (λ w. all.0)) (all-framed-says (framed s side f) side fs all.1)
 
-pub action-frames : Frames → (station : Interface) (action : Action) → AllOther (frames_of station action)
-action-frames frames station Nothing = tt
-action-frames frames station (Advertise priority) = (advert-other frames station.network priority station.interval, tt)
-action-frames frames station (AdvertiseAndArp priority) = (advert-other frames station.network priority station.interval, (gratuitous-other frames station.network, tt))
+pub action-frames : Frames → (side : Side) (station : Interface) (action : Action) → AllOther side (frames_of station action)
+action-frames frames side station Nothing = tt
+action-frames frames side station (Advertise priority) = (advert-other frames side station.network priority station.interval, tt)
+action-frames frames side station (AdvertiseAndArp priority) = (advert-other frames side station.network priority station.interval, (gratuitous-other frames side station.network, tt))
 
 pub routed-wired : (station : Interface) (router : Router) → IsWired station → IsWired (record station { router = router })
 routed-wired station router w = record { own = w.own; known = w.known }
@@ -136,7 +136,7 @@ acted-says frames s side station action rest =
     let first : Speaks [] s mid = station-speaks s side station (λ w. subst IsWired (sym rest) (routed-wired (station_on s.shown side) station.router (wired-on s.shown w side))) in
     saying-then [] [] s mid (acted s side station action)
     (λ is w. (first is w, station-known s.shown side station (ap (λ (x : Interface). x.neighbours) rest)))
-    (all-framed-says mid side (frames_of station action) (action-frames frames station action))
+    (all-framed-says mid side (frames_of station action) (action-frames frames side station action))
 
 router-says : Frames → (s : GatewayAndOutput) (side : Side) (event : RouterEvent) (s2 : GatewayAndOutput) → RouterActs s side event s2 → Saying [] s s2
 router-says frames s side event s2 acts = subst (λ (x : GatewayAndOutput). Saying [] s x) (sym acts.is) (acted-says frames s side acts.station acts.action acts.step.rest)
@@ -150,7 +150,7 @@ both-say frames s event s2 both =
 frame-speaks : Frames → (s : GatewayAndOutput) (side : Side) (bytes : List ℕ) (r : Result Reading Reason) (s2 : GatewayAndOutput) → reading_on s.shown side bytes ≡ r → AreBytes bytes → FrameDoes s side bytes r s2 → Speaks (at_hand side bytes ∷ []) s s2
 frame-speaks frames s side bytes (Ok (Arp p)) s2 read are does =
     let at = station_on s.shown side in
-    let six = frames.reads at.network (is_active at) _ bytes (Arp p) read in
+    let six = frames.reads side at.network (is_active at) _ bytes (Arp p) read in
     let done = arp_taken s side p in
     let hand = at_hand side bytes ∷ [] in
     subst (λ (x : GatewayAndOutput). Speaks hand s x) (sym does) (speaks-then [] hand s done done (arp-speaks frames s side p six) (saying-nothing done hand))

@@ -56,12 +56,12 @@ use Rattle.spec_step.specs.Steps.{clock_after, word_refusal}
 use Rattle.spec_step.specs.Truly.{AreItsPairs, AtHand, Known, known_of, near_on, packets_of}
 use Rattle.spec_step.specs.Verdict.{exit_by, reading_on}
 
--- a frame is of neither
-unfoldable pub is_other : List ℕ → Bool
-is_other bytes = not (is_translation bytes) && not (is_error_frame bytes)
+-- a frame that left at this side is of neither
+unfoldable pub is_other : Side → List ℕ → Bool
+is_other side bytes = not (is_translation side bytes) && not (is_error_frame bytes)
 
 abbrev pub other_frames : List Sent → List Sent
-other_frames frames = filter (λ f. is_other f.bytes) frames
+other_frames frames = filter (λ f. is_other f.side f.bytes) frames
 
 abbrev pub sent_on : Side → List (List ℕ) → List Sent
 sent_on side frames = map (λ bytes. record { side = side; bytes = bytes }) frames
@@ -214,7 +214,7 @@ targets (Hairpin own other) = other ∷ []
 pub record IsPacketBy (networks : Networks) (packet : AtHand) (by : Translation) : Type 0 where
   pub passes : IsForwardable packet.bytes
   pub way : let flow = flow_in packet.bytes in
-      direction_of networks packet.side flow.source.0 flow.destination.0 ≡ Ok (way_of by)
+      direction_of networks packet.side flow.protocol flow.source.0 flow.destination.0 ≡ Ok (way_of by)
   pub pairs : AreItsPairs (flow_in packet.bytes) by
 
 -- and so does an ICMP error, by its own

@@ -92,7 +92,7 @@ AreItsPairs flow (Hairpin own other) = (own.endpoint ≡ source_of flow) × (oth
 -- at which it leaves.
 pub record IsSentBy (k : Known) (packet : AtHand) (by : Translation) (sent : Sent) : Type 0 where
   pub way : let flow = flow_in packet.bytes in
-      direction_of k.networks packet.side flow.source.0 flow.destination.0 ≡ Ok (way_of by)
+      direction_of k.networks packet.side flow.protocol flow.source.0 flow.destination.0 ≡ Ok (way_of by)
   pub pairs : AreItsPairs (flow_in packet.bytes) by
   pub side : sent.side ≡ exit_by by
   pub next : Mac
@@ -111,7 +111,7 @@ AreSent k (d ∷ ds) = IsSentBy k d.packet d.by d.sent × AreSent k ds
 
 -- those of the frames whose packet was translated
 abbrev pub translated_frames : List Sent → List Sent
-translated_frames frames = filter (λ f. is_translation f.bytes) frames
+translated_frames frames = filter (λ f. is_translation f.side f.bytes) frames
 
 -- From a scene to a later one, with these packets in hand: what was told more. Each packet at hand or kept before is sent
 -- once, or dropped, or kept afterwards.

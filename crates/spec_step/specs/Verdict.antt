@@ -101,12 +101,12 @@ plan_on g flow way.Hairpin =
     and_then (target_pair g flow) (λ p. plan_from g flow (λ own. Hairpin own p) (look_for g flow))
 
 abbrev pub plan_of : Shown → Side → Flow → Result Plan Reason
-plan_of g side flow = and_then (direction_of g.networks side flow.source.0 flow.destination.0) (plan_on g flow)
+plan_of g side flow = and_then (direction_of g.networks side flow.protocol flow.source.0 flow.destination.0) (plan_on g flow)
 
 -- what a frame is read as
 abbrev pub reading_on : Shown → Side → List ℕ → Result Reading Reason
 reading_on g side bytes =
-    let s = station_on g side in reading_of s.network (is_active s) (is_up g) bytes
+    let s = station_on g side in reading_of side s.network (is_active s) (is_up g) bytes
 
 -- ---- an ICMP error about a translated packet
 

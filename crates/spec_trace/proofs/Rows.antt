@@ -2,7 +2,7 @@
 use Rattle.std.proofs.Common.{◌≡◌, ℕ, ◌+◌, ◌≤◌, true, false, cond, [], ◌∷◌, Some, refl, subst, inl, inr, arith}
 use Rattle.nat_types.specs.declared.gateways.GatewayId.{GatewayId}
 use Rattle.nat_types.specs.declared.gateways.GatewayId.TheVariants.{Zero, One}
-use Rattle.addresses.specs.declared.transport.Protocol.TheVariants.{Tcp, Udp}
+use Rattle.addresses.specs.declared.transport.Protocol.TheVariants.{Icmp, Tcp, Udp}
 use Rattle.nat_types.specs.declared.pairs.Pair.{Pair}
 use Rattle.nat_types.specs.declared.notes.NoteKind.{NoteKind}
 use Rattle.nat_types.specs.declared.notes.NoteKind.TheVariants.{Used, Released, Retaken, Synced, Crashed, Booted}
@@ -17,6 +17,9 @@ pair_p = record { key = record { protocol = Udp; port = record { 0 = 20000 } }; 
 
 abbrev pair_q : Pair
 pair_q = record { key = record { protocol = Udp; port = record { 0 = 20000 } }; endpoint = record { protocol = Udp; address = record { 0 = 8 }; port = record { 0 = 4000 } } }
+
+abbrev icmp_pair : Pair
+icmp_pair = record { key = record { protocol = Icmp; port = record { 0 = 20000 } }; endpoint = record { protocol = Icmp; address = record { 0 = 7 }; port = record { 0 = 4000 } } }
 
 abbrev tcp_pair : Pair
 tcp_pair = record { key = record { protocol = Tcp; port = record { 0 = 20000 } }; endpoint = record { protocol = Tcp; address = record { 0 = 7 }; port = record { 0 = 4000 } } }
@@ -58,6 +61,12 @@ row_idle = (λ u h. elim h [ inl a ↦ let e : u ≡ 0 = a.2 in omega arith | in
 
 row_early : Idle (note Zero 29999 (Released pair_p) ∷ note Zero 0 (Used pair_p) ∷ []) → ⊥
 row_early h = let le : 0 + 30000 ≤ 29999 = h.0 0 (inl (refl, refl, refl)) in omega arith
+
+row_icmp_idle : Idle (note Zero 6000 (Released icmp_pair) ∷ note Zero 0 (Used icmp_pair) ∷ [])
+row_icmp_idle = (λ u h. elim h [ inl a ↦ let e : u ≡ 0 = a.2 in omega arith | inr b ↦ absurd b ], (tt, tt))
+
+row_icmp_early : Idle (note Zero 5999 (Released icmp_pair) ∷ note Zero 0 (Used icmp_pair) ∷ []) → ⊥
+row_icmp_early h = let le : 0 + 6000 ≤ 5999 = h.0 0 (inl (refl, refl, refl)) in omega arith
 
 row_tcp_idle : Idle (note Zero 24000 (Released tcp_pair) ∷ note Zero 0 (Used tcp_pair) ∷ [])
 row_tcp_idle = (λ u h. elim h [ inl a ↦ let e : u ≡ 0 = a.2 in omega arith | inr b ↦ absurd b ], (tt, tt))

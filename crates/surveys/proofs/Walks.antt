@@ -6,7 +6,7 @@ use Rattle.std.proofs.lemmas.Bool.{cond-true, cond-false, eqb-true, eqb-false, e
 use Rattle.std.proofs.lemmas.List.{get_or-replicate, length-set, take_all, take_at}
 use Rattle.std.proofs.lemmas.List.Sums.{count_by-le-length, sum_by-cons}
 use Rattle.addresses.specs.declared.transport.Protocol.{Protocol}
-use Rattle.addresses.specs.declared.transport.Protocol.TheVariants.{Tcp, Udp}
+use Rattle.addresses.specs.declared.transport.Protocol.TheVariants.{Icmp, Tcp, Udp}
 use Rattle.nat_types.specs.declared.pairs.EntryState.{EntryState}
 use Rattle.nat_types.specs.declared.pairs.EntryState.TheVariants.{Pending, Doomed, Live, Closing, Held}
 use Rattle.nat_types.specs.declared.pairs.Key.{Key}
@@ -18,8 +18,8 @@ use Rattle.reports.proofs.Offered.{more-at}
 
 -- the counts so far, and the entries that are left, are the counts of all
 pub record Counted (counts : List ℕ) (left entries : List Entry) : Type 0 where
-  pub whole : length counts ≡ 10
-  pub sum : (place : ℕ) → place < 10 → at_place counts place + entries_at place left ≡ entries_at place entries
+  pub whole : length counts ≡ 15
+  pub sum : (place : ℕ) → place < 15 → at_place counts place + entries_at place left ≡ entries_at place entries
 
 state-small : (s : EntryState) → state_place s < 5
 state-small Pending = omega arith
@@ -28,23 +28,24 @@ state-small Live = omega arith
 state-small Closing = omega arith
 state-small Held = omega arith
 
-protocol-small : (p : Protocol) → protocol_place p < 2
+protocol-small : (p : Protocol) → protocol_place p < 3
+protocol-small Icmp = omega arith
 protocol-small Tcp = omega arith
 protocol-small Udp = omega arith
 
-pub place-small : (p : Protocol) (s : EntryState) → pair_place p s < 10
+pub place-small : (p : Protocol) (s : EntryState) → pair_place p s < 15
 place-small p s = (let one = protocol-small p in let two = state-small s in omega (arith, one, two))
 
-pub none-counted : (entries : List Entry) → Counted (replicate 10 0) entries entries
+pub none-counted : (entries : List Entry) → Counted (replicate 15 0) entries entries
 none-counted entries = record {
   whole = refl;
-  sum = λ place within. (let zero : at_place (replicate 10 0) place ≡ 0 = get_or-replicate {A = ℕ} 10 place 0 0 within in omega (arith, zero));
+  sum = λ place within. (let zero : at_place (replicate 15 0) place ≡ 0 = get_or-replicate {A = ℕ} 15 place 0 0 within in omega (arith, zero));
 }
 
 one-more : (place : ℕ) (e : Entry) (left : List Entry) → entries_at place (e ∷ left) ≡ cond (entry_place e == place) 1 0 + entries_at place left
 one-more place e left = sum_by-cons (λ (x : Entry). cond (entry_place x == place) 1 0) e left
 
-more-at-all : (counts : List ℕ) (e : Entry) (left entries : List Entry) → length entries ≤ 1000000 → Counted counts (e ∷ left) entries → (place : ℕ) → place < 10
+more-at-all : (counts : List ℕ) (e : Entry) (left entries : List Entry) → length entries ≤ 1000000 → Counted counts (e ∷ left) entries → (place : ℕ) → place < 15
     → at_place (more_at (entry_place e) 1 counts) place + entries_at place left ≡ entries_at place entries
 more-at-all counts e left entries few h place within =
     let total = h.sum place within in
@@ -89,10 +90,10 @@ pub behind-none : (es : List Entry) → behind None es ≡ es
 behind-none [] = refl
 behind-none (x ∷ xs) = ap (λ ys. x ∷ ys) (behind-none xs)
 
-pub start-counted : (counts : List ℕ) (es : List Entry) → counts ≡ replicate 10 0 → Counted counts (behind None es) es
+pub start-counted : (counts : List ℕ) (es : List Entry) → counts ≡ replicate 15 0 → Counted counts (behind None es) es
 start-counted counts es is =
     subst (λ (cs : List ℕ). Counted cs (behind None es) es) (sym is)
-    (subst (λ (left : List Entry). Counted (replicate 10 0) left es) (sym (behind-none es)) (none-counted es))
+    (subst (λ (left : List Entry). Counted (replicate 15 0) left es) (sym (behind-none es)) (none-counted es))
 
 pub next-counted : (counts new : List ℕ) (last : Option Key) (key : Key) (e : Entry) (es : List Entry) → length es ≤ 1000000
     → behind last es ≡ e ∷ behind (Some e.pair.key) es → key ≡ e.pair.key → new ≡ more_at (pair_place key.protocol e.state) 1 counts

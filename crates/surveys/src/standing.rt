@@ -1,6 +1,6 @@
 //! A gateway's report.
 ghost use Rattle.std.specs.Prelude.{◌≡◌, IfOk, is_none, length};
-ghost use Rattle.addresses.specs.declared.transport.Protocol.TheVariants.{Tcp, Udp};
+ghost use Rattle.addresses.specs.declared.transport.Protocol.TheVariants.{Icmp, Tcp, Udp};
 ghost use Rattle.bindings.specs.Ports.{is_free_in};
 ghost use Rattle.link.specs.Hearing.{peer_serves};
 ghost use Rattle.spec_binding.specs.Books.{is_synced};
@@ -68,6 +68,8 @@ fn free_count(gateway: &Gateway, protocol: Protocol, ports: &[Port]) -> usize
 
 fn ports_of(gateway: &Gateway) -> Result<PortCounts, NoMemory>
     ensures owned { IfOk result (λ r. r.owned ≡ length (owned_by gateway.now)) }
+    ensures icmp { IfOk result (λ r. r.free_icmp
+        ≡ free_among (owned_by gateway.now) Icmp gateway.now.ledger.book.entries) }
     ensures tcp { IfOk result (λ r. r.free_tcp
         ≡ free_among (owned_by gateway.now) Tcp gateway.now.ledger.book.entries) }
     ensures udp { IfOk result (λ r. r.free_udp
@@ -76,6 +78,7 @@ fn ports_of(gateway: &Gateway) -> Result<PortCounts, NoMemory>
     let ports = gateway.owned()?;
     Ok(PortCounts {
         owned: ports.len() as u64,
+        free_icmp: free_count(gateway, Protocol::Icmp, ports.as_slice()) as u64,
         free_tcp: free_count(gateway, Protocol::Tcp, ports.as_slice()) as u64,
         free_udp: free_count(gateway, Protocol::Udp, ports.as_slice()) as u64,
     })
@@ -104,6 +107,8 @@ pub fn gateway_report(gateway: &Gateway) -> Result<GatewayReport, NoMemory>
     ensures peer { IfOk result (λ r. r.peer ≡ peer_seen gateway.now) }
     ensures pairs { IfOk result (λ r. CountsEntries gateway.now.ledger.book.entries r.pairs) }
     ensures owned { IfOk result (λ r. r.ports.owned ≡ length (owned_by gateway.now)) }
+    ensures free_icmp { IfOk result (λ r. r.ports.free_icmp
+        ≡ free_among (owned_by gateway.now) Icmp gateway.now.ledger.book.entries) }
     ensures free_tcp { IfOk result (λ r. r.ports.free_tcp
         ≡ free_among (owned_by gateway.now) Tcp gateway.now.ledger.book.entries) }
     ensures free_udp { IfOk result (λ r. r.ports.free_udp

@@ -5,6 +5,10 @@ use Rattle.timers.specs.Chains.{AreChains, AreCleared, moments}
 use Rattle.timers.specs.declared.links.Links.{Links}
 use Rattle.timers.specs.declared.wheel.Wheel.{Wheel}
 
+-- how often a wheel has turned: by a chain in 1,024 centiseconds
+abbrev pub turns_of : Wheel → ℕ
+turns_of wheel = wheel.turns
+
 -- the slots that are set are linked in some chains, and counted; the others have no neighbours
 pub record IsLinked (wheel : Wheel) (links : List Links) : Type 0 where
   pub heads : length wheel.heads.items ≡ 1024

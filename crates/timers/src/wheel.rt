@@ -1,11 +1,11 @@
 //! A wheel of due moments.
-ghost use Rattle.std.specs.Prelude.{◌≡◌, ◌+◌, ◌<◌, ◌≤◌, ◌^◌, ℕ, List, None, Some, length, map, take, drop, replicate, slice_set, vec_len, vec_capacity, All, IfOk, OnOk, OnErr, IsOk};
+ghost use Rattle.std.specs.Prelude.{◌≡◌, ◌+◌, ◌<◌, ◌≤◌, ◌^◌, ℕ, List, None, Some, length, map, max, ◌/◌, take, drop, replicate, slice_set, vec_len, vec_capacity, All, IfOk, OnOk, OnErr, IsOk};
 ghost use Rattle.std.specs.List.Sorted.{IsPermutation};
 ghost use Rattle.timers.specs.Due.{due_slots, cleared, set_count};
 ghost use Rattle.timers.specs.declared.links.Links.{Links};
 ghost use Rattle.timers.specs.Chains.{AreChains, unset_links, links_of, moments};
 ghost use Rattle.timers.specs.Chains.{chain_of as chain_number};
-ghost use Rattle.timers.specs.Linked.{IsLinked};
+ghost use Rattle.timers.specs.Linked.{IsLinked, turns_of};
 ghost use Rattle.timers.specs.Steps.{without, with_head, passed, chain_count, AreTaken, HasNoneDue, AreNoneDue};
 
 use crate::links::{Links, Slots, set_next, set_previous};
@@ -121,6 +121,9 @@ impl Wheel {
         ensures room { vec_len out.old + set_count (moments (S.all slots.old))
             ≤ vec_capacity out.old → IsOk result }
         ensures capacity { vec_capacity out.old ≤ vec_capacity out.new }
+
+        // A later call visits no chain before that of this moment again.
+        ensures turns { OnOk result (turns_of self.new ≡ max (turns_of self.old) (now / 1024)) }
     {
         out.reserve(self.count)?;
         self.pass_chains(slots, now, out);

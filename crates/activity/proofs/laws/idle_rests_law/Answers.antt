@@ -8,6 +8,7 @@ returns c = record {
   unused = unused-rests;
   earlier = later-rests;
   together = both-rest;
+  query_rest = refl;
   udp_rest = refl;
   transitory_rest = refl;
   established_rest = refl;

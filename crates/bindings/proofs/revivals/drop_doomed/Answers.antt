@@ -1,5 +1,5 @@
 use Rattle.std.proofs.Common.{refl, sym, ap, ◌∙◌, arith}
-use Rattle.bindings.proofs.Owning.{alike-same}
+use Rattle.bindings.proofs.Owning.{alike-same, bounds-refl, owned-refl, bounds-trans, owned-trans}
 use Rattle.bindings.proofs.Revived.{all-pairs, all-kept}
 use Rattle.bindings.proofs.Walks.{behind-none, behind-end, next-held}
 use Rattle.bindings.proofs.Dropping.{first_doomed, step}
@@ -14,8 +14,8 @@ loop-entry-init c = record {
   first = sym (ap first_doomed (behind-none c.args.store.now.entries));
   room = refl;
   spare = omega arith;
-  owned = record { tcp = refl; udp = refl };
-  bounds = record { tcp_low = refl; tcp_high = refl; udp_low = refl; udp_high = refl };
+  owned = owned-refl c.args.ports.now;
+  bounds = bounds-refl c.args.ports.now;
 }
 
 pub drop_if_doomed-requires-clause-held : goal.drop_if_doomed-requires-clause-held
@@ -38,19 +38,14 @@ loop-entry-preserved c =
     let one = step c.loop-entry.last c.in-Some.entry s.entries s.lives c.recall.ensures.order c.recall.ensures.alike (sym c.in-Some.ensures) i.first in
     record {
       same = alike-same low high old c.drop_if_doomed.new.ports i.same d.bounds d.owned;
-      free = rw (← i.bounds.tcp_low, ← i.bounds.tcp_high) d.free;
+      free = rw (← i.bounds.tcp.low, ← i.bounds.tcp.high) d.free;
       pairs = rw d.entries (one.pairs ∙ i.pairs);
       kept = rw (d.entries, d.lives) (one.kept ∙ i.kept);
       first = rw (c.key_of.ensures, d.entries) one.first;
       room = d.room ∙ i.room;
       spare = (let a = d.spare in let b = i.spare in omega (arith, a, b));
-      owned = record { tcp = d.owned.tcp ∙ i.owned.tcp; udp = d.owned.udp ∙ i.owned.udp };
-      bounds = record {
-        tcp_low = d.bounds.tcp_low ∙ i.bounds.tcp_low;
-        tcp_high = d.bounds.tcp_high ∙ i.bounds.tcp_high;
-        udp_low = d.bounds.udp_low ∙ i.bounds.udp_low;
-        udp_high = d.bounds.udp_high ∙ i.bounds.udp_high;
-      };
+      owned = owned-trans c.args.ports.now old c.drop_if_doomed.new.ports i.owned d.owned;
+      bounds = bounds-trans c.args.ports.now old c.drop_if_doomed.new.ports i.bounds d.bounds;
     }
 
 pub returns-clause-entries : goal.returns-clause-entries

@@ -9,10 +9,10 @@ pub returns-clause-sent : goal.returns-clause-sent
 returns-clause-sent c = sent-is_translation
 
 pub returns-clause-answer : goal.returns-clause-answer
-returns-clause-answer c = λ network p mac own sender. arp-is_none p.sender_mac.0 network.own_mac.0 (reply_packet mac p) sender own
+returns-clause-answer c = λ exit network p mac own sender. arp-is_none exit p.sender_mac.0 network.own_mac.0 (reply_packet mac p) sender own
 
 pub returns-clause-request : goal.returns-clause-request
-returns-clause-request c = λ network ip own. arp-is_none broadcast_mac network.own_mac.0 (request_packet network.own_mac network.own_ip ip) refl own
+returns-clause-request c = λ exit network ip own. arp-is_none exit broadcast_mac network.own_mac.0 (request_packet network.own_mac network.own_ip ip) refl own
 
 pub returns-clause-gratuitous : goal.returns-clause-gratuitous
 returns-clause-gratuitous c = gratuitous-is_none

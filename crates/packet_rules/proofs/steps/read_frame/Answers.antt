@@ -9,4 +9,4 @@ if-ok (Ok x) K known = known x refl
 if-ok (Err reason) K known = tt
 
 pub returns-clause-carries : goal.returns-clause-carries
-returns-clause-carries c = if-ok c.take_steps.result (Carries c.args.bytes.now) (λ x is. c.readings_law.ensures c.args.network.now c.args.active c.args.up c.args.bytes.now x (sym c.take_steps.ensures ∙ is))
+returns-clause-carries c = if-ok c.take_steps.result (Carries c.args.side c.args.bytes.now) (λ x is. c.readings_law.ensures c.args.side c.args.network.now c.args.active c.args.up c.args.bytes.now x (sym c.take_steps.ensures ∙ is))

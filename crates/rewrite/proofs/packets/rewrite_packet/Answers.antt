@@ -1,8 +1,27 @@
-use Rattle.std.proofs.Common.{◌≡◌, ◌≤◌, drop, length, ap, ◌∙◌, arith}
-use Rattle.ipv4.specs.Header.{header_of, payload_of}
-use Rattle.ipv4.specs.Flow.{protocol_of}
-use Rattle.rewrite.proofs.Parts.{word_at-segment, shortest-ports}
+use Rattle.std.proofs.Common.{◌≡◌, ◌≤◌, ◌+◌, drop, length, take, ap, sym, ◌∙◌, arith}
+use Rattle.addresses.specs.declared.transport.Protocol.{Protocol}
+use Rattle.ipv4.specs.Header.{header_of, payload_of, word_at}
+use Rattle.ipv4.specs.Flow.{destination_place, protocol_of, source_place}
+use Rattle.rewrite.proofs.Parts.{places-fit, word_at-segment, shortest-ports}
 use Rattle.rewrite.proofs.packets.rewrite_packet.Goals as goal
+
+pub segment_length-length-requires-clause-protocol : goal.segment_length-length-requires-clause-protocol
+segment_length-length-requires-clause-protocol c = ap (λ f. f.protocol) c.requires.flow
+
+pub rewrite_segment-requires-clause-source_port : goal.rewrite_segment-requires-clause-source_port
+rewrite_segment-requires-clause-source_port c =
+    let packet = c.args.packet.now in
+    let n = c.segment_length-length.result in
+    let rest = c.split_at_mut-header.result.1.now in
+    let is_rest : rest ≡ drop (header_of packet).header_length packet = c.split_at_mut-header.ensures.back ∙ ap (λ h. drop h packet) c.header_length.ensures in
+    let place = source_place (protocol_of packet) in
+    let within : place + 2 ≤ 8 = (places-fit (protocol_of packet)).0 in
+    let ports : 8 ≤ n = shortest-ports (protocol_of packet) n c.segment_length-length.ensures.low in
+    let in_payload : place + 2 ≤ length (payload_of packet) = omega (arith, within, ports, c.segment_length-length.ensures.high) in
+    let in_segment : place + 2 ≤ n = omega (arith, within, ports) in
+    ap (λ f. f.source_port.0) c.requires.flow
+    ∙ (word_at-segment place n packet rest is_rest in_payload in_segment
+    ∙ ap (λ (p : Protocol). word_at (source_place p) (take n rest)) (sym (ap (λ f. f.protocol) c.requires.flow)))
 
 pub rewrite_segment-requires-clause-destination_port : goal.rewrite_segment-requires-clause-destination_port
 rewrite_segment-requires-clause-destination_port c =
@@ -10,7 +29,11 @@ rewrite_segment-requires-clause-destination_port c =
     let n = c.segment_length-length.result in
     let rest = c.split_at_mut-header.result.1.now in
     let is_rest : rest ≡ drop (header_of packet).header_length packet = c.split_at_mut-header.ensures.back ∙ ap (λ h. drop h packet) c.header_length.ensures in
+    let place = destination_place (protocol_of packet) in
+    let within : place + 2 ≤ 8 = (places-fit (protocol_of packet)).1 in
     let ports : 8 ≤ n = shortest-ports (protocol_of packet) n c.segment_length-length.ensures.low in
-    let in_payload : 4 ≤ length (payload_of packet) = omega (arith, ports, c.segment_length-length.ensures.high) in
-    let in_segment : 4 ≤ n = omega (arith, ports) in
-    ap (λ f. f.destination_port.0) c.requires.flow ∙ word_at-segment 2 n packet rest is_rest in_payload in_segment
+    let in_payload : place + 2 ≤ length (payload_of packet) = omega (arith, within, ports, c.segment_length-length.ensures.high) in
+    let in_segment : place + 2 ≤ n = omega (arith, within, ports) in
+    ap (λ f. f.destination_port.0) c.requires.flow
+    ∙ (word_at-segment place n packet rest is_rest in_payload in_segment
+    ∙ ap (λ (p : Protocol). word_at (destination_place p) (take n rest)) (sym (ap (λ f. f.protocol) c.requires.flow)))

@@ -1,9 +1,6 @@
 use Rattle.std.proofs.Common.{refl}
-use Rattle.activity.proofs.Pasts.{agrees-udp, agrees-tcp}
+use Rattle.activity.proofs.Pasts.{agrees-tcp}
 use Rattle.activity.proofs.life.Activity.carried.Goals as goal
-
-pub returns-in-Udp-clause-agrees : goal.returns-in-Udp-clause-agrees
-returns-in-Udp-clause-agrees c = rw (c.in-Udp.is) (λ past agrees. agrees-udp past _ c.args.packet refl refl)
 
 pub returns-in-Tcp-clause-agrees : goal.returns-in-Tcp-clause-agrees
 returns-in-Tcp-clause-agrees c =

@@ -12,6 +12,7 @@ loop-port-preserved c = record {
       ∙ ap (λ b. b || (p == c.loop-port.port && in_either c.args.zero c.args.one p)) (c.loop-port.invariant.tcp p)
       ∙ one-further (is_owned c.args.self.now.tcp p) (in_either c.args.zero c.args.one p) p c.loop-port.port;
   free = record {
+    icmp = c.own_inside.ensures.free.icmp ∙ c.loop-port.invariant.free.icmp;
     tcp = c.own_inside.ensures.free.tcp ∙ c.loop-port.invariant.free.tcp;
     udp = c.own_inside.ensures.free.udp ∙ c.loop-port.invariant.free.udp;
   };
@@ -22,7 +23,7 @@ returns-clause-list c =
     let zero = c.args.zero in
     let one = c.args.one in
     let old = c.args.self.now.tcp in
-    let above : 0 < lowest_of zero one = (let low : 1024 ≤ old.lowest = c.recall.ensures.low in let same = c.requires.alike.tcp_low in omega (arith, low, same)) in
+    let above : 0 < lowest_of zero one = (let low : 1024 ≤ old.lowest = c.recall.ensures.low in let same = c.requires.alike.tcp.low in omega (arith, low, same)) in
     let end = c.highest_port-highest.ensures in
     owned-all zero one c.loop-port-test.self.tcp.owned c.recall-2.ensures.rising above
     (elim c.loop-port-test.branch [

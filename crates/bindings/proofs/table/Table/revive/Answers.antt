@@ -16,8 +16,8 @@ invariant_of-self c =
     let freed : AreFree (lowest_of i.zero i.one) (highest_of i.zero i.one) (pairs_of i.store.entries) c.drop_doomed.new.ports = λ q.
     d.free q
     ∙ ap (λ es. is_within i.ports.tcp.lowest i.ports.tcp.highest q.port.0 && is_none (slot_of es q)) d.entries
-    ∙ ap (λ n. is_within n i.ports.tcp.highest q.port.0 && is_none (slot_of (pairs_of i.store.entries) q)) c.self.invariant.0.same.tcp_low
-    ∙ ap (λ n. is_within (lowest_of i.zero i.one) n q.port.0 && is_none (slot_of (pairs_of i.store.entries) q)) c.self.invariant.0.same.tcp_high in (
+    ∙ ap (λ n. is_within n i.ports.tcp.highest q.port.0 && is_none (slot_of (pairs_of i.store.entries) q)) c.self.invariant.0.same.tcp.low
+    ∙ ap (λ n. is_within (lowest_of i.zero i.one) n q.port.0 && is_none (slot_of (pairs_of i.store.entries) q)) c.self.invariant.0.same.tcp.high in (
       rw (woken, w.lives ∙ d.lives, w.room ∙ d.room)
           (stored-revived i.store.entries i.store.lives i.ports c.drop_doomed.new.ports i.zero i.one i.capacity _ c.self.invariant.0
           freed d.bounds d.owned),
