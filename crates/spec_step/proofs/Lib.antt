@@ -2,6 +2,7 @@ mod Accounting
 mod Apart
 mod Asked
 mod Asking
+mod AskingParts
 mod Beginning
 mod Counting
 mod Ending

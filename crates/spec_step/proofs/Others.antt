@@ -54,7 +54,8 @@ use Rattle.spec_step.specs.Settled.{AreIdle}
 use Rattle.spec_step.specs.Steps.{Does, FrameDoes, IsStepOn, clock_after, ended_on, stopped, ticked, word_by, word_refusal}
 use Rattle.spec_step.specs.Truly.{AtHand, Known, known_of, packets_of}
 use Rattle.spec_step.specs.Verdict.{reading_on}
-use Rattle.spec_step.proofs.Asking.{Ask-on, Asks, IsFit, IsQuiet, NearStays, NetsStay, Waiting, all-apart, asking-then, due-more, kept-here, net-stays, new-more, nobody, nothing-asks, one-apart, packet-asks, pairs-ask, quiet-asks, quiet-by, released-asks, requests-same, error-asks}
+use Rattle.spec_step.proofs.Asking.{Ask-on, Asks, IsFit, IsQuiet, NearStays, NetsStay, Waiting, asking-then, due-more, kept-here, net-stays, new-more, nobody, nothing-asks, quiet-asks, quiet-by, requests-same}
+use Rattle.spec_step.proofs.AskingParts.{all-apart, error-asks, one-apart, packet-asks, pairs-ask, released-asks}
 use Rattle.spec_step.proofs.Freeing.{Comes-of, filter-same}
 use Rattle.spec_step.proofs.Limits.{count-left}
 use Rattle.spec_step.proofs.Lines.{acts-shown, both-stopped, line-quiet}
