@@ -8,7 +8,7 @@ use Rattle.ipv4.specs.Carried.{transport_refusal as carried_refusal}
 use Rattle.ipv4.specs.Flow.{packet_of as packet_read}
 use Rattle.icmp.specs.declared.errors.TheConstants.{PROTOCOL}
 use Rattle.icmp.specs.declared.faults.IcmpFault.{IcmpFault}
-use Rattle.icmp.specs.declared.faults.IcmpFault.TheVariants.{NotError, BadError, NotQuery, BadQuery}
+use Rattle.icmp.specs.declared.faults.IcmpFault.TheVariants.{NotError, BadError, NotQuery, BadQuery, NotAsked}
 use Rattle.icmp.specs.Error.{has_error_kind}
 use Rattle.icmp.specs.Packet.{IsErrorPacket, error_packet_of, is_about, packet_refusal}
 use Rattle.icmp.specs.Query.{IsTranslatable, kind_number, query_packet_refusal}
@@ -43,6 +43,7 @@ reason_of_icmp NotError = NotUdpTcp
 reason_of_icmp BadError = BadTransport
 reason_of_icmp NotQuery = NotUdpTcp
 reason_of_icmp BadQuery = BadTransport
+reason_of_icmp NotAsked = NotUdpTcp
 
 -- 1. a frame has 14 to 1,514 bytes
 unfoldable pub size_refusal : List ℕ → Option Reason

@@ -40,6 +40,7 @@ fn reason_for_icmp(fault: IcmpFault) -> Reason
         IcmpFault::BadError => Reason::BadTransport,
         IcmpFault::NotQuery => Reason::NotUdpTcp,
         IcmpFault::BadQuery => Reason::BadTransport,
+        IcmpFault::NotAsked => Reason::NotUdpTcp,
     }
 }
 
