@@ -5,7 +5,7 @@ ghost use Rattle.packet_rules.specs.Networks.{network_of, networks_of, IsWired, 
 use crate::Reason;
 use addresses::{Ip, Mac, Protocol};
 use nat_types::{GatewayId, Side};
-use settings::{InterfaceSettings, Settings};
+use settings::{IcmpSettings, InterfaceSettings, Settings};
 
 /// One of a gateway's two networks.
 #[derive(Clone, Copy, Debug, PartialEq, Eq)]
@@ -15,6 +15,10 @@ pub struct Network {
     pub own_mac: Mac,
     /// The gateway's own (primary) address there.
     pub own_ip: Ip,
+    /// The outside virtual address, which is asked at both sides.
+    pub outside_ip: Ip,
+    /// What the gateway says itself by ICMP.
+    pub icmp: IcmpSettings,
 }
 
 impl Network {
@@ -69,11 +73,15 @@ impl Networks {
                 interface: settings.inside,
                 own_mac: own.inside_mac,
                 own_ip: own.inside_ip,
+                outside_ip: settings.outside.virtual_ip,
+                icmp: settings.icmp,
             },
             outside: Network {
                 interface: settings.outside,
                 own_mac: own.outside_mac,
                 own_ip: own.outside_ip,
+                outside_ip: settings.outside.virtual_ip,
+                icmp: settings.icmp,
             },
             router: settings.router,
         }
@@ -128,7 +136,7 @@ pub(crate) fn is_for_gateway(network: &Network, active: bool, mac: Mac) -> bool
 }
 
 #[tactic(auto, unfolding(crate::specs::Networks::lies_in))]
-fn contains(interface: &InterfaceSettings, address: Ip) -> bool
+pub(crate) fn contains(interface: &InterfaceSettings, address: Ip) -> bool
     ensures { result ≡ lies_in address.0 interface.now }
 {
     interface.network().contains(address)
@@ -136,7 +144,7 @@ fn contains(interface: &InterfaceSettings, address: Ip) -> bool
 
 /// Whether no host has an address (RFC 1812, section 5.3.7).
 #[tactic(auto, unfolding(crate::specs::Networks::is_martian))]
-fn is_martian(address: Ip) -> bool
+pub(crate) fn is_martian(address: Ip) -> bool
     ensures { result ≡ is_martian address.0 }
 {
     let first = address.0 >> 24;
