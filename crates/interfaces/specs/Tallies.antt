@@ -1,9 +1,9 @@
--- How much a gateway says itself at a side in one second (stage by stage of its clock: a second is a hundred moments).
-use Rattle.std.specs.Prelude.{ℕ, ◌+◌, ◌/◌, Bool, nat_lt, ◌==◌, if◌then◌else◌}
+-- How much a gateway says itself at a side in one second of its clock.
+use Rattle.std.specs.Prelude.{◌≤◌, ℕ, ◌+◌, ◌/◌, Bool, nat_lt, ◌==◌, if◌then◌else◌}
 use Rattle.interfaces.specs.declared.tallies.Tally.{Tally}
 use Rattle.interfaces.specs.declared.tallies.TheConstants.{MOST_REPLIES, MOST_ERRORS}
 
--- the second of a moment
+-- the second of a moment: a hundred moments have one
 abbrev pub second_of : ℕ → ℕ
 second_of now = now / 100
 
@@ -29,3 +29,8 @@ replied now tally = let t = at_moment now tally in record t { replies = t.replie
 
 abbrev pub complained : ℕ → Tally → Tally
 complained now tally = let t = at_moment now tally in record t { errors = t.errors + 1 }
+
+-- no more was sent than may be
+pub record IsWithin (tally : Tally) : Type 0 where
+  pub replies : tally.replies ≤ MOST_REPLIES
+  pub errors : tally.errors ≤ MOST_ERRORS

@@ -8,6 +8,6 @@ mod stations;
 mod tallies;
 
 pub use cables::{Cable, WHOLE_AFTER};
-pub use laws::{limits_law, sizes_law};
+pub use laws::{limits_law, sizes_law, tallies_law};
 pub use stations::Interface;
 pub use tallies::{MOST_ERRORS, MOST_REPLIES, Tally};

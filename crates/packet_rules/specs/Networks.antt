@@ -1,7 +1,7 @@
 -- The two networks: who is addressed, where an address lies, which way a packet goes, and to whom.
 use Rattle.std.specs.Prelude.{◌≡◌, ◌≢◌, ◌<◌, ℕ, ◌+◌, ◌-◌, ◌/◌, ◌%◌, ◌^◌, Bool, true, false, not, ◌==◌, ◌&&◌, ◌||◌, Result, Ok, Err, List, [], ◌∷◌, length, if◌then◌else◌}
 use Rattle.std.specs.Str.{bytes_eq}
-use Rattle.addresses.specs.Address.{virtual_mac}
+use Rattle.addresses.specs.Address.{IsIn, virtual_mac}
 use Rattle.addresses.specs.Transport.{same_protocol}
 use Rattle.addresses.specs.declared.transport.Protocol.{Protocol}
 use Rattle.addresses.specs.declared.transport.Protocol.TheVariants.{Icmp}
@@ -167,3 +167,14 @@ pub record IsPlaced (networks : Networks) : Type 0 where
   pub outside_knows : networks.outside.outside_ip ≡ networks.outside.interface.virtual_ip
   pub inside_number : networks.inside.own_ip.0 < 2 ^ 32
   pub outside_number : networks.outside.own_ip.0 < 2 ^ 32
+  pub inside_virtual : networks.inside.interface.virtual_ip.0 < 2 ^ 32
+  pub outside_virtual : networks.outside.interface.virtual_ip.0 < 2 ^ 32
+
+-- the settings of a gateway say so
+pub record IsSetApart (settings : Settings) (id : GatewayId) : Type 0 where
+  pub inside_own : IsIn (gateway_of settings id).inside_ip.0 settings.inside.virtual_ip.0 settings.inside.prefix_length
+  pub outside_own : IsIn (gateway_of settings id).outside_ip.0 settings.outside.virtual_ip.0 settings.outside.prefix_length
+  pub apart : (address : ℕ) → IsIn address settings.outside.virtual_ip.0 settings.outside.prefix_length
+      → IsIn address settings.inside.virtual_ip.0 settings.inside.prefix_length → ⊥
+  pub inside_other : (gateway_of settings id).inside_ip.0 ≢ settings.inside.virtual_ip.0
+  pub outside_other : (gateway_of settings id).outside_ip.0 ≢ settings.outside.virtual_ip.0

@@ -1,6 +1,6 @@
 -- What the box says itself: the frame that answers an Echo to it, and the frame that complains of a packet that it drops
 -- (RFC 792; RFC 1812, section 4.3.2).
-use Rattle.std.specs.Prelude.{ℕ, Bool, false, true, not, ◌/◌, ◌%◌, ◌==◌, ◌&&◌, ◌||◌, Option, Some, None, List, ◌++◌, slice_index, Result, Ok, Err, if◌then◌else◌}
+use Rattle.std.specs.Prelude.{◌≡◌, ◌<◌, ℕ, Bool, false, true, not, ◌/◌, ◌%◌, ◌==◌, ◌&&◌, ◌||◌, Option, Some, None, List, ◌++◌, slice_index, Result, Ok, Err, if◌then◌else◌}
 use Rattle.addresses.specs.declared.ethernet.Mac.{Mac}
 use Rattle.frames.specs.Frame.{frame_of, header_bytes}
 use Rattle.ipv4.specs.Header.{header_of, payload_of}
@@ -14,7 +14,7 @@ use Rattle.packet_rules.specs.declared.networks.Network.{Network}
 use Rattle.packet_rules.specs.declared.networks.Networks.{Networks}
 use Rattle.packet_rules.specs.declared.reasons.Reason.{Reason}
 use Rattle.packet_rules.specs.declared.reasons.Reason.TheVariants.{TtlOver, TooLong}
-use Rattle.packet_rules.specs.Networks.{exit_of, is_broadcast, is_martian, may_answer, mtu_of, network_of}
+use Rattle.packet_rules.specs.Networks.{exit_of, is_broadcast, is_martian, lies_in, may_answer, mtu_of, network_of}
 
 -- the frame by which an interface says something itself: to the next hop, from its own MAC
 unfoldable pub own_frame : Network → Mac → List ℕ → List ℕ
@@ -95,3 +95,14 @@ is_own_frame networks side bytes =
     || ((slice_index (payload_of packet) 0 == 0)
     && ((source == network.interface.virtual_ip.0)
     || (source == networks.outside.interface.virtual_ip.0)))))
+
+-- a frame's packet has no address of the inside network as its source or its destination
+abbrev pub HidesHosts : Networks → List ℕ → Type 0
+HidesHosts networks bytes =
+    let header = header_of (frame_of bytes).body in
+    (lies_in header.source networks.inside.interface ≡ false)
+    × (lies_in header.destination networks.inside.interface ≡ false)
+
+-- each is a byte
+abbrev pub AreBytes : List ℕ → Type 0
+AreBytes bytes = (place : ℕ) → slice_index bytes place < 256

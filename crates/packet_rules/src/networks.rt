@@ -1,6 +1,6 @@
 //! The two networks: whom a frame addresses, which way its packet goes, and to whom next.
 ghost use Rattle.std.specs.Prelude.{◌≡◌, length};
-ghost use Rattle.packet_rules.specs.Networks.{network_of, networks_of, IsWired, is_virtual, is_addressed, lies_in, is_martian, hairpin_direction, inside_direction, outside_direction, direction_of, outside_hop, exit_of};
+ghost use Rattle.packet_rules.specs.Networks.{network_of, networks_of, IsPlaced, IsSetApart, IsWired, is_virtual, is_addressed, lies_in, is_martian, hairpin_direction, inside_direction, outside_direction, direction_of, outside_hop, exit_of};
 
 use crate::Reason;
 use addresses::{Ip, Mac, Protocol};
@@ -65,7 +65,8 @@ impl Direction {
 impl Networks {
     /// The networks as a gateway of these settings stands in them.
     pub fn of_gateway(settings: &Settings, id: GatewayId) -> Networks
-        ensures { result ≡ networks_of settings.now id }
+        ensures networks { result ≡ networks_of settings.now id }
+        ensures placed { IsSetApart settings.now id → IsPlaced result }
     {
         let own = settings.gateway(id);
         Networks {
