@@ -103,8 +103,8 @@ unfolding is_asked
 not-asked network peer active priority interval = not-all peer.icmp.echo (is_to_box peer active (frame_of (advert_frame network priority interval))) _ (no-echo network peer active priority interval)
 
 otherwise : (b : Bool) (x y r : Result Reading Reason) → b ≡ false → y ≡ r → cond b x y ≡ r
-otherwise false x y r no is = is
-otherwise true x y r no is = cc
+otherwise false x y r other is = is
+otherwise true x y r other is = cc
 
 body-read : (c : Codecs) (side : Side) (network peer : Network) (active : Bool) (priority interval : ℕ) → IsWritable (own_advert network priority interval) → network.own_ip.0 < 2 ^ 32
     → peer.interface.virtual_router ≡ network.interface.virtual_router → peer.own_ip.0 ≢ network.own_ip.0

@@ -3,6 +3,7 @@ use Rattle.std.proofs.Common.{◌≡◌, ◌≢◌, ◌⊎◌, inl, inr, ◌≤�
 use Rattle.std.proofs.lemmas.Bool.Decides.{nat_tests}
 use Rattle.std.proofs.lemmas.List.{get_or-drop, get_or-take, length-take}
 use Rattle.std.specs.Str.{bytes_eq}
+use Rattle.addresses.specs.Transport.{same_protocol}
 use Rattle.addresses.specs.declared.ethernet.Mac.{Mac}
 use Rattle.addresses.specs.declared.internet.Ip.{Ip}
 use Rattle.nat_types.specs.Pair.{Pair}
@@ -42,7 +43,7 @@ use Rattle.packet_rules.specs.Asked.{IsAskable, IsWhole, is_asked, is_echo, is_t
 use Rattle.packet_rules.specs.Errors.{error_direction, is_error_frame, new_error_flow, passed_by, passed_frame}
 use Rattle.packet_rules.specs.Flows.{error_flow_in, flow_in}
 use Rattle.packet_rules.specs.Frames.{exit_mac, is_translation, new_flow, sent_frame, translated_by, way_of}
-use Rattle.packet_rules.specs.Networks.{IsPlaced, IsWired, broadcast_mac, direction_of, exit_of, hairpin_direction, inside_direction, is_virtual, lies_in, may_answer, may_come, network_of, outside_direction}
+use Rattle.packet_rules.specs.Networks.{IsPlaced, IsWired, broadcast_mac, direction_of, exit_of, hairpin_direction, inside_direction, is_martian, is_virtual, lies_in, may_answer, may_come, network_of, outside_direction}
 use Rattle.packet_rules.specs.Own.{AreBytes, HidesHosts, answer_frame, answer_packet, complaint_frame, complaint_packet, is_any_error, is_own_frame, is_to_host, is_told, own_frame}
 use Rattle.packet_rules.specs.Queries.{kind_leaving}
 use Rattle.packet_rules.specs.Steps.{IsForwardable, IsPassable, and_then, reading_of}
@@ -57,14 +58,14 @@ number-other m n e = grind (arith, nat_tests)
 
 -- two numbers that a test tells apart
 differ-by : (f : ℕ → Bool) (m n : ℕ) (b : Bool) → (m == n) ≡ b → f m ≡ false → f n ≡ true → b ≡ false
-differ-by f m n false is no yes = refl
-differ-by f m n true is no yes =
+differ-by f m n false is out lies = refl
+differ-by f m n true is out lies =
     let same : m ≡ n = same-number m n is in
-    let clash : f n ≡ false = subst (λ (k : ℕ). f k ≡ false) same no in
+    let clash : f n ≡ false = subst (λ (k : ℕ). f k ≡ false) same out in
     cc
 
 differ : (f : ℕ → Bool) (m n : ℕ) → f m ≡ false → f n ≡ true → (m == n) ≡ false
-differ f m n no yes = differ-by f m n (m == n) refl no yes
+differ f m n out lies = differ-by f m n (m == n) refl out lies
 
 -- the virtual address lies in its network
 virtual-lies : (interface : InterfaceSettings) → lies_in interface.virtual_ip.0 interface ≡ true
@@ -123,9 +124,9 @@ first-none true b c none = rw none refl
 first-none false b c none = refl
 
 three-none : (c d e f : Bool) → c ≡ false → (d ≡ false) ⊎ ((e ≡ false) × (f ≡ false)) → (c || (d && (e || f))) ≡ false
-three-none c d e f no (inl none) = rw (no, none) refl
-three-none c true e f no (inr both) = rw (no, both.0, both.1) refl
-three-none c false e f no (inr both) = rw no refl
+three-none c d e f other (inl none) = rw (other, none) refl
+three-none c true e f other (inr both) = rw (other, both.0, both.1) refl
+three-none c false e f other (inr both) = rw other refl
 
 -- a frame with another protocol or source isn't own
 other-protocol-none : (networks : Networks) (side : Side) (bytes : List ℕ) → ((header_of (frame_of bytes).body).protocol == PROTOCOL) ≡ false → is_own_frame networks side bytes ≡ false
@@ -218,8 +219,14 @@ outside-in false false false false is = (refl, refl)
 comes-in : (networks : Networks) (side : Side) (protocol : Protocol) (source destination : ℕ) → direction_of networks side protocol source destination ≡ Ok way.Inward
     → (lies_in source networks.inside.interface ≡ false) × ((source == networks.outside.interface.virtual_ip.0) ≡ false)
 unfolding inside_direction outside_direction hairpin_direction
-comes-in networks Inside protocol source destination is = inside-in _ _ _ _ is
-comes-in networks Outside protocol source destination is = outside-in _ _ _ _ is
+comes-in networks Inside protocol source destination is =
+    inside-in (not (lies_in source networks.inside.interface) || (source == networks.inside.interface.virtual_ip.0) || is_martian source)
+    (destination == networks.outside.interface.virtual_ip.0)
+    (lies_in destination networks.inside.interface || is_martian destination)
+    (same_protocol protocol Icmp) is
+comes-in networks Outside protocol source destination is =
+    outside-in (not (destination == networks.outside.interface.virtual_ip.0)) (lies_in source networks.inside.interface)
+    (source == networks.outside.interface.virtual_ip.0) (is_martian source) is
 
 inside-back : {X : Type 0} (a b c : Bool) → (let r : Result Direction Reason = cond a (Err NoBinding) (cond b (Err NoBinding) (cond c (Err NoBinding) (Ok way.Outward))) in r) ≡ Ok way.Hairpin → X
 inside-back true b c is = cc
@@ -235,8 +242,13 @@ outside-back false false is = cc
 -- no query goes back in
 no-query-back : {X : Type 0} (networks : Networks) (side : Side) (source destination : ℕ) → direction_of networks side Icmp source destination ≡ Ok way.Hairpin → X
 unfolding inside_direction outside_direction hairpin_direction
-no-query-back networks Inside source destination is = inside-back _ _ _ is
-no-query-back networks Outside source destination is = outside-back _ _ is
+no-query-back networks Inside source destination is =
+    inside-back (not (lies_in source networks.inside.interface) || (source == networks.inside.interface.virtual_ip.0) || is_martian source)
+    (destination == networks.outside.interface.virtual_ip.0)
+    (lies_in destination networks.inside.interface || is_martian destination) is
+no-query-back networks Outside source destination is =
+    outside-back (not (destination == networks.outside.interface.virtual_ip.0))
+    (lies_in source networks.inside.interface || (source == networks.outside.interface.virtual_ip.0) || is_martian source) is
 
 -- a source that isn't inside is none of the box's at the inside
 not-inside : (networks : Networks) (source : ℕ) → IsPlaced networks → lies_in source networks.inside.interface ≡ false
@@ -258,11 +270,11 @@ GoesSo networks side t bytes =
 -- nor what goes back in
 hairpin-none : (networks : Networks) (side : Side) (own other : Pair) (next : Mac) (bytes : List ℕ) → IsWired networks → length next.0 ≡ 6 → IsForwardable bytes → GoesSo networks side (Hairpin own other) bytes
     → (b : Bool) → ((header_of (frame_of bytes).body).protocol == PROTOCOL) ≡ b → is_own_frame networks Inside (sent_frame networks (Hairpin own other) next bytes) ≡ false
-hairpin-none networks side own other next bytes wired six f goes false no =
-    other-protocol-none networks Inside _ (ap (λ (p : ℕ). p == PROTOCOL) (sent-protocol networks (Hairpin own other) next bytes wired six f) ∙ no)
-hairpin-none networks side own other next bytes wired six f goes true yes =
+hairpin-none networks side own other next bytes wired six f goes false other_one =
+    other-protocol-none networks Inside _ (ap (λ (p : ℕ). p == PROTOCOL) (sent-protocol networks (Hairpin own other) next bytes wired six f) ∙ other_one)
+hairpin-none networks side own other next bytes wired six f goes true one =
     let flow = flow_in bytes in
-    let icmp : flow.protocol ≡ Icmp = of-flow bytes (same-number (header_of (frame_of bytes).body).protocol PROTOCOL yes) in
+    let icmp : flow.protocol ≡ Icmp = of-flow bytes (same-number (header_of (frame_of bytes).body).protocol PROTOCOL one) in
     no-query-back networks side flow.source.0 flow.destination.0 (subst (λ (p : Protocol). direction_of networks side p flow.source.0 flow.destination.0 ≡ Ok way.Hairpin) icmp goes)
 
 pub sent-is_not_own : (networks : Networks) (side : Side) (t : Translation) (next : Mac) (bytes : List ℕ) → IsWired networks → IsPlaced networks → length next.0 ≡ 6 → IsForwardable bytes → AreBytes bytes → GoesSo networks side t bytes
@@ -377,7 +389,7 @@ answer-said law bytes f are =
     law 0 (header_of packet).destination (header_of packet).source (reply_message (payload_of packet)) (omega arith) (destination-fits packet bodies) (source-fits packet bodies) (ask-short bytes f)
 
 -- and what it complains of
-complaint-message : Complaint → List ℕ → List ℕ
+abbrev complaint-message : Complaint → List ℕ → List ℕ
 complaint-message Exceeded packet = exceeded_message packet
 complaint-message (TooBig mtu) packet = too_long_message packet mtu
 

@@ -1,5 +1,5 @@
 //! The two networks: whom a frame addresses, which way its packet goes, and to whom next.
-ghost use Rattle.std.specs.Prelude.{◌≡◌, length};
+ghost use Rattle.std.specs.Prelude.{◌≡◌, ◌<◌, ◌^◌, length};
 ghost use Rattle.packet_rules.specs.Networks.{network_of, networks_of, IsPlaced, IsSetApart, IsWired, is_virtual, is_addressed, lies_in, is_martian, hairpin_direction, inside_direction, outside_direction, direction_of, outside_hop, exit_of};
 
 use crate::Reason;
@@ -69,6 +69,10 @@ impl Networks {
         ensures placed { IsSetApart settings.now id → IsPlaced result }
     {
         let own = settings.gateway(id);
+        recall_number(own.inside_ip);
+        recall_number(own.outside_ip);
+        recall_number(settings.inside.virtual_ip);
+        recall_number(settings.outside.virtual_ip);
         Networks {
             inside: Network {
                 interface: settings.inside,
@@ -105,6 +109,13 @@ impl Networks {
         self.inside.recall();
         self.outside.recall();
     }
+}
+
+/// Reminds the prover that an address has 32 bits; it does nothing when it runs.
+fn recall_number(address: Ip)
+    ensures { address.0 < 2 ^ 32 }
+{
+    let _address = address;
 }
 
 /// The six bytes, of which a proof knows that they are six.
