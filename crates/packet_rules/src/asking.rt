@@ -100,7 +100,9 @@ pub(crate) fn own_header(network: &Network, next_mac: Mac) -> [u8; 14]
 #[tactic(auto, unfolding(crate::specs::Own::answer_packet))]
 fn write_answer(bytes: &[u8], out: &mut [u8; 1500]) -> usize
     requires { IsAskable bytes.now }
-    ensures { take result out.new ≡ answer_packet (frame_of bytes.now).body }
+    ensures bytes { take result out.new ≡ answer_packet (frame_of bytes.now).body }
+    ensures fits { 14 + result ≤ length bytes.now }
+    ensures room { result ≤ 1500 }
 {
     let packet = packet_of(bytes);
     let ask = ask_of(&packet);

@@ -2,6 +2,8 @@
 //! 4.3.2 and 5.3.1; RFC 1191).
 ghost use Rattle.std.specs.Prelude.{◌≡◌, ◌≤◌, ◌+◌, ◌++◌, slice_index, take, vec_len, vec_capacity};
 ghost use Rattle.frames.specs.Frame.{frame_of};
+ghost use Rattle.icmp.specs.Own.{exceeded_packet, too_long_packet};
+ghost use Rattle.ipv4.specs.Header.{header_of};
 ghost use Rattle.packet_rules.specs.Asked.{IsWhole};
 ghost use Rattle.packet_rules.specs.Own.{complaint_about, complaint_frame, complaint_of, complaint_packet, exit_for, is_any_error, is_told, is_to_host, is_unbroken, own_frame};
 
@@ -122,6 +124,29 @@ pub fn complaint_of(
     }
 }
 
+/// Writes a Time Exceeded about a packet, and gives its length.
+fn write_exceeded(network: &Network, packet: &Ipv4View<'_>, out: &mut [u8; 576]) -> usize
+    ensures bytes { take result out.new ≡ exceeded_packet packet.now.bytes.now
+        network.now.own_ip.0 (header_of packet.now.bytes.now).source }
+    ensures room { result ≤ 576 }
+{
+    icmp::exceeded(packet, network.own_ip, packet.source(), out)
+}
+
+/// Writes a Fragmentation Needed about a packet, and gives its length.
+fn write_too_big(
+    network: &Network,
+    mtu: u16,
+    packet: &Ipv4View<'_>,
+    out: &mut [u8; 576],
+) -> usize
+    ensures bytes { take result out.new ≡ too_long_packet packet.now.bytes.now mtu
+        network.now.own_ip.0 (header_of packet.now.bytes.now).source }
+    ensures room { result ≤ 576 }
+{
+    icmp::too_long(packet, mtu, network.own_ip, packet.source(), out)
+}
+
 /// Writes the packet that complains of another, and gives its length.
 #[tactic(auto, unfolding(crate::specs::Own::complaint_packet))]
 fn write_complaint(
@@ -134,10 +159,9 @@ fn write_complaint(
         ≡ complaint_packet network.now complaint packet.now.bytes.now }
     ensures room { result ≤ 576 }
 {
-    let (from, to) = (network.own_ip, packet.source());
     match complaint {
-        Complaint::Exceeded => icmp::exceeded(packet, from, to, out),
-        Complaint::TooBig(mtu) => icmp::too_long(packet, mtu, from, to, out),
+        Complaint::Exceeded => write_exceeded(network, packet, out),
+        Complaint::TooBig(mtu) => write_too_big(network, mtu, packet, out),
     }
 }
 

@@ -1,5 +1,6 @@
 //! The two networks: whom a frame addresses, which way its packet goes, and to whom next.
 ghost use Rattle.std.specs.Prelude.{◌≡◌, ◌<◌, ◌^◌, length};
+ghost use Rattle.settings.specs.Parts.{gateway_of};
 ghost use Rattle.packet_rules.specs.Networks.{network_of, networks_of, IsPlaced, IsSetApart, IsWired, is_virtual, is_addressed, lies_in, is_martian, hairpin_direction, inside_direction, outside_direction, direction_of, outside_hop, exit_of};
 
 use crate::Reason;
@@ -68,28 +69,8 @@ impl Networks {
         ensures networks { result ≡ networks_of settings.now id }
         ensures placed { IsSetApart settings.now id → IsPlaced result }
     {
-        let own = settings.gateway(id);
-        recall_number(own.inside_ip);
-        recall_number(own.outside_ip);
-        recall_number(settings.inside.virtual_ip);
-        recall_number(settings.outside.virtual_ip);
-        Networks {
-            inside: Network {
-                interface: settings.inside,
-                own_mac: own.inside_mac,
-                own_ip: own.inside_ip,
-                outside_ip: settings.outside.virtual_ip,
-                icmp: settings.icmp,
-            },
-            outside: Network {
-                interface: settings.outside,
-                own_mac: own.outside_mac,
-                own_ip: own.outside_ip,
-                outside_ip: settings.outside.virtual_ip,
-                icmp: settings.icmp,
-            },
-            router: settings.router,
-        }
+        recall_numbers(settings, id);
+        networks_at(settings, id)
     }
 
     pub fn of(&self, side: Side) -> Network
@@ -109,6 +90,44 @@ impl Networks {
         self.inside.recall();
         self.outside.recall();
     }
+}
+
+/// A gateway's networks.
+fn networks_at(settings: &Settings, id: GatewayId) -> Networks
+    ensures { result ≡ networks_of settings.now id }
+{
+    let own = settings.gateway(id);
+    Networks {
+        inside: Network {
+            interface: settings.inside,
+            own_mac: own.inside_mac,
+            own_ip: own.inside_ip,
+            outside_ip: settings.outside.virtual_ip,
+            icmp: settings.icmp,
+        },
+        outside: Network {
+            interface: settings.outside,
+            own_mac: own.outside_mac,
+            own_ip: own.outside_ip,
+            outside_ip: settings.outside.virtual_ip,
+            icmp: settings.icmp,
+        },
+        router: settings.router,
+    }
+}
+
+/// Reminds the prover that a gateway's addresses have 32 bits; it does nothing when it runs.
+fn recall_numbers(settings: &Settings, id: GatewayId)
+    ensures inside { (gateway_of settings.now id).inside_ip.0 < 2 ^ 32 }
+    ensures outside { (gateway_of settings.now id).outside_ip.0 < 2 ^ 32 }
+    ensures inside_virtual { settings.now.inside.virtual_ip.0 < 2 ^ 32 }
+    ensures outside_virtual { settings.now.outside.virtual_ip.0 < 2 ^ 32 }
+{
+    let own = settings.gateway(id);
+    recall_number(own.inside_ip);
+    recall_number(own.outside_ip);
+    recall_number(settings.inside.virtual_ip);
+    recall_number(settings.outside.virtual_ip);
 }
 
 /// Reminds the prover that an address has 32 bits; it does nothing when it runs.

@@ -1,12 +1,11 @@
-use Rattle.std.proofs.Common.{◌<◌, ◌^◌, subst}
-use Rattle.settings.specs.declared.gateway_settings.GatewaySettings.{GatewaySettings}
+use Rattle.std.proofs.Common.{subst, sym}
+use Rattle.packet_rules.specs.declared.networks.Networks.{Networks}
+use Rattle.packet_rules.specs.Networks.{IsPlaced}
 use Rattle.packet_rules.proofs.Placing.{placing}
 use Rattle.packet_rules.proofs.networks.Networks.of_gateway.Goals as goal
 
 pub returns-clause-placed : goal.returns-clause-placed
 returns-clause-placed c = λ set.
-    placing c.args.settings.now c.args.id set
-    (subst (λ (g : GatewaySettings). g.inside_ip.0 < 2 ^ 32) c.gateway-own.ensures c.recall_number.ensures)
-    (subst (λ (g : GatewaySettings). g.outside_ip.0 < 2 ^ 32) c.gateway-own.ensures c.recall_number-2.ensures)
-    c.recall_number-3.ensures
-    c.recall_number-4.ensures
+    let known = c.recall_numbers.ensures in
+    subst (λ (n : Networks). IsPlaced n) (sym c.networks_at.ensures)
+    (placing c.args.settings.now c.args.id set known.inside known.outside known.inside_virtual known.outside_virtual)
