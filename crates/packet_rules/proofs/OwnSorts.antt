@@ -253,9 +253,10 @@ no-query-back networks Outside source destination is =
 -- a source that isn't inside is none of the box's at the inside
 not-inside : (networks : Networks) (source : ℕ) → IsPlaced networks → lies_in source networks.inside.interface ≡ false
     → ((source == networks.inside.own_ip.0) ≡ false) × ((source == networks.inside.interface.virtual_ip.0) ≡ false)
-not-inside networks source placed out =
-    (differ (λ (a : ℕ). lies_in a networks.inside.interface) source networks.inside.own_ip.0 out placed.inside_own,
-     differ (λ (a : ℕ). lies_in a networks.inside.interface) source networks.inside.interface.virtual_ip.0 out (virtual-lies networks.inside.interface))
+not-inside networks source placed out = (
+  differ (λ (a : ℕ). lies_in a networks.inside.interface) source networks.inside.own_ip.0 out placed.inside_own,
+  differ (λ (a : ℕ). lies_in a networks.inside.interface) source networks.inside.interface.virtual_ip.0 out (virtual-lies networks.inside.interface),
+)
 
 -- the outside virtual address is no own one
 virtual-not-own : (networks : Networks) → IsPlaced networks → (networks.outside.interface.virtual_ip.0 == networks.outside.own_ip.0) ≡ false
@@ -548,9 +549,10 @@ answer-hides law networks active next bytes wired placed six are f is may =
     let packet = (frame_of bytes).body in
     let said = answer-said law bytes f are in
     let frame = own-body networks.outside next (answer_packet packet) six wired.outside_mac in
-    let inside = λ (a : ℕ). lies_in a networks.inside.interface in
-    (ap inside (ap (λ (xs : List ℕ). (header_of xs).source) frame.1 ∙ said.source) ∙ asked-apart networks _ placed (asked-at networks Outside active bytes placed is).one,
-     ap inside (ap (λ (xs : List ℕ). (header_of xs).destination) frame.1 ∙ said.destination) ∙ answered-apart networks (header_of packet).source may)
+    let inside = λ (a : ℕ). lies_in a networks.inside.interface in (
+      ap inside (ap (λ (xs : List ℕ). (header_of xs).source) frame.1 ∙ said.source) ∙ asked-apart networks _ placed (asked-at networks Outside active bytes placed is).one,
+      ap inside (ap (λ (xs : List ℕ). (header_of xs).destination) frame.1 ∙ said.destination) ∙ answered-apart networks (header_of packet).source may,
+    )
 
 told-may : (networks : Networks) (packet : List ℕ) → is_told networks Outside packet ≡ true → may_answer networks Outside (header_of packet).source ≡ true
 unfolding is_told
@@ -564,6 +566,7 @@ complaint-hides law networks complaint next bytes wired placed six are told =
     let packet = (frame_of bytes).body in
     let said = complaint-said law networks.outside complaint packet placed.outside_number (body-bytes bytes are) in
     let frame = own-body networks.outside next (complaint_packet networks.outside complaint packet) six wired.outside_mac in
-    let inside = λ (a : ℕ). lies_in a networks.inside.interface in
-    (ap inside (ap (λ (xs : List ℕ). (header_of xs).source) frame.1 ∙ said.source) ∙ placed.apart networks.outside.own_ip.0 placed.outside_own,
-     ap inside (ap (λ (xs : List ℕ). (header_of xs).destination) frame.1 ∙ said.destination) ∙ answered-apart networks (header_of packet).source (told-may networks packet told))
+    let inside = λ (a : ℕ). lies_in a networks.inside.interface in (
+      ap inside (ap (λ (xs : List ℕ). (header_of xs).source) frame.1 ∙ said.source) ∙ placed.apart networks.outside.own_ip.0 placed.outside_own,
+      ap inside (ap (λ (xs : List ℕ). (header_of xs).destination) frame.1 ∙ said.destination) ∙ answered-apart networks (header_of packet).source (told-may networks packet told),
+    )

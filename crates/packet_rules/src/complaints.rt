@@ -134,12 +134,7 @@ fn write_exceeded(network: &Network, packet: &Ipv4View<'_>, out: &mut [u8; 576])
 }
 
 /// Writes a Fragmentation Needed about a packet, and gives its length.
-fn write_too_big(
-    network: &Network,
-    mtu: u16,
-    packet: &Ipv4View<'_>,
-    out: &mut [u8; 576],
-) -> usize
+fn write_too_big(network: &Network, mtu: u16, packet: &Ipv4View<'_>, out: &mut [u8; 576]) -> usize
     ensures bytes { take result out.new ≡ too_long_packet packet.now.bytes.now mtu
         network.now.own_ip.0 (header_of packet.now.bytes.now).source }
     ensures room { result ≤ 576 }
