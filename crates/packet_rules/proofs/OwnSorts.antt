@@ -1,8 +1,7 @@
 -- Which frames are the box's own, and what they show.
-use Rattle.std.proofs.Common.{◌≡◌, ◌≢◌, ◌⊎◌, inl, inr, ◌≤◌, ◌<◌, ◌==◌, not, ◌&&◌, ◌||◌, ℕ, ◌+◌, ◌-◌, ◌*◌, ◌/◌, ◌%◌, ◌^◌, Bool, true, false, cond, Result, Ok, Err, List, [], ◌∷◌, ◌++◌, length, take, drop, slice_index, is_none, refl, ap, ap₂, sym, subst, ◌∙◌, arith, length-drop}
+use Rattle.std.proofs.Common.{◌≡◌, ◌≢◌, ◌⊎◌, inl, inr, ◌≤◌, ◌<◌, ◌==◌, not, ◌&&◌, ◌||◌, ℕ, ◌+◌, ◌-◌, ◌*◌, ◌/◌, ◌%◌, ◌^◌, Bool, true, false, cond, Result, Ok, Err, List, ◌∷◌, ◌++◌, length, take, drop, slice_index, refl, ap, ap₂, sym, subst, ◌∙◌, arith, length-drop}
 use Rattle.std.proofs.lemmas.Bool.Decides.{nat_tests}
 use Rattle.std.proofs.lemmas.List.{get_or-drop, get_or-take, length-take}
-use Rattle.std.specs.Str.{bytes_eq}
 use Rattle.addresses.specs.Transport.{same_protocol}
 use Rattle.addresses.specs.declared.ethernet.Mac.{Mac}
 use Rattle.addresses.specs.declared.internet.Ip.{Ip}
@@ -31,23 +30,21 @@ use Rattle.packet_rules.specs.declared.networks.Direction.{Direction}
 use Rattle.packet_rules.specs.declared.networks.Direction.TheVariants as way
 use Rattle.packet_rules.specs.declared.networks.Network.{Network}
 use Rattle.packet_rules.specs.declared.networks.Networks.{Networks}
-use Rattle.packet_rules.specs.declared.readings.Asked.{Asked as AskedValue}
-use Rattle.packet_rules.specs.declared.readings.Reading.TheVariants.{Asked}
 use Rattle.packet_rules.specs.declared.reasons.Reason.{Reason}
 use Rattle.packet_rules.specs.declared.reasons.Reason.TheVariants.{NoBinding}
 use Rattle.packet_rules.specs.declared.translations.Translation.{Translation}
 use Rattle.packet_rules.specs.declared.translations.Translation.TheVariants.{Outward, Inward, Hairpin}
 use Rattle.packet_rules.specs.Adverts.{advert_frame}
 use Rattle.packet_rules.specs.Arping.{virtual_of, gratuitous_frame}
-use Rattle.packet_rules.specs.Asked.{IsAskable, IsWhole, is_asked, is_echo, is_to_box}
+use Rattle.packet_rules.specs.Asked.{IsAskable, is_asked, is_echo, is_to_box}
 use Rattle.packet_rules.specs.Errors.{error_direction, is_error_frame, new_error_flow, passed_by, passed_frame}
 use Rattle.packet_rules.specs.Flows.{error_flow_in, flow_in}
 use Rattle.packet_rules.specs.Frames.{exit_mac, is_translation, new_flow, sent_frame, translated_by, way_of}
-use Rattle.packet_rules.specs.Networks.{IsPlaced, IsWired, broadcast_mac, direction_of, exit_of, hairpin_direction, inside_direction, is_martian, is_virtual, lies_in, may_answer, may_come, network_of, outside_direction}
+use Rattle.packet_rules.specs.Networks.{IsPlaced, IsWired, broadcast_mac, direction_of, exit_of, hairpin_direction, inside_direction, is_martian, lies_in, may_answer, may_come, network_of, outside_direction}
 use Rattle.packet_rules.specs.Own.{AreBytes, HidesHosts, answer_frame, answer_packet, complaint_frame, complaint_packet, is_any_error, is_own_frame, is_to_host, is_told, own_frame}
 use Rattle.packet_rules.specs.Queries.{kind_leaving}
-use Rattle.packet_rules.specs.Steps.{IsForwardable, IsPassable, and_then, reading_of}
-use Rattle.packet_rules.proofs.Passing.{both-true, reading-asked, same-number}
+use Rattle.packet_rules.specs.Steps.{IsForwardable, IsPassable, and_then}
+use Rattle.packet_rules.proofs.Passing.{both-true, same-number}
 use Rattle.packet_rules.proofs.Sorts.{body-there, of-flow, own-six, translation-nine, type-there}
 
 number-same : (m n : ℕ) → m ≡ n → (m == n) ≡ true

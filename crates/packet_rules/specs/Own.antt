@@ -1,6 +1,6 @@
 -- What the box says itself: the frame that answers an Echo to it, and the frame that complains of a packet that it drops
 -- (RFC 792; RFC 1812, section 4.3.2).
-use Rattle.std.specs.Prelude.{◌≡◌, ◌<◌, ℕ, Bool, false, true, not, ◌/◌, ◌%◌, ◌==◌, ◌&&◌, ◌||◌, Option, Some, None, List, ◌++◌, slice_index, Result, Ok, Err, if◌then◌else◌}
+use Rattle.std.specs.Prelude.{◌≡◌, ◌<◌, ℕ, Bool, false, not, ◌/◌, ◌%◌, ◌==◌, ◌&&◌, ◌||◌, Option, Some, None, List, ◌++◌, slice_index, Result, Ok, Err, if◌then◌else◌}
 use Rattle.addresses.specs.declared.ethernet.Mac.{Mac}
 use Rattle.frames.specs.Frame.{frame_of, header_bytes}
 use Rattle.ipv4.specs.Header.{header_of, payload_of}

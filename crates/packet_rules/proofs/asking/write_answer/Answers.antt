@@ -1,4 +1,4 @@
-use Rattle.std.proofs.Common.{◌≡◌, ◌≤◌, ℕ, ◌+◌, List, ◌++◌, length, take, drop, ap, subst, ◌∙◌, sym, arith}
+use Rattle.std.proofs.Common.{◌≤◌, ℕ, ◌+◌, List, ◌++◌, length, take, drop, ap, subst, ◌∙◌, sym, arith}
 use Rattle.std.proofs.lemmas.List.{take_at}
 use Rattle.frames.specs.Frame.{frame_of}
 use Rattle.icmp.specs.Own.{reply_packet}
