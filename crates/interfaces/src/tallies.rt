@@ -1,7 +1,4 @@
 //! How much a gateway says itself at a side in one second.
-ghost use Rattle.std.specs.Prelude.{◌≡◌, ◌≤◌, true};
-ghost use Rattle.interfaces.specs.Tallies.{at_moment, complained, may_complain, may_reply, none_in, replied};
-ghost use Rattle.interfaces.specs.declared.tallies.TheConstants.{MOST_ERRORS, MOST_REPLIES};
 
 /// The most Echos that are answered at a side in one second.
 pub const MOST_REPLIES: u8 = 100;
@@ -15,11 +12,12 @@ pub struct Tally {
     pub second: u64,
     pub replies: u8,
     pub errors: u8,
-    ghost few_replies: { replies ≤ 100 },
-    ghost few_errors: { errors ≤ 10 },
 }
 
 impl Tally {
+    ghost use Rattle.std.specs.Prelude.{◌≡◌, true};
+    ghost use Rattle.interfaces.specs.Tallies.{at_moment, complained, may_complain, may_reply, none_in, replied};
+
     /// Nothing was said yet.
     pub fn new() -> Tally
         ensures { result ≡ none_in 0 }
