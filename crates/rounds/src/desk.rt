@@ -1,5 +1,5 @@
 //! What a box has on its desk while it runs.
-ghost use Rattle.std.specs.Prelude.{◌≡◌, false};
+ghost use Rattle.std.specs.Prelude.{◌≡◌, false, None};
 
 use crate::judging::Question;
 use crate::left::LeftOut;
@@ -50,6 +50,7 @@ impl Desk {
     pub(crate) fn new(alloc: Global, gateway: &Gateway, identity: Identity) -> Desk
         ensures left { result.left ≡ 0 }
         ensures ending { result.ending ≡ false }
+        ensures question { result.question ≡ None }
     {
         Desk {
             alloc,
@@ -71,6 +72,7 @@ impl Desk {
     pub(crate) fn count_letter(&mut self, place: Place)
         ensures left { self.new.left ≡ self.old.left }
         ensures ending { self.new.ending ≡ self.old.ending }
+        ensures question { self.new.question ≡ self.old.question }
     {
         self.counters.count(origin_at(place), Count::Received);
     }
@@ -79,6 +81,7 @@ impl Desk {
     pub(crate) fn count_outcome(&mut self, event: &Event<'_>, outcome: Result<Outcome, NoMemory>)
         ensures left { self.new.left ≡ self.old.left }
         ensures ending { self.new.ending ≡ self.old.ending }
+        ensures question { self.new.question ≡ self.old.question }
     {
         if let Some(cause) = cause_of(outcome) {
             self.counters.count(origin_of(event), Count::Lost(cause));
@@ -89,6 +92,7 @@ impl Desk {
     pub(crate) fn tell_alive<S: Supervisor>(&mut self, gateway: &Gateway, supervisor: &S)
         ensures left { self.new.left ≡ self.old.left }
         ensures ending { self.new.ending ≡ self.old.ending }
+        ensures question { self.new.question ≡ self.old.question }
     {
         let second = gateway.moment() / 100;
         if self.second < second {
