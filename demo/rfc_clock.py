@@ -71,11 +71,11 @@ def udp_timers(fresh, report):
 
 
 def query_timers(fresh, report):
-    limit(report, fresh, "5508 REQ-2", "an Echo, without a packet", QUERY_REST, ICMP)
+    limit(report, fresh, "5508 REQ-2 a", "an Echo, without a packet", QUERY_REST, ICMP)
     for name, use in (("an Echo", lambda bench, _: bench.ping(HOST, REMOTE.place[0])),
                       ("a Reply", lambda bench, port: bench.ping(REMOTE, *bench.outside(port)))):
         there = there_after(fresh, ICMP, (), (QUERY_REST - TICK, use, QUERY_REST - TICK))
-        report.note(fresh, "5508 REQ-2", f"{name} begins the rest anew", "anew" if there else "not", there)
+        report.note(fresh, "5508 REQ-2 a", f"{name} begins the rest anew", "anew" if there else "not", there)
 
 
 def tcp_timers(fresh, report):
@@ -239,20 +239,22 @@ def no_room(narrow, report):
 def both_boxes(couple, report):
     """While both are Active, a host's packets may go by either, and one box doesn't see what the other carries."""
     bench = couple()
-    ports = []
-    for bench.box in (0, 1, 0):
-        ports.append(port_of(bench.udp(HOST, REMOTE.place)))
-    report.note(bench, "4787 REQ-1", "one outside port by box 0, box 1, box 0", told(ports),
-                None not in ports and len(set(ports)) == 1)
+    for protocol, requirement, name in ((UDP, "4787 REQ-1", "port"), (ICMP, "5508 REQ-1 a", "identifier")):
+        seen = []
+        for bench.box in (0, 1, 0):
+            seen.append(port_of(bench.send(protocol, HOST, REMOTE.place)))
+        report.note(bench, requirement, f"one outside {name} by box 0, box 1, box 0", told(seen),
+                    None not in seen and len(set(seen)) == 1)
+    port = port_of(bench.udp(HOST, REMOTE.place))
     bench.rest(UDP_REST - 50)
     bench.box = 1
     bench.udp(HOST, REMOTE.place)
     bench.rest(100)
     bench.box = 0
-    there = is_there(bench, UDP, ports[0])
+    there = is_there(bench, UDP, port)
     report.note(bench, "4787 REQ-5", "UDP, carried by box 1 alone: there at box 0 after 300 s", yes_there(there), there)
     bench.rest(UDP_REST + 100)
-    there = is_there(bench, UDP, ports[0])
+    there = is_there(bench, UDP, port)
     report.note(bench, "4787 REQ-5", "without a packet at either box: let go by both", yes_there(there), not there)
 
 
