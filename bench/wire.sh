@@ -3,4 +3,4 @@
 # It builds and runs crates/bench_wire. A benchmark and no test: nothing compares its numbers.
 set -euo pipefail
 cd "$(dirname "$0")/../crates/bench_wire"
-rt run -- "${1:-1000000}" | tail -n 4
+rt run -- "${1:-1000000}" | tail -n 6
