@@ -284,8 +284,7 @@ impl Sockets {
         ways: &Ways,
         ports: Ports,
         control: Control,
-    ) -> Result<Sockets, SocketFault>
-    {
+    ) -> Result<Sockets, SocketFault> {
         Ok(Sockets {
             board: Board::open(net, alloc, ways, ports, control)?,
         })

@@ -68,10 +68,7 @@ impl<'a, W: Wire> Failing<'a, W> {
     pub fn new(wire: &'a mut W, number: u64) -> Failing<'a, W>
         ensures { result ≡ record { wire = wire.entry; left = number } }
     {
-        Failing {
-            wire,
-            left: number,
-        }
+        Failing { wire, left: number }
     }
 
     /// Counts a call, and says whether it is the one that fails.
