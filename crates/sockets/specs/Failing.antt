@@ -1,7 +1,7 @@
 -- A wire of which a call fails.
-use Rattle.std.specs.Prelude.{◌≡◌, ◌-◌, ◌==◌, ℕ, Bool, true, false, List}
+use Rattle.std.specs.Prelude.{◌≡◌, ◌-◌, ◌==◌, ℕ, Bool, true, false}
 use Rattle.std.specs.Borrow.{MutBor}
-use Rattle.sockets.specs.Letters.{Call, Polled, answered, asked, failed, sent}
+use Rattle.sockets.specs.Letters.{Call, answered, asked, failed, sent}
 
 -- the wire below, and how many calls there are up to the one that fails
 pub record Faulty (W : Type 0) : Type 0 where

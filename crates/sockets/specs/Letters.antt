@@ -1,5 +1,5 @@
 -- What comes by a wire.
-use Rattle.std.specs.Prelude.{ℕ, Bool, true, false, List, [], ◌∷◌, take, Option, Some, None, Result, Ok, Err}
+use Rattle.std.specs.Prelude.{ℕ, Bool, true, false, List, take, Option, Some, None, Result, Ok, Err}
 use Rattle.sockets.specs.declared.places.Place.{Place}
 
 -- a datagram, and the place that it came from
