@@ -3,7 +3,8 @@
     pings.py TARGET ADDRESS..
 
 Prints `begun` once each has an answer, or two seconds are over; and at last a line for each: its address, its identifier, how
-many Echos it sent, and the moments of those without a Reply, by the clock that never goes back.
+many Echos it sent from then on, and the moments of those without a Reply, by the clock that never goes back. Of the first ones,
+before a box has the other's consent to their pair, all but one may be dropped.
 """
 
 import contextlib
@@ -29,7 +30,7 @@ class Ping:
         self.target = target
         self.address = address
         self.identifier = identifier
-        self.moments, self.heard = [], set()
+        self.moments, self.heard, self.first = [], set(), 1
         self.sock = socket.socket(socket.AF_INET, socket.SOCK_RAW, ICMP)
         self.sock.setblocking(False)
         self.sock.bind((address, 0))
@@ -52,9 +53,14 @@ class Ping:
                 if message[0] == REPLY and words[:3] == [b"ping", self.address.encode(), b"%d" % self.identifier]:
                     self.heard.add(int(words[3]))
 
+    def begin(self):
+        """What it sent until now doesn't count."""
+        self.first = len(self.moments) + 1
+
     def line(self):
-        lost = [moment for number, moment in enumerate(self.moments, 1) if number not in self.heard]
-        return " ".join(map(str, (self.address, self.identifier, len(self.moments), *lost)))
+        sent = list(enumerate(self.moments, 1))[self.first - 1 :]
+        lost = [moment for number, moment in sent if number not in self.heard]
+        return " ".join(map(str, (self.address, self.identifier, len(sent), *lost)))
 
 
 def wait(pings, seconds, also=()):
@@ -74,13 +80,15 @@ def wait(pings, seconds, also=()):
 def main():
     target, *addresses = sys.argv[1:]
     pings = [Ping(target, address, identifier) for address in addresses for identifier in IDENTIFIERS]
-    begin, is_told, is_over = time.monotonic(), False, False
+    started, is_told, is_over = time.monotonic(), False, False
     while not is_over:
         for ping in pings:
             ping.ask()
         is_over = wait(pings, AGAIN, (sys.stdin,))
-        if not is_told and (all(ping.heard for ping in pings) or time.monotonic() - begin > FIRST):
+        if not is_told and (all(ping.heard for ping in pings) or time.monotonic() - started > FIRST):
             is_told = True
+            for ping in pings:
+                ping.begin()
             print("begun", flush=True)
     wait(pings, LATE)
     for ping in pings:
