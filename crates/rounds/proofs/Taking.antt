@@ -1,8 +1,9 @@
 -- What is taken, one part after another.
-use Rattle.std.proofs.Common.{◌≡◌, ◌∙◌, ◌+◌, ◌<◌, ◌⊎◌, ◌++◌, ℕ, Bool, true, false, not, List, [], ◌∷◌, take, Option, Some, None, Ok, refl, sym, ap, subst, inl, inr, add-one, arith, length-append}
+use Rattle.std.proofs.Common.{◌≡◌, ◌∙◌, ◌+◌, ◌<◌, ◌⊎◌, ◌++◌, ℕ, Bool, true, false, not, List, [], ◌∷◌, take, Option, Some, None, Result, Ok, Err, IfOk, is_err, length, refl, sym, ap, subst, inl, inr, add-one, arith, length-append}
 use Rattle.std.proofs.lemmas.List.{append-nil, append_assoc}
+use Rattle.std.proofs.Math.Seq.{take-append-add}
 use Rattle.std.proofs.lemmas.List.Folds.{list_any-append}
-use Rattle.sockets.specs.Letters.{Call, Polled, ReceivedDatagram, answer_of, asked, came, failed, is_nothing, nothing}
+use Rattle.sockets.specs.Letters.{Call, Polled, answer_of, asked, came, failed, is_nothing, nothing}
 use Rattle.sockets.specs.declared.places.Place.{Place}
 use Rattle.sockets.specs.declared.wire.WireFault.{WireFault}
 use Rattle.rounds.specs.Rounds.{AreAllRounds, AreMade, AreRounds, Box, Calls, IsRound, Reads, TakesAll, TakesLetter}
@@ -35,6 +36,18 @@ made_more does calls rest rest2 x a b c had is one = record {
 pub made_all : {W : Type 0} (does : Calls W) (calls rest : List Call) (a b : W) → HasMade does calls rest a b → rest ≡ [] → AreMade does calls a b
 made_all does calls rest a b had is =
     subst (λ (xs : List Call). AreMade does xs a b) (sym (had.are ∙ (ap (λ (ys : List Call). had.done ++ ys) is ∙ append-nil had.done))) had.made
+
+-- ---- what is answered
+
+-- behind what stands before them, as many bytes as there are
+pub laid : (head front rest : List ℕ) (n : ℕ) → front ≡ head → length head ≡ 2 → take (2 + n) (front ++ rest) ≡ head ++ take n rest
+laid head front rest n is two =
+    rw is (subst (λ (k : ℕ). take (k + n) (head ++ rest) ≡ head ++ take n rest) two (take-append-add head rest n))
+
+-- an Err says nothing of a count
+pub of_err : {E : Type 0} (r : Result ℕ E) (left : ℕ) → is_err r ≡ true → IfOk r (λ (x : ℕ). x ≡ left)
+of_err (Ok x) left is = absurd (cc)
+of_err (Err e) left is = tt
 
 -- ---- what an answer brings
 

@@ -3,7 +3,6 @@
 use Rattle.std.specs.Prelude.{◌≡◌, ◌<◌, ◌≤◌, ◌⊎◌, ◌+◌, ◌++◌, ◌||◌, ℕ, zero, suc, Bool, false, true, List, [], ◌∷◌, length, map, Option, Some, None, Result, IfOk}
 use Rattle.std.specs.Borrow.{Bor}
 use Rattle.std.specs.List.{list_any}
-use Rattle.nat_types.specs.declared.gateways.Side.{Side}
 use Rattle.control.specs.Answers.{Content, answer_of, heard, page, refused, report}
 use Rattle.sockets.specs.Letters.{Call, Polled, ReceivedDatagram, answered, asked, came, failed, is_nothing, nothing, sent}
 use Rattle.sockets.specs.declared.places.Place.{Place}

@@ -1,8 +1,10 @@
 //! What a box has on its desk while it runs.
-ghost use Rattle.std.specs.Prelude.{◌≡◌, false, None};
+ghost use Rattle.std.specs.Prelude.{◌≡◌, ◌||◌, false, None};
+ghost use Rattle.rounds.specs.Letters.{is_end};
 
 use crate::judging::Question;
 use crate::left::LeftOut;
+use crate::letters::is_end;
 use crate::logs::{cause_of, origin_of};
 use crate::outages::Outages;
 use crate::views::{View, view_of};
@@ -68,13 +70,14 @@ impl Desk {
         }
     }
 
-    /// Counts what came at a place.
-    pub(crate) fn count_letter(&mut self, place: Place)
+    /// Counts what came at a place, and keeps whether it says that the box is to end.
+    pub(crate) fn hear(&mut self, place: Place, bytes: &[u8])
         ensures left { self.new.left ≡ self.old.left }
-        ensures ending { self.new.ending ≡ self.old.ending }
+        ensures ending { self.new.ending ≡ (self.old.ending || is_end place bytes.now) }
         ensures question { self.new.question ≡ self.old.question }
     {
         self.counters.count(origin_at(place), Count::Received);
+        self.ending = self.ending || is_end(place, bytes);
     }
 
     /// Counts an event of which nothing came.

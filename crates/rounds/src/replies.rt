@@ -128,7 +128,7 @@ fn lay(head: [u8; 2], bytes: &[u8], room: &mut [u8; LONGEST]) -> usize
     ensures laid { (rest : List ℕ) × (take result room.new ≡ head ++ rest) }
 {
     let count = bytes.len().min(LONGEST - 2);
-    room[..2].copy_from_slice(&head);
     room[2..2 + count].copy_from_slice(&bytes[..count]);
+    room[..2].copy_from_slice(&head);
     2 + count
 }

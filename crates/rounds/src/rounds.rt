@@ -1,15 +1,14 @@
 //! The rounds of a box.
-ghost use Rattle.std.specs.Prelude.{◌≡◌, ◌⊎◌, ◌||◌, Bool, ℕ, true, false, None, Option, OnOk, codes};
+ghost use Rattle.std.specs.Prelude.{◌≡◌, ◌⊎◌, Bool, true, false, None, Option, OnOk, codes};
 ghost use Rattle.std.specs.Io.KnownBytes.{Appends};
-ghost use Rattle.sockets.specs.Letters.{ReceivedDatagram};
-ghost use Rattle.rounds.specs.Rounds.{AreAllRounds, AreMade, Box, IsRound, IsRun, RunsTo, Takes};
+ghost use Rattle.rounds.specs.Rounds.{AreAllRounds, AreMade, IsRound, IsRun, RunsTo, Takes};
 ghost use Rattle.rounds.specs.Rounds.{TakesAny, TakesLetter, all_sent, box, most_rounds};
 ghost use Rattle.rounds.specs.Polls.{Asks, HasPolled};
 ghost use Rattle.rounds.specs.declared.judging.Question.{Question};
 
 use crate::desk::{Desk, Identity};
 use crate::left::LeftOut;
-use crate::letters::{event_of, is_end, reply_at};
+use crate::letters::{event_of, reply_at};
 use crate::logs::tell_step;
 use crate::replies::{answer_question, reply};
 use crate::views::view_of;
@@ -259,8 +258,7 @@ fn take_letter<W: Wire, L: Journal>(
         (record { place = place; bytes = bytes.now })
         (box gateway.new wire.new desk.new.left desk.new.ending desk.new.question) }
 {
-    desk.count_letter(place);
-    desk.ending = desk.ending || is_end(place, bytes);
+    desk.hear(place, bytes);
     let owed = reply_at(gateway, place, bytes);
     let event = event_of(gateway, place, bytes, track);
     let is_done = take_event(gateway, event, wire, desk, log);

@@ -5,7 +5,7 @@ use Rattle.rounds.proofs.rounds.take_next.Goals as goal
 pub returns-in-Ok-Some : goal.returns-in-Ok-Some
 returns-in-Ok-Some g c =
     one_came _ _ _ _ _ c.in-Ok-Some.place c.in-Ok-Some.count c.receive.new.room c.in-Ok-Some.field-0 c.in-Ok-Some.field-0-is
-    c.in-Ok-Some.ensures.does c.take_letter.ensures
+    c.in-Ok-Some.ensures.does c.take_letter.ensures.taken
 
 pub returns-in-Ok-None : goal.returns-in-Ok-None
 returns-in-Ok-None g c = none_came _ _ _ _ c.receive.new.room c.in-Ok-None.field-0 c.in-Ok-None.field-0-is c.in-Ok-None.ensures.does refl
