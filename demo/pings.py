@@ -2,9 +2,9 @@
 
     pings.py TARGET ADDRESS..
 
-Prints `begun` once each has an answer, or two seconds are over; and at last a line for each: its address, its identifier, how
-many Echos it sent from then on, and the moments of those without a Reply, by the clock that never goes back. Of the first ones,
-before a box has the other's consent to their pair, all but one may be dropped.
+Prints `begun` once each has an answer, or two seconds are over; and at last a line for each: its address, its identifier,
+how many Echos it sent from then on, and the moments of those without a Reply, by the clock that never goes back. Of the
+first ones, before a box has the other's consent to their pair, all but one may be dropped.
 """
 
 import contextlib
