@@ -110,8 +110,7 @@ impl Memory {
     }
 
     /// Keeps what is sent, where its place takes as much.
-    fn keep(&mut self, to: Place, bytes: &[u8]) -> Result<(), SendFault>
-    {
+    fn keep(&mut self, to: Place, bytes: &[u8]) -> Result<(), SendFault> {
         if let Some(limit) = self.limit
             && limit.place == to
             && limit.most < bytes.len()

@@ -25,10 +25,7 @@ pub(crate) struct Memory<'a> {
 
 impl<'a> Memory<'a> {
     pub(crate) fn new(rt: HostRuntime, coming: &'a RefCell<Coming>) -> Memory<'a> {
-        Memory {
-            rt,
-            coming,
-        }
+        Memory { rt, coming }
     }
 
     fn next(&self, room: &mut [u8; LONGEST]) -> Result<Option<(Place, usize)>, WireFault>

@@ -71,15 +71,17 @@ takes_letter : {W : Type 0} (does : Calls W) (track : Bool) (b : Box W) (letter 
     → (calls2 : List Call) × TakesLetter listed track (with b calls) letter (with b2 calls2)
 takes_letter does track b letter b2 h calls =
     let first = takes_any does h.is_done _ h.event h.between h.taken calls in
-    let rest = replies does _ h.is_done h.between b2 h.replied first.0 in
-    (rest.0, record {
-      event = h.event;
-      brings = h.brings;
-      is_done = h.is_done;
-      between = with h.between first.0;
-      taken = first.1;
-      replied = rest.1;
-    })
+    let rest = replies does _ h.is_done h.between b2 h.replied first.0 in (
+      rest.0,
+      record {
+        event = h.event;
+        brings = h.brings;
+        is_done = h.is_done;
+        between = with h.between first.0;
+        taken = first.1;
+        replied = rest.1;
+      },
+    )
 
 takes_answer : {W : Type 0} (does : Calls W) (track : Bool) (b : Box W) (answer : Polled) (b2 : Box W) → TakesAnswer does track b answer b2 → (calls : List Call)
     → (calls2 : List Call) × TakesAnswer listed track (with b calls) answer (with b2 calls2)
@@ -100,20 +102,22 @@ is_round : {W C : Type 0} (does : Calls W) (track : Bool) (reads : Reads C) (b :
 is_round does track reads b c b2 c2 r calls =
     let letters = takes_all does track b r.answers r.between r.letters calls in
     let tick = takes does r.is_done r.between _ r.ticked r.tick letters.0 in
-    let last = answers_owed does r.ticked.owed r.ticked b2 r.answered tick.0 in
-    (last.0, record {
-      goes_on = r.goes_on;
-      answers = r.answers;
-      poll = r.poll;
-      between = with r.between letters.0;
-      letters = letters.1;
-      moment = r.moment;
-      read = tt;
-      is_done = r.is_done;
-      ticked = with r.ticked tick.0;
-      tick = tick.1;
-      answered = last.1;
-    })
+    let last = answers_owed does r.ticked.owed r.ticked b2 r.answered tick.0 in (
+      last.0,
+      record {
+        goes_on = r.goes_on;
+        answers = r.answers;
+        poll = r.poll;
+        between = with r.between letters.0;
+        letters = letters.1;
+        moment = r.moment;
+        read = tt;
+        is_done = r.is_done;
+        ticked = with r.ticked tick.0;
+        tick = tick.1;
+        answered = last.1;
+      },
+    )
 
 are_rounds : {W C : Type 0} (does : Calls W) (track : Bool) (reads : Reads C) (n : ℕ) (b : Box W) (c : C) (b2 : Box W) (c2 : C)
     → AreRounds does track reads n b c b2 c2 → (calls : List Call)
@@ -132,18 +136,20 @@ pub had_rounds : {W C : Type 0} (does : Calls W) (track until_eof : Bool) (reads
     → HadRounds rounds track until_eof g g2
 had_rounds does track until_eof reads rounds otherwise g w c g2 last c2 only h shows =
     let all = are_rounds does track reads h.all.count (box g w 0 false None) c h.last c2 h.all.rounds [] in
-    let stop = takes does h.is_done h.last _ last h.stop all.0 in
-    (stop.0, record {
-      last = with last stop.0;
-      had = record {
-        last = with h.last all.0;
-        all = record { count = h.all.count; within = h.all.within; rounds = all.1; over = by h.all.over };
-        is_done = h.is_done;
-        stop = stop.1;
-      };
-      shows = shows;
-      calls_are = refl;
-    })
+    let stop = takes does h.is_done h.last _ last h.stop all.0 in (
+      stop.0,
+      record {
+        last = with last stop.0;
+        had = record {
+          last = with h.last all.0;
+          all = record { count = h.all.count; within = h.all.within; rounds = all.1; over = by h.all.over };
+          is_done = h.is_done;
+          stop = stop.1;
+        };
+        shows = shows;
+        calls_are = refl;
+      },
+    )
   where
     by : (h.last.ending ≡ true) ⊎ (otherwise ⊎ (h.all.count ≡ most_rounds rounds))
         → (h.last.ending ≡ true) ⊎ (IsTrue until_eof ⊎ (h.all.count ≡ most_rounds rounds))
