@@ -1,5 +1,5 @@
 -- The rounds of a gateway, from its start on.
-use Rattle.std.proofs.Common.{◌≡◌, ◌⊎◌, ◌++◌, ◌∷◌, inl, inr, ap, ℕ, zero, suc, Bool, true, false, IsTrue, List, [], Option, Some, None, Result, Ok, Err, OnOk, codes, refl, subst}
+use Rattle.std.proofs.Common.{◌≡◌, ◌⊎◌, ◌++◌, ◌∷◌, inl, inr, ap, ℕ, zero, suc, Bool, true, false, IsTrue, List, [], Option, Some, None, Result, Ok, Err, OnOk, codes, refl}
 use Rattle.std.specs.Io.KnownBytes.{Appends}
 use Rattle.nat_types.specs.declared.gateways.GatewayId.{GatewayId}
 use Rattle.settings.specs.declared.whole.Settings.{Settings}
@@ -11,7 +11,7 @@ use Rattle.rounds.specs.declared.judging.Question.{Question}
 use Rattle.rounds.specs.declared.judging.Reply.{Reply}
 use Rattle.rounds.specs.declared.judging.Reply.TheVariants.{Heard, Later, Refused}
 use Rattle.gate.specs.Boots.{HasStarted}
-use Rattle.gate.specs.Served.{AreHeld, HadRounds, HasRounds, HasRun, HasServed, any_reading, listed}
+use Rattle.gate.specs.Served.{AreHeld, HadRounds, HasRun, HasServed, any_reading, listed}
 
 -- ---- a run by a wire and a clock is one by any clock, and by the calls of the wire, listed
 
