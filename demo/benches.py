@@ -9,8 +9,8 @@ import tomllib
 from typing import NamedTuple
 
 from cards import card
-from packets import (ICMP, IPV4, PLAIN, SYN, TCP, UDP, Packet, Station, arp_reply, arp_request, ethernet, icmp,
-                     ip_bytes, ipv4, is_arp, is_ipv4, marked, tcp, udp, virtual_mac)
+from packets import (ECHO, ICMP, IPV4, PLAIN, REPLY, SYN, TCP, UDP, Packet, Station, arp_reply, arp_request, ethernet,
+                     icmp, ip_bytes, ipv4, is_arp, is_ipv4, marked, tcp, udp, virtual_mac)
 
 PACKET_OUTGOING = 4
 # What comes out of the running pair comes within so many seconds; where nothing should come, so long is waited for it.
@@ -20,6 +20,8 @@ SILENCE = 0.4
 ACTIVE = 360
 # Two ticks that lie so far apart make a box say something to the other at each.
 HELLO = 20
+# The sequence number of each query.
+SEQUENCE = b"\0\1"
 
 HOSTS = tuple(Station("inside", f"192.168.1.{51 + n}", bytes((2, 0, 0, 0, 0xA, n))) for n in range(4))
 REMOTES = tuple(Station("outside", f"192.0.2.{51 + n}", bytes((2, 0, 0, 0, 0xB, n))) for n in range(3))
@@ -74,10 +76,18 @@ class Bench:
         return self.ask(end.station, ipv4(end.station.address, place[0], TCP, segment), mark, patient)
 
     def send(self, protocol, end, place, patient=True):
-        """A packet that may begin a flow."""
+        """A packet that may begin a flow, or answers one."""
         if protocol == UDP:
             return self.udp(end, place, patient=patient)
+        if protocol == ICMP:
+            return self.ping(end, *place, patient=patient)
         return self.tcp(end, place, SYN, patient=patient)
+
+    def ping(self, end, address, identifier=0, patient=True):
+        """An Echo by a host's identifier, which is the port of its end; or a remote station's Reply to an identifier."""
+        is_echo = end.station.side == "inside"
+        rest = (end.port if is_echo else identifier).to_bytes(2, "big") + SEQUENCE
+        return self.icmp(end.station, address, ECHO if is_echo else REPLY, 0, rest, patient=patient)
 
     def icmp(self, station, target, kind, code, rest, inner=b"", patient=False):
         """A message of ICMP with a mark at its end; what came out with it."""

@@ -6,13 +6,13 @@ import struct
 import time
 
 from cards import card
+from packets import ECHO, ICMP, TCP, UDP
 from pair import SERVER, SIDES
 
 SO_ATTACH_FILTER = 26
 SO_TIMESTAMPNS = 35
 ADVERTISEMENT = 112
-TCP, UDP = 6, 17
-NAMES = {TCP: "tcp", UDP: "udp"}
+NAMES = {ICMP: "icmp", TCP: "tcp", UDP: "udp"}
 # Of a box that says nothing for so long it isn't known that it is Active.
 FRESH = 2.5
 
@@ -62,11 +62,13 @@ def receive(sock):
 
 
 def marks_of(frame):
-    """A TCP or UDP frame's protocol, ends, and what marks its flow on both sides, if anything does:
-    the first number of a connection, or the text of a question."""
+    """A frame's protocol, ends, and what marks its flow on both sides, if anything does: the first
+    number of a connection, the text of a question, or that of a ping."""
     if len(frame) < 42 or frame[12:14] != b"\x08\x00" or frame[23] not in NAMES:
         return None
     start = 14 + (frame[14] & 15) * 4
+    if frame[23] == ICMP:
+        return marks_of_ping(frame, start)
     source = (socket.inet_ntoa(frame[26:30]), int.from_bytes(frame[start : start + 2], "big"))
     target = socket.inet_ntoa(frame[30:34])
     if frame[23] == UDP:
@@ -75,6 +77,15 @@ def marks_of(frame):
         return TCP, source, target, frame[start + 4 : start + 8]
     text = frame[start + (frame[start + 12] >> 4) * 4 :]
     return (TCP, source, target, text.split(b"\n")[0]) if text.startswith(b"flow ") else None
+
+
+def marks_of_ping(frame, start):
+    """The same of an Echo of the demo's own, whose identifier stands for the port."""
+    text = frame[start + 8 :].split(b"\n")[0]
+    if frame[start] != ECHO or not text.startswith(b"ping "):
+        return None
+    source = (socket.inet_ntoa(frame[26:30]), int.from_bytes(frame[start + 4 : start + 6], "big"))
+    return ICMP, source, socket.inet_ntoa(frame[30:34]), text
 
 
 class Observer:

@@ -6,6 +6,7 @@ from typing import NamedTuple
 
 ARP, IPV4 = 0x0806, 0x0800
 ICMP, TCP, UDP, VRRP = 1, 6, 17, 112
+ECHO, REPLY = 8, 0
 FIN, SYN, RST, PSH, ACK = 1, 2, 4, 8, 16
 MORE_FRAGMENTS, DONT_FRAGMENT = 0x2000, 0x4000
 EVERYBODY = b"\xff" * 6
@@ -148,11 +149,12 @@ class Packet:
 
     @property
     def source_port(self):
-        return int.from_bytes(self.payload[:2], "big")
+        """Of a query its identifier, which stands for both ports."""
+        return int.from_bytes(self.payload[4:6] if self.protocol == ICMP else self.payload[:2], "big")
 
     @property
     def target_port(self):
-        return int.from_bytes(self.payload[2:4], "big")
+        return int.from_bytes(self.payload[4:6] if self.protocol == ICMP else self.payload[2:4], "big")
 
     @property
     def data(self):

@@ -15,6 +15,7 @@ from rfc_errors import OF_ERRORS
 from rfc_hosts import by_hosts
 from rfc_linux import at_linux
 from rfc_packets import AT_A_BOX
+from rfc_pings import OF_PINGS, Pings, through_a_kill
 from rfc_routers import BY_THE_TABLE, ended, on_the_wire, taken_over
 from scene import scene, show
 
@@ -78,7 +79,7 @@ def by_sim(options, report):
 
 def at_box(current, number, report):
     bench = Wired(number, current)
-    for probe in (*AT_A_BOX, *OF_ERRORS):
+    for probe in (*AT_A_BOX, *OF_ERRORS, *OF_PINGS):
         probe(bench, report)
     on_the_wire(bench, report)
     by_hosts(current, bench, report)
@@ -90,11 +91,12 @@ def on_the_pair(options, report):
     """Each probe at box 0, and after its kill at box 1; at last box 1 is ended."""
     with scene(options, options.capture) as current:
         at_box(current, 0, report)
-        bench = Wired(1, current)
+        bench, pings = Wired(1, current), Pings(current)
         killed = ended(bench, report, "9568 6.4 stop c", "SIGTERM", lambda: current.kill(0, signal.SIGTERM))
         current.tell_takeover(1, killed)
         moment = current.observer.took_over(1, killed) or math.inf
         taken_over(bench, report, moment - killed, current.networks.down_interval(1))
+        through_a_kill(pings, bench, report, killed, moment)
         current.boxes[1].peer_off(current.boxes[0].boot)
         current.say("box 1 is told that box 0 is off")
         bench = at_box(current, 1, report)

@@ -6,13 +6,14 @@ looked at in a run of its own.
 
 import os
 
-from benches import HOSTS, REMOTES, End, is_error
-from packets import ACK, DONT_FRAGMENT, FIN, IPV4, PLAIN, PSH, RST, SYN, TCP, UDP, ethernet, ipv4, tcp, udp
+from benches import HOSTS, REMOTES, SEQUENCE, End, is_error
+from packets import (ACK, DONT_FRAGMENT, ECHO, FIN, ICMP, IPV4, PLAIN, PSH, RST, SYN, TCP, UDP, ethernet, icmp, ipv4, tcp,
+                     udp)
 from rfc_packets import LONGEST, PLACES, arrived, port_of, told, yes
 
 HOST, REMOTE, STRANGER = End(HOSTS[0], 5000), End(REMOTES[0], 53), End(REMOTES[1], 9)
 TICK = 1
-UDP_REST, SHORT, LONG = 30_000, 24_000, 744_000
+QUERY_REST, UDP_REST, SHORT, LONG = 6_000, 30_000, 24_000, 744_000
 # Each side's segments of a connection: is it the remote end's, and its flags.
 OPENED = ((0, SYN), (1, SYN | ACK), (0, ACK))
 USED = (*OPENED, (0, ACK | PSH), (1, ACK | PSH))
@@ -23,9 +24,9 @@ def seconds(centiseconds):
 
 
 def begin(bench, protocol, course=()):
-    """Makes a pair, by a datagram or by the segments of a course; its outside port."""
-    if protocol == UDP:
-        return port_of(bench.udp(HOST, REMOTE.place))
+    """Makes a pair, by a datagram, an Echo or the segments of a course; its outside port, or identifier."""
+    if protocol != TCP:
+        return port_of(bench.send(protocol, HOST, REMOTE.place))
     port = None
     for is_remote, flags in course:
         found = bench.tcp(REMOTE, bench.outside(port), flags) if is_remote else bench.tcp(HOST, REMOTE.place, flags)
@@ -69,6 +70,14 @@ def udp_timers(fresh, report):
         report.note(fresh, holds, f"a packet {name} begins the rest anew", "anew" if there else "not", there)
 
 
+def query_timers(fresh, report):
+    limit(report, fresh, "5508 REQ-2 a", "an Echo, without a packet", QUERY_REST, ICMP)
+    for name, use in (("an Echo", lambda bench, _: bench.ping(HOST, REMOTE.place[0])),
+                      ("a Reply", lambda bench, port: bench.ping(REMOTE, *bench.outside(port)))):
+        there = there_after(fresh, ICMP, (), (QUERY_REST - TICK, use, QUERY_REST - TICK))
+        report.note(fresh, "5508 REQ-2 a", f"{name} begins the rest anew", "anew" if there else "not", there)
+
+
 def tcp_timers(fresh, report):
     name = "5382 REQ-5"
     limit(report, fresh, name, "a SYN alone", SHORT, TCP, OPENED[:1])
@@ -97,7 +106,8 @@ def forged(bench, port):
 
 def between(source, target, protocol=UDP):
     """A packet from one end to another. Of what an error is about nobody keeps whether it came."""
-    inner = udp(source, target, b"asked") if protocol == UDP else tcp(source, target, ACK, b"asked")
+    inner = {UDP: lambda: udp(source, target, b"asked"), TCP: lambda: tcp(source, target, ACK, b"asked"),
+             ICMP: lambda: icmp(ECHO, 0, source[1].to_bytes(2, "big") + SEQUENCE, b"asked")}[protocol]()
     return ipv4(source[0], target[0], protocol, inner)
 
 
@@ -109,6 +119,10 @@ def told_in(bench, port, protocol=UDP):
 
 def told_in_tcp(bench, port):
     return told_in(bench, port, TCP)
+
+
+def told_in_ping(bench, port):
+    return told_in(bench, port, ICMP)
 
 
 def told_out(bench, _):
@@ -172,6 +186,7 @@ def no_uses(fresh, report):
 ERRORS = (
     ("5508 REQ-6", "a router's error about UDP", UDP, (), (UDP_REST - TICK,), told_in, TICK),
     ("5508 REQ-6", "a router's error about TCP", TCP, OPENED, (LONG - TICK,), told_in_tcp, TICK),
+    ("5508 REQ-6", "a router's error about an Echo", ICMP, (), (QUERY_REST - TICK,), told_in_ping, TICK),
     ("5508 REQ-6", "a host's error", UDP, (), (UDP_REST - TICK,), told_out, TICK),
     ("5508 REQ-6", "a host's error to itself", UDP, (), (UDP_REST - TICK,), told_across, TICK),
     ("7857 6.1 a", "a host's error to a stranger", TCP, OPENED[:1], (1000, knocked, 1000), told_stranger, SHORT - 1000),
@@ -224,20 +239,22 @@ def no_room(narrow, report):
 def both_boxes(couple, report):
     """While both are Active, a host's packets may go by either, and one box doesn't see what the other carries."""
     bench = couple()
-    ports = []
-    for bench.box in (0, 1, 0):
-        ports.append(port_of(bench.udp(HOST, REMOTE.place)))
-    report.note(bench, "4787 REQ-1", "one outside port by box 0, box 1, box 0", told(ports),
-                None not in ports and len(set(ports)) == 1)
+    for protocol, requirement, name in ((UDP, "4787 REQ-1", "port"), (ICMP, "5508 REQ-1 a", "identifier")):
+        seen = []
+        for bench.box in (0, 1, 0):
+            seen.append(port_of(bench.send(protocol, HOST, REMOTE.place)))
+        report.note(bench, requirement, f"one outside {name} by box 0, box 1, box 0", told(seen),
+                    None not in seen and len(set(seen)) == 1)
+    port = port_of(bench.udp(HOST, REMOTE.place))
     bench.rest(UDP_REST - 50)
     bench.box = 1
     bench.udp(HOST, REMOTE.place)
     bench.rest(100)
     bench.box = 0
-    there = is_there(bench, UDP, ports[0])
+    there = is_there(bench, UDP, port)
     report.note(bench, "4787 REQ-5", "UDP, carried by box 1 alone: there at box 0 after 300 s", yes_there(there), there)
     bench.rest(UDP_REST + 100)
-    there = is_there(bench, UDP, ports[0])
+    there = is_there(bench, UDP, port)
     report.note(bench, "4787 REQ-5", "without a packet at either box: let go by both", yes_there(there), not there)
 
 
@@ -245,4 +262,4 @@ def yes_there(there):
     return "there" if there else "gone"
 
 
-BY_THE_CLOCK = (udp_timers, tcp_timers, resets, no_uses, errors, too_large)
+BY_THE_CLOCK = (udp_timers, query_timers, tcp_timers, resets, no_uses, errors, too_large)

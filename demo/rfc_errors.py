@@ -54,6 +54,8 @@ class Wanted(NamedTuple):
 def has_right_sums(packet):
     """Whether the checksums of a whole packet are right: its header's, and that of what it carries."""
     header = packet.frame[14 : 14 + (packet.frame[14] & 15) * 4]
+    if packet.protocol == ICMP:
+        return checksum(header) == 0 == checksum(packet.payload)
     return checksum(header) == 0 == transport_sum(packet.source, packet.target, packet.protocol, packet.payload)
 
 

@@ -5,7 +5,7 @@ import os
 import socket
 import time
 
-from packets import ICMP, icmp
+from packets import ECHO, ICMP, REPLY, Packet, icmp
 from pair import BEYOND, HOSTS, ROUTER, SERVER
 from rfc_packets import told, yes
 
@@ -18,6 +18,8 @@ LONGEST = 4.0
 PATIENCE = 1.0
 IP_MTU_DISCOVER, NEVER_CUT, MAY_CUT = 10, 2, 0
 IP_MTU, IP_RECVERR = 14, 11
+# The type of the error by which a router says that a TTL is over, and the identifier of a host's Echos.
+TTL_OVER, IDENTIFIER = 11, b"\0\7"
 # Where the sender of an error stands in what the kernel tells of it: struct sock_extended_err, and an address behind it.
 OFFENDER = slice(20, 24)
 
@@ -129,11 +131,21 @@ class Hosts:
         found = self.until(lambda: sender.recvmsg(512, 512, socket.MSG_ERRQUEUE), PATIENCE)
         return socket.inet_ntoa(found[1][0][2][OFFENDER]) if isinstance(found, tuple) else None
 
-    def ping(self):
-        """Whether the server answers an Echo."""
+    def echo(self, ttl):
+        """Who answers an Echo of this TTL to the server, by a Reply or by an error about it."""
         sender = self.own(socket.SOCK_RAW, ICMP)
-        sender.sendto(icmp(8, 0, b"\0\7\0\1", b"ping"), (SERVER, 0))
-        return self.until(lambda: sender.recv(1 << 16), PATIENCE)
+        sender.setsockopt(socket.IPPROTO_IP, socket.IP_TTL, ttl)
+        asked = IDENTIFIER + ttl.to_bytes(2, "big")
+        sender.sendto(icmp(ECHO, 0, asked, b"who is there"), (SERVER, 0))
+
+        def answer():
+            packet = Packet(bytes(14) + sender.recv(1 << 16))
+            if packet.payload[0] not in (REPLY, TTL_OVER) or asked not in packet.payload:
+                raise BlockingIOError
+            return packet.source
+
+        found = self.until(answer, PATIENCE)
+        return found if isinstance(found, str) else None
 
 
 def at_full_width(hosts, bench, report):
@@ -147,8 +159,10 @@ def at_full_width(hosts, bench, report):
                 found[1:] == [ROUTER, SERVER])
     found = hosts.datagram(3000)
     report.note(bench, "4787 REQ-14", "a host's datagram of 3,000 bytes comes", yes(found), found)
-    found = hosts.ping()
-    report.note(bench, "5508 REQ-1", "a host's ping of the server is answered", yes(found), bool(found))
+    found = [hosts.echo(ttl) for ttl in (1, 2, 3)]
+    report.note(bench, "5508 REQ-10", "a traceroute by Echo has a line of the pair", told(found[:1]), found[0] is not None)
+    report.note(bench, "5508 REQ-4", "a traceroute by Echo has a line of the router", told(found[1:2]), found[1] == ROUTER)
+    report.note(bench, "5508 REQ-1 a", "a host's ping of the server is answered", told(found[2:]), found[2] == SERVER)
 
 
 def at_a_narrow_path(hosts, bench, report):

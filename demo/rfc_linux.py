@@ -11,12 +11,14 @@ from pair import ROUTER, SETTINGS, SIDES, Surroundings
 from rfc_errors import OF_ERRORS
 from rfc_hosts import by_hosts
 from rfc_packets import AT_A_BOX
+from rfc_pings import OF_PINGS
 from scene import show
 
 RULES = ("add table ip nat; add chain ip nat out { type nat hook postrouting priority 100; };"
          "add rule ip nat out oifname outside masquerade")
 # What this NAT meets, of which the pair meets a part, and what it doesn't and the pair does.
-MEETS = ("4787 REQ-12 b", "4787 REQ-14", "5382 REQ-2", "5382 REQ-9", "5508 REQ-1", "5508 REQ-4", "5508 REQ-10")
+MEETS = ("4787 REQ-12 b", "4787 REQ-14", "5382 REQ-2", "5382 REQ-9", "5508 REQ-1 a", "5508 REQ-1 b", "5508 REQ-4",
+         "5508 REQ-10")
 DOES_NOT = ("4787 REQ-8", "4787 REQ-9", "5382 REQ-3", "5382 REQ-4 a", "5382 REQ-8", "5508 REQ-3", "5508 REQ-5",
             "5508 REQ-7")
 
@@ -56,7 +58,7 @@ def at_linux(report, page):
         current = Kernel(stack)
         bench = Wired(0, current)
         bench.name = "linux"
-        for probe in (*AT_A_BOX, *OF_ERRORS):
+        for probe in (*AT_A_BOX, *OF_ERRORS, *OF_PINGS):
             probe(bench, report)
         by_hosts(current, bench, report)
     heads = ["requirement", "at", "expected", "seen", "verdict"]

@@ -3,8 +3,8 @@
 import os
 
 from benches import HOSTS, REMOTES, SILENCE, End, is_error
-from packets import (ACK, DONT_FRAGMENT, FIN, ICMP, IPV4, MORE_FRAGMENTS, PLAIN, PSH, RST, SYN, TCP, UDP, Packet,
-                     ethernet, ipv4, is_ipv4, tcp, udp)
+from packets import (ACK, DONT_FRAGMENT, ECHO, FIN, ICMP, IPV4, MORE_FRAGMENTS, PLAIN, PSH, REPLY, RST, SYN, TCP, UDP,
+                     Packet, ethernet, ipv4, is_ipv4, tcp, udp)
 
 # Both protocols, and the standard that speaks of each.
 KINDS = ((UDP, "4787"), (TCP, "5382"))
@@ -206,26 +206,11 @@ def packet_bytes(packet):
     return packet.frame[14 : 14 + packet.length] if packet else b""
 
 
-def queries(bench, report):
-    """Echo through the pair, and between two hosts by the outside address; what is neither query nor error."""
-    asked = b"\0\7\0\1"
-    found = bench.icmp(HOSTS[0], REMOTES[0].address, 8, 0, asked)
-    went = arrived(found, 8, REMOTES[0]) and found.source == bench.virtual
-    report.note(bench, "5508 REQ-1", "an Echo goes out", yes(went), went)
-    back = bench.icmp(REMOTES[0], bench.virtual, 0, 0, found.payload[4:8]) if went else None
-    report.note(bench, "5508 REQ-1", "its Reply comes back to the host", yes(back), arrived(back, 0, HOSTS[0]))
-    found = bench.icmp(HOSTS[0], bench.virtual, 8, 0, asked)
-    reached = any(arrived(found, 8, host) for host in HOSTS)
-    report.note(bench, "7857 11", "an Echo to the outside address reaches a host", yes(reached), reached)
-    found = bench.icmp(HOSTS[0], REMOTES[0].address, 9, 0, bytes(4))
-    report.note(bench, "5508 REQ-11", "what is neither query nor error doesn't go out", yes(found), not found)
-
-
 def own_messages(bench, report):
     """What the box says itself: to an Echo at its addresses, and of a packet whose TTL is over."""
     for station, address in ((HOSTS[0], bench.settings["inside"]["virtual"]), (REMOTES[0], bench.virtual)):
-        found = bench.icmp(station, address, 8, 0, b"\0\7\0\1")
-        answered = arrived(found, 0, station) and found.source == address
+        found = bench.icmp(station, address, ECHO, 0, b"\0\7\0\1")
+        answered = arrived(found, REPLY, station) and found.source == address
         report.note(bench, "5508 REQ-10", f"{address} answers an Echo", yes(answered), answered)
     packet = ipv4(HOSTS[0].address, REMOTES[0].address, UDP, udp((HOSTS[0].address, 5000), PLACES[0], b""),
                   PLAIN._replace(ttl=1))
@@ -297,5 +282,5 @@ def identification(bench, report):
     report.note(bench, "7857 9", "two hosts' 1234 leave as two numbers", told(seen), len(set(seen)) == 2)
 
 
-AT_A_BOX = (mapping, apart, parity, order, protocols, filtering, hairpin, steady, connections, contents, queries,
-            own_messages, unasked, fragments, large, identification)
+AT_A_BOX = (mapping, apart, parity, order, protocols, filtering, hairpin, steady, connections, contents, own_messages,
+            unasked, fragments, large, identification)

@@ -1,13 +1,14 @@
 //! A wire in memory, and a clock that goes by steps.
 
 ghost use Rattle.std.specs.Prelude.{◌≡◌, ◌≤◌, IfSome};
+ghost use Rattle.sockets.specs.Letters.{AnyCall};
 
 use crate::answers::show_answer;
 use anyhow::Result as Checked;
 use control::word_of;
 use nat_types::Side;
 use rounds::Clockwork;
-use sockets::{Answers, LONGEST, Losses, Place, SendFault, Wire, WireFault};
+use sockets::{LONGEST, Losses, Place, SendFault, Wire, WireFault};
 use std::alloc::Global;
 use std::io::{self, Write};
 use std::time::Duration;
@@ -47,7 +48,6 @@ pub(crate) struct Memory {
     pub(crate) coming: Vec<Letter>,
     /// How many of them have come.
     pub(crate) come: usize,
-    answers: Answers,
     /// The places that fail in the next rounds.
     pub(crate) outages: Vec<Outage>,
     /// How often nothing more was there, which is once a round.
@@ -66,7 +66,6 @@ impl Memory {
             alloc,
             coming: Vec::new(alloc),
             come: 0,
-            answers: Answers::none(),
             outages: Vec::new(alloc),
             round: 0,
             limit: None,
@@ -98,7 +97,6 @@ impl Memory {
     /// The next datagram that is to come, if one is.
     fn next(&mut self, room: &mut [u8; LONGEST]) -> Option<(Place, usize)>
         ensures within { IfSome result (λ datagram. datagram.1 ≤ 4096) }
-        ensures answers { self.new.answers ≡ self.old.answers }
     {
         let letter = self.coming.get(self.come)?;
         let is_said = letter.place == Place::Operator;
@@ -112,9 +110,7 @@ impl Memory {
     }
 
     /// Keeps what is sent, where its place takes as much.
-    fn keep(&mut self, to: Place, bytes: &[u8]) -> Result<(), SendFault>
-        ensures { self.new.answers ≡ self.old.answers }
-    {
+    fn keep(&mut self, to: Place, bytes: &[u8]) -> Result<(), SendFault> {
         if let Some(limit) = self.limit
             && limit.place == to
             && limit.most < bytes.len()
@@ -179,7 +175,7 @@ fn show_letter<O: Write>(alloc: Global, letter: &Letter, output: &mut O) -> io::
 }
 
 impl Wire for Memory {
-    ghost answers = { λ m. m.answers };
+    ghost does = { AnyCall };
 
     fn send(&mut self, to: Place, bytes: &[u8]) -> Result<(), WireFault> {
         let done = self.keep(to, bytes);
@@ -201,9 +197,7 @@ impl Wire for Memory {
         if next.is_none() {
             self.round = self.round.saturating_add(1);
         }
-        let found = Ok(next);
-        self.answers.keep(found, room);
-        found
+        Ok(next)
     }
 
     fn is_failing(&self, place: Place) -> bool {

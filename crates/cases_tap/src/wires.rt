@@ -1,8 +1,9 @@
 //! A wire in memory.
 ghost use Rattle.std.specs.Prelude.{◌≡◌, ◌≤◌, IfOk, IfSome};
+ghost use Rattle.sockets.specs.Letters.{AnyCall};
 
 use crate::words::{name_of, shown};
-use sockets::{Answers, LONGEST, Losses, Place, Wire, WireFault};
+use sockets::{LONGEST, Losses, Place, Wire, WireFault};
 use std::cell::RefCell;
 use std::io;
 use std::time::Duration;
@@ -20,16 +21,11 @@ pub(crate) enum Coming {
 pub(crate) struct Memory<'a> {
     rt: HostRuntime,
     coming: &'a RefCell<Coming>,
-    answers: Answers,
 }
 
 impl<'a> Memory<'a> {
     pub(crate) fn new(rt: HostRuntime, coming: &'a RefCell<Coming>) -> Memory<'a> {
-        Memory {
-            rt,
-            coming,
-            answers: Answers::none(),
-        }
+        Memory { rt, coming }
     }
 
     fn next(&self, room: &mut [u8; LONGEST]) -> Result<Option<(Place, usize)>, WireFault>
@@ -59,7 +55,7 @@ impl<'a> Memory<'a> {
 }
 
 impl Wire for Memory<'_> {
-    ghost answers = { λ m. m.answers };
+    ghost does = { AnyCall };
 
     fn send(&mut self, to: Place, bytes: &[u8]) -> Result<(), WireFault> {
         if self.refuses() {
@@ -73,9 +69,7 @@ impl Wire for Memory<'_> {
         _limit: Duration,
         room: &mut [u8; LONGEST],
     ) -> Result<Option<(Place, usize)>, WireFault> {
-        let found = self.next(room);
-        self.answers.keep(found, room);
-        found
+        self.next(room)
     }
 
     fn answer(&mut self, _bytes: &[u8]) {}

@@ -1,3 +1,4 @@
+mod Arguments
 mod Beneath
 mod Entering
 mod Numbers

@@ -3,3 +3,4 @@ pub mod Values
 pub mod Filters
 pub mod Tasks
 pub mod Faults
+pub mod Arguments

@@ -2,13 +2,62 @@
 ghost use Rattle.std.specs.Prelude.{◌≡◌, false};
 ghost use Rattle.clap.specs.Words.{rule_of};
 ghost use Rattle.command_line.specs.Line.{word_rule, file_rule, id_rule, id_rule_if, rounds_rule, number_rule, flag_rule, text_rule, way_rule};
+ghost use Rattle.command_line.specs.Arguments.{rule_for};
 
 use clap::builder::ValueParser;
 use clap::{Arg, ArgAction};
 use std::alloc::Global;
 
+/// How an argument of a command is given.
+#[derive(Clone, Copy)]
+pub(crate) enum Form {
+    /// A word that has to stand at its place.
+    File,
+    /// A word that may stand at its place.
+    Word,
+    /// `--NAME TEXT`, which may be left out.
+    Text,
+    /// `--NAME WAY`.
+    Way,
+    /// `--NAME`, a flag.
+    Flag,
+    /// `--NAME N`, from one number to another.
+    Number(u64, u64),
+    /// `--id`, 0 or 1.
+    Id,
+    /// `--id`, 0 or 1, which may be left out.
+    IdIf,
+    /// `--rounds`, from 0 to 4294967295.
+    Rounds,
+}
+
+/// An argument of a command: how it is given, its name, and what its help says.
+#[derive(Clone, Copy)]
+pub(crate) struct Argument<'a>(pub(crate) Form, pub(crate) &'a str, pub(crate) &'a str);
+
+impl<'a> Argument<'a> {
+    /// What clap is told of it.
+    pub(crate) fn arg(&self, alloc: Global) -> Arg<'a>
+        ensures rule { rule_of result ≡ rule_for self.now }
+        ensures local { result.global ≡ false }
+    {
+        let Argument(form, name, help) = *self;
+        match form {
+            Form::File => file(alloc, name, help),
+            Form::Word => word(alloc, name, help),
+            Form::Text => text(alloc, name, help),
+            Form::Way => way(alloc, name, help),
+            Form::Flag => flag(alloc, name, help),
+            Form::Number(least, most) => number(alloc, name, least, most, help),
+            Form::Id => id(alloc, help),
+            Form::IdIf => id_if(alloc, help),
+            Form::Rounds => rounds(alloc, help),
+        }
+    }
+}
+
 /// A word that may stand at its place.
-pub(crate) fn word<'a>(alloc: Global, name: &'a str, help: &'a str) -> Arg<'a>
+fn word<'a>(alloc: Global, name: &'a str, help: &'a str) -> Arg<'a>
     ensures rule { rule_of result ≡ word_rule name.entry.now }
     ensures local { result.global ≡ false }
 {
@@ -16,7 +65,7 @@ pub(crate) fn word<'a>(alloc: Global, name: &'a str, help: &'a str) -> Arg<'a>
 }
 
 /// A word that has to stand at its place.
-pub(crate) fn file<'a>(alloc: Global, name: &'a str, help: &'a str) -> Arg<'a>
+fn file<'a>(alloc: Global, name: &'a str, help: &'a str) -> Arg<'a>
     ensures rule { rule_of result ≡ file_rule name.entry.now }
     ensures local { result.global ≡ false }
 {
@@ -27,7 +76,7 @@ pub(crate) fn file<'a>(alloc: Global, name: &'a str, help: &'a str) -> Arg<'a>
 }
 
 /// `--id`, 0 or 1, which may be left out.
-pub(crate) fn id_if<'a>(alloc: Global) -> Arg<'a>
+fn id_if<'a>(alloc: Global, help: &'a str) -> Arg<'a>
     ensures rule { rule_of result ≡ id_rule_if }
     ensures local { result.global ≡ false }
 {
@@ -35,11 +84,11 @@ pub(crate) fn id_if<'a>(alloc: Global) -> Arg<'a>
         .long("id")
         .action(ArgAction::Set)
         .value_parser(ValueParser::Signed(0, 1))
-        .help("Which of the two gateways it is, 0 or 1, as in --id 0")
+        .help(help)
 }
 
 /// `--id`, 0 or 1.
-pub(crate) fn id<'a>(alloc: Global) -> Arg<'a>
+fn id<'a>(alloc: Global, help: &'a str) -> Arg<'a>
     ensures rule { rule_of result ≡ id_rule }
     ensures local { result.global ≡ false }
 {
@@ -48,11 +97,11 @@ pub(crate) fn id<'a>(alloc: Global) -> Arg<'a>
         .required(true)
         .action(ArgAction::Set)
         .value_parser(ValueParser::Signed(0, 1))
-        .help("Which of the two gateways it is, 0 or 1, as in --id 0")
+        .help(help)
 }
 
 /// `--rounds`, from 0 to 4294967295.
-pub(crate) fn rounds<'a>(alloc: Global) -> Arg<'a>
+fn rounds<'a>(alloc: Global, help: &'a str) -> Arg<'a>
     ensures rule { rule_of result ≡ rounds_rule }
     ensures local { result.global ≡ false }
 {
@@ -60,17 +109,11 @@ pub(crate) fn rounds<'a>(alloc: Global) -> Arg<'a>
         .long("rounds")
         .action(ArgAction::Set)
         .value_parser(ValueParser::Signed(0, 4_294_967_295))
-        .help("How many rounds it runs, each waiting at most 10 ms; left out, it runs until told")
+        .help(help)
 }
 
 /// `--NAME N`, from one number to another.
-pub(crate) fn number<'a>(
-    alloc: Global,
-    name: &'a str,
-    least: u64,
-    most: u64,
-    help: &'a str,
-) -> Arg<'a>
+fn number<'a>(alloc: Global, name: &'a str, least: u64, most: u64, help: &'a str) -> Arg<'a>
     ensures rule { rule_of result ≡ number_rule name.entry.now least most }
     ensures local { result.global ≡ false }
 {
@@ -82,7 +125,7 @@ pub(crate) fn number<'a>(
 }
 
 /// `--NAME`, a flag.
-pub(crate) fn flag<'a>(alloc: Global, name: &'a str, help: &'a str) -> Arg<'a>
+fn flag<'a>(alloc: Global, name: &'a str, help: &'a str) -> Arg<'a>
     ensures rule { rule_of result ≡ flag_rule name.entry.now }
     ensures local { result.global ≡ false }
 {
@@ -93,7 +136,7 @@ pub(crate) fn flag<'a>(alloc: Global, name: &'a str, help: &'a str) -> Arg<'a>
 }
 
 /// `--NAME TEXT`, which may be left out.
-pub(crate) fn text<'a>(alloc: Global, name: &'a str, help: &'a str) -> Arg<'a>
+fn text<'a>(alloc: Global, name: &'a str, help: &'a str) -> Arg<'a>
     ensures rule { rule_of result ≡ text_rule name.entry.now }
     ensures local { result.global ≡ false }
 {
@@ -104,7 +147,7 @@ pub(crate) fn text<'a>(alloc: Global, name: &'a str, help: &'a str) -> Arg<'a>
 }
 
 /// `--NAME WAY`.
-pub(crate) fn way<'a>(alloc: Global, name: &'a str, help: &'a str) -> Arg<'a>
+fn way<'a>(alloc: Global, name: &'a str, help: &'a str) -> Arg<'a>
     ensures rule { rule_of result ≡ way_rule name.entry.now }
     ensures local { result.global ≡ false }
 {

@@ -165,7 +165,7 @@ impl<'a> World<'a> {
         self.trace.as_slice()
     }
 
-    /// The pairs of a gateway's table by protocol (tcp first) and port, without proposals given up;
+    /// The pairs of a gateway's table by protocol (icmp first) and port, without proposals given up;
     /// none while it is down.
     pub fn table(&self, id: GatewayId) -> Result<Vec<Pair>, NoMemory>
         ensures { IfOk result (λ v. v.items ≡ pairs_of is_pair (gateway_at self.now id)) }

@@ -1,94 +1,187 @@
 -- The rounds of a gateway, from its start on.
-use Rattle.std.proofs.Common.{◌≡◌, ◌⊎◌, inl, inr, ℕ, zero, suc, Bool, true, false, IsTrue, List, [], Option, Result, Ok, Err, OnOk, codes, refl, subst}
+use Rattle.std.proofs.Common.{◌≡◌, ◌⊎◌, ◌++◌, ◌∷◌, inl, inr, ap, ℕ, zero, suc, Bool, true, false, IsTrue, List, [], Option, Some, None, Result, Ok, Err, OnOk, codes, refl}
 use Rattle.std.specs.Io.KnownBytes.{Appends}
 use Rattle.nat_types.specs.declared.gateways.GatewayId.{GatewayId}
 use Rattle.settings.specs.declared.whole.Settings.{Settings}
 use Rattle.spec_step.specs.Shown.{Shown}
-use Rattle.sockets.specs.Letters.{Polled}
-use Rattle.rounds.specs.Rounds.{AreRounds, Box, IsRound, IsRun, Reads, box, most_rounds}
+use Rattle.spec_step.specs.declared.events.Event.{Event}
+use Rattle.sockets.specs.Letters.{Call, Polled, ReceivedDatagram, answered, asked, came, failed, nothing}
+use Rattle.rounds.specs.Rounds.{AnswersOwed, AreMade, AreRounds, Box, Calls, IsAnswered, IsRound, IsRun, Reads, Replies, Takes, TakesAll, TakesAnswer, TakesAny, TakesBy, TakesLetter, all_sent, box, most_rounds}
+use Rattle.rounds.specs.declared.judging.Question.{Question}
+use Rattle.rounds.specs.declared.judging.Reply.{Reply}
+use Rattle.rounds.specs.declared.judging.Reply.TheVariants.{Heard, Later, Refused}
 use Rattle.gate.specs.Boots.{HasStarted}
-use Rattle.gate.specs.Served.{AreHeld, HadRounds, HasRounds, HasRun, HasServed, any_reading}
+use Rattle.gate.specs.Served.{AreHeld, HadRounds, HasRun, HasServed, any_reading, listed}
 
--- a round by one clock is one by any
-any_round : {C : Type 0} (track : Bool) (reads : Reads C) (b : Box) (c : C) (b2 : Box) (c2 : C) → IsRound track reads b c b2 c2 → IsRound track any_reading b tt b2 tt
-any_round track reads b c b2 c2 r = record {
-  goes_on = r.goes_on;
-  answers = r.answers;
-  poll = r.poll;
-  between = r.between;
-  letters = r.letters;
-  moment = r.moment;
-  read = tt;
-  tick = r.tick;
-  no_more = r.no_more;
-}
+-- ---- a run by a wire and a clock is one by any clock, and by the calls of the wire, listed
 
-any_rounds : {C : Type 0} (track : Bool) (reads : Reads C) (n : ℕ) (b : Box) (c : C) (b2 : Box) (c2 : C)
-    → AreRounds track reads n b c b2 c2 → AreRounds track any_reading n b tt b2 tt
-any_rounds track reads zero b c b2 c2 h = (h.0, refl)
-any_rounds track reads (suc n) b c b2 c2 h =
-    (h.0, (tt, (any_rounds track reads n b c h.0 h.1.0 h.1.1.0, any_round track reads h.0 h.1.0 b2 c2 h.1.1.1)))
+-- the box, with its wire's calls so far
+abbrev with : {W : Type 0} → Box W → List Call → Box (List Call)
+with b calls = box b.shown calls b.left_out b.ending b.owed
+
+made : {W : Type 0} (does : Calls W) (xs : List Call) (w w2 : W) → AreMade does xs w w2 → (calls : List Call) → (calls2 : List Call) × AreMade listed xs calls calls2
+made does [] w w2 h calls = (calls, refl)
+made does (x ∷ xs) w w2 h calls =
+    let rest = made does xs h.0 w2 h.1.1 (calls ++ x ∷ []) in
+    (rest.0, (calls ++ x ∷ [], (refl, rest.1)))
+
+takes_by : {W : Type 0} (does : Calls W) (is_done : Bool) (b : Box W) (e : Event) (b2 : Box W) → TakesBy does is_done b e b2 → (calls : List Call)
+    → (calls2 : List Call) × TakesBy listed is_done (with b calls) e (with b2 calls2)
+takes_by does true b e b2 h calls =
+    let rest = made does (all_sent h.0) b.wire b2.wire h.1.1.0 calls in
+    (rest.0, (h.0, (h.1.0, (rest.1, h.1.1.1))))
+takes_by does false b e b2 h calls = (calls, (h.0, (refl, h.1.1)))
+
+takes : {W : Type 0} (does : Calls W) (is_done : Bool) (b : Box W) (e : Event) (b2 : Box W) → Takes does is_done b e b2 → (calls : List Call)
+    → (calls2 : List Call) × Takes listed is_done (with b calls) e (with b2 calls2)
+takes does is_done b e b2 h calls =
+    let rest = takes_by does is_done b e b2 h.0 calls in
+    (rest.0, (rest.1, h.1))
+
+takes_any : {W : Type 0} (does : Calls W) (is_done : Bool) (b : Box W) (e : Option Event) (b2 : Box W) → TakesAny does is_done b e b2 → (calls : List Call)
+    → (calls2 : List Call) × TakesAny listed is_done (with b calls) e (with b2 calls2)
+takes_any does is_done b (Some e) b2 h calls = takes does is_done b e b2 h calls
+takes_any does is_done b None b2 h calls = (calls, (h.0, ap (λ (x : Box _). with x calls) h.1))
+
+is_answered : {W : Type 0} (does : Calls W) (bytes : List ℕ) (b b2 : Box W) → IsAnswered does bytes b b2 → (calls : List Call)
+    → (calls2 : List Call) × IsAnswered listed bytes (with b calls) (with b2 calls2)
+is_answered does bytes b b2 h calls =
+    (calls ++ answered bytes ∷ [], (refl, ap (λ (x : Box _). with x (calls ++ answered bytes ∷ [])) h.1))
+
+replies : {W : Type 0} (does : Calls W) (reply : Option Reply) (is_done : Bool) (b b2 : Box W) → Replies does reply is_done b b2 → (calls : List Call)
+    → (calls2 : List Call) × Replies listed reply is_done (with b calls) (with b2 calls2)
+replies does None is_done b b2 h calls = (calls, ap (λ (x : Box _). with x calls) h)
+replies does (Some (Later question)) is_done b b2 h calls = (calls, ap (λ (x : Box _). with x calls) h)
+replies does (Some (Refused refusal)) is_done b b2 h calls =
+    let rest = is_answered does h.0 b b2 h.1.1 calls in
+    (rest.0, (h.0, (h.1.0, rest.1)))
+replies does (Some Heard) true b b2 h calls =
+    let rest = is_answered does h.0 b b2 h.1.1 calls in
+    (rest.0, (h.0, (h.1.0, rest.1)))
+replies does (Some Heard) false b b2 h calls = is_answered does [] b b2 h calls
+
+answers_owed : {W : Type 0} (does : Calls W) (owed : Option Question) (b b2 : Box W) → AnswersOwed does owed b b2 → (calls : List Call)
+    → (calls2 : List Call) × AnswersOwed listed owed (with b calls) (with b2 calls2)
+answers_owed does None b b2 h calls = (calls, ap (λ (x : Box _). with x calls) h)
+answers_owed does (Some question) b b2 h calls =
+    let rest = is_answered does h.0 (record b { owed = None }) b2 h.1.1 calls in
+    (rest.0, (h.0, (h.1.0, rest.1)))
+
+takes_letter : {W : Type 0} (does : Calls W) (track : Bool) (b : Box W) (letter : ReceivedDatagram) (b2 : Box W) → TakesLetter does track b letter b2 → (calls : List Call)
+    → (calls2 : List Call) × TakesLetter listed track (with b calls) letter (with b2 calls2)
+takes_letter does track b letter b2 h calls =
+    let first = takes_any does h.is_done _ h.event h.between h.taken calls in
+    let rest = replies does _ h.is_done h.between b2 h.replied first.0 in (
+      rest.0,
+      record {
+        event = h.event;
+        brings = h.brings;
+        is_done = h.is_done;
+        between = with h.between first.0;
+        taken = first.1;
+        replied = rest.1;
+      },
+    )
+
+takes_answer : {W : Type 0} (does : Calls W) (track : Bool) (b : Box W) (answer : Polled) (b2 : Box W) → TakesAnswer does track b answer b2 → (calls : List Call)
+    → (calls2 : List Call) × TakesAnswer listed track (with b calls) answer (with b2 calls2)
+takes_answer does track b (came letter) b2 h calls = takes_letter does track b letter b2 h calls
+takes_answer does track b nothing b2 h calls = (calls, ap (λ (x : Box _). with x calls) h)
+takes_answer does track b failed b2 h calls = (calls, ap (λ (x : Box _). with x calls) h)
+
+takes_all : {W : Type 0} (does : Calls W) (track : Bool) (b : Box W) (answers : List Polled) (b2 : Box W) → TakesAll does track b answers b2 → (calls : List Call)
+    → (calls2 : List Call) × TakesAll listed track (with b calls) answers (with b2 calls2)
+takes_all does track b [] b2 h calls = (calls, ap (λ (x : Box _). with x calls) h)
+takes_all does track b (answer ∷ rest) b2 h calls =
+    let one = takes_answer does track (record b { wire = h.0 }) answer h.1.1.0 h.1.1.1.0 (calls ++ asked answer ∷ []) in
+    let then = takes_all does track h.1.1.0 rest b2 h.1.1.1.1 one.0 in
+    (then.0, (calls ++ asked answer ∷ [], (refl, (with h.1.1.0 one.0, (one.1, then.1)))))
+
+is_round : {W C : Type 0} (does : Calls W) (track : Bool) (reads : Reads C) (b : Box W) (c : C) (b2 : Box W) (c2 : C) → IsRound does track reads b c b2 c2 → (calls : List Call)
+    → (calls2 : List Call) × IsRound listed track any_reading (with b calls) tt (with b2 calls2) tt
+is_round does track reads b c b2 c2 r calls =
+    let letters = takes_all does track b r.answers r.between r.letters calls in
+    let tick = takes does r.is_done r.between _ r.ticked r.tick letters.0 in
+    let last = answers_owed does r.ticked.owed r.ticked b2 r.answered tick.0 in (
+      last.0,
+      record {
+        goes_on = r.goes_on;
+        answers = r.answers;
+        poll = r.poll;
+        between = with r.between letters.0;
+        letters = letters.1;
+        moment = r.moment;
+        read = tt;
+        is_done = r.is_done;
+        ticked = with r.ticked tick.0;
+        tick = tick.1;
+        answered = last.1;
+      },
+    )
+
+are_rounds : {W C : Type 0} (does : Calls W) (track : Bool) (reads : Reads C) (n : ℕ) (b : Box W) (c : C) (b2 : Box W) (c2 : C)
+    → AreRounds does track reads n b c b2 c2 → (calls : List Call)
+    → (calls2 : List Call) × AreRounds listed track any_reading n (with b calls) tt (with b2 calls2) tt
+are_rounds does track reads zero b c b2 c2 h calls = (calls, (ap (λ (x : Box _). with x calls) h.0, refl))
+are_rounds does track reads (suc n) b c b2 c2 h calls =
+    let first = are_rounds does track reads n b c h.0 h.1.0 h.1.1.0 calls in
+    let last = is_round does track reads h.0 h.1.0 b2 c2 h.1.1.1 first.0 in
+    (last.0, (with h.0 first.0, (tt, (first.1, last.1))))
 
 -- a run by a clock, which something may have told to end, as one by any, which only what that comes of may have told
-pub has_rounds : {C : Type 0} (track until_eof : Bool) (reads : Reads C) (rounds : Option ℕ) (otherwise : Type 0) (g : Shown) (answers : List Polled) (c : C)
-    (g2 : Shown) (answers2 : List Polled) (left : ℕ) (c2 : C)
+pub had_rounds : {W C : Type 0} (does : Calls W) (track until_eof : Bool) (reads : Reads C) (rounds : Option ℕ) (otherwise : Type 0) (g : Shown) (w : W) (c : C)
+    (g2 : Shown) (last : Box W) (c2 : C)
     → (otherwise → IsTrue until_eof)
-    → IsRun track reads (most_rounds rounds) otherwise (box g answers 0 false) c g2 answers2 left c2
-    → HasRounds rounds track until_eof g answers g2 answers2
-has_rounds track until_eof reads rounds otherwise g answers c g2 answers2 left c2 only h = record {
-  left_out = left;
-  had = record {
-    last = h.last;
-    all = record {
-      count = h.all.count;
-      within = h.all.within;
-      rounds = any_rounds track reads h.all.count (box g answers 0 false) c h.last c2 h.all.rounds;
-      over = by h.all.over;
-    };
-    ending = h.ending;
-    stop = h.stop;
-    no_more = h.no_more;
-  };
-}
+    → IsRun does track reads (most_rounds rounds) otherwise (box g w 0 false None) c last c2 → last.shown ≡ g2
+    → HadRounds rounds track until_eof g g2
+had_rounds does track until_eof reads rounds otherwise g w c g2 last c2 only h shows =
+    let all = are_rounds does track reads h.all.count (box g w 0 false None) c h.last c2 h.all.rounds [] in
+    let stop = takes does h.is_done h.last _ last h.stop all.0 in (
+      stop.0,
+      record {
+        last = with last stop.0;
+        had = record {
+          last = with h.last all.0;
+          all = record { count = h.all.count; within = h.all.within; rounds = all.1; over = by h.all.over };
+          is_done = h.is_done;
+          stop = stop.1;
+        };
+        shows = shows;
+        calls_are = refl;
+      },
+    )
   where
-    by : (h.last.state.ending ≡ true) ⊎ (otherwise ⊎ (h.all.count ≡ most_rounds rounds))
-        → (h.last.state.ending ≡ true) ⊎ (IsTrue until_eof ⊎ (h.all.count ≡ most_rounds rounds))
+    by : (h.last.ending ≡ true) ⊎ (otherwise ⊎ (h.all.count ≡ most_rounds rounds))
+        → (h.last.ending ≡ true) ⊎ (IsTrue until_eof ⊎ (h.all.count ≡ most_rounds rounds))
     by (inl said) = inl said
     by (inr (inl told)) = inr (inl (only told))
     by (inr (inr had)) = inr (inr had)
 
--- a start, rounds, and the end
+-- ---- a start, rounds, and the end
+
 pub has_run : {T E : Type 0} (r : Result T E) (settings : Settings) (id : GatewayId) (rounds : Option ℕ) (found track until_eof : Bool)
-    (before between after : Option (List ℕ)) (start last : Shown) (heard answers : List Polled)
-    → HasStarted settings id found before between start → heard ≡ []
-    → HasRounds rounds track until_eof start heard last answers → OnOk r (Appends between after (codes "end\n"))
+    (before between after : Option (List ℕ)) (start last : Shown)
+    → HasStarted settings id found before between start
+    → HadRounds rounds track until_eof start last → OnOk r (Appends between after (codes "end\n"))
     → OnOk r (HasRun settings id rounds found track until_eof before after)
-has_run (Ok x) settings id rounds found track until_eof before between after start last heard answers started none had ended = record {
-  start = start;
-  between = between;
-  started = started;
-  last = last;
-  answers = answers;
-  rounds_had = subst (λ (from : List Polled). HasRounds rounds track until_eof start from last answers) none had;
-  ended = ended;
-}
-has_run (Err e) settings id rounds found track until_eof before between after start last heard answers started none had ended = tt
+has_run (Ok x) settings id rounds found track until_eof before between after start last started had ended =
+    record { start = start; between = between; started = started; last = last; rounds_had = had; ended = ended }
+has_run (Err e) settings id rounds found track until_eof before between after start last started had ended = tt
 
--- the same, whatever the wire has answered by then
+-- the same, where the rounds were had only with an Ok
 pub had_run : {T E : Type 0} (r : Result T E) (settings : Settings) (id : GatewayId) (rounds : Option ℕ) (found track until_eof : Bool)
-    (before between after : Option (List ℕ)) (start last : Shown) (heard : List Polled)
-    → HasStarted settings id found before between start → heard ≡ []
-    → OnOk r (HadRounds rounds track until_eof start heard last) → OnOk r (Appends between after (codes "end\n"))
+    (before between after : Option (List ℕ)) (start last : Shown)
+    → HasStarted settings id found before between start
+    → OnOk r (HadRounds rounds track until_eof start last) → OnOk r (Appends between after (codes "end\n"))
     → OnOk r (HasRun settings id rounds found track until_eof before after)
-had_run {E = E} (Ok x) settings id rounds found track until_eof before between after start last heard started none had ended =
-    has_run {E = E} (Ok x) settings id rounds found track until_eof before between after start last heard had.0 started none had.1 ended
-had_run (Err e) settings id rounds found track until_eof before between after start last heard started none had ended = tt
+had_run {E = E} (Ok x) settings id rounds found track until_eof before between after start last started had ended =
+    has_run {E = E} (Ok x) settings id rounds found track until_eof before between after start last started had ended
+had_run (Err e) settings id rounds found track until_eof before between after start last started had ended = tt
 
--- rounds after which the wire has answered this
-pub had_of : {T E : Type 0} (r : Result T E) (rounds : Option ℕ) (track until_eof : Bool) (g : Shown) (answers : List Polled) (g2 : Shown) (answers2 : List Polled)
-    → HasRounds rounds track until_eof g answers g2 answers2 → OnOk r (HadRounds rounds track until_eof g answers g2)
-had_of (Ok x) rounds track until_eof g answers g2 answers2 had = (answers2, had)
-had_of (Err e) rounds track until_eof g answers g2 answers2 had = tt
+pub had_of : {T E : Type 0} (r : Result T E) (rounds : Option ℕ) (track until_eof : Bool) (g g2 : Shown)
+    → HadRounds rounds track until_eof g g2 → OnOk r (HadRounds rounds track until_eof g g2)
+had_of (Ok x) rounds track until_eof g g2 had = had
+had_of (Err e) rounds track until_eof g g2 had = tt
 
 -- with the settings of a text
 pub has_served : {T E : Type 0} (r : Result T E) (settings : Settings) (id : GatewayId) (rounds : Option ℕ) (found track until_eof : Bool)

@@ -8,7 +8,7 @@ ghost use Rattle.settings_file.specs.declared.keys.Key.{Key};
 ghost use Rattle.gate.specs.Asked.{IsManagerOf, is_loopback, on_loopback};
 ghost use Rattle.gate.specs.Boots.{HasBoot, HasStarted, IsStart, boot_line};
 ghost use Rattle.gate.specs.Faults.{IsBeforeBoot, IsOfFilter, IsOfNoWay, IsOfRun, IsOfStart, of_clash};
-ghost use Rattle.gate.specs.Served.{AreHeld, HadRounds, HasRounds, HasRun, HasServed};
+ghost use Rattle.gate.specs.Served.{AreHeld, HadRounds, HasRun, HasServed};
 ghost use Rattle.gate.specs.Starts.{Refuses};
 
 use crate::capturing::{CaptureAt, capture_at};
@@ -288,7 +288,6 @@ fn logged<
 where
     R::File: AsRawFd,
     requires found { IsTrue start.now.found → start.now.id ≡ Zero }
-    requires unasked { W.answers wire ≡ [] }
     ensures ok { OnOk result (HasRun settings.now start.now.id start.now.rounds start.now.found
         start.now.track start.now.until_eof (O.contents output.old) (O.contents output.new)) }
     ensures err { IfErr result IsOfNoWay }
@@ -320,7 +319,6 @@ fn captured<
 where
     R::File: AsRawFd,
     requires found { IsTrue start.now.found → start.now.id ≡ Zero }
-    requires unasked { W.answers wire ≡ [] }
     ensures ok { OnOk result (HasRun settings.now start.now.id start.now.rounds start.now.found
         start.now.track start.now.until_eof (O.contents output.old) (O.contents output.new)) }
     ensures err { IfErr result IsOfNoWay }
@@ -334,7 +332,7 @@ where
     }
 }
 
-/// Starts the gateway and runs its rounds, on a wire that wasn't asked yet and whose packets are captured in a file. The
+/// Starts the gateway and runs its rounds, on a wire whose packets are captured in a file. The
 /// capture is begun once the boot number is taken.
 fn tapped<
     R: Files + Clock + RandomSource + Input + AllocGlobal,
@@ -356,7 +354,6 @@ fn tapped<
 where
     R::File: AsRawFd,
     requires found { IsTrue start.now.found → start.now.id ≡ Zero }
-    requires unasked { W.answers wire ≡ [] }
     ensures ok { OnOk result (HasRun settings.now start.now.id start.now.rounds start.now.found
         start.now.track start.now.until_eof (O.contents output.old) (O.contents output.new)) }
     ensures err { IfErr result IsOfStart }
@@ -393,7 +390,7 @@ fn tapped_rounds<R: Files + Clock + Input + AllocGlobal, W: Wire + Drop, O: Writ
 where
     R::File: AsRawFd,
     ensures rounds { OnOk result (HadRounds start.now.rounds start.now.track start.now.until_eof
-        gateway.old (W.answers wire) gateway.new) }
+        gateway.old gateway.new) }
     ensures ended { OnOk result
         (Appends (O.contents output.old) (O.contents output.new) (codes "end\n")) }
     ensures err { IfErr result IsOfRun }
@@ -450,7 +447,7 @@ fn filtered<'a, R: Eprint + AllocGlobal>(
     }
 }
 
-/// Starts the gateway and runs its rounds, on a wire that wasn't asked yet.
+/// Starts the gateway and runs its rounds, on a wire.
 fn run<R: Clock + RandomSource + Input + AllocGlobal, D: Disk, W: Wire, O: Write, L: Journal>(
     rt: &R,
     start: &Start<'_>,
@@ -462,7 +459,6 @@ fn run<R: Clock + RandomSource + Input + AllocGlobal, D: Disk, W: Wire, O: Write
     log: &L,
 ) -> Result<(), BoxFault>
     requires found { IsTrue start.now.found → start.now.id ≡ Zero }
-    requires unasked { W.answers wire.old ≡ [] }
     ensures ok { OnOk result (HasRun settings.now start.now.id start.now.rounds start.now.found
         start.now.track start.now.until_eof (O.contents output.old) (O.contents output.new)) }
     ensures err { IfErr result IsOfStart }
@@ -494,8 +490,8 @@ fn rounds_of<R: Clock + Input + AllocGlobal, W: Wire, O: Write, L: Journal>(
     output: &mut O,
     log: &L,
 ) -> Result<(), BoxFault>
-    ensures rounds { HasRounds start.now.rounds start.now.track start.now.until_eof
-        gateway.old (W.answers wire.old) gateway.new (W.answers wire.new) }
+    ensures rounds { HadRounds start.now.rounds start.now.track start.now.until_eof
+        gateway.old gateway.new }
     ensures ended { OnOk result
         (Appends (O.contents output.old) (O.contents output.new) (codes "end\n")) }
     ensures err { IfErr result IsOfRun }

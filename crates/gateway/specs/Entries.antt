@@ -5,6 +5,6 @@ use Rattle.nat_types.specs.declared.pairs.Key.{Key}
 use Rattle.bindings.specs.declared.entries.Entry.{Entry}
 use Rattle.bindings.specs.Lists.{stands_behind}
 
--- those that stand behind a key in the order by protocol (tcp first) and port; all where there is none
+-- those that stand behind a key in the order by protocol (icmp first) and port; all where there is none
 abbrev pub behind : Option Key → List Entry → List Entry
 behind last entries = filter (stands_behind last) entries

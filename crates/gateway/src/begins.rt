@@ -49,8 +49,8 @@ fn bounds_of(range: PortRange) -> PortBounds
     }
 }
 
-/// The records of a batch for each port: of both protocols an Owner and a Put.
-const RECORDS_OF_A_PORT: usize = 4;
+/// The records of a batch for each port: of each of the three protocols an Owner and a Put.
+const RECORDS_OF_A_PORT: usize = 6;
 
 /// The records of a batch that are of no port: Begin and Done.
 const RECORDS_OF_NO_PORT: usize = 2;

@@ -208,7 +208,7 @@ impl Gateway {
         self.forwarder.core.table().pair_of_port(key)
     }
 
-    /// The entry that follows a key in the order by protocol (tcp first) and port, whatever its state; of `None` the
+    /// The entry that follows a key in the order by protocol (icmp first) and port, whatever its state; of `None` the
     /// first one. The key needs no entry of its own.
     pub fn entry_after(&self, last: Option<Key>) -> Option<Entry>
         ensures exact { result ≡ after_key last self.now.ledger.book.entries }
@@ -229,7 +229,7 @@ impl Gateway {
         entry_count(&self.forwarder)
     }
 
-    /// All pairs of its table, by protocol (tcp first) and port; a proposal given up is none.
+    /// All pairs of its table, by protocol (icmp first) and port; a proposal given up is none.
     pub fn pairs(&self) -> Result<Vec<Pair>, NoMemory>
         ensures { IfOk result (λ v. v.items ≡ pairs_in is_pair self.now.ledger.book.entries) }
     {

@@ -193,9 +193,9 @@ fn take_waiting(bytes: &[u8]) -> Option<(WaitingCounts, &[u8])>
 
 #[tactic(auto, unfolding(crate::specs::Parts::gateway))]
 pub(crate) fn put_gateway(out: &mut Bytes, state: &GatewayReport)
-    requires { length out.old.items + 148 ≤ LONGEST }
+    requires { length out.old.items + 196 ≤ LONGEST }
     ensures items { out.new.items ≡ out.old.items ++ gateway.spelled state.now }
-    ensures len { length out.new.items ≤ length out.old.items + 148 }
+    ensures len { length out.new.items ≤ length out.old.items + 196 }
     ensures fits { GatewayFits state.now }
 {
     put_number(out, state.moment);

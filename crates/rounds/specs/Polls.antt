@@ -2,23 +2,23 @@
 use Rattle.std.specs.Prelude.{◌≡◌, ℕ, Bool, not, false, List, [], ◌∷◌, length}
 use Rattle.std.specs.List.{list_any}
 use Rattle.sockets.specs.Letters.{Polled, is_nothing}
-use Rattle.rounds.specs.Rounds.{Box, IsPoll, TakesNew}
+use Rattle.rounds.specs.Rounds.{Box, Calls, IsPoll, TakesAll}
 
 -- the wire was asked so often, and each time something may have been left
-pub record HasAsked (track : Bool) (n : ℕ) (b b2 : Box) : Type 0 where
+pub record HasAsked {W : Type 0} (does : Calls W) (track : Bool) (n : ℕ) (b b2 : Box W) : Type 0 where
   pub answers : List Polled
   pub count : length answers ≡ n
   pub not_yet : list_any is_nothing answers ≡ false
-  pub taken : TakesNew track b answers b2
+  pub taken : TakesAll does track b answers b2
 
 -- the wire was asked once, and there may be more
-pub record Asks (track : Bool) (b : Box) (more : Bool) (b2 : Box) : Type 0 where
+pub record Asks {W : Type 0} (does : Calls W) (track : Bool) (b : Box W) (more : Bool) (b2 : Box W) : Type 0 where
   pub answer : Polled
   pub is_more : more ≡ not (is_nothing answer)
-  pub taken : TakesNew track b (answer ∷ []) b2
+  pub taken : TakesAll does track b (answer ∷ []) b2
 
 -- a whole poll
-pub record HasPolled (track : Bool) (most : ℕ) (b b2 : Box) : Type 0 where
+pub record HasPolled {W : Type 0} (does : Calls W) (track : Bool) (most : ℕ) (b b2 : Box W) : Type 0 where
   pub answers : List Polled
   pub poll : IsPoll most answers
-  pub taken : TakesNew track b answers b2
+  pub taken : TakesAll does track b answers b2

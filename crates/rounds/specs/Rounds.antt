@@ -1,35 +1,97 @@
--- The rounds of a box, by what its gateway shows, what its wire has answered, how many events were left out, and whether its
--- control socket said that it is to end.
-use Rattle.std.specs.Prelude.{◌≡◌, ◌<◌, ◌≤◌, ◌⊎◌, ◌+◌, ◌++◌, ◌||◌, ℕ, zero, suc, Bool, false, true, List, [], ◌∷◌, length, Option, Some, None, Result, IfOk}
+-- The rounds of a box, by what its gateway shows, what its wire was called, how many events were left out, whether its control
+-- socket said that it is to end, and the question that it still owes an answer.
+use Rattle.std.specs.Prelude.{◌≡◌, ◌<◌, ◌≤◌, ◌⊎◌, ◌+◌, ◌++◌, ◌||◌, ℕ, zero, suc, Bool, false, true, List, [], ◌∷◌, length, map, Option, Some, None, Result, IfOk}
 use Rattle.std.specs.Borrow.{Bor}
 use Rattle.std.specs.List.{list_any}
-use Rattle.sockets.specs.Letters.{Polled, ReceivedDatagram, is_nothing, letters_of, nothing}
+use Rattle.control.specs.Answers.{Content, answer_of, heard, page, refused, report}
+use Rattle.sockets.specs.Letters.{Call, Polled, ReceivedDatagram, answered, asked, came, failed, is_nothing, nothing, sent}
 use Rattle.sockets.specs.declared.places.Place.{Place}
-use Rattle.output.specs.Output.{Output, none_told}
+use Rattle.sockets.specs.declared.places.Place.TheVariants as place
+use Rattle.output.specs.Output.{Output, Sent, none_told}
 use Rattle.spec_step.specs.declared.events.Event.{Event}
 use Rattle.spec_step.specs.declared.events.Event.TheVariants.{Stop, Tick}
 use Rattle.spec_step.specs.Shown.{Shown, scene}
 use Rattle.spec_step.specs.Steps.{IsStepOn}
-use Rattle.rounds.specs.Letters.{event_of, is_end}
+use Rattle.rounds.specs.Letters.{event_of, is_end, reply_at}
 use Rattle.rounds.specs.Views.{seen}
+use Rattle.rounds.specs.declared.judging.Question.{Question}
+use Rattle.rounds.specs.declared.judging.Question.TheVariants.{Status, Pairs}
+use Rattle.rounds.specs.declared.judging.Reply.{Reply}
+use Rattle.rounds.specs.declared.judging.Reply.TheVariants.{Heard, Refused, Later}
 use Rattle.rounds.specs.declared.views.View.{View}
 
--- what a letter changes: a gateway, how many events were left out, and whether the box is to end
-pub record State : Type 0 where
+-- a box while it runs
+pub record Box (W : Type 0) : Type 0 where
   pub shown : Shown
+  pub wire : W
   pub left_out : ℕ
   pub ending : Bool
+  pub owed : Option Question
 
-abbrev pub state : Shown → ℕ → Bool → State
-state g left_out ending = record { shown = g; left_out = left_out; ending = ending }
+abbrev pub box : {W : Type 0} → Shown → W → ℕ → Bool → Option Question → Box W
+box g wire left_out ending owed = record { shown = g; wire = wire; left_out = left_out; ending = ending; owed = owed }
 
--- the same, and what its wire has answered
-pub record Box : Type 0 where
-  pub state : State
-  pub answers : List Polled
+-- what a call is to a wire, and what the wire is then
+abbrev pub Calls : Type 0 → Type 1
+Calls W = W → Call → W → Type 0
 
-abbrev pub box : Shown → List Polled → ℕ → Bool → Box
-box g answers left_out ending = record { state = state g left_out ending; answers = answers }
+-- these calls were made, one after the other, and no others
+abbrev pub AreMade : {W : Type 0} → Calls W → List Call → W → W → Type 0
+AreMade does [] w w2 = w2 ≡ w
+AreMade {W = W} does (call ∷ rest) w w2 = (middle : W) × (does w call middle × AreMade does rest middle w2)
+
+-- what was told is sent: each frame at its side, and then each datagram by the link
+abbrev pub frame_sent : Sent → Call
+frame_sent f = sent (place.Side f.side) f.bytes
+
+abbrev pub datagram_sent : List ℕ → Call
+datagram_sent bytes = sent place.Link bytes
+
+abbrev pub all_sent : Output → List Call
+all_sent out = map frame_sent out.frames ++ map datagram_sent out.datagrams
+
+-- an event is taken by a step, and just what was told with it is sent; or memory was refused, nothing has changed, and one event
+-- more was left out
+abbrev pub TakesBy : {W : Type 0} → Calls W → Bool → Box W → Event → Box W → Type 0
+TakesBy does true b event b2 =
+    (out : Output) × (IsStepOn (scene b.shown none_told) event (scene b2.shown out)
+    × (AreMade does (all_sent out) b.wire b2.wire × (b2.left_out ≡ b.left_out)))
+TakesBy does false b event b2 = (b2.shown ≡ b.shown) × ((b2.wire ≡ b.wire) × (b2.left_out ≡ b.left_out + 1))
+
+abbrev pub Takes : {W : Type 0} → Calls W → Bool → Box W → Event → Box W → Type 0
+Takes does is_done b event b2 = TakesBy does is_done b event b2 × ((b2.ending ≡ b.ending) × (b2.owed ≡ b.owed))
+
+-- what is no event changes nothing
+abbrev pub TakesAny : {W : Type 0} → Calls W → Bool → Box W → Option Event → Box W → Type 0
+TakesAny does is_done b (Some event) b2 = Takes does is_done b event b2
+TakesAny does is_done b None b2 = (is_done ≡ true) × (b2 ≡ b)
+
+-- who said the last word is answered with these bytes
+abbrev pub IsAnswered : {W : Type 0} → Calls W → List ℕ → Box W → Box W → Type 0
+IsAnswered does bytes b b2 = does b.wire (answered bytes) b2.wire × (b2 ≡ record b { wire = b2.wire })
+
+abbrev pub Says : {W : Type 0} → Calls W → Content → Box W → Box W → Type 0
+Says does content b b2 = (bytes : List ℕ) × ((answer_of bytes ≡ Some content) × IsAnswered does bytes b b2)
+
+-- a word has its reply at once: that it is taken, where its event is done, and else an empty one; or why it isn't taken. A
+-- question is owed its answer. What is no word has none
+abbrev pub Replies : {W : Type 0} → Calls W → Option Reply → Bool → Box W → Box W → Type 0
+Replies does None is_done b b2 = b2 ≡ b
+Replies does (Some (Later question)) is_done b b2 = b2 ≡ record b { owed = Some question }
+Replies does (Some (Refused refusal)) is_done b b2 = Says does (refused refusal) b b2
+Replies does (Some Heard) true b b2 = Says does heard b b2
+Replies does (Some Heard) false b b2 = IsAnswered does [] b b2
+
+-- the answer to a question: a report, or a page; or nothing, where memory is refused for it
+abbrev pub IsAnswerTo : Question → List ℕ → Type 0
+IsAnswerTo Status bytes = (bytes ≡ []) ⊎ ((rest : List ℕ) × (answer_of bytes ≡ Some (report rest)))
+IsAnswerTo (Pairs behind) bytes = (bytes ≡ []) ⊎ ((rest : List ℕ) × (answer_of bytes ≡ Some (page rest)))
+
+-- what is owed is answered
+abbrev pub AnswersOwed : {W : Type 0} → Calls W → Option Question → Box W → Box W → Type 0
+AnswersOwed does None b b2 = b2 ≡ b
+AnswersOwed does (Some question) b b2 =
+    (bytes : List ℕ) × (IsAnswerTo question bytes × IsAnswered does bytes (record b { owed = None }) b2)
 
 -- the event that a letter is to a gateway that stands so, or that it is none; carriers are tracked or not
 pub record Brings (track : Bool) (view : View) (letter : ReceivedDatagram) (event : Option Event) : Type 0 where
@@ -37,36 +99,32 @@ pub record Brings (track : Bool) (view : View) (letter : ReceivedDatagram) (even
   pub whole : bytes.now ≡ letter.bytes
   pub is : event ≡ event_of track view letter.place bytes
 
--- an event is taken by a step; or memory was refused, nothing has changed, and one event more was left out
-abbrev pub Takes : State → Event → State → Type 0
-Takes s event s2 =
-    (((out : Output) × (IsStepOn (scene s.shown none_told) event (scene s2.shown out) × (s2.left_out ≡ s.left_out)))
-    ⊎ ((s2.shown ≡ s.shown) × (s2.left_out ≡ s.left_out + 1))) × (s2.ending ≡ s.ending)
-
--- what is no event changes nothing
-abbrev pub TakesAny : State → Option Event → State → Type 0
-TakesAny s (Some event) s2 = Takes s event s2
-TakesAny s None s2 = s2 ≡ s
-
 -- what comes at a place may say that the box is to end; then it stays so
-abbrev pub ends_by : State → Place → List ℕ → State
-ends_by s place bytes = record s { ending = s.ending || is_end place bytes }
+abbrev pub ends_by : {W : Type 0} → Box W → Place → List ℕ → Box W
+ends_by b place bytes = record b { ending = b.ending || is_end place bytes }
 
--- a letter may say that the box is to end; and is taken as its event, if it is one to the gateway as it stands
-pub record TakesLetter (track : Bool) (s : State) (letter : ReceivedDatagram) (s2 : State) : Type 0 where
+-- a letter may say that the box is to end; it is taken as its event, if it is one to the gateway as it stands; and has its
+-- reply, if it is a word
+pub record TakesLetter {W : Type 0} (does : Calls W) (track : Bool) (b : Box W) (letter : ReceivedDatagram) (b2 : Box W) : Type 0 where
   pub event : Option Event
-  pub brings : Brings track (seen s.shown) letter event
-  pub taken : TakesAny (ends_by s letter.place letter.bytes) event s2
+  pub brings : Brings track (seen b.shown) letter event
+  pub is_done : Bool
+  pub between : Box W
+  pub taken : TakesAny does is_done (ends_by b letter.place letter.bytes) event between
+  pub replied : Replies does (reply_at (seen b.shown) letter.place letter.bytes) is_done between b2
 
--- letters are taken one after the other
-abbrev pub TakesAll : Bool → State → List ReceivedDatagram → State → Type 0
-TakesAll track s [] s2 = s2 ≡ s
-TakesAll track s (letter ∷ rest) s2 = (middle : State) × (TakesLetter track s letter middle × TakesAll track middle rest s2)
+-- what a wire answered brings a letter, or nothing
+abbrev pub TakesAnswer : {W : Type 0} → Calls W → Bool → Box W → Polled → Box W → Type 0
+TakesAnswer does track b (came letter) b2 = TakesLetter does track b letter b2
+TakesAnswer does track b nothing b2 = b2 ≡ b
+TakesAnswer does track b failed b2 = b2 ≡ b
 
--- these are the wire's new answers, and just the letters among them are taken, in order
-pub record TakesNew (track : Bool) (b : Box) (answers : List Polled) (b2 : Box) : Type 0 where
-  pub new : b2.answers ≡ b.answers ++ answers
-  pub taken : TakesAll track b.state (letters_of answers) b2.state
+-- the wire is asked, answers so, and what that brings is taken; one time after the other
+abbrev pub TakesAll : {W : Type 0} → Calls W → Bool → Box W → List Polled → Box W → Type 0
+TakesAll does track b [] b2 = b2 ≡ b
+TakesAll {W = W} does track b (answer ∷ rest) b2 =
+    (w : W) × (does b.wire (asked answer) w × ((middle : Box W)
+    × (TakesAnswer does track (record b { wire = w }) answer middle × TakesAll does track middle rest b2)))
 
 -- the answers of a wire that is asked until nothing is there, but at most so often
 pub record IsPoll (most : ℕ) (answers : List Polled) : Type 0 where
@@ -78,23 +136,26 @@ pub record IsPoll (most : ℕ) (answers : List Polled) : Type 0 where
 abbrev pub Reads : Type 0 → Type 1
 Reads C = C → ℕ → C → Type 0
 
--- a round, of a box that isn't to end yet: a poll of its wire, and then one tick, with the moment that the clock reads
-pub record IsRound {C : Type 0} (track : Bool) (reads : Reads C) (b : Box) (c : C) (b2 : Box) (c2 : C) : Type 0 where
-  pub goes_on : b.state.ending ≡ false
+-- a round, of a box that isn't to end yet: a poll of its wire; then one tick, with the moment that the clock reads; and then the
+-- answer that is owed
+pub record IsRound {W C : Type 0} (does : Calls W) (track : Bool) (reads : Reads C) (b : Box W) (c : C) (b2 : Box W) (c2 : C) : Type 0 where
+  pub goes_on : b.ending ≡ false
   pub answers : List Polled
   pub poll : IsPoll 256 answers
-  pub between : Box
-  pub letters : TakesNew track b answers between
+  pub between : Box W
+  pub letters : TakesAll does track b answers between
   pub moment : ℕ
   pub read : reads c moment c2
-  pub tick : Takes between.state (Tick moment) b2.state
-  pub no_more : b2.answers ≡ between.answers
+  pub is_done : Bool
+  pub ticked : Box W
+  pub tick : Takes does is_done between (Tick moment) ticked
+  pub answered : AnswersOwed does ticked.owed ticked b2
 
 -- so many rounds
-abbrev pub AreRounds : {C : Type 0} → Bool → Reads C → ℕ → Box → C → Box → C → Type 0
-AreRounds track reads zero b c b2 c2 = (b2 ≡ b) × (c2 ≡ c)
-AreRounds {C = C} track reads (suc n) b c b2 c2 =
-    (middle : Box) × ((then : C) × (AreRounds track reads n b c middle then × IsRound track reads middle then b2 c2))
+abbrev pub AreRounds : {W C : Type 0} → Calls W → Bool → Reads C → ℕ → Box W → C → Box W → C → Type 0
+AreRounds does track reads zero b c b2 c2 = (b2 ≡ b) × (c2 ≡ c)
+AreRounds {W = W} {C = C} does track reads (suc n) b c b2 c2 =
+    (middle : Box W) × ((then : C) × (AreRounds does track reads n b c middle then × IsRound does track reads middle then b2 c2))
 
 -- how many rounds there are at most: so many, or what is as good as no end
 abbrev pub most_rounds : Option ℕ → ℕ
@@ -102,28 +163,30 @@ most_rounds (Some count) = count
 most_rounds None = 18446744073709551615
 
 -- rounds, until the control socket says that the box is to end, or it is told so otherwise, or has had the most
-pub record AreAllRounds {C : Type 0} (track : Bool) (reads : Reads C) (most : ℕ) (otherwise : Type 0) (b : Box) (c : C) (b2 : Box) (c2 : C) : Type 0
+pub record AreAllRounds {W C : Type 0} (does : Calls W) (track : Bool) (reads : Reads C) (most : ℕ) (otherwise : Type 0)
+    (b : Box W) (c : C) (b2 : Box W) (c2 : C) : Type 0
   where
     pub count : ℕ
     pub within : count ≤ most
-    pub rounds : AreRounds track reads count b c b2 c2
-    pub over : (b2.state.ending ≡ true) ⊎ (otherwise ⊎ (count ≡ most))
+    pub rounds : AreRounds does track reads count b c b2 c2
+    pub over : (b2.ending ≡ true) ⊎ (otherwise ⊎ (count ≡ most))
 
--- all rounds, and then one Stop and nothing more: a gateway shows this at its end, its wire has answered this, and so many
--- events were left out
-pub record IsRun {C : Type 0} (track : Bool) (reads : Reads C) (most : ℕ) (otherwise : Type 0) (b : Box) (c : C) (g : Shown) (answers : List Polled)
-    (left_out : ℕ) (c2 : C) : Type 0
+-- all rounds, and then one Stop and nothing more
+pub record IsRun {W C : Type 0} (does : Calls W) (track : Bool) (reads : Reads C) (most : ℕ) (otherwise : Type 0)
+    (b : Box W) (c : C) (b2 : Box W) (c2 : C) : Type 0
   where
-    pub last : Box
-    pub all : AreAllRounds track reads most otherwise b c last c2
-    pub ending : Bool
-    pub stop : Takes last.state Stop (state g left_out ending)
-    pub no_more : answers ≡ last.answers
+    pub last : Box W
+    pub all : AreAllRounds does track reads most otherwise b c last c2
+    pub is_done : Bool
+    pub stop : Takes does is_done last Stop b2
 
--- a whole run, whatever is answered; and Ok answers how many events were left out
-pub record RunsTo {C E : Type 0} (track : Bool) (reads : Reads C) (most : ℕ) (otherwise : Type 0) (b : Box) (c : C) (g : Shown) (answers : List Polled)
-    (c2 : C) (result : Result ℕ E) : Type 0
+-- a whole run, whatever is answered: a gateway shows this at its end, and its wire is this; and Ok answers how many events were
+-- left out
+pub record RunsTo {W C E : Type 0} (does : Calls W) (track : Bool) (reads : Reads C) (most : ℕ) (otherwise : Type 0)
+    (b : Box W) (c : C) (g : Shown) (wire : W) (c2 : C) (result : Result ℕ E) : Type 0
   where
-    pub left_out : ℕ
-    pub run : IsRun track reads most otherwise b c g answers left_out c2
-    pub answered : IfOk result (λ left. left ≡ left_out)
+    pub last : Box W
+    pub run : IsRun does track reads most otherwise b c last c2
+    pub shown : last.shown ≡ g
+    pub wire_is : last.wire ≡ wire
+    pub answered : IfOk result (λ left. left ≡ last.left_out)

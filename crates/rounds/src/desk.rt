@@ -1,8 +1,10 @@
 //! What a box has on its desk while it runs.
-ghost use Rattle.std.specs.Prelude.{◌≡◌, false};
+ghost use Rattle.std.specs.Prelude.{◌≡◌, ◌||◌, false, None};
+ghost use Rattle.rounds.specs.Letters.{is_end};
 
 use crate::judging::Question;
 use crate::left::LeftOut;
+use crate::letters::is_end;
 use crate::logs::{cause_of, origin_of};
 use crate::outages::Outages;
 use crate::views::{View, view_of};
@@ -50,6 +52,7 @@ impl Desk {
     pub(crate) fn new(alloc: Global, gateway: &Gateway, identity: Identity) -> Desk
         ensures left { result.left ≡ 0 }
         ensures ending { result.ending ≡ false }
+        ensures question { result.question ≡ None }
     {
         Desk {
             alloc,
@@ -67,18 +70,21 @@ impl Desk {
         }
     }
 
-    /// Counts what came at a place.
-    pub(crate) fn count_letter(&mut self, place: Place)
+    /// Counts what came at a place, and keeps whether it says that the box is to end.
+    pub(crate) fn hear(&mut self, place: Place, bytes: &[u8])
         ensures left { self.new.left ≡ self.old.left }
-        ensures ending { self.new.ending ≡ self.old.ending }
+        ensures ending { self.new.ending ≡ (self.old.ending || is_end place bytes.now) }
+        ensures question { self.new.question ≡ self.old.question }
     {
         self.counters.count(origin_at(place), Count::Received);
+        self.ending = self.ending || is_end(place, bytes);
     }
 
     /// Counts an event of which nothing came.
     pub(crate) fn count_outcome(&mut self, event: &Event<'_>, outcome: Result<Outcome, NoMemory>)
         ensures left { self.new.left ≡ self.old.left }
         ensures ending { self.new.ending ≡ self.old.ending }
+        ensures question { self.new.question ≡ self.old.question }
     {
         if let Some(cause) = cause_of(outcome) {
             self.counters.count(origin_of(event), Count::Lost(cause));
@@ -89,6 +95,7 @@ impl Desk {
     pub(crate) fn tell_alive<S: Supervisor>(&mut self, gateway: &Gateway, supervisor: &S)
         ensures left { self.new.left ≡ self.old.left }
         ensures ending { self.new.ending ≡ self.old.ending }
+        ensures question { self.new.question ≡ self.old.question }
     {
         let second = gateway.moment() / 100;
         if self.second < second {

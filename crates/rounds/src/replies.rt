@@ -1,5 +1,8 @@
 //! What who says a word to a box is answered.
-ghost use Rattle.std.specs.Prelude.{◌≡◌, ◌≤◌};
+ghost use Rattle.std.specs.Prelude.{◌≡◌, ◌≤◌, ◌++◌, ℕ, List, take};
+ghost use Rattle.sockets.specs.Letters.{answered};
+ghost use Rattle.spec_step.specs.Shown.{Shown};
+ghost use Rattle.rounds.specs.Rounds.{AnswersOwed, IsAnswerTo, Replies, box};
 
 use crate::desk::Desk;
 use crate::judging::{Question, Reply};
@@ -14,9 +17,9 @@ use surveys::{gateway_report, page_behind};
 /// Answers a word at once, where a reply is owed; a question is kept for the round's end. A word that isn't done, for want
 /// of memory, has no answer: who said it doesn't hear that it was taken.
 pub(crate) fn reply<W: Wire>(owed: Option<Reply>, is_done: bool, wire: &mut W, desk: &mut Desk)
-    ensures answers { W.answers wire.new ≡ W.answers wire.old }
-    ensures left { desk.new.left ≡ desk.old.left }
-    ensures ending { desk.new.ending ≡ desk.old.ending }
+    ensures { (g : Shown) → Replies W.does owed is_done
+        (box g wire.old desk.old.left desk.old.ending desk.old.question)
+        (box g wire.new desk.new.left desk.new.ending desk.new.question) }
 {
     match owed {
         None => {}
@@ -29,9 +32,10 @@ pub(crate) fn reply<W: Wire>(owed: Option<Reply>, is_done: bool, wire: &mut W, d
 
 /// Answers who said the last word, and counts it.
 fn answer<W: Wire>(bytes: &[u8], wire: &mut W, desk: &mut Desk)
-    ensures answers { W.answers wire.new ≡ W.answers wire.old }
+    ensures answered { W.does wire.old (answered bytes.now) wire.new }
     ensures left { desk.new.left ≡ desk.old.left }
     ensures ending { desk.new.ending ≡ desk.old.ending }
+    ensures question { desk.new.question ≡ desk.old.question }
 {
     wire.answer(bytes);
     desk.counters.count(Origin::Own, Count::Sent);
@@ -45,15 +49,31 @@ pub(crate) fn answer_question<W: Wire, L: Journal>(
     desk: &mut Desk,
     log: &L,
 )
-    ensures answers { W.answers wire.new ≡ W.answers wire.old }
-    ensures left { desk.new.left ≡ desk.old.left }
-    ensures ending { desk.new.ending ≡ desk.old.ending }
+    ensures { AnswersOwed W.does desk.old.question
+        (box gateway.now wire.old desk.old.left desk.old.ending desk.old.question)
+        (box gateway.now wire.new desk.new.left desk.new.ending desk.new.question) }
 {
     let Some(question) = desk.question else {
         return;
     };
     desk.question = None;
-    let count = match question {
+    let count = answer_to(question, gateway, wire, room, desk, log);
+    answer(&room[..count], wire, desk);
+}
+
+/// Lays the answer to a question, and says how many bytes it has.
+fn answer_to<W: Wire, L: Journal>(
+    question: Question,
+    gateway: &Gateway,
+    wire: &W,
+    room: &mut [u8; LONGEST],
+    desk: &Desk,
+    log: &L,
+) -> usize
+    ensures within { result ≤ 4096 }
+    ensures answers { IsAnswerTo question (take result room.new) }
+{
+    match question {
         Question::Status => match report_of(gateway, wire, desk, log) {
             Ok(report) => lay(begun_report(), report.bytes().as_slice(), room),
             Err(NoMemory) => 0,
@@ -62,8 +82,7 @@ pub(crate) fn answer_question<W: Wire, L: Journal>(
             Ok(page) => lay(begun_page(), page.bytes().as_slice(), room),
             Err(NoMemory) => 0,
         },
-    };
-    answer(&room[..count], wire, desk);
+    }
 }
 
 /// How a box stands.
@@ -105,10 +124,11 @@ const PLACES: [(Origin, Place); 4] = [
 
 /// Lays bytes behind what stands before them, as far as there is room, and says how many that are.
 fn lay(head: [u8; 2], bytes: &[u8], room: &mut [u8; LONGEST]) -> usize
-    ensures { result ≤ 4096 }
+    ensures within { result ≤ 4096 }
+    ensures laid { (rest : List ℕ) × (take result room.new ≡ head ++ rest) }
 {
     let count = bytes.len().min(LONGEST - 2);
-    room[..2].copy_from_slice(&head);
     room[2..2 + count].copy_from_slice(&bytes[..count]);
+    room[..2].copy_from_slice(&head);
     2 + count
 }

@@ -1,14 +1,14 @@
 //! The rounds of a box.
-ghost use Rattle.std.specs.Prelude.{◌≡◌, ◌⊎◌, ◌||◌, Bool, true, false, OnOk, codes};
+ghost use Rattle.std.specs.Prelude.{◌≡◌, ◌⊎◌, Bool, true, false, None, Option, OnOk, codes};
 ghost use Rattle.std.specs.Io.KnownBytes.{Appends};
-ghost use Rattle.rounds.specs.Letters.{event_of, is_end};
-ghost use Rattle.rounds.specs.Views.{seen};
-ghost use Rattle.rounds.specs.Rounds.{AreAllRounds, IsRound, IsRun, RunsTo, Takes, TakesAny, box, most_rounds, state};
+ghost use Rattle.rounds.specs.Rounds.{AreAllRounds, AreMade, IsRound, IsRun, RunsTo, Takes};
+ghost use Rattle.rounds.specs.Rounds.{TakesAny, TakesLetter, all_sent, box, most_rounds};
 ghost use Rattle.rounds.specs.Polls.{Asks, HasPolled};
+ghost use Rattle.rounds.specs.declared.judging.Question.{Question};
 
 use crate::desk::{Desk, Identity};
 use crate::left::LeftOut;
-use crate::letters::{event_of, is_end, reply_at};
+use crate::letters::{event_of, reply_at};
 use crate::logs::tell_step;
 use crate::replies::{answer_question, reply};
 use crate::views::view_of;
@@ -59,9 +59,8 @@ pub fn serve<W: Wire, C: Clockwork, T: Told, S: Supervisor, O: Write, L: Journal
     output: &mut O,
     log: &L,
 ) -> io::Result<LeftOut>
-    ensures rounds { RunsTo track C.reads (most_rounds rounds) (T.tells until.now)
-        (box gateway.old (W.answers wire.old) 0 false) clock.old
-        gateway.new (W.answers wire.new) clock.new result }
+    ensures rounds { RunsTo W.does track C.reads (most_rounds rounds) (T.tells until.now)
+        (box gateway.old wire.old 0 false None) clock.old gateway.new wire.new clock.new result }
     ensures ended { OnOk result
         (Appends (O.contents output.old) (O.contents output.new) (codes "end\n")) }
 {
@@ -86,9 +85,10 @@ pub fn run_rounds<W: Wire, C: Clockwork, T: Told, S: Supervisor, L: Journal>(
     supervisor: &S,
     log: &L,
 ) -> LeftOut
-    ensures { (ending : Bool) × AreAllRounds track C.reads (most_rounds rounds) (T.tells until.now)
-        (box gateway.old (W.answers wire.old) 0 false) clock.old
-        (box gateway.new (W.answers wire.new) result ending) clock.new }
+    ensures { (ending : Bool) × (owed : Option Question) ×
+        AreAllRounds W.does track C.reads (most_rounds rounds) (T.tells until.now)
+        (box gateway.old wire.old 0 false None) clock.old
+        (box gateway.new wire.new result ending owed) clock.new }
 {
     let mut desk = Desk::new(alloc, gateway, identity);
     all_rounds(
@@ -111,9 +111,10 @@ fn run<W: Wire, C: Clockwork, T: Told, S: Supervisor, L: Journal>(
     supervisor: &S,
     log: &L,
 ) -> LeftOut
-    ensures { IsRun track C.reads (most_rounds rounds) (T.tells until.now)
-        (box gateway.old (W.answers wire.old) 0 false) clock.old
-        gateway.new (W.answers wire.new) result clock.new }
+    ensures { (ending : Bool) × (owed : Option Question) ×
+        IsRun W.does track C.reads (most_rounds rounds) (T.tells until.now)
+        (box gateway.old wire.old 0 false None) clock.old
+        (box gateway.new wire.new result ending owed) clock.new }
 {
     let mut desk = Desk::new(alloc, gateway, identity);
     all_rounds(
@@ -137,9 +138,9 @@ fn all_rounds<W: Wire, C: Clockwork, T: Told, S: Supervisor, L: Journal>(
     desk: &mut Desk,
     log: &L,
 )
-    ensures { AreAllRounds track C.reads (most_rounds rounds) (T.tells until.now)
-        (box gateway.old (W.answers wire.old) desk.old.left desk.old.ending) clock.old
-        (box gateway.new (W.answers wire.new) desk.new.left desk.new.ending) clock.new }
+    ensures { AreAllRounds W.does track C.reads (most_rounds rounds) (T.tells until.now)
+        (box gateway.old wire.old desk.old.left desk.old.ending desk.old.question) clock.old
+        (box gateway.new wire.new desk.new.left desk.new.ending desk.new.question) clock.new }
 {
     let mut room = [0; LONGEST];
     let most = most_of(rounds);
@@ -182,9 +183,9 @@ fn round<W: Wire, C: Clockwork, L: Journal>(
     log: &L,
 )
     requires { desk.old.ending ≡ false }
-    ensures { IsRound track C.reads
-        (box gateway.old (W.answers wire.old) desk.old.left desk.old.ending) clock.old
-        (box gateway.new (W.answers wire.new) desk.new.left desk.new.ending) clock.new }
+    ensures { IsRound W.does track C.reads
+        (box gateway.old wire.old desk.old.left desk.old.ending desk.old.question) clock.old
+        (box gateway.new wire.new desk.new.left desk.new.ending desk.new.question) clock.new }
 {
     take_what_comes(gateway, wire, track, room, desk, log);
     let tick = Event::Tick(clock.moment());
@@ -204,9 +205,9 @@ fn take_what_comes<W: Wire, L: Journal>(
     desk: &mut Desk,
     log: &L,
 )
-    ensures { HasPolled track 256
-        (box gateway.old (W.answers wire.old) desk.old.left desk.old.ending)
-        (box gateway.new (W.answers wire.new) desk.new.left desk.new.ending) }
+    ensures { HasPolled W.does track 256
+        (box gateway.old wire.old desk.old.left desk.old.ending desk.old.question)
+        (box gateway.new wire.new desk.new.left desk.new.ending desk.new.question) }
 {
     let mut limit = Duration::from_millis(WAIT);
     for _ in 0..MOST {
@@ -227,8 +228,9 @@ fn take_next<W: Wire, L: Journal>(
     desk: &mut Desk,
     log: &L,
 ) -> bool
-    ensures { Asks track (box gateway.old (W.answers wire.old) desk.old.left desk.old.ending) result
-        (box gateway.new (W.answers wire.new) desk.new.left desk.new.ending) }
+    ensures { Asks W.does track
+        (box gateway.old wire.old desk.old.left desk.old.ending desk.old.question)
+        result (box gateway.new wire.new desk.new.left desk.new.ending desk.new.question) }
 {
     match wire.receive(limit, room) {
         Ok(Some((place, count))) => {
@@ -251,14 +253,12 @@ fn take_letter<W: Wire, L: Journal>(
     desk: &mut Desk,
     log: &L,
 )
-    ensures taken { TakesAny
-        (state gateway.old desk.old.left (desk.old.ending || is_end place bytes.now))
-        (event_of track (seen gateway.old) place bytes.entry)
-        (state gateway.new desk.new.left desk.new.ending) }
-    ensures answers { W.answers wire.new ≡ W.answers wire.old }
+    ensures taken { TakesLetter W.does track
+        (box gateway.old wire.old desk.old.left desk.old.ending desk.old.question)
+        (record { place = place; bytes = bytes.now })
+        (box gateway.new wire.new desk.new.left desk.new.ending desk.new.question) }
 {
-    desk.count_letter(place);
-    desk.ending = desk.ending || is_end(place, bytes);
+    desk.hear(place, bytes);
     let owed = reply_at(gateway, place, bytes);
     let event = event_of(gateway, place, bytes, track);
     let is_done = take_event(gateway, event, wire, desk, log);
@@ -273,9 +273,9 @@ fn take_event<W: Wire, L: Journal>(
     desk: &mut Desk,
     log: &L,
 ) -> bool
-    ensures taken { TakesAny (state gateway.old desk.old.left desk.old.ending) event.entry
-        (state gateway.new desk.new.left desk.new.ending) }
-    ensures answers { W.answers wire.new ≡ W.answers wire.old }
+    ensures taken { TakesAny W.does result
+        (box gateway.old wire.old desk.old.left desk.old.ending desk.old.question) event.entry
+        (box gateway.new wire.new desk.new.left desk.new.ending desk.new.question) }
 {
     match event {
         Some(event) => hand_in(gateway, event, wire, desk, log),
@@ -292,9 +292,9 @@ fn hand_in<W: Wire, L: Journal>(
     desk: &mut Desk,
     log: &L,
 ) -> bool
-    ensures taken { Takes (state gateway.old desk.old.left desk.old.ending) event.entry
-        (state gateway.new desk.new.left desk.new.ending) }
-    ensures answers { W.answers wire.new ≡ W.answers wire.old }
+    ensures taken { Takes W.does result
+        (box gateway.old wire.old desk.old.left desk.old.ending desk.old.question) event.entry
+        (box gateway.new wire.new desk.new.left desk.new.ending desk.new.question) }
 {
     desk.out.clear();
     let outcome = gateway.step(event, &mut desk.out);
@@ -311,7 +311,7 @@ fn hand_in<W: Wire, L: Journal>(
 
 /// Sends what was told: the frames by the wires of their sides, the datagrams by the link. What was sent is counted.
 fn send_all<W: Wire>(wire: &mut W, out: &Out, counters: &mut Counters)
-    ensures { W.answers wire.new ≡ W.answers wire.old }
+    ensures { AreMade W.does (all_sent out.now) wire.old wire.new }
 {
     for frame in out.frames() {
         if wire.send(Place::Side(frame.side), frame.bytes).is_ok() {

@@ -1,6 +1,5 @@
 pub mod Ports
 pub mod Letters
-pub mod Answers
 pub mod Failing
 pub mod Ends
 pub mod Ways

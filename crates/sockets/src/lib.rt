@@ -2,7 +2,6 @@
 //! gave the place; and what is said at its control socket.
 #![tactic(auto)]
 
-mod answers;
 mod attachments;
 mod channels;
 mod conduits;
@@ -16,7 +15,6 @@ mod vxlan;
 mod ways;
 mod wire;
 
-pub use answers::Answers;
 pub use attachments::Attachment;
 pub use conduits::{Arrived, Conduit};
 pub use ends::{End, Ends};

@@ -1,11 +1,12 @@
 //! The sockets of a box, all waited for at once.
-ghost use Rattle.std.specs.Prelude.{◌≡◌, ◌≤◌, [], IfOk, IfSome};
+ghost use Rattle.std.specs.Prelude.{◌≡◌, ◌≤◌, IfOk, IfSome};
 ghost use Rattle.sockets.specs.Boards.{HearsAt, IsAsBefore, IsNew, Opens, SendsAt, Tells};
 ghost use Rattle.sockets.specs.Hearing.{told};
+ghost use Rattle.sockets.specs.Letters.{AnyCall};
 
 use crate::channels::Channel;
 use crate::wire::{LONGEST, Wire, WireFault};
-use crate::{Answers, Attachment, Losses, Place, Ports, SendFault, Way, Ways};
+use crate::{Attachment, Losses, Place, Ports, SendFault, Way, Ways};
 use control::Control;
 use mio::{Events, Poll, Token};
 use nat_types::Side;
@@ -268,7 +269,6 @@ fn after(place: Place) -> Place {
 #[derive(Drop)]
 pub struct Sockets {
     board: Board,
-    answers: Answers,
 }
 
 impl Sockets {
@@ -284,12 +284,9 @@ impl Sockets {
         ways: &Ways,
         ports: Ports,
         control: Control,
-    ) -> Result<Sockets, SocketFault>
-        ensures { IfOk result (λ s. ⟦<Sockets as Wire>⟧.answers s ≡ []) }
-    {
+    ) -> Result<Sockets, SocketFault> {
         Ok(Sockets {
             board: Board::open(net, alloc, ways, ports, control)?,
-            answers: Answers::none(),
         })
     }
 
@@ -306,7 +303,7 @@ impl Sockets {
 }
 
 impl Wire for Sockets {
-    ghost answers = { λ s. s.answers };
+    ghost does = { AnyCall };
 
     fn send(&mut self, to: Place, bytes: &[u8]) -> Result<(), WireFault> {
         self.board.send(to, bytes).map_err(|_| WireFault)
@@ -321,9 +318,7 @@ impl Wire for Sockets {
         limit: Duration,
         room: &mut [u8; LONGEST],
     ) -> Result<Option<(Place, usize)>, WireFault> {
-        let result = self.board.receive(limit, room);
-        self.answers.keep(result, room);
-        result
+        self.board.receive(limit, room)
     }
 
     fn is_failing(&self, place: Place) -> bool {

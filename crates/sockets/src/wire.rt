@@ -1,8 +1,9 @@
 //! What a box sends datagrams to and receives them from.
-ghost use Rattle.std.specs.Prelude.{◌≡◌, ◌≤◌, ◌++◌, ◌∷◌, [], ◌-◌, ◌==◌, List, IfOk, IfSome};
-ghost use Rattle.sockets.specs.Letters.{Polled, answer_of};
+ghost use Rattle.std.specs.Prelude.{◌≡◌, ◌≤◌, ◌-◌, ◌==◌, IfOk, IfSome};
+ghost use Rattle.sockets.specs.Failing.{FailsAt, FailsOr};
+ghost use Rattle.sockets.specs.Letters.{Call, answer_of, answered, asked, sent};
 
-use crate::{Answers, Losses, Place};
+use crate::{Losses, Place};
 use std::marker::Model;
 use std::time::Duration;
 
@@ -16,17 +17,17 @@ pub struct WireFault;
 
 /// What a box sends datagrams to and receives them from.
 pub trait Wire {
-    /// What was answered each time that a datagram was asked for, in order.
-    ghost answers: { Self → List Polled };
+    /// What a call is to the wire, and what the wire is then.
+    ghost does: { Self → Call → Self → Type 0 };
 
     /// Sends a datagram. After an Err it is lost, and so is what would go to the operator.
     fn send(&mut self, to: Place, bytes: &[u8]) -> Result<(), WireFault>
-        ensures answers { answers self.new ≡ answers self.old };
+        ensures does { does self.old (sent to bytes.now) self.new };
 
     /// Answers who said the last word, and lets him go; where he isn't there any more, or has no room for the whole
     /// answer, without it. It never waits. Before that no other word comes.
     fn answer(&mut self, bytes: &[u8])
-        ensures answers { answers self.new ≡ answers self.old };
+        ensures does { does self.old (answered bytes.now) self.new };
 
     /// The next datagram of any place: where it came from, and how many bytes of `room` it has. Where none is there, one
     /// is waited for until `limit` has passed; a limit of 0 doesn't wait. After an Err nothing was received.
@@ -36,8 +37,7 @@ pub trait Wire {
         room: &mut [u8; LONGEST],
     ) -> Result<Option<(Place, usize)>, WireFault>
         ensures within { IfOk result (λ found. IfSome found (λ datagram. datagram.1 ≤ 4096)) }
-        ensures answers { answers self.new
-            ≡ answers self.old ++ answer_of result room.new ∷ [] };
+        ensures does { does self.old (asked (answer_of result room.new)) self.new };
 
     /// Whether the last datagram of a place failed: it couldn't be sent, or to receive it failed. It is so until one
     /// is sent or comes.
@@ -53,7 +53,6 @@ pub trait Wire {
 pub struct Failing<'a, W> {
     wire: &'a mut W,
     left: u64,
-    answers: Answers,
 }
 
 impl<'a, W> Model for Failing<'a, W> {
@@ -61,19 +60,15 @@ impl<'a, W> Model for Failing<'a, W> {
 
     ghost Value = { Faulty W };
 
-    ghost view = { λ f. record { wire = f.wire; left = f.left; answers = f.answers } };
+    ghost view = { λ f. record { wire = f.wire; left = f.left } };
 }
 
 impl<'a, W: Wire> Failing<'a, W> {
     /// Fails at the call with this number; at none where it is 0.
     pub fn new(wire: &'a mut W, number: u64) -> Failing<'a, W>
-        ensures { result ≡ record { wire = wire.entry; left = number; answers = [] } }
+        ensures { result ≡ record { wire = wire.entry; left = number } }
     {
-        Failing {
-            wire,
-            left: number,
-            answers: Answers::none(),
-        }
+        Failing { wire, left: number }
     }
 
     /// Counts a call, and says whether it is the one that fails.
@@ -85,25 +80,10 @@ impl<'a, W: Wire> Failing<'a, W> {
         self.left = self.left.saturating_sub(1);
         fails
     }
-
-    /// What is answered, where this call isn't the one that fails.
-    fn asked(
-        &mut self,
-        limit: Duration,
-        room: &mut [u8; LONGEST],
-    ) -> Result<Option<(Place, usize)>, WireFault>
-        ensures within { IfOk result (λ found. IfSome found (λ datagram. datagram.1 ≤ 4096)) }
-        ensures answers { self.new.answers ≡ self.old.answers }
-    {
-        if self.fails() {
-            return Err(WireFault);
-        }
-        self.wire.receive(limit, room)
-    }
 }
 
 impl<W: Wire> Wire for Failing<'_, W> {
-    ghost answers = { λ f. f.answers };
+    ghost does = { FailsAt W.does };
 
     fn send(&mut self, to: Place, bytes: &[u8]) -> Result<(), WireFault> {
         if self.fails() {
@@ -121,9 +101,10 @@ impl<W: Wire> Wire for Failing<'_, W> {
         limit: Duration,
         room: &mut [u8; LONGEST],
     ) -> Result<Option<(Place, usize)>, WireFault> {
-        let result = self.asked(limit, room);
-        self.answers.keep(result, room);
-        result
+        if self.fails() {
+            return Err(WireFault);
+        }
+        self.wire.receive(limit, room)
     }
 
     /// As the wire below says: a call that fails here doesn't reach it.

@@ -1,6 +1,6 @@
 //! A wire whose packets are captured.
-ghost use Rattle.std.specs.Prelude.{◌≡◌, ◌≤◌, ◌++◌, ◌∷◌, [], IfOk, IfSome};
-ghost use Rattle.sockets.specs.Letters.{answer_of};
+ghost use Rattle.std.specs.Prelude.{◌≡◌, ◌≤◌, IfOk, IfSome};
+ghost use Rattle.sockets.specs.Letters.{answer_of, answered, asked, sent};
 ghost use Rattle.captures.specs.declared.interfaces.Direction.TheVariants.{Outbound};
 ghost use Rattle.std.specs.Io.KnownBytes.{Keeps};
 ghost use Rattle.tap.specs.Reels.{whole};
@@ -91,10 +91,10 @@ impl<W: Wire, M: Moments, O: Outlet> Tapped<W, M, O> {
 }
 
 impl<W: Wire, M: Moments, O: Outlet> Wire for Tapped<W, M, O> {
-    ghost answers = { λ t. W.answers t.wire };
+    ghost does = { λ t call t2. W.does t.wire call t2.wire };
 
     fn send(&mut self, to: Place, bytes: &[u8]) -> Result<(), WireFault>
-        ensures answers { W.answers self.new.wire ≡ W.answers self.old.wire }
+        ensures does { W.does self.old.wire (sent to bytes.now) self.new.wire }
         ensures taken { TakesSent O.contents self.old self.new to result bytes.now }
     {
         let sent = self.wire.send(to, bytes);
@@ -105,7 +105,7 @@ impl<W: Wire, M: Moments, O: Outlet> Wire for Tapped<W, M, O> {
     }
 
     fn answer(&mut self, bytes: &[u8])
-        ensures answers { W.answers self.new.wire ≡ W.answers self.old.wire }
+        ensures does { W.does self.old.wire (answered bytes.now) self.new.wire }
         ensures untaken { self.new.reel ≡ self.old.reel }
     {
         self.wire.answer(bytes);
@@ -117,8 +117,7 @@ impl<W: Wire, M: Moments, O: Outlet> Wire for Tapped<W, M, O> {
         room: &mut [u8; LONGEST],
     ) -> Result<Option<(Place, usize)>, WireFault>
         ensures within { IfOk result (λ found. IfSome found (λ datagram. datagram.1 ≤ 4096)) }
-        ensures answers { W.answers self.new.wire
-            ≡ W.answers self.old.wire ++ answer_of result room.new ∷ [] }
+        ensures does { W.does self.old.wire (asked (answer_of result room.new)) self.new.wire }
         ensures taken { TakesAnswer O.contents self.old self.new result room.new }
     {
         let result = self.wire.receive(limit, room);

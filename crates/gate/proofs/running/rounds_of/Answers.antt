@@ -1,8 +1,10 @@
-use Rattle.gate.proofs.Serving.{has_rounds}
+use Rattle.gate.proofs.Serving.{had_rounds}
 use Rattle.gate.proofs.running.rounds_of.Goals as goal
 
 pub returns-clause-rounds : goal.returns-clause-rounds
-returns-clause-rounds g c = has_rounds _ _ _ _ _ _ _ _ _ _ _ _ c.new-until.ensures c.serve.ensures.rounds.run
+returns-clause-rounds g c =
+    had_rounds _ _ _ _ _ _ _ _ _ _ _ _ c.new-until.ensures c.serve.ensures.rounds.run c.serve.ensures.rounds.shown
 
 pub returns-in_err-serve-clause-rounds : goal.returns-in_err-serve-clause-rounds
-returns-in_err-serve-clause-rounds g c = has_rounds _ _ _ _ _ _ _ _ _ _ _ _ c.new-until.ensures c.serve.ensures.rounds.run
+returns-in_err-serve-clause-rounds g c =
+    had_rounds _ _ _ _ _ _ _ _ _ _ _ _ c.new-until.ensures c.serve.ensures.rounds.run c.serve.ensures.rounds.shown

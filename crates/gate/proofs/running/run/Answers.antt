@@ -4,7 +4,7 @@ use Rattle.gate.proofs.running.run.Goals as goal
 
 pub returns-clause-ok : goal.returns-clause-ok
 returns-clause-ok g c =
-    has_run _ _ _ _ _ _ _ _ _ _ _ _ _ _ c.in_ok-identity.ensures.start c.requires.unasked
+    has_run _ _ _ _ _ _ _ _ _ _ _ _ c.in_ok-identity.ensures.start
     c.rounds_of-ended.ensures.rounds c.rounds_of-ended.ensures.ended
 
 pub returns-clause-err : goal.returns-clause-err

@@ -4,7 +4,7 @@ use Rattle.gate.proofs.running.tapped.Goals as goal
 
 pub returns-clause-ok : goal.returns-clause-ok
 returns-clause-ok g c =
-    had_run _ _ _ _ _ _ _ _ _ _ _ _ _ c.in_ok-identity.ensures.start c.requires.unasked
+    had_run _ _ _ _ _ _ _ _ _ _ _ _ c.in_ok-identity.ensures.start
     c.tapped_rounds-ended.ensures.rounds c.tapped_rounds-ended.ensures.ended
 
 pub returns-clause-err : goal.returns-clause-err

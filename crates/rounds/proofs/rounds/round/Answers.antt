@@ -1,4 +1,3 @@
-use Rattle.std.proofs.Common.{◌∙◌}
 use Rattle.rounds.proofs.rounds.round.Goals as goal
 
 pub returns : goal.returns
@@ -10,6 +9,8 @@ returns g c = record {
   letters = c.take_what_comes.ensures.taken;
   moment = _;
   read = c.moment.ensures;
-  tick = rw (c.answer_question.ensures.left, c.answer_question.ensures.ending) c.hand_in.ensures.taken;
-  no_more = c.answer_question.ensures.answers ∙ c.hand_in.ensures.answers;
+  is_done = _;
+  ticked = _;
+  tick = c.hand_in.ensures.taken;
+  answered = c.answer_question.ensures;
 }

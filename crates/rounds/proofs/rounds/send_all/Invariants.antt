@@ -1,8 +1,10 @@
-use Rattle.std.proofs.Common.{◌≡◌}
+use Rattle.std.proofs.Common.{◌++◌, map}
+use Rattle.rounds.specs.Rounds.{all_sent, datagram_sent, frame_sent}
+use Rattle.rounds.proofs.Taking.{HasMade}
 use Rattle.rounds.proofs.rounds.send_all.Given as goal
 
 abbrev pub invariant-loop-frame : goal.invariant-loop-frame
-invariant-loop-frame g l = g.W.Wire.answers l.wire ≡ g.W.Wire.answers l.fn.wire
+invariant-loop-frame g l = HasMade g.W.Wire.does (all_sent l.out) (map frame_sent l.frame-iterator ++ map datagram_sent l.out.datagrams) l.fn.wire l.wire
 
 abbrev pub invariant-loop-datagram : goal.invariant-loop-datagram
-invariant-loop-datagram g l = g.W.Wire.answers l.wire ≡ g.W.Wire.answers l.fn.wire
+invariant-loop-datagram g l = HasMade g.W.Wire.does (all_sent l.out) (map datagram_sent l.datagram-iterator) l.fn.wire l.wire

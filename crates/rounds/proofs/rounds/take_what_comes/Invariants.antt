@@ -4,5 +4,5 @@ use Rattle.rounds.proofs.rounds.take_what_comes.Given as goal
 
 abbrev pub invariant-loop : goal.invariant-loop
 invariant-loop g l =
-    HasAsked l.track l.counter (box l.fn.gateway (g.W.Wire.answers l.fn.wire) l.fn.desk.left l.fn.desk.ending)
-    (box l.gateway (g.W.Wire.answers l.wire) l.desk.left l.desk.ending)
+    HasAsked g.W.Wire.does l.track l.counter (box l.fn.gateway l.fn.wire l.fn.desk.left l.fn.desk.ending l.fn.desk.question)
+    (box l.gateway l.wire l.desk.left l.desk.ending l.desk.question)

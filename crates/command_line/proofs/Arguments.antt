@@ -1,0 +1,10 @@
+-- The arguments of a command, one after the other.
+use Rattle.std.proofs.Common.{◌≡◌, ◌∷◌, List}
+use Rattle.clap.specs.Words.{App, Rule, with_rule}
+use Rattle.command_line.specs.Arguments.{rule_for, with_all}
+use Rattle.command_line.specs.declared.options.Argument.{Argument}
+
+-- a command has one more of them
+pub one_more : (a b whole : App) (all rest : List Argument) (x : Argument) (r : Rule) → all ≡ x ∷ rest → b ≡ with_rule a r → r ≡ rule_for x
+    → with_all a all ≡ whole → with_all b rest ≡ whole
+one_more a b whole all rest x r is made rule had = rw (made, rule) (rw is at had)

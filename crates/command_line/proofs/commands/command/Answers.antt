@@ -1,0 +1,16 @@
+use Rattle.std.proofs.Common.{ap, rules}
+use Rattle.std.proofs.lemmas.List.{drop_more}
+use Rattle.clap.specs.Words.{App}
+use Rattle.command_line.specs.Arguments.{with_all}
+use Rattle.command_line.proofs.Arguments.{one_more}
+use Rattle.command_line.proofs.commands.command.Goals as goal
+
+pub loop-argument-init : goal.loop-argument-init
+loop-argument-init c = (ap (λ (a : App). with_all a c.args.arguments.now) (search rules), search rules)
+
+pub loop-argument-preserved : goal.loop-argument-preserved
+loop-argument-preserved c =
+    let l = c.loop-argument in
+    let next = drop_more c.args.arguments.now l.argument-index _ c.loop-argument-test.true in
+    let rule = c.arg.ensures.rule in
+    (one_more _ _ _ _ _ _ _ next c.in_ok-command.ensures.app rule l.invariant.0, c.in_ok-command.ensures.local)
