@@ -1,7 +1,7 @@
 //! All that a pair is set up with.
 ghost use Rattle.std.specs.Prelude.{◌≤◌, vec_len};
 
-use crate::{GatewaySettings, InterfaceSettings, Neighbour, PortRanges};
+use crate::{GatewaySettings, IcmpSettings, InterfaceSettings, Neighbour, PortRanges};
 use addresses::Ip;
 use nat_types::{GatewayId, Side};
 
@@ -13,6 +13,7 @@ pub struct Settings {
     pub outside: InterfaceSettings,
     /// The router on the outside network, the next hop to all other networks.
     pub router: Ip,
+    pub icmp: IcmpSettings,
     /// Gateway 0.
     pub zero: GatewaySettings,
     /// Gateway 1.
