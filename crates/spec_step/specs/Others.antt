@@ -210,7 +210,7 @@ targets (Outward pair) = []
 targets (Inward pair) = pair ∷ []
 targets (Hairpin own other) = other ∷ []
 
--- a UDP or TCP packet goes the way that the rules say, by its pairs
+-- a packet of one of the three protocols goes the way that the rules say, by its pairs
 pub record IsPacketBy (networks : Networks) (packet : AtHand) (by : Translation) : Type 0 where
   pub passes : IsForwardable packet.bytes
   pub way : let flow = flow_in packet.bytes in

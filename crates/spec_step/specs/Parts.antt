@@ -373,7 +373,7 @@ abbrev pub all_idle_done : GatewayAndOutput → List Key → GatewayAndOutput
 all_idle_done s [] = s
 all_idle_done s (k ∷ ks) = all_idle_done (idle_done s k) ks
 
--- the idle pairs of a moment, by protocol (tcp first) and port
+-- the idle pairs of a moment, by protocol and port
 abbrev pub idle_taken : GatewayAndOutput → GatewayAndOutput
 idle_taken s = let l = s.shown.ledger in all_idle_done s (idle_keys_in (is_lone l.book.stage) s.shown.moment l.book.entries l.lives)
 
