@@ -169,12 +169,3 @@ pub record IsPlaced (networks : Networks) : Type 0 where
   pub outside_number : networks.outside.own_ip.0 < 2 ^ 32
   pub inside_virtual : networks.inside.interface.virtual_ip.0 < 2 ^ 32
   pub outside_virtual : networks.outside.interface.virtual_ip.0 < 2 ^ 32
-
--- the settings of a gateway say so
-pub record IsSetApart (settings : Settings) (id : GatewayId) : Type 0 where
-  pub inside_own : IsIn (gateway_of settings id).inside_ip.0 settings.inside.virtual_ip.0 settings.inside.prefix_length
-  pub outside_own : IsIn (gateway_of settings id).outside_ip.0 settings.outside.virtual_ip.0 settings.outside.prefix_length
-  pub apart : (address : ℕ) → IsIn address settings.outside.virtual_ip.0 settings.outside.prefix_length
-      → IsIn address settings.inside.virtual_ip.0 settings.inside.prefix_length → ⊥
-  pub inside_other : (gateway_of settings id).inside_ip.0 ≢ settings.inside.virtual_ip.0
-  pub outside_other : (gateway_of settings id).outside_ip.0 ≢ settings.outside.virtual_ip.0

@@ -1,7 +1,7 @@
 //! The two networks: whom a frame addresses, which way its packet goes, and to whom next.
 ghost use Rattle.std.specs.Prelude.{◌≡◌, ◌<◌, ◌^◌, length};
 ghost use Rattle.settings.specs.Parts.{gateway_of};
-ghost use Rattle.packet_rules.specs.Networks.{network_of, networks_of, IsPlaced, IsSetApart, IsWired, is_virtual, is_addressed, lies_in, is_martian, hairpin_direction, inside_direction, outside_direction, direction_of, outside_hop, exit_of};
+ghost use Rattle.packet_rules.specs.Networks.{network_of, networks_of, IsPlaced, IsWired, is_virtual, is_addressed, lies_in, is_martian, hairpin_direction, inside_direction, outside_direction, direction_of, outside_hop, exit_of};
 
 use crate::Reason;
 use addresses::{Ip, Mac, Protocol};
@@ -67,7 +67,7 @@ impl Networks {
     /// The networks as a gateway of these settings stands in them.
     pub fn of_gateway(settings: &Settings, id: GatewayId) -> Networks
         ensures networks { result ≡ networks_of settings.now id }
-        ensures placed { IsSetApart settings.now id → IsPlaced result }
+        ensures placed { IsPlaced result }
     {
         recall_numbers(settings, id);
         networks_at(settings, id)
