@@ -28,7 +28,7 @@ use Rattle.output.specs.Output.{Sent}
 use Rattle.spec_step.specs.Others.{Asking, Cause, Drops, IsCause, IsDue, IsItsWait, IsNew, IsNextHop, MayGoBy, Sends, Waits, all_noted, firsts, has_come, hops_of, other_frames, packets_asked, request_of, requests, targets, waiting_by, within_limit, is_other}
 use Rattle.spec_step.specs.Parts.{by_row, waiting, wanted_by, wanted_for}
 use Rattle.spec_step.specs.Shown.{GatewayAndOutput, Shown, id_of, station_on}
-use Rattle.spec_step.specs.Truly.{AreWired, AtHand, Known, known_of, packets_of}
+use Rattle.spec_step.specs.Truly.{IsSetUp, AtHand, Known, known_of, packets_of}
 use Rattle.spec_step.proofs.Freeing.{Comes-of, comes-then, filter-all, filter-left, filter-none}
 use Rattle.spec_step.proofs.Limits.{IsByWait, KeepsHops, TakesNone, asks-before, count-noted, hops-stay, limit-count, limit-same, noted-taken, noted-then}
 use Rattle.spec_step.proofs.Rooting.{RowRoots, has-more, has-then, same-rooted, wish-roots}
@@ -86,7 +86,7 @@ pub record Asks (hand : List AtHand) (over : HeldPacket → Bool) (s s2 : Gatewa
   pub known : known_of s2.shown ≡ known_of s.shown
   pub near : NearStays s.shown.moment s.shown s2.shown
   pub nets : NetsStay s.shown s2.shown
-  pub wired : AreWired s2.shown
+  pub wired : IsSetUp s2.shown
 
 -- and no wait for a next hop is over, nor does the test look at when a packet's hop was asked for
 pub record IsAsking (hand : List AtHand) (over : HeldPacket → Bool) (s s2 : GatewayAndOutput) : Type 0 where
@@ -96,7 +96,7 @@ pub record IsAsking (hand : List AtHand) (over : HeldPacket → Bool) (s s2 : Ga
 
 -- where at most 64 wait for next hops
 abbrev pub IsFit : Shown → Type 0
-IsFit g = AreWired g × (hop_count g.kept ≤ 64)
+IsFit g = IsSetUp g × (hop_count g.kept ≤ 64)
 
 abbrev pub Ask-on : List AtHand → (HeldPacket → Bool) → GatewayAndOutput → GatewayAndOutput → Type 0
 Ask-on hand over s s2 = IsFit s.shown → IsAsking hand over s s2
@@ -262,7 +262,7 @@ pub asks-by : (hand : List AtHand) (s s2 : GatewayAndOutput) (frames : List Sent
     → s2.told.frames ≡ s.told.frames ++ frames → s2.told.notes ≡ s.told.notes ++ notes → ((p : Pair) → IsTranslated s2.shown.ledger.book.entries p → MayGoBy s.shown notes p)
     → AllByRecursion (IsDue s.shown (known_of s.shown) (MayGoBy s.shown notes)) askings → other_frames frames ≡ requests s.shown askings → AllByRecursion (IsNew (known_of s.shown) (MayGoBy s.shown notes)) came
     → hops_of came ≡ map (waiting_by s.shown.moment) (firsts askings) → s2.shown.kept ≡ all_noted s.shown.moment askings (within_limit (s.shown.kept ++ came))
-    → IsPermutation hand (packets_of came ++ (packets_asked askings ++ gone)) → known_of s2.shown ≡ known_of s.shown → NearStays s.shown.moment s.shown s2.shown → NetsStay s.shown s2.shown → AreWired s2.shown → IsAsking hand nobody s s2
+    → IsPermutation hand (packets_of came ++ (packets_asked askings ++ gone)) → known_of s2.shown ≡ known_of s.shown → NearStays s.shown.moment s.shown s2.shown → NetsStay s.shown s2.shown → IsSetUp s2.shown → IsAsking hand nobody s s2
 asks-by hand s s2 frames notes askings came gone frames_are notes_are roots due others new hops kept of_hand known near nets wired =
     let none : packets_of (filter nobody s.shown.kept) ≡ [] = ap packets_of (filter-none s.shown.kept) in
     let end = packets_of came ++ (packets_asked askings ++ gone) in
@@ -320,7 +320,7 @@ pub record IsQuiet (s s2 : GatewayAndOutput) : Type 0 where
   pub kept : s2.shown.kept ≡ s.shown.kept
   pub known : known_of s2.shown ≡ known_of s.shown
   pub stations : SameStations s.shown s2.shown
-  pub wired : AreWired s.shown → AreWired s2.shown
+  pub wired : IsSetUp s.shown → IsSetUp s2.shown
 
 -- those at hand are gone
 pub quiet-asks : (hand : List AtHand) (s s2 : GatewayAndOutput) → IsQuiet s s2 → Ask-on hand nobody s s2
@@ -330,7 +330,7 @@ quiet-asks hand s s2 q = λ w.
 
 -- and that notes nothing and leaves the table
 pub quiet-by : (s s2 : GatewayAndOutput) → s2.told.frames ≡ s.told.frames → s2.told.notes ≡ s.told.notes → s2.shown.ledger.book.entries ≡ s.shown.ledger.book.entries → s2.shown.kept ≡ s.shown.kept → known_of s2.shown ≡ known_of s.shown
-    → SameStations s.shown s2.shown → (AreWired s.shown → AreWired s2.shown) → IsQuiet s s2
+    → SameStations s.shown s2.shown → (IsSetUp s.shown → IsSetUp s2.shown) → IsQuiet s s2
 quiet-by s s2 frames notes entries kept known stations wired = record {
   frames = frames;
   notes = [];

@@ -42,7 +42,7 @@ use Rattle.spec_step.specs.declared.plans.Plan.TheVariants.{Send, Ask, AskAgain,
 use Rattle.spec_step.specs.Others.{Asking, Cause, Drops, IsDue, IsNew, IsNextHop, IsUnknown, MayGoBy, Sends, Waits, all_noted, firsts, hops_of, other_frames, packets_asked, requests, targets, waiting_by, within_limit, is_other}
 use Rattle.spec_step.specs.Parts.{all_taken, asked_again, by_plan, by_verdict, carried_all, flags_in, flow_taken, framed, neighbour_asked, released, renewed_behind, request_by, retaken_by, taken_again, waiting, wanted_by, wanted_for, by_error_plan, by_error_verdict, error_taken}
 use Rattle.spec_step.specs.Shown.{GatewayAndOutput, Shown, is_up, scene, station_on}
-use Rattle.spec_step.specs.Truly.{AreItsPairs, AreWired, AtHand, Known, known_of, near_on, packets_of}
+use Rattle.spec_step.specs.Truly.{AreItsPairs, IsSetUp, AtHand, Known, known_of, near_on, packets_of}
 use Rattle.spec_step.specs.Verdict.{exit_by, hop_by, plan_of, reading_on, target_pair, error_hop, error_plan}
 use Rattle.spec_step.proofs.Asked.{IsAsked, PlanSays, plan-says}
 use Rattle.spec_step.proofs.Freeing.{comes-off, filter-all}
@@ -67,7 +67,7 @@ keeping-asks : (s one s2 : GatewayAndOutput) (side : Side) (bytes : List ℕ) (w
     → s2.shown.kept ≡ with_room what one.shown.kept ++ waiting side bytes one.shown.moment what ∷ [] → AllByRecursion (IsDue s.shown (known_of s.shown) (MayGoBy s.shown q.notes)) askings
     → other_frames frames ≡ requests s.shown askings → IsNew (known_of s.shown) (MayGoBy s.shown q.notes) (waiting side bytes s.shown.moment what)
     → hops_of (waiting side bytes s.shown.moment what ∷ []) ≡ map (waiting_by s.shown.moment) (firsts askings) → ((ws : List HeldPacket) → all_noted s.shown.moment askings ws ≡ ws) → packets_asked askings ≡ []
-    → known_of s2.shown ≡ known_of one.shown → SameStations one.shown s2.shown → (AreWired one.shown → AreWired s2.shown) → Ask-on (at_hand side bytes ∷ []) nobody s s2
+    → known_of s2.shown ≡ known_of one.shown → SameStations one.shown s2.shown → (IsSetUp one.shown → IsSetUp s2.shown) → Ask-on (at_hand side bytes ∷ []) nobody s s2
 keeping-asks s one s2 side bytes what frames askings q frames_are notes entries kept due others new hops unnoted all_come known stations wired = λ w.
     let now = s.shown.moment in
     let moment : one.shown.moment ≡ now = ap (λ (k : Known). k.moment) q.known in
@@ -149,7 +149,7 @@ module _ (frames : Frames) (s two : GatewayAndOutput) (side : Side) (bytes : Lis
   abbrev IsSentFrom : Type 0
   IsSentFrom = (two.told.frames ≡ s.told.frames ++ x ∷ []) × ((is_other x.side x.bytes ≡ false) × ((two.told.notes ≡ s.told.notes ++ notes)
       × (((p : Pair) → IsTranslated two.shown.ledger.book.entries p → MayGoBy s.shown notes p) × ((two.shown.kept ≡ s.shown.kept) × ((known_of two.shown ≡ known_of s.shown)
-      × (SameStations s.shown two.shown × ((AreWired s.shown → AreWired two.shown) × IsNextHop (known_of s.shown) (MayGoBy s.shown notes) (at_hand side bytes) by (exit_by by) hop)))))))
+      × (SameStations s.shown two.shown × ((IsSetUp s.shown → IsSetUp two.shown) × IsNextHop (known_of s.shown) (MayGoBy s.shown notes) (at_hand side bytes) by (exit_by by) hop)))))))
 
   renewed-asks : IsSentFrom → Ask-on (at_hand side bytes ∷ []) nobody s (renewed_behind two (exit_by by) hop)
   renewed-asks (frames_are, (is, (notes_are, (roots, (kept, (known, (stations, (wired, next)))))))) = λ w. at w (exit_by by) refl (asks_at hop.0 two.shown.moment (station_on two.shown (exit_by by)).neighbours) refl
@@ -183,7 +183,7 @@ module _ (frames : Frames) (s two : GatewayAndOutput) (side : Side) (bytes : Lis
       nets-asked Inside = (refl, refl)
       nets-asked Outside = (refl, refl)
 
-      wired-asked : (exit : Side) → AreWired two.shown → AreWired (neighbour_asked two.shown exit hop)
+      wired-asked : (exit : Side) → IsSetUp two.shown → IsSetUp (neighbour_asked two.shown exit hop)
       wired-asked Inside v = (v.0, (record { own = v.1.0.own; known = asked-six hop.0 two.shown.moment two.shown.inside.neighbours v.1.0.known }, v.1.1))
       wired-asked Outside v = (v.0, (v.1.0, record { own = v.1.1.own; known = asked-six hop.0 two.shown.moment two.shown.outside.neighbours v.1.1.known }))
 

@@ -28,7 +28,7 @@ use Rattle.packet_rules.specs.Steps.{IsPassable}
 use Rattle.output.specs.Output.{Sent}
 use Rattle.spec_step.specs.PassedOn.{ArePassedOn, HidesAllInside, IsPassedOn, TellsAll}
 use Rattle.spec_step.specs.Shown.{GatewayAndOutput, Shown}
-use Rattle.spec_step.specs.Truly.{AreWired, AtHand, Sending, known_of}
+use Rattle.spec_step.specs.Truly.{IsSetUp, AtHand, Sending, known_of}
 use Rattle.spec_step.specs.Verdict.{exit_by}
 use Rattle.spec_step.proofs.Sending.{near-mac, next-six}
 
@@ -139,7 +139,7 @@ outward-hides hides networks p next bytes wired six passes fits =
 
 -- ---- the errors of a step
 
-module _ (hides : Hides) (g : Shown) (wired : AreWired g) (fits : g.networks.outside.interface.virtual_ip.0 < 2 ^ 32) (may : Pair → Type 0) where
+module _ (hides : Hides) (g : Shown) (wired : IsSetUp g) (fits : g.networks.outside.interface.virtual_ip.0 < 2 ^ 32) (may : Pair → Type 0) where
   one-hides : (packet : AtHand) (by : Translation) (sent : Sent) → IsPassedOn (known_of g) may packet by sent → sent.side ≡ Outside → HidesInside g.networks.outside.interface.virtual_ip.0 sent.bytes
   one-hides packet (Outward p) sent x is =
       let flow = error_flow_in packet.bytes in
@@ -153,7 +153,7 @@ module _ (hides : Hides) (g : Shown) (wired : AreWired g) (fits : g.networks.out
   all-hide [] all = tt
   all-hide (d ∷ ds) all = (one-hides d.packet d.by d.sent all.0, all-hide ds all.1)
 
-pub step-hides : Hides → (hand : List AtHand) (s s2 : GatewayAndOutput) (frames : List Sent) → TellsAll hand s s2 → AreWired s2.shown → s2.shown.networks.outside.interface.virtual_ip.0 < 2 ^ 32
+pub step-hides : Hides → (hand : List AtHand) (s s2 : GatewayAndOutput) (frames : List Sent) → TellsAll hand s s2 → IsSetUp s2.shown → s2.shown.networks.outside.interface.virtual_ip.0 < 2 ^ 32
     → s2.told.frames ≡ s.told.frames ++ frames → HidesAllInside s2.shown.networks.outside.interface.virtual_ip.0 frames
 step-hides hides hand s s2 frames x wired fits are =
     let outside = s2.shown.networks.outside.interface.virtual_ip.0 in

@@ -38,7 +38,7 @@ use Rattle.spec_step.specs.Machine.{AreBytes}
 use Rattle.spec_step.specs.Others.{is_other}
 use Rattle.spec_step.specs.Parts.{all_taken, asked_again, by_plan, by_refusal, by_row, by_verdict, carried_all, flags_in, flow_taken, framed, keeping, neighbour_asked, released, renewed_behind, request_by, retaken_by, taken_again, wanted_by, wanted_for, by_error_plan, by_error_verdict, error_taken}
 use Rattle.spec_step.specs.Shown.{GatewayAndOutput, Shown, id_of, is_up, scene, station_on}
-use Rattle.spec_step.specs.Truly.{AreWired, AtHand, IsSentBy, Known, known_of, packets_of}
+use Rattle.spec_step.specs.Truly.{IsSetUp, AtHand, IsSentBy, Known, known_of, packets_of}
 use Rattle.spec_step.specs.Verdict.{error_hop, error_plan, exit_by, hop_by, next_to, plan_of, reading_on}
 use Rattle.spec_step.proofs.Packets.{PlanFits, kept-filter, kept-more, plan-fits, refusal-leaves, source-formed}
 use Rattle.spec_step.proofs.Passing.{IsSound}
@@ -58,14 +58,14 @@ use Rattle.icmp.specs.declared.packets.ErrorPacket.{ErrorPacket}
 pub record Says (hand : List AtHand) (s s2 : GatewayAndOutput) : Type 0 where
   pub tells : Told hand s s2
   pub sound : IsSound s2.shown
-  pub wired : AreWired s2.shown
+  pub wired : IsSetUp s2.shown
 
 abbrev pub Speaks : List AtHand → GatewayAndOutput → GatewayAndOutput → Type 0
-Speaks hand s s2 = IsSound s.shown → AreWired s.shown → Says hand s s2
+Speaks hand s s2 = IsSound s.shown → IsSetUp s.shown → Says hand s s2
 
 -- a part that leaves what decides where packets go
 abbrev pub Saying : List AtHand → GatewayAndOutput → GatewayAndOutput → Type 0
-Saying hand s s2 = IsSound s.shown → AreWired s.shown → Says hand s s2 × (known_of s2.shown ≡ known_of s.shown)
+Saying hand s s2 = IsSound s.shown → IsSetUp s.shown → Says hand s s2 × (known_of s2.shown ≡ known_of s.shown)
 
 -- one part behind the other
 pub speaks-then : (h h2 : List AtHand) (a b c : GatewayAndOutput) → Speaks h a b → Saying h2 b c → Speaks (h ++ h2) a c
@@ -109,7 +109,7 @@ wanted-for-says s flow (Inward p) formed = saying-nothing s []
 wanted-for-says s flow (Hairpin own other) formed = wanted-says s (source_of flow) formed
 
 -- a frame of another kind
-pub framed-says : (s : GatewayAndOutput) (side : Side) (bytes : List ℕ) → (AreWired s.shown → is_other side bytes ≡ true) → Saying [] s (framed s side bytes)
+pub framed-says : (s : GatewayAndOutput) (side : Side) (bytes : List ℕ) → (IsSetUp s.shown → is_other side bytes ≡ true) → Saying [] s (framed s side bytes)
 framed-says s side bytes none = λ is w. (
   record { tells = framed-tells s side bytes (none w); sound = record { book = is.book; kept = is.kept }; wired = w },
   refl,
@@ -142,7 +142,7 @@ read-from s side bytes flow read = subst (λ (f : Flow). IsWellFormedEndpoint (s
 renewed-says : Frames → (s : GatewayAndOutput) (exit : Side) (hop : Ip) → Saying [] s (renewed_behind s exit hop)
 renewed-says frames s exit hop = at exit (asks_at hop.0 s.shown.moment (station_on s.shown exit).neighbours)
   where
-    wired : (side : Side) → AreWired s.shown → AreWired (neighbour_asked s.shown side hop)
+    wired : (side : Side) → IsSetUp s.shown → IsSetUp (neighbour_asked s.shown side hop)
     wired Inside w = (w.0, (record { own = w.1.0.own; known = asked-six hop.0 s.shown.moment s.shown.inside.neighbours w.1.0.known }, w.1.1))
     wired Outside w = (w.0, (w.1.0, record { own = w.1.1.own; known = asked-six hop.0 s.shown.moment s.shown.outside.neighbours w.1.1.known }))
 
@@ -216,7 +216,7 @@ again-says frames s exit hop = at (asks_again s.shown.moment (wait.Hop exit hop)
 
 -- from the scene at which its pairs are there
 sending-says : Frames → (s one : GatewayAndOutput) (side : Side) (bytes : List ℕ) (by : Translation) (next : Mac) → IsRead s side bytes (flow_in bytes) → plan_of s.shown side (flow_in bytes) ≡ Ok (Send by next)
-    → one ≡ wanted_for s (flow_in bytes) by → IsBook s.shown.ledger.book → AreWired s.shown
+    → one ≡ wanted_for s (flow_in bytes) by → IsBook s.shown.ledger.book → IsSetUp s.shown
     → Saying (at_hand side bytes ∷ []) one (carried_all (framed one (exit_by by) (sent_frame s.shown.networks by next bytes)) (flow_in bytes) (flags_in bytes) by)
 sending-says frames s one side bytes by next read plan at book wired = λ is w.
     let flow = flow_in bytes in
@@ -343,7 +343,7 @@ passed-says frames s side bytes by next read goes next_is = λ is w. (
   refl,
 )
   where
-    six : AreWired s.shown → length next.0 ≡ 6
+    six : IsSetUp s.shown → length next.0 ≡ 6
     six w = next-six s.shown (addressed (error_flow_in bytes)) by next w next_is
 
 error-plan-says : Frames → (s : GatewayAndOutput) (side : Side) (bytes : List ℕ) (plan : Plan) → IsErrorRead s bytes (error_flow_in bytes) → ErrorSays s.shown side (error_flow_in bytes) (Ok plan)

@@ -33,7 +33,7 @@ use Rattle.output.specs.Output.{Sent}
 use Rattle.spec_step.specs.Others.{is_other, retaken_pairs}
 use Rattle.spec_step.specs.Parts.{carried_all, framed, wanted_for}
 use Rattle.spec_step.specs.Shown.{GatewayAndOutput, Shown, id_of, station_on}
-use Rattle.spec_step.specs.Truly.{AreItsPairs, AreWired, IsSentBy, Known, Sending, known_of, near_on, packets_of, unasked, used_in, used_pairs}
+use Rattle.spec_step.specs.Truly.{AreItsPairs, IsSetUp, IsSentBy, Known, Sending, known_of, near_on, packets_of, unasked, used_in, used_pairs}
 use Rattle.spec_step.specs.Verdict.{exit_by, hop_by, next_by}
 use Rattle.spec_step.proofs.FrameKinds.{other-by, sent-no_error}
 use Rattle.spec_step.proofs.Packets.{Reads}
@@ -80,11 +80,11 @@ near-is g Outside = refl
 pub near-mac : (g : Shown) (side : Side) (host : ℕ) → mac_at host g.moment (near_on (known_of g) side) ≡ mac_at host g.moment (station_on g side).neighbours
 near-mac g side host = ap (mac_at host g.moment) (near-is g side) ∙ mac-forgetful host g.moment (station_on g side).neighbours
 
-pub known-on : (g : Shown) → AreWired g → (side : Side) → KnowsMacs (station_on g side).neighbours
+pub known-on : (g : Shown) → IsSetUp g → (side : Side) → KnowsMacs (station_on g side).neighbours
 known-on g w Inside = w.1.0.known
 known-on g w Outside = w.1.1.known
 
-pub own-six : (g : Shown) → AreWired g → (side : Side) → length (station_on g side).network.own_mac.0 ≡ 6
+pub own-six : (g : Shown) → IsSetUp g → (side : Side) → length (station_on g side).network.own_mac.0 ≡ 6
 own-six g w Inside = w.1.0.own
 own-six g w Outside = w.1.1.own
 
@@ -140,7 +140,7 @@ pub record Carries-on (s s2 : GatewayAndOutput) (by : Translation) : Type 0 wher
   pub kept : s2.shown.kept ≡ s.shown.kept
   pub known : known_of s2.shown ≡ known_of s.shown
   pub book : s2.shown.ledger.book ≡ s.shown.ledger.book
-  pub wired : AreWired s.shown → AreWired s2.shown
+  pub wired : IsSetUp s.shown → IsSetUp s2.shown
   pub nets : (s2.shown.inside.network ≡ s.shown.inside.network) × (s2.shown.outside.network ≡ s.shown.outside.network)
 
 pub carried-leaves : (s : GatewayAndOutput) (flow : Flow) (flags : TcpFlags) (by : Translation) → Carries-on s (carried_all s flow flags by) by
@@ -169,7 +169,7 @@ is-sent g side bytes by next plan pairs = record {
   bytes_are = refl;
 }
 
-pub next-six : (g : Shown) (flow : Flow) (by : Translation) (next : Mac) → AreWired g → next_by g by flow ≡ Some next → length next.0 ≡ 6
+pub next-six : (g : Shown) (flow : Flow) (by : Translation) (next : Mac) → IsSetUp g → next_by g by flow ≡ Some next → length next.0 ≡ 6
 next-six g flow by next wired is = near-six (hop_by g by flow).0 g.moment (station_on g (exit_by by)).neighbours next (known-on g wired (exit_by by)) is
 
 -- the frame of a packet, and the notes of its pairs

@@ -44,7 +44,7 @@ use Rattle.spec_step.specs.Routers.{BothAct, RouterActs}
 use Rattle.spec_step.specs.GivingWay.{GivingWay, left, turn_of}
 use Rattle.spec_step.specs.Steps.{Does, FrameDoes, IsStepOn, ended_on, stopped, ticked, word_by, word_refusal}
 use Rattle.spec_step.specs.PassedOn.{TellsAll}
-use Rattle.spec_step.specs.Truly.{AreWired, AtHand, Known, hand_of, known_of, unasked}
+use Rattle.spec_step.specs.Truly.{IsSetUp, AtHand, Known, hand_of, known_of, unasked}
 use Rattle.spec_step.specs.Verdict.{reading_on}
 use Rattle.spec_step.proofs.Turning.{back_as, turn-by}
 use Rattle.spec_step.proofs.Packets.{kept-filter}
@@ -62,7 +62,7 @@ speaks-of h s s2 x = λ is w. (x is w).0
 
 -- ---- interfaces
 
-station-speaks : (s : GatewayAndOutput) (side : Side) (station : Interface) → (AreWired s.shown → IsWired station) → Speaks [] s (scene (with_station s.shown side station) s.told)
+station-speaks : (s : GatewayAndOutput) (side : Side) (station : Interface) → (IsSetUp s.shown → IsWired station) → Speaks [] s (scene (with_station s.shown side station) s.told)
 station-speaks s Inside station wired = λ is w. record {
   tells = tells-unseen s (scene (with_station s.shown Inside station) s.told) refl refl refl refl;
   sound = record { book = is.book; kept = is.kept };
@@ -78,7 +78,7 @@ station-known : (g : Shown) (side : Side) (station : Interface) → station.neig
 station-known g Inside station same = ap (λ (n : Neighbours). let k : Known = record (known_of g) { near_inside = unasked n } in k) same
 station-known g Outside station same = ap (λ (n : Neighbours). let k : Known = record (known_of g) { near_outside = unasked n } in k) same
 
-pub wired-on : (g : Shown) → AreWired g → (side : Side) → IsWired (station_on g side)
+pub wired-on : (g : Shown) → IsSetUp g → (side : Side) → IsWired (station_on g side)
 wired-on g w Inside = w.1.0
 wired-on g w Outside = w.1.1
 
@@ -379,17 +379,17 @@ answered-tells s = at (handed_in s.shown).link.due
     at true = tells-unseen s _ refl refl refl refl
     at false = tells-unseen s _ refl refl refl refl
 
-ticked-tells : (s : GatewayAndOutput) → Told [] s (link_ticked s) × ((known_of (link_ticked s).shown ≡ known_of s.shown) × (AreWired s.shown → AreWired (link_ticked s).shown))
+ticked-tells : (s : GatewayAndOutput) → Told [] s (link_ticked s) × ((known_of (link_ticked s).shown ≡ known_of s.shown) × (IsSetUp s.shown → IsSetUp (link_ticked s).shown))
 ticked-tells s = at (is_due_on_tick (handed_in s.shown).link s.shown.moment)
   where
-    at : (b : Bool) → (let x : GatewayAndOutput = (let g = handed_in s.shown in cond b (scene (record g { link = sent_on_tick g.link g.moment }) (with_datagram s.told (datagram_in g))) (scene g s.told)) in Told [] s x × ((known_of x.shown ≡ known_of s.shown) × (AreWired s.shown → AreWired x.shown)))
+    at : (b : Bool) → (let x : GatewayAndOutput = (let g = handed_in s.shown in cond b (scene (record g { link = sent_on_tick g.link g.moment }) (with_datagram s.told (datagram_in g))) (scene g s.told)) in Told [] s x × ((known_of x.shown ≡ known_of s.shown) × (IsSetUp s.shown → IsSetUp x.shown)))
     at true = (tells-unseen s _ refl refl refl refl, (refl, λ w. w))
     at false = (tells-unseen s _ refl refl refl refl, (refl, λ w. w))
 
-answered-ends : (h : List AtHand) (s done : GatewayAndOutput) → Told h s done → AreWired done.shown → Told (h ++ []) s (link_answered done) × AreWired (link_answered done).shown
+answered-ends : (h : List AtHand) (s done : GatewayAndOutput) → Told h s done → IsSetUp done.shown → Told (h ++ []) s (link_answered done) × IsSetUp (link_answered done).shown
 answered-ends h s done x w = (tells-then h [] s done (link_answered done) refl x (answered-tells done), w)
 
-end-tells : (s : GatewayAndOutput) (event : Event) (done : GatewayAndOutput) → Told (hand_of event) s done → AreWired done.shown → Told (hand_of event) s (ended_on event done) × AreWired (ended_on event done).shown
+end-tells : (s : GatewayAndOutput) (event : Event) (done : GatewayAndOutput) → Told (hand_of event) s done → IsSetUp done.shown → Told (hand_of event) s (ended_on event done) × IsSetUp (ended_on event done).shown
 end-tells s (Frame side bytes) done x w = answered-ends (at_hand side bytes.now ∷ []) s done x w
 end-tells s (Comes bytes) done x w = answered-ends [] s done x w
 end-tells s (Tick now) done x w =
@@ -400,8 +400,8 @@ end-tells s (PeerOff n) done x w = answered-ends [] s done x w
 end-tells s (SideIs side up) done x w = (x, w)
 
 -- a whole step
-pub step-tells : Frames → (s : GatewayAndOutput) (event : Event) (s2 : GatewayAndOutput) → IsStepOn s event s2 → HasBytes event → IsSound s.shown → AreWired s.shown → TellsAll (hand_of event) s s2 × AreWired s2.shown
+pub step-tells : Frames → (s : GatewayAndOutput) (event : Event) (s2 : GatewayAndOutput) → IsStepOn s event s2 → HasBytes event → IsSound s.shown → IsSetUp s.shown → TellsAll (hand_of event) s s2 × IsSetUp s2.shown
 step-tells frames s event s2 step has is w =
     let said = does-speak frames s event step.done step.does has is w in
     let end = end-tells s event step.done said.tells said.wired in
-    subst (λ (x : GatewayAndOutput). TellsAll (hand_of event) s x × AreWired x.shown) (sym step.sends) (end.0.all, end.1)
+    subst (λ (x : GatewayAndOutput). TellsAll (hand_of event) s x × IsSetUp x.shown) (sym step.sends) (end.0.all, end.1)

@@ -33,7 +33,7 @@ ghost use Rattle.spec_step.specs.Settled.{AreIdle, HaveBegun, IsSettled};
 ghost use Rattle.spec_step.specs.Shown.{GatewayAndOutput, Shown, has_side_out, id_of, is_up, scene};
 ghost use Rattle.spec_step.specs.Shown.{with_notes};
 ghost use Rattle.spec_step.specs.Steps.{Does, IsStepOn};
-ghost use Rattle.spec_step.specs.Truly.{AreWired, Tells, hand_of};
+ghost use Rattle.spec_step.specs.Truly.{IsSetUp, Tells, hand_of};
 
 use packet_rules::{frames_law, readings_law};
 use rewrite::hides_inside;
@@ -62,17 +62,16 @@ pub fn steps_keep()
 
 /// A step tells truly: the translated frames that it sends are, one for one and in order,
 /// translations of different packets, by the pairs that its Used notes name, each on its packet's way
-/// and to its next hop. And the hardware addresses that the gateway knows have six bytes afterwards,
-/// too.
+/// and to its next hop. And what that rests on holds afterwards, too.
 pub fn steps_tell()
     ensures truly { (s : GatewayAndOutput) (event : Event) (s2 : GatewayAndOutput)
         → IsStepOn s event s2
-        → HasBytes event → IsBook s.shown.ledger.book → KeepsBytes s.shown → AreWired s.shown
+        → HasBytes event → IsBook s.shown.ledger.book → KeepsBytes s.shown → IsSetUp s.shown
         → Tells (hand_of event) s s2 }
-    ensures wired { (s : GatewayAndOutput) (event : Event) (s2 : GatewayAndOutput)
+    ensures set_up { (s : GatewayAndOutput) (event : Event) (s2 : GatewayAndOutput)
         → IsStepOn s event s2
-        → HasBytes event → IsBook s.shown.ledger.book → KeepsBytes s.shown → AreWired s.shown
-        → AreWired s2.shown }
+        → HasBytes event → IsBook s.shown.ledger.book → KeepsBytes s.shown → IsSetUp s.shown
+        → IsSetUp s2.shown }
 {
     readings_law();
     frames_law();
@@ -84,7 +83,7 @@ pub fn steps_tell()
 /// translated before or that a Retaken note of the step names.
 pub fn steps_pass_on()
     ensures { (s : GatewayAndOutput) (event : Event) (s2 : GatewayAndOutput) → IsStepOn s event s2
-        → HasBytes event → IsBook s.shown.ledger.book → KeepsBytes s.shown → AreWired s.shown
+        → HasBytes event → IsBook s.shown.ledger.book → KeepsBytes s.shown → IsSetUp s.shown
         → TellsAll (hand_of event) s s2 }
 {
     readings_law();
@@ -96,10 +95,10 @@ pub fn steps_pass_on()
 pub fn errors_hide()
     ensures { (s : GatewayAndOutput) (event : Event) (s2 : GatewayAndOutput) (frames : List Sent)
         → IsStepOn s event s2
-        → HasBytes event → IsBook s.shown.ledger.book → KeepsBytes s.shown → AreWired s.shown
+        → HasBytes event → IsBook s.shown.ledger.book → KeepsBytes s.shown → IsSetUp s.shown
         → s2.shown.networks.outside.interface.virtual_ip.0 < 2 ^ 32
         → s2.told.frames ≡ s.told.frames ++ frames
-        → HidesAllInside s2.shown.networks.outside.interface.virtual_ip.0 frames }
+        → HidesAllInside s2.shown.networks frames }
 {
     readings_law();
     frames_law();
@@ -111,8 +110,8 @@ pub fn errors_hide()
 pub fn errors_leave_pairs()
     ensures pairs { (s : GatewayAndOutput) (side : Side) (bytes : List ℕ) (flow : ErrorFlow)
         → LeavesPairs s (error_taken s side bytes flow) }
-    ensures no_wait { (g : Shown) (side : Side) (flow : ErrorFlow) (endpoint : Endpoint)
-        → error_plan g side flow ≢ Ok (WaitForPair endpoint) }
+    ensures no_wait { (g : Shown) (side : Side) (flow : ErrorFlow) (length : ℕ) (endpoint : Endpoint)
+        → error_plan g side flow length ≢ Ok (WaitForPair endpoint) }
 {}
 
 /// All other frames of a step are, in their order: an answer to the ARP request that came in, or the
@@ -120,8 +119,8 @@ pub fn errors_leave_pairs()
 /// why it is sent, which packets wait on, and which may come to wait.
 pub fn other_frames()
     ensures { (s : GatewayAndOutput) (event : Event) (s2 : GatewayAndOutput) → IsStepOn s event s2
-        → IsBook s.shown.ledger.book → AreWired s.shown → hop_count s.shown.kept ≤ 64
-        → AreOthers s event s2 }
+        → HasBytes event → IsBook s.shown.ledger.book → KeepsBytes s.shown → IsSetUp s.shown
+        → hop_count s.shown.kept ≤ 64 → AreOthers s event s2 }
 {
     readings_law();
     frames_law();

@@ -12,5 +12,5 @@ pub use laws::{
     idle_at_once, never_alone, other_frames, others_account, parts_stand, steps_account, steps_go,
     steps_keep, steps_note, steps_pass_on, steps_settle, steps_tell,
 };
-pub use plans::Plan;
+pub use plans::{Plan, Reply};
 pub use turns::Turn;
