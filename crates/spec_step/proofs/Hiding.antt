@@ -145,7 +145,7 @@ module _ (hides : Hides) (g : Shown) (wired : IsSetUp g) (fits : g.networks.outs
       let flow = error_flow_in packet.bytes in
       let six = next-six g (own_flow flow) (Outward p) x.next wired (sym (near-mac g (exit_by (Outward p)) (hop_of g.networks (Outward p) flow.destination.0)) ∙ x.hop) in
       subst (λ (xs : List ℕ). HidesInside g.networks.outside.interface.virtual_ip.0 xs) (sym x.bytes_are)
-      (outward-hides hides g.networks p x.next packet.bytes wired.0 six x.goes.passes fits)
+      (outward-hides hides g.networks p x.next packet.bytes wired.0.0 six x.goes.passes fits)
   one-hides packet (Inward p) sent x is = let clash = sym x.side ∙ is in absurd (cc)
   one-hides packet (Hairpin own other) sent x is = let clash = sym x.side ∙ is in absurd (cc)
 
@@ -154,10 +154,10 @@ module _ (hides : Hides) (g : Shown) (wired : IsSetUp g) (fits : g.networks.outs
   all-hide (d ∷ ds) all = (one-hides d.packet d.by d.sent all.0, all-hide ds all.1)
 
 pub step-hides : Hides → (hand : List AtHand) (s s2 : GatewayAndOutput) (frames : List Sent) → TellsAll hand s s2 → IsSetUp s2.shown → s2.shown.networks.outside.interface.virtual_ip.0 < 2 ^ 32
-    → s2.told.frames ≡ s.told.frames ++ frames → HidesAllInside s2.shown.networks.outside.interface.virtual_ip.0 frames
+    → s2.told.frames ≡ s.told.frames ++ frames → HidesAllInside s2.shown.networks frames
 step-hides hides hand s s2 frames x wired fits are =
     let outside = s2.shown.networks.outside.interface.virtual_ip.0 in
     let same = append_cancel_left s.told.frames x.frames frames (sym x.frames_are ∙ are) in
-    subst (λ (fs : List Sent). HidesAllInside outside fs) same
+    subst (λ (fs : List Sent). HidesAllInside s2.shown.networks fs) same
     (subst (λ (fs : List Sent). AllByRecursion (λ (f : Sent). f.side ≡ Outside → HidesInside outside f.bytes) fs) (sym x.errors)
     (all-hide hides s2.shown wired fits _ x.passed x.each_error))

@@ -1,4 +1,4 @@
--- An error leaves the pairs as they are.
+-- An error leaves the pairs as they are, and so does what a gateway says itself.
 use Rattle.std.proofs.Common.{ℕ, Bool, true, false, cond, List, Result, Ok, Err, refl, ◌∙◌}
 use Rattle.addresses.specs.declared.internet.Ip.{Ip}
 use Rattle.nat_types.specs.declared.gateways.Side.{Side}
@@ -7,14 +7,16 @@ use Rattle.arp.specs.Neighbours.{asks_at}
 use Rattle.icmp.specs.declared.packets.ErrorFlow.{ErrorFlow}
 use Rattle.waiting.specs.declared.waits.WaitsFor.TheVariants as wait
 use Rattle.waiting.specs.Packets.{asks_again, with_asked}
+use Rattle.packet_rules.specs.declared.readings.Asked.{Asked as Echo}
 use Rattle.packet_rules.specs.declared.reasons.Reason.{Reason}
 use Rattle.packet_rules.specs.Errors.{passed_frame}
 use Rattle.spec_step.specs.declared.plans.Plan.{Plan}
 use Rattle.spec_step.specs.declared.plans.Plan.TheVariants.{Send, Ask, AskAgain, Wait as WaitFor}
-use Rattle.spec_step.specs.Parts.{asked_again, by_error_plan, by_error_verdict, error_taken, framed, neighbour_asked, renewed_behind, request_by}
+use Rattle.spec_step.specs.Parts.{asked_again, by_error_plan, by_error_verdict, echo_taken, error_taken, framed, length_in, neighbour_asked, refused, renewed_behind, request_by}
 use Rattle.spec_step.specs.PassedOn.{LeavesPairs}
 use Rattle.spec_step.specs.Shown.{GatewayAndOutput, scene, station_on}
 use Rattle.spec_step.specs.Verdict.{error_hop, error_plan, exit_by}
+use Rattle.spec_step.proofs.Own.{Said, echo-by, refused-by, said_scene}
 
 here : (s : GatewayAndOutput) → LeavesPairs s s
 here s = record { ledger = refl; link = refl; notes = refl; datagrams = refl }
@@ -46,8 +48,27 @@ plan-leaves s side bytes flow (AskAgain by hop) = again-leaves s (exit_by by) ho
 plan-leaves s side bytes flow (WaitFor e) = here s
 
 pub error-leaves : (s : GatewayAndOutput) (side : Side) (bytes : List ℕ) (flow : ErrorFlow) → LeavesPairs s (error_taken s side bytes flow)
-error-leaves s side bytes flow = at (error_plan s.shown side flow)
+error-leaves s side bytes flow = at (error_plan s.shown side flow (length_in bytes))
   where
     at : (r : Result Plan Reason) → LeavesPairs s (by_error_verdict s side bytes flow r)
     at (Ok plan) = plan-leaves s side bytes flow plan
     at (Err reason) = here s
+
+-- ---- what a gateway says itself
+
+said-leaves : (s : GatewayAndOutput) (side : Side) → Said (λ x. LeavesPairs s x) s side
+said-leaves s Inside = λ frame tally hop.
+    let one = said_scene s Inside frame tally in
+    joined s one _ (record { ledger = refl; link = refl; notes = refl; datagrams = refl }) (renewed-leaves one Inside hop)
+said-leaves s Outside = λ frame tally hop.
+    let one = said_scene s Outside frame tally in
+    joined s one _ (record { ledger = refl; link = refl; notes = refl; datagrams = refl }) (renewed-leaves one Outside hop)
+
+pub refused-leave : (s : GatewayAndOutput) (side exit : Side) (bytes : List ℕ) (reason : Reason) → LeavesPairs s (refused s side exit bytes reason)
+refused-leave s side exit bytes reason = refused-by (λ x. LeavesPairs s x) s side exit bytes (here s) (said-leaves s side) reason
+
+pub echo-leave : (s : GatewayAndOutput) (side : Side) (bytes : List ℕ) (echo : Echo) → LeavesPairs s (echo_taken s side bytes echo)
+echo-leave s side bytes echo =
+    echo-by (λ x. LeavesPairs s x) s side bytes echo (here s) (said-leaves s side)
+    (λ hop place. record { ledger = refl; link = refl; notes = refl; datagrams = refl })
+    (λ hop. again-leaves s side hop)

@@ -7,6 +7,7 @@ mod Beginning
 mod Counting
 mod Ending
 mod Erring
+mod Fitting
 mod FrameKinds
 mod Freeing
 mod Giving
@@ -18,6 +19,7 @@ mod Limits
 mod Lines
 mod Near
 mod Others
+mod Own
 mod Packets
 mod Passed
 mod Passing

@@ -1,5 +1,5 @@
 -- A packet that is sent on is told of truly.
-use Rattle.std.proofs.Common.{◌≡◌, ℕ, true, false, Some, Ok, List, [], ◌∷◌, ◌++◌, length, IsPermutation, refl, sym, ap, subst, ◌∙◌, append_assoc}
+use Rattle.std.proofs.Common.{◌≡◌, ℕ, Bool, true, false, Some, Ok, List, [], ◌∷◌, ◌++◌, length, IsPermutation, refl, sym, ap, subst, ◌∙◌, append_assoc}
 use Rattle.std.proofs.lemmas.List.{append-nil}
 use Rattle.std.proofs.lemmas.Grind.{flat_map-append}
 use Rattle.std.proofs.lemmas.List.Sorted.{IsPermutation-refl}
@@ -14,27 +14,36 @@ use Rattle.arp.specs.declared.packets.ArpPacket.{ArpPacket}
 use Rattle.arp.specs.Macs.{KnowsMacs}
 use Rattle.arp.specs.Neighbours.{mac_at}
 use Rattle.arp.proofs.Offered.{mac-forgetful, near-six}
+use Rattle.frames.specs.Frame.{frame_of}
 use Rattle.ipv4.specs.declared.flows.Flow.{Flow}
 use Rattle.spec_binding.specs.Books.{Book, IsBook, is_synced}
 use Rattle.spec_binding.specs.Rows.{carry_row, is_full, noted_by}
 use Rattle.waiting.specs.Packets.{HeldPacket}
+use Rattle.packet_rules.specs.declared.complaints.Complaint.{Complaint}
 use Rattle.packet_rules.specs.declared.networks.Network.{Network}
 use Rattle.packet_rules.specs.declared.networks.Networks.{Networks}
+use Rattle.packet_rules.specs.declared.readings.Asked.{Asked as Echo}
+use Rattle.packet_rules.specs.declared.readings.Reading.TheVariants.{Asked}
 use Rattle.packet_rules.specs.declared.translations.Translation.{Translation}
 use Rattle.packet_rules.specs.declared.translations.Translation.TheVariants.{Outward, Inward, Hairpin}
 use Rattle.packet_rules.specs.Adverts.{advert_frame}
+use Rattle.packet_rules.specs.Asked.{IsAskable, is_asked}
 use Rattle.packet_rules.specs.Arping.{answer_frame, gratuitous_frame, request_frame}
-use Rattle.packet_rules.specs.Flows.{flow_in, source_of}
+use Rattle.packet_rules.specs.Flows.{error_flow_in, flow_in, source_of}
 use Rattle.packet_rules.specs.Frames.{hop_of, is_translation, pairs_of, sent_frame, way_of}
-use Rattle.packet_rules.specs.Networks.{IsWired, direction_of, exit_of}
-use Rattle.packet_rules.specs.Steps.{IsForwardable, IsOfSide, IsPassable}
-use Rattle.packet_rules.specs.Errors.{is_error_frame, passed_frame}
+use Rattle.packet_rules.specs.Networks.{IsPlaced, IsWired, direction_of, exit_of, network_of}
+use Rattle.packet_rules.specs.Own.{answer_frame as own_answer, complaint_frame, is_own_frame}
+use Rattle.packet_rules.specs.Steps.{IsForwardable, IsOfSide, IsPassable, reading_of}
+use Rattle.packet_rules.specs.Errors.{error_direction, is_error_frame, passed_frame}
+use Rattle.interfaces.specs.Stations.{is_active}
 use Rattle.output.specs.Output.{Sent}
 use Rattle.spec_step.specs.Others.{is_other, retaken_pairs}
-use Rattle.spec_step.specs.Parts.{carried_all, framed, wanted_for}
-use Rattle.spec_step.specs.Shown.{GatewayAndOutput, Shown, id_of, station_on}
-use Rattle.spec_step.specs.Truly.{AreItsPairs, IsSetUp, IsSentBy, Known, Sending, known_of, near_on, packets_of, unasked, used_in, used_pairs}
-use Rattle.spec_step.specs.Verdict.{exit_by, hop_by, next_by}
+use Rattle.spec_step.specs.Machine.{AreBytes}
+use Rattle.spec_step.specs.Parts.{carried_all, framed, sender_in, wanted_for}
+use Rattle.spec_step.specs.PassedOn.{error_frames}
+use Rattle.spec_step.specs.Shown.{GatewayAndOutput, Shown, id_of, is_up, station_on}
+use Rattle.spec_step.specs.Truly.{AreItsPairs, IsSetUp, IsSentBy, Known, Sending, known_of, near_on, packets_of, translated_frames, unasked, used_in, used_pairs}
+use Rattle.spec_step.specs.Verdict.{exit_by, hop_back, hop_by, next_back, next_by, reading_on}
 use Rattle.spec_step.proofs.FrameKinds.{other-by, sent-no_error}
 use Rattle.spec_step.proofs.Packets.{Reads}
 use Rattle.spec_step.proofs.Rooting.{same-rooted}
@@ -42,9 +51,26 @@ use Rattle.spec_step.proofs.Sends.{AreFound, IsOwn, IsPlanned}
 use Rattle.spec_step.proofs.Telling.{Told, at_hand}
 use Rattle.spec_step.proofs.Translating.{Translates, carry-note, target-translates, wish-owns, wish-still}
 
+-- which frames are the gateway's own
+pub record OwnFrames : Type 0 where
+  pub answer : (networks : Networks) (side : Side) (active : Bool) (next : Mac) (bytes : List ℕ) → IsWired networks → IsPlaced networks → length next.0 ≡ 6 → AreBytes bytes → IsAskable bytes
+      → is_asked (network_of networks side) active (frame_of bytes) ≡ true → is_own_frame networks side (own_answer (network_of networks side) next bytes) ≡ true
+  pub complaint : (networks : Networks) (side : Side) (complaint : Complaint) (next : Mac) (bytes : List ℕ) → IsWired networks → IsPlaced networks → length next.0 ≡ 6 → AreBytes bytes
+      → is_own_frame networks side (complaint_frame (network_of networks side) complaint next bytes) ≡ true
+  pub sent : (networks : Networks) (side : Side) (t : Translation) (next : Mac) (bytes : List ℕ) → IsWired networks → IsPlaced networks → length next.0 ≡ 6 → IsForwardable bytes → IsOfSide side bytes → AreBytes bytes
+      → (let flow = flow_in bytes in direction_of networks side flow.protocol flow.source.0 flow.destination.0 ≡ Ok (way_of t)) → is_own_frame networks (exit_of (way_of t)) (sent_frame networks t next bytes) ≡ false
+  pub passed : (networks : Networks) (side : Side) (t : Translation) (next : Mac) (bytes : List ℕ) → IsWired networks → IsPlaced networks → length next.0 ≡ 6 → IsPassable bytes → AreBytes bytes
+      → error_direction networks side (error_flow_in bytes) ≡ Ok (way_of t) → is_own_frame networks (exit_of (way_of t)) (passed_frame networks t next bytes) ≡ false
+  pub arp : (networks : Networks) (side : Side) (network : Network) (p : ArpPacket) (mac : Mac) → length network.own_mac.0 ≡ 6 → length p.sender_mac.0 ≡ 6 → is_own_frame networks side (answer_frame network p mac) ≡ false
+  pub request : (networks : Networks) (side : Side) (network : Network) (ip : Ip) → length network.own_mac.0 ≡ 6 → is_own_frame networks side (request_frame network ip) ≡ false
+  pub gratuitous : (networks : Networks) (side : Side) (network : Network) → is_own_frame networks side (gratuitous_frame network) ≡ false
+  pub advert : (networks : Networks) (side : Side) (network : Network) (priority interval : ℕ) → is_own_frame networks side (advert_frame network priority interval) ≡ false
+
 -- what is known of frames: what they are read as, and which of those that are sent are translations
 pub record Frames : Type 0 where
   pub reads : Reads
+  pub asked : (side : Side) (network : Network) (active up : Bool) (bytes : List ℕ) (echo : Echo) → reading_of side network active up bytes ≡ Ok (Asked echo) → is_asked network active (frame_of bytes) ≡ true
+  pub own : OwnFrames
   pub sent : (networks : Networks) (side : Side) (t : Translation) (next : Mac) (bytes : List ℕ) → IsWired networks → length next.0 ≡ 6 → IsForwardable bytes → IsOfSide side bytes
       → (let flow = flow_in bytes in direction_of networks side flow.protocol flow.source.0 flow.destination.0 ≡ Ok (way_of t)) → is_translation (exit_of (way_of t)) (sent_frame networks t next bytes) ≡ true
   pub answer : (exit : Side) (network : Network) (p : ArpPacket) (mac : Mac) → length network.own_mac.0 ≡ 6 → length p.sender_mac.0 ≡ 6 → is_translation exit (answer_frame network p mac) ≡ false
@@ -60,17 +86,19 @@ pub record Frames : Type 0 where
 
 -- ---- frames of another kind
 
-pub request-other : Frames → (exit : Side) (network : Network) (ip : Ip) → length network.own_mac.0 ≡ 6 → is_other exit (request_frame network ip) ≡ true
-request-other frames exit network ip own = other-by exit _ (frames.request exit network ip own) (frames.request_no_error network ip own)
+pub request-other : Frames → (networks : Networks) (exit : Side) (network : Network) (ip : Ip) → length network.own_mac.0 ≡ 6 → is_other networks exit (request_frame network ip) ≡ true
+request-other frames networks exit network ip own = other-by networks exit _ (frames.own.request networks exit network ip own) (frames.request exit network ip own) (frames.request_no_error network ip own)
 
-pub advert-other : Frames → (exit : Side) (network : Network) (priority interval : ℕ) → is_other exit (advert_frame network priority interval) ≡ true
-advert-other frames exit network priority interval = other-by exit _ (frames.advert exit network priority interval) (frames.advert_no_error network priority interval)
+pub advert-other : Frames → (networks : Networks) (exit : Side) (network : Network) (priority interval : ℕ) → is_other networks exit (advert_frame network priority interval) ≡ true
+advert-other frames networks exit network priority interval =
+    other-by networks exit _ (frames.own.advert networks exit network priority interval) (frames.advert exit network priority interval) (frames.advert_no_error network priority interval)
 
-pub gratuitous-other : Frames → (exit : Side) (network : Network) → is_other exit (gratuitous_frame network) ≡ true
-gratuitous-other frames exit network = other-by exit _ (frames.gratuitous exit network) (frames.gratuitous_no_error network)
+pub gratuitous-other : Frames → (networks : Networks) (exit : Side) (network : Network) → is_other networks exit (gratuitous_frame network) ≡ true
+gratuitous-other frames networks exit network = other-by networks exit _ (frames.own.gratuitous networks exit network) (frames.gratuitous exit network) (frames.gratuitous_no_error network)
 
-pub answer-other : Frames → (exit : Side) (network : Network) (p : ArpPacket) (mac : Mac) → length network.own_mac.0 ≡ 6 → length p.sender_mac.0 ≡ 6 → is_other exit (answer_frame network p mac) ≡ true
-answer-other frames exit network p mac own six = other-by exit _ (frames.answer exit network p mac own six) (frames.answer_no_error network p mac own six)
+pub answer-other : Frames → (networks : Networks) (exit : Side) (network : Network) (p : ArpPacket) (mac : Mac) → length network.own_mac.0 ≡ 6 → length p.sender_mac.0 ≡ 6 → is_other networks exit (answer_frame network p mac) ≡ true
+answer-other frames networks exit network p mac own six =
+    other-by networks exit _ (frames.own.arp networks exit network p mac own six) (frames.answer exit network p mac own six) (frames.answer_no_error network p mac own six)
 
 pub near-is : (g : Shown) (side : Side) → near_on (known_of g) side ≡ unasked (station_on g side).neighbours
 near-is g Inside = refl
@@ -172,16 +200,42 @@ is-sent g side bytes by next plan pairs = record {
 pub next-six : (g : Shown) (flow : Flow) (by : Translation) (next : Mac) → IsSetUp g → next_by g by flow ≡ Some next → length next.0 ≡ 6
 next-six g flow by next wired is = near-six (hop_by g by flow).0 g.moment (station_on g (exit_by by)).neighbours next (known-on g wired (exit_by by)) is
 
+-- ---- what a gateway says itself
+
+pub back-six : (g : Shown) (side : Side) (source : Ip) (next : Mac) → IsSetUp g → next_back g side source ≡ Some next → length next.0 ≡ 6
+back-six g side source next w is = near-six (hop_back g side source).0 g.moment (station_on g side).neighbours next (known-on g w side) is
+
+house-network : (g : Shown) → IsSetUp g → (side : Side) → (station_on g side).network ≡ network_of g.networks side
+house-network g w Inside = w.0.1.inside_is
+house-network g w Outside = w.0.1.outside_is
+
+-- its answer to an Echo is an own frame
+pub answer-own : Frames → (g : Shown) (side : Side) (bytes : List ℕ) (echo : Echo) (next : Mac) → reading_on g side bytes ≡ Ok (Asked echo) → AreBytes bytes → IsSetUp g → next_back g side echo.source ≡ Some next
+    → is_own_frame g.networks side (own_answer (network_of g.networks side) next bytes) ≡ true
+answer-own frames g side bytes echo next read are w there =
+    let at = station_on g side in
+    let carries = frames.reads side at.network (is_active at) (is_up g) bytes (Asked echo) read in
+    let asked = frames.asked side at.network (is_active at) (is_up g) bytes echo read in
+    frames.own.answer g.networks side (is_active at) next bytes w.0.0 w.0.1.placed (back-six g side echo.source next w there) are carries.0
+    (subst (λ (n : Network). is_asked n (is_active at) (frame_of bytes) ≡ true) (house-network g w side) asked)
+
+-- and so is what it says of a packet
+pub complaint-own : Frames → (g : Shown) (side : Side) (bytes : List ℕ) (complaint : Complaint) (next : Mac) → AreBytes bytes → IsSetUp g → next_back g side (sender_in bytes) ≡ Some next
+    → is_own_frame g.networks side (complaint_frame (network_of g.networks side) complaint next bytes) ≡ true
+complaint-own frames g side bytes complaint next are w there =
+    frames.own.complaint g.networks side complaint next bytes w.0.0 w.0.1.placed (back-six g side (sender_in bytes) next w there) are
+
 -- the frame of a packet, and the notes of its pairs
 pub sending-tells : (s : GatewayAndOutput) (side : Side) (bytes : List ℕ) (flow : Flow) (flags : TcpFlags) (by : Translation) (frame : List ℕ)
-    → IsSentBy (known_of s.shown) (at_hand side bytes) by (let x : Sent = record { side = exit_by by; bytes = frame } in x) → is_translation (exit_by by) frame ≡ true → AllTranslate s.shown.ledger.book by
+    → IsSentBy (known_of s.shown) (at_hand side bytes) by (let x : Sent = record { side = exit_by by; bytes = frame } in x) → is_own_frame s.shown.networks (exit_by by) frame ≡ false → is_translation (exit_by by) frame ≡ true → AllTranslate s.shown.ledger.book by
     → Told (at_hand side bytes ∷ []) s (carried_all (framed s (exit_by by) frame) flow flags by)
-sending-tells s side bytes flow flags by frame sent is all =
+sending-tells s side bytes flow flags by frame sent own is all =
     let two = carried_all (framed s (exit_by by) frame) flow flags by in
     let c = carried-leaves (framed s (exit_by by) frame) flow flags by in
     let x : Sent = record { side = exit_by by; bytes = frame } in
     let d : Sending = record { packet = at_hand side bytes; by = by; sent = x } in
     let none = sent-no_error (exit_by by) frame is in
+    let nets : two.shown.networks ≡ s.shown.networks = ap (λ (k : Known). k.networks) c.known in
     record {
       all = record {
         frames = x ∷ [];
@@ -189,11 +243,11 @@ sending-tells s side bytes flow flags by frame sent is all =
         notes = all_notes s.shown by;
         notes_are = c.notes;
         done = d ∷ [];
-        translated = rw is refl;
+        translated = subst (λ (n : Networks). translated_frames n (x ∷ []) ≡ x ∷ []) (sym nets) (rw (own, is) refl);
         used = all-used s.shown by all ∙ sym (append-nil (pairs_of by));
         each = (subst (λ (k : Known). IsSentBy k (at_hand side bytes) by x) (sym c.known) sent, tt);
         passed = [];
-        errors = rw none refl;
+        errors = subst (λ (n : Networks). error_frames n (x ∷ []) ≡ []) (sym nets) (rw (own, none) refl);
         each_error = tt;
         dropped = [];
         once = subst (λ (ws : List HeldPacket). IsPermutation (at_hand side bytes ∷ packets_of s.shown.kept) (at_hand side bytes ∷ packets_of ws)) (sym c.kept) (IsPermutation-refl (at_hand side bytes ∷ packets_of s.shown.kept));

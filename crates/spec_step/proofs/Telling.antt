@@ -1,5 +1,5 @@
 -- What is told of a part: nothing, one part behind the other, frames of another kind, and packets whose wait is over.
-use Rattle.std.proofs.Common.{◌≡◌, inl, ℕ, true, not, List, [], ◌∷◌, ◌++◌, map, filter, flat_map, IsPermutation, refl, sym, ap, ◌∙◌, subst, append_assoc}
+use Rattle.std.proofs.Common.{◌≡◌, inl, ℕ, true, not, ◌&&◌, List, [], ◌∷◌, ◌++◌, map, filter, flat_map, IsPermutation, refl, sym, ap, ◌∙◌, subst, append_assoc}
 use Rattle.std.specs.List.{AllByRecursion}
 use Rattle.std.proofs.lemmas.List.{map-append, append-nil}
 use Rattle.std.proofs.lemmas.List.Elements.{filter-append}
@@ -12,14 +12,16 @@ use Rattle.spec_binding.specs.Uses.{IsTranslated}
 use Rattle.waiting.specs.declared.waits.Ended.{Ended}
 use Rattle.waiting.specs.Packets.{HeldPacket, ended_by, is_young, left_by}
 use Rattle.waiting.specs.Waits.{ends}
+use Rattle.packet_rules.specs.declared.networks.Networks.{Networks}
 use Rattle.packet_rules.specs.Errors.{is_error_frame}
 use Rattle.packet_rules.specs.Frames.{is_translation, pairs_of}
+use Rattle.packet_rules.specs.Own.{is_own_frame}
 use Rattle.output.specs.Output.{Sent}
 use Rattle.spec_step.specs.Others.{MayGoBy, is_other}
 use Rattle.spec_step.specs.Parts.{framed, old_dropped}
 use Rattle.spec_step.specs.PassedOn.{ArePassedOn, IsPassedOn, TellsAll, error_frames}
 use Rattle.spec_step.specs.Shown.{GatewayAndOutput}
-use Rattle.spec_step.specs.Truly.{AreSent, AtHand, Known, Sending, Tells, known_of, packets_of, translated_frames, used_in, used_pairs}
+use Rattle.spec_step.specs.Truly.{AreSent, AtHand, Known, Sending, Tells, is_own, known_of, packets_of, translated_frames, used_in, used_pairs}
 use Rattle.spec_step.proofs.FrameKinds.{other-none}
 use Rattle.spec_step.proofs.Rooting.{has-more, has-then, same-rooted}
 
@@ -115,12 +117,24 @@ module _ (h h2 : List AtHand) (a b c : GatewayAndOutput) (same : known_of c.show
   abbrev both-notes : List Note
   both-notes = x.all.notes ++ y.all.notes
 
-  both-errors : error_frames (x.all.frames ++ y.all.frames) ≡ map (λ (t : Sending). t.sent) (x.all.passed ++ y.all.passed)
+  nets : c.shown.networks ≡ b.shown.networks
+  nets = ap (λ (k : Known). k.networks) same
+
+  both-errors : error_frames c.shown.networks (x.all.frames ++ y.all.frames) ≡ map (λ (t : Sending). t.sent) (x.all.passed ++ y.all.passed)
   both-errors =
-      filter-append (λ (f : Sent). is_error_frame f.bytes) x.all.frames y.all.frames
-      ∙ ap (λ fs. fs ++ error_frames y.all.frames) x.all.errors
+      filter-append (λ (f : Sent). not (is_own c.shown.networks f) && is_error_frame f.bytes) x.all.frames y.all.frames
+      ∙ ap (λ (n : Networks). error_frames n x.all.frames ++ error_frames c.shown.networks y.all.frames) nets
+      ∙ ap (λ fs. fs ++ error_frames c.shown.networks y.all.frames) x.all.errors
       ∙ ap (λ fs. map (λ (t : Sending). t.sent) x.all.passed ++ fs) y.all.errors
       ∙ sym (map-append (λ (t : Sending). t.sent) x.all.passed y.all.passed)
+
+  both-translated : translated_frames c.shown.networks (x.all.frames ++ y.all.frames) ≡ map (λ (t : Sending). t.sent) (x.all.done ++ y.all.done)
+  both-translated =
+      filter-append (λ (f : Sent). not (is_own c.shown.networks f) && is_translation f.side f.bytes) x.all.frames y.all.frames
+      ∙ ap (λ (n : Networks). translated_frames n x.all.frames ++ translated_frames c.shown.networks y.all.frames) nets
+      ∙ ap (λ fs. fs ++ translated_frames c.shown.networks y.all.frames) x.all.translated
+      ∙ ap (λ fs. map (λ (t : Sending). t.sent) x.all.done ++ fs) y.all.translated
+      ∙ sym (map-append (λ (t : Sending). t.sent) x.all.done y.all.done)
 
   both-passed : ArePassedOn (known_of c.shown) (MayGoBy a.shown both-notes) (x.all.passed ++ y.all.passed)
   both-passed =
@@ -151,7 +165,7 @@ module _ (h h2 : List AtHand) (a b c : GatewayAndOutput) (same : known_of c.show
       notes = both-notes;
       notes_are = y.all.notes_are ∙ ap (λ ns. ns ++ y.all.notes) x.all.notes_are ∙ append_assoc a.told.notes x.all.notes y.all.notes;
       done = x.all.done ++ y.all.done;
-      translated = filter-append (λ (f : Sent). is_translation f.side f.bytes) x.all.frames y.all.frames ∙ ap (λ fs. fs ++ translated_frames y.all.frames) x.all.translated ∙ ap (λ fs. map (λ (t : Sending). t.sent) x.all.done ++ fs) y.all.translated ∙ sym (map-append (λ (t : Sending). t.sent) x.all.done y.all.done);
+      translated = both-translated;
       used = flat_map-append (λ (n : Note). used_in n.what) x.all.notes y.all.notes ∙ ap (λ ps. ps ++ used_pairs y.all.notes) x.all.used ∙ ap (λ ps. flat_map (λ (t : Sending). pairs_of t.by) x.all.done ++ ps) y.all.used ∙ sym (flat_map-append (λ (t : Sending). pairs_of t.by) x.all.done y.all.done);
       each = each-append (known_of c.shown) x.all.done y.all.done (subst (λ k. AreSent k x.all.done) (sym same) x.all.each) y.all.each;
       passed = x.all.passed ++ y.all.passed;
@@ -191,9 +205,9 @@ tells-unseen s s2 frames notes entries kept =
     tells-quietly s s2 [] frames (notes ∙ sym (append-nil s.told.notes)) refl kept (same-rooted s.shown.ledger.book.entries s2.shown.ledger.book.entries [] entries)
 
 -- a frame of another kind
-pub framed-tells : (s : GatewayAndOutput) (side : Side) (bytes : List ℕ) → is_other side bytes ≡ true → Told [] s (framed s side bytes)
+pub framed-tells : (s : GatewayAndOutput) (side : Side) (bytes : List ℕ) → is_other s.shown.networks side bytes ≡ true → Told [] s (framed s side bytes)
 framed-tells s side bytes other =
-    let none = other-none side bytes other in
+    let none = other-none s.shown.networks side bytes other in
     record {
       all = record {
         frames = record { side = side; bytes = bytes } ∷ [];
@@ -201,17 +215,38 @@ framed-tells s side bytes other =
         notes = [];
         notes_are = sym (append-nil s.told.notes);
         done = [];
-        translated = rw none.0 refl;
+        translated = rw (none.0, none.1.0) refl;
         used = refl;
         each = tt;
         passed = [];
-        errors = rw none.1 refl;
+        errors = rw (none.0, none.1.1) refl;
         each_error = tt;
         dropped = [];
         once = IsPermutation-refl (packets_of s.shown.kept);
       };
       roots = λ p t. inl t;
     }
+
+-- a frame of the gateway's own, about the packets in hand
+pub own-tells : (s : GatewayAndOutput) (side : Side) (bytes : List ℕ) (hand : List AtHand) → is_own_frame s.shown.networks side bytes ≡ true → Told hand s (framed s side bytes)
+own-tells s side bytes hand own = record {
+  all = record {
+    frames = record { side = side; bytes = bytes } ∷ [];
+    frames_are = refl;
+    notes = [];
+    notes_are = sym (append-nil s.told.notes);
+    done = [];
+    translated = rw own refl;
+    used = refl;
+    each = tt;
+    passed = [];
+    errors = rw own refl;
+    each_error = tt;
+    dropped = hand;
+    once = IsPermutation-refl (hand ++ packets_of s.shown.kept);
+  };
+  roots = λ p t. inl t;
+}
 
 -- old packets are dropped
 pub old-tells : (s : GatewayAndOutput) → Told [] s (old_dropped s)

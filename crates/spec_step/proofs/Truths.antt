@@ -1,5 +1,5 @@
 -- What each part of a step tells is true: interfaces, datagrams, the operator's word, ticks; and so what a whole step tells.
-use Rattle.std.proofs.Common.{◌≡◌, ℕ, Bool, true, false, cond, not, ◌&&◌, List, [], ◌∷◌, ◌++◌, length, Option, Some, None, Result, Ok, Err, refl, sym, ap, subst}
+use Rattle.std.proofs.Common.{◌≡◌, ℕ, Bool, true, false, cond, not, ◌&&◌, List, [], ◌∷◌, ◌++◌, length, Option, Some, None, Result, Ok, Err, refl, sym, ap, subst, ◌∙◌}
 use Rattle.std.specs.List.{AllByRecursion}
 use Rattle.addresses.specs.declared.ethernet.Mac.{Mac}
 use Rattle.nat_types.specs.declared.gateways.Side.{Side}
@@ -24,8 +24,9 @@ use Rattle.spec_binding.specs.Rows.{answered, idle_row, noted_by, taken_answer, 
 use Rattle.spec_binding.proofs.Offered.{alone-keeps, idle-keeps, restart-keeps, taken-keeps}
 use Rattle.waiting.specs.declared.waits.Ended.TheVariants.{AllPairs, One}
 use Rattle.waiting.specs.declared.waits.WaitsFor.TheVariants as wait
+use Rattle.packet_rules.specs.declared.networks.Networks.{Networks}
 use Rattle.packet_rules.specs.declared.readings.Reading.{Reading}
-use Rattle.packet_rules.specs.declared.readings.Reading.TheVariants.{Arp, Advert, Packet, Error}
+use Rattle.packet_rules.specs.declared.readings.Reading.TheVariants.{Arp, Advert, Packet, Error, Asked}
 use Rattle.packet_rules.specs.declared.reasons.Reason.{Reason}
 use Rattle.packet_rules.specs.declared.reasons.Reason.TheVariants.{NotUp, OldWord}
 use Rattle.packet_rules.specs.Arping.{answer_frame, answer_to, is_learnable}
@@ -38,7 +39,7 @@ use Rattle.vrrp_states.specs.Table.{Event as RouterEvent, Router}
 use Rattle.spec_step.specs.declared.events.Event.{Event}
 use Rattle.spec_step.specs.declared.events.Event.TheVariants.{Frame, Datagram as Comes, Tick, Stop, PeerOff, Side as SideIs}
 use Rattle.spec_step.specs.Machine.{AreBytes, HasBytes}
-use Rattle.spec_step.specs.Parts.{acted, all_framed, all_idle_done, answered_by, arp_taken, datagram_in, datagram_read, flow_taken, framed, frames_of, handed_in, has_synced, heard_by, heard_unless, idle_done, idle_taken, link_answered, link_ticked, old_dropped, record_done, record_shown, record_told, records_done, released, reset, started, wait_ended, with_link, word_taken, side_plugged, error_taken}
+use Rattle.spec_step.specs.Parts.{acted, all_framed, all_idle_done, answered_by, arp_taken, datagram_in, datagram_read, flow_taken, framed, frames_of, handed_in, has_synced, heard_by, heard_unless, idle_done, idle_taken, link_answered, link_ticked, old_dropped, record_done, record_shown, record_told, records_done, released, reset, started, wait_ended, with_link, word_taken, side_plugged, error_taken, echo_taken, refused}
 use Rattle.spec_step.specs.Shown.{GatewayAndOutput, Shown, id_of, is_running, scene, station_on, with_notes, with_station}
 use Rattle.spec_step.specs.Routers.{BothAct, RouterActs}
 use Rattle.spec_step.specs.GivingWay.{GivingWay, left, turn_of}
@@ -49,7 +50,7 @@ use Rattle.spec_step.specs.Verdict.{reading_on}
 use Rattle.spec_step.proofs.Turning.{back_as, turn-by}
 use Rattle.spec_step.proofs.Packets.{kept-filter}
 use Rattle.spec_step.proofs.Passing.{IsSound}
-use Rattle.spec_step.proofs.Saying.{Saying, Speaks, framed-says, packet-says, released-says, row-says, saying-nothing, saying-then, speaks-then, error-packet-says}
+use Rattle.spec_step.proofs.Saying.{Saying, Speaks, framed-says, packet-says, released-says, row-says, saying-nothing, saying-then, speaks-then, error-packet-says, echo-says, refused-says}
 use Rattle.spec_step.proofs.Rooting.{alone-rooted, idle-roots, restart-rooted, taken-roots}
 use Rattle.spec_step.proofs.Sending.{Frames, advert-other, answer-other, gratuitous-other, own-six}
 use Rattle.spec_step.proofs.Telling.{Told, at_hand, old-tells, tells-quietly, tells-then, tells-unseen}
@@ -62,16 +63,22 @@ speaks-of h s s2 x = λ is w. (x is w).0
 
 -- ---- interfaces
 
-station-speaks : (s : GatewayAndOutput) (side : Side) (station : Interface) → (IsSetUp s.shown → IsWired station) → Speaks [] s (scene (with_station s.shown side station) s.told)
-station-speaks s Inside station wired = λ is w. record {
+pub set-up-inside : (g : Shown) (station : Interface) → station.network ≡ g.inside.network → IsSetUp g → IsWired station → IsSetUp (with_station g Inside station)
+set-up-inside g station same w wired = ((w.0.0, record { placed = w.0.1.placed; inside_is = same ∙ w.0.1.inside_is; outside_is = w.0.1.outside_is }), (wired, w.1.1))
+
+pub set-up-outside : (g : Shown) (station : Interface) → station.network ≡ g.outside.network → IsSetUp g → IsWired station → IsSetUp (with_station g Outside station)
+set-up-outside g station same w wired = ((w.0.0, record { placed = w.0.1.placed; inside_is = w.0.1.inside_is; outside_is = same ∙ w.0.1.outside_is }), (w.1.0, wired))
+
+station-speaks : (s : GatewayAndOutput) (side : Side) (station : Interface) → station.network ≡ (station_on s.shown side).network → (IsSetUp s.shown → IsWired station) → Speaks [] s (scene (with_station s.shown side station) s.told)
+station-speaks s Inside station same wired = λ is w. record {
   tells = tells-unseen s (scene (with_station s.shown Inside station) s.told) refl refl refl refl;
   sound = record { book = is.book; kept = is.kept };
-  wired = (w.0, (wired w, w.1.1));
+  wired = set-up-inside s.shown station same w (wired w);
 }
-station-speaks s Outside station wired = λ is w. record {
+station-speaks s Outside station same wired = λ is w. record {
   tells = tells-unseen s (scene (with_station s.shown Outside station) s.told) refl refl refl refl;
   sound = record { book = is.book; kept = is.kept };
-  wired = (w.0, (w.1.0, wired w));
+  wired = set-up-outside s.shown station same w (wired w);
 }
 
 station-known : (g : Shown) (side : Side) (station : Interface) → station.neighbours ≡ (station_on g side).neighbours → known_of (with_station g side station) ≡ known_of g
@@ -92,9 +99,17 @@ after-wired station p now six w = at (is_learnable station.network p)
     at true = record { own = w.own; known = learn-six station.neighbours (record { address = p.sender_ip; mac = p.sender_mac; at = now; asked = now }) w.known six }
     at false = w
 
+pub after-net : (station : Interface) (p : ArpPacket) (now : ℕ) → (after_arp station p now).network ≡ station.network
+unfolding after_arp
+after-net station p now = at (is_learnable station.network p)
+  where
+    at : (b : Bool) → (let x : Interface = cond b (with_neighbour station p now) station in x.network) ≡ station.network
+    at true = refl
+    at false = refl
+
 answered-says : Frames → (s : GatewayAndOutput) (side : Side) (p : ArpPacket) (o : Option Mac) → length p.sender_mac.0 ≡ 6 → Saying [] s (answered_by s side p o)
 answered-says frames s side p (Some mac) six =
-    framed-says s side (answer_frame (station_on s.shown side).network p mac) (λ w. answer-other frames side (station_on s.shown side).network p mac (own-six s.shown w side) six)
+    framed-says s side (answer_frame (station_on s.shown side).network p mac) (λ w. answer-other frames s.shown.networks side (station_on s.shown side).network p mac (own-six s.shown w side) six)
 answered-says frames s side p None six = saying-nothing s []
 
 arp-speaks : Frames → (s : GatewayAndOutput) (side : Side) (p : ArpPacket) → length p.sender_mac.0 ≡ 6 → Speaks [] s (arp_taken s side p)
@@ -104,7 +119,7 @@ arp-speaks frames s side p six =
     let told = answered_by heard side p (answer_to station.network (is_active station) p) in
     speaks-then [] [] s told (arp_taken s side p)
     (speaks-then [] [] s heard told
-    (station-speaks s side (after_arp station p s.shown.moment) (λ w. after-wired station p s.shown.moment six (wired-on s.shown w side)))
+    (station-speaks s side (after_arp station p s.shown.moment) (after-net station p s.shown.moment) (λ w. after-wired station p s.shown.moment six (wired-on s.shown w side)))
     (answered-says frames heard side p (answer_to station.network (is_active station) p) six))
     (at (is_learnable station.network p) told)
   where
@@ -115,17 +130,20 @@ arp-speaks frames s side p six =
 -- ---- routers
 
 abbrev pub AllOther : Side → List (List ℕ) → Type 0
-AllOther side fs = AllByRecursion (λ f. is_other side f ≡ true) fs
+AllOther side fs = AllByRecursion (λ f. (networks : Networks) → is_other networks side f ≡ true) fs
 
 all-framed-says : (s : GatewayAndOutput) (side : Side) (fs : List (List ℕ)) → AllOther side fs → Saying [] s (all_framed s side fs)
 all-framed-says s side [] all = saying-nothing s []
 all-framed-says s side (f ∷ fs) all =
-    saying-then [] [] s (framed s side f) (all_framed s side (f ∷ fs)) (framed-says s side f (λ w. all.0)) (all-framed-says (framed s side f) side fs all.1)
+    saying-then [] [] s (framed s side f) (all_framed s side (f ∷ fs)) (framed-says s side f (λ w. all.0 s.shown.networks)) (all-framed-says (framed s side f) side fs all.1)
 
 pub action-frames : Frames → (side : Side) (station : Interface) (action : Action) → AllOther side (frames_of station action)
 action-frames frames side station Nothing = tt
-action-frames frames side station (Advertise priority) = (advert-other frames side station.network priority station.interval, tt)
-action-frames frames side station (AdvertiseAndArp priority) = (advert-other frames side station.network priority station.interval, (gratuitous-other frames side station.network, tt))
+action-frames frames side station (Advertise priority) = (λ networks. advert-other frames networks side station.network priority station.interval, tt)
+action-frames frames side station (AdvertiseAndArp priority) = (
+  λ networks. advert-other frames networks side station.network priority station.interval,
+  (λ networks. gratuitous-other frames networks side station.network, tt),
+)
 
 pub routed-wired : (station : Interface) (router : Router) → IsWired station → IsWired (record station { router = router })
 routed-wired station router w = record { own = w.own; known = w.known }
@@ -133,7 +151,7 @@ routed-wired station router w = record { own = w.own; known = w.known }
 acted-says : Frames → (s : GatewayAndOutput) (side : Side) (station : Interface) (action : Action) → station ≡ record (station_on s.shown side) { router = station.router } → Saying [] s (acted s side station action)
 acted-says frames s side station action rest =
     let mid = scene (with_station s.shown side station) s.told in
-    let first : Speaks [] s mid = station-speaks s side station (λ w. subst IsWired (sym rest) (routed-wired (station_on s.shown side) station.router (wired-on s.shown w side))) in
+    let first : Speaks [] s mid = station-speaks s side station (ap (λ (x : Interface). x.network) rest) (λ w. subst IsWired (sym rest) (routed-wired (station_on s.shown side) station.router (wired-on s.shown w side))) in
     saying-then [] [] s mid (acted s side station action)
     (λ is w. (first is w, station-known s.shown side station (ap (λ (x : Interface). x.neighbours) rest)))
     (all-framed-says mid side (frames_of station action) (action-frames frames side station action))
@@ -163,9 +181,12 @@ frame-speaks frames s side bytes (Ok (Packet packet)) s2 read are does =
 frame-speaks frames s side bytes (Ok (Error packet)) s2 read are does =
     let hand = at_hand side bytes ∷ [] in
     subst (λ (x : GatewayAndOutput). Speaks hand s x) (sym does) (speaks-of hand s (error_taken s side bytes packet.flow) (error-packet-says frames s side bytes packet read are))
+frame-speaks frames s side bytes (Ok (Asked echo)) s2 read are does =
+    let hand = at_hand side bytes ∷ [] in
+    subst (λ (x : GatewayAndOutput). Speaks hand s x) (sym does) (speaks-of hand s (echo_taken s side bytes echo) (echo-says frames s side bytes echo read are))
 frame-speaks frames s side bytes (Err reason) s2 read are does =
     let hand = at_hand side bytes ∷ [] in
-    subst (λ (x : GatewayAndOutput). Speaks hand s x) (sym does) (speaks-of hand s s (saying-nothing s hand))
+    subst (λ (x : GatewayAndOutput). Speaks hand s x) (sym does) (speaks-of hand s (refused s side side bytes reason) (refused-says frames s side side bytes hand reason are))
 
 -- ---- records
 

@@ -32,7 +32,7 @@ use Rattle.packet_rules.specs.declared.readings.Reading.{Reading}
 use Rattle.packet_rules.specs.declared.readings.Reading.TheVariants.{Arp, Advert, Packet, Error, Asked}
 use Rattle.packet_rules.specs.declared.networks.Networks.{Networks}
 use Rattle.packet_rules.specs.declared.reasons.Reason.{Reason}
-use Rattle.packet_rules.specs.declared.reasons.Reason.TheVariants.{TtlOver}
+use Rattle.packet_rules.specs.declared.reasons.Reason.TheVariants.{TooLong, TtlOver}
 use Rattle.packet_rules.specs.declared.translations.Translation.{Translation}
 use Rattle.packet_rules.specs.declared.translations.Translation.TheVariants.{Outward, Inward, Hairpin}
 use Rattle.packet_rules.specs.Arping.{answer_frame, answer_to, is_learnable}
@@ -177,7 +177,7 @@ is_old g (SideIs side up) w = false
 
 -- ---- the packets that come to wait
 
--- the packet of an event, where the frame is read as one, or where its time to live is over
+-- the packet of an event, where the frame is read as one, or something may be said of it
 abbrev pub packet_as : Side → List ℕ → Result Reading Reason → List AtHand
 packet_as side bytes (Ok (Arp p)) = []
 packet_as side bytes (Ok (Advert a from)) = []
@@ -185,6 +185,7 @@ packet_as side bytes (Ok (Packet packet)) = record { side = side; bytes = bytes 
 packet_as side bytes (Ok (Error packet)) = record { side = side; bytes = bytes } ∷ []
 packet_as side bytes (Ok (Asked echo)) = record { side = side; bytes = bytes } ∷ []
 packet_as side bytes (Err TtlOver) = record { side = side; bytes = bytes } ∷ []
+packet_as side bytes (Err TooLong) = record { side = side; bytes = bytes } ∷ []
 packet_as side bytes (Err reason) = []
 
 abbrev pub packet_in : Shown → Event → List AtHand

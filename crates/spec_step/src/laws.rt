@@ -13,6 +13,8 @@ ghost use Rattle.settings.specs.declared.whole.Settings.{Settings};
 ghost use Rattle.icmp.specs.declared.packets.ErrorFlow.{ErrorFlow};
 ghost use Rattle.link.specs.Hearing.{peer_serves};
 ghost use Rattle.output.specs.Output.{Sent};
+ghost use Rattle.packet_rules.specs.declared.readings.Asked.{Asked as Echo};
+ghost use Rattle.packet_rules.specs.declared.reasons.Reason.{Reason};
 ghost use Rattle.spec_trace.specs.Past.{Idle};
 ghost use Rattle.spec_pair.specs.Talk.{note};
 ghost use Rattle.waiting.specs.Packets.{hop_count};
@@ -26,7 +28,7 @@ ghost use Rattle.spec_step.specs.Founding.{HasRanges, begun, bounds_of, founded,
 ghost use Rattle.spec_step.specs.Machine.{Goes, HasBytes, HasPushed, IsAlone, IsStanding, KeepsBytes};
 ghost use Rattle.spec_step.specs.Machine.{letters_in, words_in};
 ghost use Rattle.spec_step.specs.Others.{AreOthers};
-ghost use Rattle.spec_step.specs.Parts.{all_idle_done, error_taken};
+ghost use Rattle.spec_step.specs.Parts.{all_idle_done, echo_taken, error_taken, refused};
 ghost use Rattle.spec_step.specs.PassedOn.{HidesAllInside, LeavesPairs, TellsAll};
 ghost use Rattle.spec_step.specs.Rests.{AccountsOn, Rests, most_notes};
 ghost use Rattle.spec_step.specs.Settled.{AreIdle, HaveBegun, IsSettled};
@@ -35,7 +37,7 @@ ghost use Rattle.spec_step.specs.Shown.{with_notes};
 ghost use Rattle.spec_step.specs.Steps.{Does, IsStepOn};
 ghost use Rattle.spec_step.specs.Truly.{IsSetUp, Tells, hand_of};
 
-use packet_rules::{frames_law, readings_law};
+use packet_rules::{frames_law, own_frames_law, readings_law};
 use rewrite::hides_inside;
 
 /// A step is a step of the pair machine: it reads the letters and the words that the event hands in,
@@ -75,6 +77,7 @@ pub fn steps_tell()
 {
     readings_law();
     frames_law();
+    own_frames_law();
 }
 
 /// A step passes errors on: beside the translated frames its error frames are, one for one and in
@@ -88,6 +91,7 @@ pub fn steps_pass_on()
 {
     readings_law();
     frames_law();
+    own_frames_law();
 }
 
 /// An error that a step sends at the outside comes from the outside virtual address, and the packet
@@ -102,6 +106,7 @@ pub fn errors_hide()
 {
     readings_law();
     frames_law();
+    own_frames_law();
     hides_inside();
 }
 
@@ -114,6 +119,14 @@ pub fn errors_leave_pairs()
         → error_plan g side flow length ≢ Ok (WaitForPair endpoint) }
 {}
 
+/// What a gateway says itself leaves the pairs as they are, too.
+pub fn own_leaves_pairs()
+    ensures answers { (s : GatewayAndOutput) (side : Side) (bytes : List ℕ) (echo : Echo)
+        → LeavesPairs s (echo_taken s side bytes echo) }
+    ensures complaints { (s : GatewayAndOutput) (side exit : Side) (bytes : List ℕ)
+        (reason : Reason) → LeavesPairs s (refused s side exit bytes reason) }
+{}
+
 /// All other frames of a step are, in their order: an answer to the ARP request that came in, or the
 /// frames of the routers' actions; then requests for next hops. It says of which packet each is, and
 /// why it is sent, which packets wait on, and which may come to wait.
@@ -124,6 +137,7 @@ pub fn other_frames()
 {
     readings_law();
     frames_law();
+    own_frames_law();
 }
 
 /// What a step asks for holds already before the datagram at a step's end, of a list of all records
