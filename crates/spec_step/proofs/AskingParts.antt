@@ -132,16 +132,16 @@ next-hop : (g : Shown) (side : Side) (bytes : List ℕ) (flow : Flow) (by : Tran
     → direction_of g.networks side flow.protocol flow.source.0 flow.destination.0 ≡ Ok (way_of by) → AreFound g flow by → hop ≡ hop_by g by flow → IsNextHop (known_of g) (MayGoBy g notes) (at_hand side bytes) (exit_by by) hop
 next-hop g side bytes flow by hop notes read way found hop_is = inl (
   by,
-    record {
-      goes = inl (record {
-        passes = read.passes;
-        way = subst (λ (f : Flow). direction_of g.networks side f.protocol f.source.0 f.destination.0 ≡ Ok (way_of by)) read.flow_is way;
-        pairs = subst (λ (f : Flow). AreItsPairs f by) read.flow_is (its-pairs g flow by read.synced found);
-      });
-      target = targets-there g flow by notes read.synced found;
-      exit_is = refl;
-      hop = ap (λ (h : Ip). h.0) (hop_is ∙ ap (hop_by g by) read.flow_is);
-    },
+  record {
+    goes = inl (record {
+      passes = read.passes;
+      way = subst (λ (f : Flow). direction_of g.networks side f.protocol f.source.0 f.destination.0 ≡ Ok (way_of by)) read.flow_is way;
+      pairs = subst (λ (f : Flow). AreItsPairs f by) read.flow_is (its-pairs g flow by read.synced found);
+    });
+    target = targets-there g flow by notes read.synced found;
+    exit_is = refl;
+    hop = ap (λ (h : Ip). h.0) (hop_is ∙ ap (hop_by g by) read.flow_is);
+  },
 )
 
 asked-by : (g : Shown) (side : Side) (bytes : List ℕ) (flow : Flow) (by : Translation) (hop : Ip) (notes : List Note) → IsRead g side bytes flow → IsAsked g side flow by hop
@@ -408,16 +408,16 @@ error-next : (g : Shown) (side : Side) (bytes : List ℕ) (flow : ErrorFlow) (by
     → IsErrorGoing g side flow by → hop ≡ error_hop g by flow → IsNextHop (known_of g) (MayGoBy g notes) (at_hand side bytes) (exit_by by) hop
 error-next g side bytes flow by hop notes read goes hop_is = inl (
   by,
-    record {
-      goes = inr (record {
-        passes = read.passes;
-        way = subst (λ (f : ErrorFlow). error_direction g.networks side f ≡ Ok (way_of by)) read.flow_is goes.way;
-        pairs = subst (λ (f : ErrorFlow). AreErrorPairs f by) read.flow_is (error-pairs g flow by read.synced goes.pairs);
-      });
-      target = error-targets g flow by notes read.synced goes.pairs;
-      exit_is = refl;
-      hop = ap (λ (h : Ip). h.0) (hop_is ∙ ap (error_hop g by) read.flow_is) ∙ ap (hop_of g.networks by) (same-destination bytes);
-    },
+  record {
+    goes = inr (record {
+      passes = read.passes;
+      way = subst (λ (f : ErrorFlow). error_direction g.networks side f ≡ Ok (way_of by)) read.flow_is goes.way;
+      pairs = subst (λ (f : ErrorFlow). AreErrorPairs f by) read.flow_is (error-pairs g flow by read.synced goes.pairs);
+    });
+    target = error-targets g flow by notes read.synced goes.pairs;
+    exit_is = refl;
+    hop = ap (λ (h : Ip). h.0) (hop_is ∙ ap (error_hop g by) read.flow_is) ∙ ap (hop_of g.networks by) (same-destination bytes);
+  },
 )
 
 error-asked : (g : Shown) (side : Side) (bytes : List ℕ) (flow : ErrorFlow) (by : Translation) (hop : Ip) (notes : List Note) → IsErrorRead g bytes flow → IsErrorAsked g side flow by hop
@@ -482,7 +482,7 @@ echo-asks frames s side bytes echo read are =
     echo-leaves (λ x. Ask-on (at_hand side bytes ∷ []) nobody s x) s side bytes echo
     (λ next may there.
     own-asks frames s side bytes (own_answer (network_of s.shown.networks side) next bytes) (replied s.shown.moment (station_on s.shown side).said) hop (λ w. answer-own frames s.shown side bytes echo next read are w there) (back may))
-    (λ may there place. waits (inr (back may), unknown there))
+    (λ may there place. waits may there)
     (λ may there. again-asks frames s side bytes side hop (inr (back may), unknown there))
     (λ reason. refused-asks frames s side side bytes reason are)
   where
@@ -504,14 +504,15 @@ echo-asks frames s side bytes echo read are =
     unknown : next_back s.shown side echo.source ≡ None → IsUnknown (known_of s.shown) side hop
     unknown there = near-mac s.shown side hop.0 ∙ there
 
-    waits : IsNextHop (known_of s.shown) (MayGoBy s.shown []) (at_hand side bytes) side hop × IsUnknown (known_of s.shown) side hop
+    waits : may_answer s.shown.networks side echo.source.0 ≡ true → next_back s.shown side echo.source ≡ None
         → Ask-on (at_hand side bytes ∷ []) nobody s (framed (keeping s side bytes (wait.Hop side hop)) side (request_by s.shown side hop))
-    waits asked = λ w.
+    waits may there = λ w.
+        let q = nothing-quiet s in
         let x : Sent = record { side = side; bytes = request_by s.shown side hop } in
         let ask = asking_for side bytes side hop Waits in
-        let new : IsNew (known_of s.shown) (MayGoBy s.shown []) (waiting side bytes s.shown.moment (wait.Hop side hop)) = record { since = refl; asked = refl; wait = asked } in
-        keeping-asks s s (framed (keeping s side bytes (wait.Hop side hop)) side (request_by s.shown side hop)) side bytes (wait.Hop side hop) (x ∷ []) (ask ∷ []) (nothing-quiet s) refl refl refl refl
-        (record { hop = asked.0; cause = asked.1 }, tt)
+        let new : IsNew (known_of s.shown) (MayGoBy s.shown q.notes) (waiting side bytes s.shown.moment (wait.Hop side hop)) = record { since = refl; asked = refl; wait = (inr (back may), unknown there) } in
+        keeping-asks s s (framed (keeping s side bytes (wait.Hop side hop)) side (request_by s.shown side hop)) side bytes (wait.Hop side hop) (x ∷ []) (ask ∷ []) q refl refl refl refl
+        (record { hop = inr (back may); cause = unknown there }, tt)
         (one-other s.shown.networks x (request-other frames s.shown.networks side (station_on s.shown side).network hop (own-six s.shown w.0 side))) new refl (λ ws. refl) refl refl ((refl, refl), (refl, refl)) (λ v. v) are w
 
 -- ---- those whose wait is over

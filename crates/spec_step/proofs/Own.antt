@@ -23,7 +23,7 @@ use Rattle.spec_step.specs.declared.plans.Reply.TheVariants as reply
 use Rattle.spec_step.specs.Parts.{asked_again, by_refusal, by_reply_verdict, complained, complained_to, counted, echo_taken, framed, keeping, refused, renewed_behind, request_by, sender_in, wanted_by}
 use Rattle.spec_step.specs.Shown.{GatewayAndOutput, station_on}
 use Rattle.spec_step.specs.Truly.{IsSetUp, known_of}
-use Rattle.spec_step.specs.Verdict.{fits_at, hop_back, if_reply_fits, next_back, reply_to, reply_via}
+use Rattle.spec_step.specs.Verdict.{fits_at, hop_back, if_reply_fits, next_back, reply_via}
 use Rattle.spec_step.proofs.Fitting.{reply-fitted}
 
 -- a frame of the gateway's own was sent at a side, with what was said there by then

@@ -308,7 +308,8 @@ own-says frames s side hand frame tally hop own =
       },
       beside.known,
     ) in
-    saying-then hand [] s two (renewed_behind two side hop) (saying-then hand [] s one two said counts) (renewed-says frames two side hop)
+    let rest = saying-then [] [] one two (renewed_behind two side hop) counts (renewed-says frames two side hop) in
+    subst (λ (h : List AtHand). Saying h s (renewed_behind two side hop)) (append-nil hand) (saying-then hand [] s one (renewed_behind two side hop) said rest)
 
 complaint-says : Frames → (s : GatewayAndOutput) (side : Side) (bytes : List ℕ) (hand : List AtHand) (complaint : Complaint) (next : Mac) → AreBytes bytes → next_back s.shown side (sender_in bytes) ≡ Some next
     → Saying hand s (renewed_behind (complaint_scene s side bytes complaint next) side (hop_back s.shown side (sender_in bytes)))
