@@ -40,7 +40,7 @@ use Rattle.packet_rules.specs.Flows.{flow_in, source_of, error_flow_in}
 use Rattle.packet_rules.specs.Frames.{hop_of, sent_frame, way_of}
 use Rattle.packet_rules.specs.Steps.{IsForwardable, IsOfSide, IsPassable}
 use Rattle.packet_rules.specs.Networks.{back_hop, direction_of, may_answer, mtu_of, network_of}
-use Rattle.packet_rules.specs.Own.{answer_frame as own_answer, complaint_about, complaint_frame, complaint_of, is_own_frame, is_told}
+use Rattle.packet_rules.specs.Own.{answer_frame as own_answer, complaint_frame, complaint_of, is_own_frame}
 use Rattle.packet_rules.specs.Errors.{passed_frame, AreErrorPairs, error_direction}
 use Rattle.interfaces.specs.declared.tallies.Tally.{Tally}
 use Rattle.interfaces.specs.Stations.{is_active}
@@ -59,11 +59,11 @@ use Rattle.spec_step.proofs.Freeing.{comes-off, filter-all}
 use Rattle.spec_step.proofs.FrameKinds.{error-no_other, own-no_other, sent-no_other}
 use Rattle.spec_step.proofs.Limits.{asks-left, count-left, limit-more}
 use Rattle.spec_step.proofs.Near.{asks-asked}
-use Rattle.spec_step.proofs.Own.{complaint_scene, echo-leaves, exit_in, refusal-leaves, refused-leaves, said-beside, said_scene}
+use Rattle.spec_step.proofs.Own.{complaint_scene, echo-leaves, exit_in, refusal-leaves, refused-leaves, said-beside, said_scene, told-answers}
 use Rattle.spec_step.proofs.Packets.{kept-filter, kept-more}
 use Rattle.spec_step.proofs.Rooting.{has-more}
 use Rattle.spec_step.proofs.Saying.{reading-synced, addressed}
-use Rattle.spec_step.proofs.Sending.{Frames, all_notes, answer-own, carried-leaves, complaint-own, near-mac, next-six, own-six, request-other}
+use Rattle.spec_step.proofs.Sending.{Frames, all_notes, answer-own, asker, carried-leaves, complaint-own, near-mac, next-six, own-six, request-other}
 use Rattle.spec_step.proofs.Sends.{AreFound, plan-sends}
 use Rattle.spec_step.proofs.Telling.{at_hand}
 use Rattle.spec_step.proofs.Translating.{target-translates}
@@ -346,22 +346,6 @@ own-asks frames s side bytes frame tally hop own back = λ w.
       ),
     ) w
 
--- of what something is said may be answered
-and-third : (a b c d : Bool) → (a && (b && (c && d))) ≡ true → c ≡ true
-and-third true true true d is = refl
-and-third true true false d is = absurd (cc)
-and-third true false c d is = absurd (cc)
-and-third false b c d is = absurd (cc)
-
-told-answers : (networks : Networks) (side exit : Side) (reason : Reason) (bytes : List ℕ) (complaint : Complaint) → complaint_of networks side exit reason bytes ≡ Some complaint → may_answer networks side (sender_in bytes).0 ≡ true
-unfolding complaint_of is_told
-told-answers networks side exit reason bytes complaint is = at (is_told networks side (frame_of bytes).body) refl is
-  where
-    at : (b : Bool) → is_told networks side (frame_of bytes).body ≡ b
-        → (let o : Option Complaint = cond b (complaint_about (mtu_of networks exit) reason (frame_of bytes).body) None in o) ≡ Some complaint → may_answer networks side (sender_in bytes).0 ≡ true
-    at true told some = and-third _ _ _ _ told
-    at false told some = absurd (cc)
-
 complaint-asks : Frames → (s : GatewayAndOutput) (side exit : Side) (bytes : List ℕ) (reason : Reason) (complaint : Complaint) (next : Mac) → AreBytes bytes → complaint_of s.shown.networks side exit reason bytes ≡ Some complaint
     → next_back s.shown side (sender_in bytes) ≡ Some next → Ask-on (at_hand side bytes ∷ []) nobody s (renewed_behind (complaint_scene s side bytes complaint next) side (hop_back s.shown side (sender_in bytes)))
 complaint-asks frames s side exit bytes reason complaint next are is there =
@@ -490,9 +474,7 @@ echo-asks frames s side bytes echo read are =
     hop = hop_back s.shown side echo.source
 
     source : echo.source ≡ sender_in bytes
-    source =
-        let at = station_on s.shown side in
-        ap (λ (e : Echo). e.source) (frames.reads side at.network (is_active at) (is_up s.shown) bytes (Asked echo) read).1
+    source = asker frames s.shown side bytes echo read
 
     back : may_answer s.shown.networks side echo.source.0 ≡ true → IsBack (known_of s.shown) (at_hand side bytes) side hop
     back may = record {

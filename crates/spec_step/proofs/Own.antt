@@ -1,10 +1,11 @@
 -- What a gateway says itself, part by part: what holds of the scene after it is said, of the scene in which a packet is kept
 -- for it, and of the scene before, holds of the whole.
-use Rattle.std.proofs.Common.{◌≡◌, Bool, true, false, cond, List, ℕ, Option, Some, None, Result, Ok, Err, refl}
+use Rattle.std.proofs.Common.{◌≡◌, Bool, true, false, cond, ◌&&◌, List, ℕ, Option, Some, None, Result, Ok, Err, refl}
 use Rattle.addresses.specs.declared.ethernet.Mac.{Mac}
 use Rattle.addresses.specs.declared.internet.Ip.{Ip}
 use Rattle.nat_types.specs.declared.gateways.Side.{Side}
 use Rattle.nat_types.specs.declared.gateways.Side.TheVariants.{Inside, Outside}
+use Rattle.frames.specs.Frame.{frame_of}
 use Rattle.ipv4.specs.declared.flows.Flow.{Flow}
 use Rattle.waiting.specs.declared.waits.WaitsFor.TheVariants as wait
 use Rattle.waiting.specs.Packets.{has_place}
@@ -13,8 +14,9 @@ use Rattle.packet_rules.specs.declared.readings.Asked.{Asked as Echo}
 use Rattle.packet_rules.specs.declared.reasons.Reason.{Reason}
 use Rattle.packet_rules.specs.declared.reasons.Reason.TheVariants.{ShortFrame, NotMine, BadHeader, BadLength, BadHeaderSum, Fragment, TtlOver, NotUdpTcp, BadTransport, BadArp, BadAdvert, NotUp, NoBinding, NoPort, CannotWait, BadDatagram, OldWord, HostLimit, TooLong, TooMany}
 use Rattle.packet_rules.specs.Flows.{source_of}
-use Rattle.packet_rules.specs.Networks.{direction_of, may_answer, network_of}
-use Rattle.packet_rules.specs.Own.{answer_frame, complaint_frame, complaint_of, exit_for}
+use Rattle.packet_rules.specs.Networks.{direction_of, may_answer, mtu_of, network_of}
+use Rattle.packet_rules.specs.declared.networks.Networks.{Networks}
+use Rattle.packet_rules.specs.Own.{answer_frame, complaint_about, complaint_frame, complaint_of, exit_for, is_told}
 use Rattle.packet_rules.specs.Steps.{and_then}
 use Rattle.interfaces.specs.declared.tallies.Tally.{Tally}
 use Rattle.interfaces.specs.Tallies.{complained as tally_complained, may_complain, may_reply, replied}
@@ -64,6 +66,22 @@ said-beside s Outside frame tally = record {
   near = (refl, refl);
   set_up = λ w. (w.0, (w.1.0, record { own = w.1.1.own; known = w.1.1.known }));
 }
+
+-- the sender of a packet of which something is said may be answered
+and-third : (a b c d : Bool) → (a && (b && (c && d))) ≡ true → c ≡ true
+and-third true true true d is = refl
+and-third true true false d is = absurd (cc)
+and-third true false c d is = absurd (cc)
+and-third false b c d is = absurd (cc)
+
+pub told-answers : (networks : Networks) (side exit : Side) (reason : Reason) (bytes : List ℕ) (complaint : Complaint) → complaint_of networks side exit reason bytes ≡ Some complaint → may_answer networks side (sender_in bytes).0 ≡ true
+unfolding complaint_of is_told
+told-answers networks side exit reason bytes complaint is = at (is_told networks side (frame_of bytes).body) refl is
+  where
+    at : (b : Bool) → is_told networks side (frame_of bytes).body ≡ b
+        → (let o : Option Complaint = cond b (complaint_about (mtu_of networks exit) reason (frame_of bytes).body) None in o) ≡ Some complaint → may_answer networks side (sender_in bytes).0 ≡ true
+    at true told some = and-third _ _ _ _ told
+    at false told some = absurd (cc)
 
 -- ---- a packet that is refused
 

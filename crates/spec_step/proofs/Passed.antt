@@ -57,6 +57,9 @@ passed-tells s side bytes by next passed own apart is =
         passed = d ∷ [];
         errors = rw (own, is) refl;
         each_error = (passed, tt);
+        own = [];
+        own_are = rw own refl;
+        each_own = tt;
         dropped = [];
         once = IsPermutation-refl (at_hand side bytes ∷ packets_of s.shown.kept);
       };

@@ -121,6 +121,9 @@ keeping-tells s side bytes w =
         passed = [];
         errors = refl;
         each_error = tt;
+        own = [];
+        own_are = refl;
+        each_own = tt;
         dropped = packets_of made.lost;
         once = subst (λ ps. IsPermutation (at_hand side bytes ∷ packets_of s.shown.kept) (packets_of made.lost ++ ps)) (sym (map-append view (with_room w s.shown.kept) (waiting side bytes s.shown.moment w ∷ [])))
             (IsPermutation-trans _ _ _ (IsPermutation-cons (at_hand side bytes) _ _ made.are)

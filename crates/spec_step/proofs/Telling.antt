@@ -15,9 +15,9 @@ use Rattle.waiting.specs.Waits.{ends}
 use Rattle.packet_rules.specs.declared.networks.Networks.{Networks}
 use Rattle.packet_rules.specs.Errors.{is_error_frame}
 use Rattle.packet_rules.specs.Frames.{is_translation, pairs_of}
-use Rattle.packet_rules.specs.Own.{is_own_frame}
 use Rattle.output.specs.Output.{Sent}
 use Rattle.spec_step.specs.Others.{MayGoBy, is_other}
+use Rattle.spec_step.specs.OwnAnswers.{IsOwnOf, OwnFrame, own_frames}
 use Rattle.spec_step.specs.Parts.{framed, old_dropped}
 use Rattle.spec_step.specs.PassedOn.{ArePassedOn, IsPassedOn, TellsAll, error_frames}
 use Rattle.spec_step.specs.Shown.{GatewayAndOutput}
@@ -58,14 +58,25 @@ joined m d kb h ka m2 d2 kc h2 one two =
     subst (λ xs. IsPermutation xs ((h ++ h2) ++ ka)) (sym start) (subst (λ ys. IsPermutation (m ++ (m2 ++ (d ++ (d2 ++ kc)))) ys) end all)
 
 -- the same, where some are passed on
-all-joined : {X : Type 0} (m e d kb h ka m2 e2 d2 kc h2 : List X) → IsPermutation (m ++ (e ++ (d ++ kb))) (h ++ ka) → IsPermutation (m2 ++ (e2 ++ (d2 ++ kc))) (h2 ++ kb)
+passed-joined : {X : Type 0} (m e d kb h ka m2 e2 d2 kc h2 : List X) → IsPermutation (m ++ (e ++ (d ++ kb))) (h ++ ka) → IsPermutation (m2 ++ (e2 ++ (d2 ++ kc))) (h2 ++ kb)
     → IsPermutation ((m ++ m2) ++ ((e ++ e2) ++ ((d ++ d2) ++ kc))) ((h ++ h2) ++ ka)
-all-joined m e d kb h ka m2 e2 d2 kc h2 one two =
+passed-joined m e d kb h ka m2 e2 d2 kc h2 one two =
     let first = subst (λ xs. IsPermutation xs (h ++ ka)) (sym (append_assoc m e (d ++ kb))) one in
     let second = subst (λ xs. IsPermutation xs (h2 ++ kb)) (sym (append_assoc m2 e2 (d2 ++ kc))) two in
     let both = joined (m ++ e) d kb h ka (m2 ++ e2) d2 kc h2 first second in
     let mixed = IsPermutation-append_left ((d ++ d2) ++ kc) _ _ (shuffled m m2 e e2) in
     subst (λ xs. IsPermutation xs ((h ++ h2) ++ ka)) (append_assoc (m ++ m2) (e ++ e2) ((d ++ d2) ++ kc)) (IsPermutation-trans _ _ _ mixed both)
+
+-- and some answered
+all-joined : {X : Type 0} (m e o d kb h ka m2 e2 o2 d2 kc h2 : List X) → IsPermutation (m ++ (e ++ (o ++ (d ++ kb)))) (h ++ ka) → IsPermutation (m2 ++ (e2 ++ (o2 ++ (d2 ++ kc)))) (h2 ++ kb)
+    → IsPermutation ((m ++ m2) ++ ((e ++ e2) ++ ((o ++ o2) ++ ((d ++ d2) ++ kc)))) ((h ++ h2) ++ ka)
+all-joined m e o d kb h ka m2 e2 o2 d2 kc h2 one two =
+    let rest = (d ++ d2) ++ kc in
+    let first = subst (λ xs. IsPermutation (m ++ xs) (h ++ ka)) (sym (append_assoc e o (d ++ kb))) one in
+    let second = subst (λ xs. IsPermutation (m2 ++ xs) (h2 ++ kb)) (sym (append_assoc e2 o2 (d2 ++ kc))) two in
+    let both = passed-joined m (e ++ o) d kb h ka m2 (e2 ++ o2) d2 kc h2 first second in
+    let mixed = IsPermutation-append_right (m ++ m2) _ _ (IsPermutation-append_left rest _ _ (shuffled e e2 o o2)) in
+    subst (λ xs. IsPermutation ((m ++ m2) ++ xs) ((h ++ h2) ++ ka)) (append_assoc (e ++ e2) (o ++ o2) rest) (IsPermutation-trans _ _ _ mixed both)
 
 -- ---- lists of what is sent
 
@@ -89,6 +100,10 @@ passed-append : (k : Known) (P : Pair → Type 0) (ds es : List Sending) → Are
 passed-append k P [] es x y = y
 passed-append k P (d ∷ ds) es x y = (x.0, passed-append k P ds es x.1 y)
 
+own-append : (k : Known) (os ps : List OwnFrame) → AllByRecursion (IsOwnOf k) os → AllByRecursion (IsOwnOf k) ps → AllByRecursion (IsOwnOf k) (os ++ ps)
+own-append k [] ps x y = y
+own-append k (o ∷ os) ps x y = (x.0, own-append k os ps x.1 y)
+
 -- ---- parts
 
 -- packets are dropped
@@ -106,6 +121,9 @@ tells-nothing s hand = record {
     passed = [];
     errors = refl;
     each_error = tt;
+    own = [];
+    own_are = refl;
+    each_own = tt;
     dropped = hand;
     once = IsPermutation-refl (hand ++ packets_of s.shown.kept);
   };
@@ -145,16 +163,29 @@ module _ (h h2 : List AtHand) (a b c : GatewayAndOutput) (same : known_of c.show
       (passed-more (MayGoBy a.shown x.all.notes) may (has-more a.shown x.all.notes y.all.notes) k x.all.passed first)
       (passed-more (MayGoBy b.shown y.all.notes) may (has-then a.shown b.shown x.all.notes y.all.notes x.roots) k y.all.passed y.all.each_error)
 
+  both-own : own_frames c.shown.networks (x.all.frames ++ y.all.frames) ≡ map (λ (o : OwnFrame). o.sent) (x.all.own ++ y.all.own)
+  both-own =
+      filter-append (is_own c.shown.networks) x.all.frames y.all.frames
+      ∙ ap (λ (n : Networks). own_frames n x.all.frames ++ own_frames c.shown.networks y.all.frames) nets
+      ∙ ap (λ fs. fs ++ own_frames c.shown.networks y.all.frames) x.all.own_are
+      ∙ ap (λ fs. map (λ (o : OwnFrame). o.sent) x.all.own ++ fs) y.all.own_are
+      ∙ sym (map-append (λ (o : OwnFrame). o.sent) x.all.own y.all.own)
+
   both-once : IsPermutation ((h ++ h2) ++ packets_of a.shown.kept)
-      (map (λ (t : Sending). t.packet) (x.all.done ++ y.all.done) ++ (map (λ (t : Sending). t.packet) (x.all.passed ++ y.all.passed) ++ ((x.all.dropped ++ y.all.dropped) ++ packets_of c.shown.kept)))
+      (map (λ (t : Sending). t.packet) (x.all.done ++ y.all.done) ++ (map (λ (t : Sending). t.packet) (x.all.passed ++ y.all.passed)
+      ++ (map (λ (o : OwnFrame). o.packet) (x.all.own ++ y.all.own) ++ ((x.all.dropped ++ y.all.dropped) ++ packets_of c.shown.kept))))
   both-once =
       let view = λ (t : Sending). t.packet in
+      let about = λ (o : OwnFrame). o.packet in
       let ka = packets_of a.shown.kept in let kb = packets_of b.shown.kept in let kc = packets_of c.shown.kept in
       let rest = (x.all.dropped ++ y.all.dropped) ++ kc in
-      let all = all-joined (map view x.all.done) (map view x.all.passed) x.all.dropped kb h ka (map view y.all.done) (map view y.all.passed) y.all.dropped kc h2
+      let hands = (h ++ h2) ++ ka in
+      let all = all-joined (map view x.all.done) (map view x.all.passed) (map about x.all.own) x.all.dropped kb h ka (map view y.all.done) (map view y.all.passed) (map about y.all.own) y.all.dropped kc h2
       (IsPermutation-sym _ _ x.all.once) (IsPermutation-sym _ _ y.all.once) in
-      let sent = subst (λ ps. IsPermutation (ps ++ ((map view x.all.passed ++ map view y.all.passed) ++ rest)) ((h ++ h2) ++ ka)) (sym (map-append view x.all.done y.all.done)) all in
-      IsPermutation-sym _ _ (subst (λ ps. IsPermutation (map view (x.all.done ++ y.all.done) ++ (ps ++ rest)) ((h ++ h2) ++ ka)) (sym (map-append view x.all.passed y.all.passed)) sent)
+      let sent = subst (λ ps. IsPermutation (ps ++ ((map view x.all.passed ++ map view y.all.passed) ++ ((map about x.all.own ++ map about y.all.own) ++ rest))) hands) (sym (map-append view x.all.done y.all.done)) all in
+      let passed = subst (λ ps. IsPermutation (map view (x.all.done ++ y.all.done) ++ (ps ++ ((map about x.all.own ++ map about y.all.own) ++ rest))) hands) (sym (map-append view x.all.passed y.all.passed)) sent in
+      IsPermutation-sym _ _
+      (subst (λ ps. IsPermutation (map view (x.all.done ++ y.all.done) ++ (map view (x.all.passed ++ y.all.passed) ++ (ps ++ rest))) hands) (sym (map-append about x.all.own y.all.own)) passed)
 
   -- one behind the other
   pub tells-then : Told (h ++ h2) a c
@@ -171,6 +202,9 @@ module _ (h h2 : List AtHand) (a b c : GatewayAndOutput) (same : known_of c.show
       passed = x.all.passed ++ y.all.passed;
       errors = both-errors;
       each_error = both-passed;
+      own = x.all.own ++ y.all.own;
+      own_are = both-own;
+      each_own = own-append (known_of c.shown) x.all.own y.all.own (subst (λ k. AllByRecursion (IsOwnOf k) x.all.own) (sym same) x.all.each_own) y.all.each_own;
       dropped = x.all.dropped ++ y.all.dropped;
       once = both-once;
     };
@@ -193,6 +227,9 @@ tells-quietly s s2 notes frames noted none kept roots = record {
     passed = [];
     errors = refl;
     each_error = tt;
+    own = [];
+    own_are = refl;
+    each_own = tt;
     dropped = [];
     once = subst (λ (ws : List HeldPacket). IsPermutation (packets_of s.shown.kept) (packets_of ws)) (sym kept) (IsPermutation-refl (packets_of s.shown.kept));
   };
@@ -221,17 +258,20 @@ framed-tells s side bytes other =
         passed = [];
         errors = rw (none.0, none.1.1) refl;
         each_error = tt;
+        own = [];
+        own_are = rw none.0 refl;
+        each_own = tt;
         dropped = [];
         once = IsPermutation-refl (packets_of s.shown.kept);
       };
       roots = λ p t. inl t;
     }
 
--- a frame of the gateway's own, about the packets in hand
-pub own-tells : (s : GatewayAndOutput) (side : Side) (bytes : List ℕ) (hand : List AtHand) → is_own_frame s.shown.networks side bytes ≡ true → Told hand s (framed s side bytes)
-own-tells s side bytes hand own = record {
+-- a frame of the gateway's own, of the packet in hand
+pub own-tells : (s : GatewayAndOutput) (o : OwnFrame) → is_own s.shown.networks o.sent ≡ true → IsOwnOf (known_of s.shown) o → Told (o.packet ∷ []) s (framed s o.sent.side o.sent.bytes)
+own-tells s o own is = record {
   all = record {
-    frames = record { side = side; bytes = bytes } ∷ [];
+    frames = o.sent ∷ [];
     frames_are = refl;
     notes = [];
     notes_are = sym (append-nil s.told.notes);
@@ -242,8 +282,11 @@ own-tells s side bytes hand own = record {
     passed = [];
     errors = rw own refl;
     each_error = tt;
-    dropped = hand;
-    once = IsPermutation-refl (hand ++ packets_of s.shown.kept);
+    own = o ∷ [];
+    own_are = rw own refl;
+    each_own = (is, tt);
+    dropped = [];
+    once = IsPermutation-refl (o.packet ∷ packets_of s.shown.kept);
   };
   roots = λ p t. inl t;
 }
@@ -271,6 +314,9 @@ old-tells s =
         passed = [];
         errors = refl;
         each_error = tt;
+        own = [];
+        own_are = refl;
+        each_own = tt;
         dropped = packets_of old;
         once = IsPermutation-trans _ _ _ parts (IsPermutation-append_comm (packets_of young) (packets_of old));
       };
@@ -288,10 +334,12 @@ split-kept ended kept =
     let both = IsPermutation-map view _ _ (IsPermutation-filter_both over (λ w. not (over w)) (λ w. refl) kept) in
     IsPermutation-sym _ _ (subst (λ ps. IsPermutation (packets_of kept) ps) (map-append view (ended_by ended kept) (left_by ended kept)) both)
 
--- what was told is true of the translated frames alone: the packets of errors are among those that were dropped
+-- what was told is true of the translated frames alone: all other packets are among those that were dropped
 pub truly-of : (hand : List AtHand) (s s2 : GatewayAndOutput) → TellsAll hand s s2 → Tells hand s s2
 truly-of hand s s2 x =
     let view = λ (t : Sending). t.packet in
+    let about = map (λ (o : OwnFrame). o.packet) x.own in
+    let kept = packets_of s2.shown.kept in
     record {
       frames = x.frames;
       frames_are = x.frames_are;
@@ -301,6 +349,7 @@ truly-of hand s s2 x =
       translated = x.translated;
       used = x.used;
       each = x.each;
-      dropped = map view x.passed ++ x.dropped;
-      once = subst (λ ps. IsPermutation (hand ++ packets_of s.shown.kept) (map view x.done ++ ps)) (sym (append_assoc (map view x.passed) x.dropped (packets_of s2.shown.kept))) x.once;
+      dropped = map view x.passed ++ (about ++ x.dropped);
+      once = subst (λ ps. IsPermutation (hand ++ packets_of s.shown.kept) (map view x.done ++ ps))
+          (ap (λ ps. map view x.passed ++ ps) (sym (append_assoc about x.dropped kept)) ∙ sym (append_assoc (map view x.passed) (about ++ x.dropped) kept)) x.once;
     }

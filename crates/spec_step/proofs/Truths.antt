@@ -186,7 +186,7 @@ frame-speaks frames s side bytes (Ok (Asked echo)) s2 read are does =
     subst (λ (x : GatewayAndOutput). Speaks hand s x) (sym does) (speaks-of hand s (echo_taken s side bytes echo) (echo-says frames s side bytes echo read are))
 frame-speaks frames s side bytes (Err reason) s2 read are does =
     let hand = at_hand side bytes ∷ [] in
-    subst (λ (x : GatewayAndOutput). Speaks hand s x) (sym does) (speaks-of hand s (refused s side side bytes reason) (refused-says frames s side side bytes hand reason are))
+    subst (λ (x : GatewayAndOutput). Speaks hand s x) (sym does) (speaks-of hand s (refused s side side bytes reason) (refused-says frames s side side bytes reason are))
 
 -- ---- records
 

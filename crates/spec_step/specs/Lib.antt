@@ -6,6 +6,7 @@ pub mod GivingWay
 pub mod Steps
 pub mod Truly
 pub mod Others
+pub mod OwnAnswers
 pub mod PassedOn
 pub mod Machine
 pub mod Rests
