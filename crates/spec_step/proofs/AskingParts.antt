@@ -356,7 +356,7 @@ complaint-asks frames s side exit bytes reason complaint next are is there =
 pub refused-asks : Frames → (s : GatewayAndOutput) (side exit : Side) (bytes : List ℕ) (reason : Reason) → AreBytes bytes → Ask-on (at_hand side bytes ∷ []) nobody s (refused s side exit bytes reason)
 refused-asks frames s side exit bytes reason are =
     refused-leaves (λ x. Ask-on (at_hand side bytes ∷ []) nobody s x) s side exit bytes (nothing-asks (at_hand side bytes ∷ []) s)
-    (λ r complaint next is there. complaint-asks frames s side exit bytes r complaint next are is there) reason
+    (λ r complaint next is there free. complaint-asks frames s side exit bytes r complaint next are is there) reason
 
 flow-asks : Frames → (s : GatewayAndOutput) (side : Side) (bytes : List ℕ) (flow : Flow) → IsRead s.shown side bytes flow → Ask-on (at_hand side bytes ∷ []) nobody s (flow_taken s side bytes flow)
 flow-asks frames s side bytes flow read = at (plan_of s.shown side flow (length_in bytes)) refl (plan-says s.shown side flow (length_in bytes))
@@ -366,7 +366,7 @@ flow-asks frames s side bytes flow read = at (plan_of s.shown side flow (length_
     at (Err reason) is says =
         refusal-leaves (λ x. Ask-on (at_hand side bytes ∷ []) nobody s x) s side bytes flow (nothing-asks (at_hand side bytes ∷ []) s)
         (quiet-asks (at_hand side bytes ∷ []) s (wanted_by s (source_of flow)) (wanted-quiet s (source_of flow)))
-        (λ r complaint next said there. complaint-asks frames s side (exit_in s side flow) bytes r complaint next read.are said there) reason
+        (λ r complaint next said there free. complaint-asks frames s side (exit_in s side flow) bytes r complaint next read.are said there) reason
 
 pub packet-asks : Frames → (s : GatewayAndOutput) (side : Side) (bytes : List ℕ) (packet : PacketRead) → reading_on s.shown side bytes ≡ Ok (Packet packet) → AreBytes bytes → Ask-on (at_hand side bytes ∷ []) nobody s (flow_taken s side bytes packet.flow)
 packet-asks frames s side bytes packet is are =
@@ -464,7 +464,7 @@ error-asks frames s side bytes packet is are = by (error_plan s.shown side packe
 pub echo-asks : Frames → (s : GatewayAndOutput) (side : Side) (bytes : List ℕ) (echo : Echo) → reading_on s.shown side bytes ≡ Ok (Asked echo) → AreBytes bytes → Ask-on (at_hand side bytes ∷ []) nobody s (echo_taken s side bytes echo)
 echo-asks frames s side bytes echo read are =
     echo-leaves (λ x. Ask-on (at_hand side bytes ∷ []) nobody s x) s side bytes echo
-    (λ next may there.
+    (λ next may there free.
     own-asks frames s side bytes (own_answer (network_of s.shown.networks side) next bytes) (replied s.shown.moment (station_on s.shown side).said) hop (λ w. answer-own frames s.shown side bytes echo next read are w there) (back may))
     (λ may there place. waits may there)
     (λ may there. again-asks frames s side bytes side hop (inr (back may), unknown there))

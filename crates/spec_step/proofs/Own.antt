@@ -74,26 +74,30 @@ and-third true true false d is = absurd (cc)
 and-third true false c d is = absurd (cc)
 and-third false b c d is = absurd (cc)
 
-pub told-answers : (networks : Networks) (side exit : Side) (reason : Reason) (bytes : List ℕ) (complaint : Complaint) → complaint_of networks side exit reason bytes ≡ Some complaint → may_answer networks side (sender_in bytes).0 ≡ true
-unfolding complaint_of is_told
-told-answers networks side exit reason bytes complaint is = at (is_told networks side (frame_of bytes).body) refl is
+pub told-is : (networks : Networks) (side exit : Side) (reason : Reason) (bytes : List ℕ) (complaint : Complaint) → complaint_of networks side exit reason bytes ≡ Some complaint → is_told networks side (frame_of bytes).body ≡ true
+unfolding complaint_of
+told-is networks side exit reason bytes complaint is = at (is_told networks side (frame_of bytes).body) refl is
   where
     at : (b : Bool) → is_told networks side (frame_of bytes).body ≡ b
-        → (let o : Option Complaint = cond b (complaint_about (mtu_of networks exit) reason (frame_of bytes).body) None in o) ≡ Some complaint → may_answer networks side (sender_in bytes).0 ≡ true
-    at true told some = and-third _ _ _ _ told
+        → (let o : Option Complaint = cond b (complaint_about (mtu_of networks exit) reason (frame_of bytes).body) None in o) ≡ Some complaint → is_told networks side (frame_of bytes).body ≡ true
+    at true told some = told
     at false told some = absurd (cc)
+
+pub told-answers : (networks : Networks) (side exit : Side) (reason : Reason) (bytes : List ℕ) (complaint : Complaint) → complaint_of networks side exit reason bytes ≡ Some complaint → may_answer networks side (sender_in bytes).0 ≡ true
+unfolding is_told
+told-answers networks side exit reason bytes complaint is = and-third _ _ _ _ (told-is networks side exit reason bytes complaint is)
 
 -- ---- a packet that is refused
 
 module _ (P : GatewayAndOutput → Type 0) (s : GatewayAndOutput) (side exit : Side) (bytes : List ℕ) (nothing : P s)
     (says : (reason : Reason) (complaint : Complaint) (next : Mac) → complaint_of s.shown.networks side exit reason bytes ≡ Some complaint → next_back s.shown side (sender_in bytes) ≡ Some next
-    → P (renewed_behind (complaint_scene s side bytes complaint next) side (hop_back s.shown side (sender_in bytes)))) where
+    → may_complain s.shown.moment (station_on s.shown side).said ≡ true → P (renewed_behind (complaint_scene s side bytes complaint next) side (hop_back s.shown side (sender_in bytes)))) where
   to-leaves : (reason : Reason) (complaint : Complaint) → complaint_of s.shown.networks side exit reason bytes ≡ Some complaint → (o : Option Mac) → next_back s.shown side (sender_in bytes) ≡ o → P (complained_to s side bytes complaint o)
-  to-leaves reason complaint is (Some next) there = at (may_complain s.shown.moment (station_on s.shown side).said)
+  to-leaves reason complaint is (Some next) there = at (may_complain s.shown.moment (station_on s.shown side).said) refl
     where
-      at : (b : Bool) → P (let x : GatewayAndOutput = cond b (renewed_behind (complaint_scene s side bytes complaint next) side (hop_back s.shown side (sender_in bytes))) s in x)
-      at true = says reason complaint next is there
-      at false = nothing
+      at : (b : Bool) → may_complain s.shown.moment (station_on s.shown side).said ≡ b → P (let x : GatewayAndOutput = cond b (renewed_behind (complaint_scene s side bytes complaint next) side (hop_back s.shown side (sender_in bytes))) s in x)
+      at true free = says reason complaint next is there free
+      at false free = nothing
   to-leaves reason complaint is None there = nothing
 
   complained-leaves : (reason : Reason) (c : Option Complaint) → complaint_of s.shown.networks side exit reason bytes ≡ c → P (complained s side bytes c)
@@ -129,7 +133,7 @@ exit_in s side flow = exit_for side (direction_of s.shown.networks side flow.pro
 -- a packet that is refused leaves the scene, or wants a port, or is complained of
 pub refusal-leaves : (P : GatewayAndOutput → Type 0) (s : GatewayAndOutput) (side : Side) (bytes : List ℕ) (flow : Flow) → P s → P (wanted_by s (source_of flow))
     → ((reason : Reason) (complaint : Complaint) (next : Mac) → complaint_of s.shown.networks side (exit_in s side flow) reason bytes ≡ Some complaint → next_back s.shown side (sender_in bytes) ≡ Some next
-    → P (renewed_behind (complaint_scene s side bytes complaint next) side (hop_back s.shown side (sender_in bytes)))) → (reason : Reason) → P (by_refusal s side bytes flow reason)
+    → may_complain s.shown.moment (station_on s.shown side).said ≡ true → P (renewed_behind (complaint_scene s side bytes complaint next) side (hop_back s.shown side (sender_in bytes)))) → (reason : Reason) → P (by_refusal s side bytes flow reason)
 refusal-leaves P s side bytes flow same wanted says NoPort = wanted
 refusal-leaves P s side bytes flow same wanted says TtlOver = refused-leaves P s side (exit_in s side flow) bytes same says TtlOver
 refusal-leaves P s side bytes flow same wanted says TooLong = refused-leaves P s side (exit_in s side flow) bytes same says TooLong
@@ -154,7 +158,7 @@ refusal-leaves P s side bytes flow same wanted says TooMany = same
 -- ---- an Echo to the gateway
 
 module _ (P : GatewayAndOutput → Type 0) (s : GatewayAndOutput) (side : Side) (bytes : List ℕ) (echo : Echo)
-    (sends : (next : Mac) → may_answer s.shown.networks side echo.source.0 ≡ true → next_back s.shown side echo.source ≡ Some next → P (renewed_behind (answer_scene s side bytes next) side (hop_back s.shown side echo.source)))
+    (sends : (next : Mac) → may_answer s.shown.networks side echo.source.0 ≡ true → next_back s.shown side echo.source ≡ Some next → may_reply s.shown.moment (station_on s.shown side).said ≡ true → P (renewed_behind (answer_scene s side bytes next) side (hop_back s.shown side echo.source)))
     (asks : may_answer s.shown.networks side echo.source.0 ≡ true → next_back s.shown side echo.source ≡ None → has_place s.shown.kept (wait.Hop side (hop_back s.shown side echo.source)) ≡ true
     → P (framed (keeping s side bytes (wait.Hop side (hop_back s.shown side echo.source))) side (request_by s.shown side (hop_back s.shown side echo.source))))
     (again : may_answer s.shown.networks side echo.source.0 ≡ true → next_back s.shown side echo.source ≡ None → P (asked_again s side (hop_back s.shown side echo.source)))
@@ -162,9 +166,9 @@ module _ (P : GatewayAndOutput → Type 0) (s : GatewayAndOutput) (side : Side) 
   abbrev By : Result Reply Reason → Type 0
   By r = P (by_reply_verdict s side bytes echo.source r)
 
-  via-leaves : may_answer s.shown.networks side echo.source.0 ≡ true → (o : Option Mac) → next_back s.shown side echo.source ≡ o → By (reply_via s.shown side (hop_back s.shown side echo.source) o)
-  via-leaves may (Some next) there = sends next may there
-  via-leaves may None there = at (has_place s.shown.kept (wait.Hop side (hop_back s.shown side echo.source))) refl
+  via-leaves : may_answer s.shown.networks side echo.source.0 ≡ true → may_reply s.shown.moment (station_on s.shown side).said ≡ true → (o : Option Mac) → next_back s.shown side echo.source ≡ o → By (reply_via s.shown side (hop_back s.shown side echo.source) o)
+  via-leaves may free (Some next) there = sends next may there free
+  via-leaves may free None there = at (has_place s.shown.kept (wait.Hop side (hop_back s.shown side echo.source))) refl
     where
       at : (b : Bool) → has_place s.shown.kept (wait.Hop side (hop_back s.shown side echo.source)) ≡ b
           → By (let r : Result Reply Reason = cond b (Ok (reply.Ask (hop_back s.shown side echo.source))) (Ok (reply.AskAgain (hop_back s.shown side echo.source))) in r)
@@ -180,13 +184,13 @@ module _ (P : GatewayAndOutput → Type 0) (s : GatewayAndOutput) (side : Side) 
       via : Result Reply Reason
       via = reply_via s.shown side (hop_back s.shown side echo.source) (next_back s.shown side echo.source)
 
-      limited : may_answer s.shown.networks side echo.source.0 ≡ true → (b : Bool) → By (let r : Result Reply Reason = cond b (and_then via (if_reply_fits fits)) (Err TooMany) in r)
-      limited may true = reply-fitted By (refuses TooLong) fits via (via-leaves may (next_back s.shown side echo.source) refl)
-      limited may false = refuses TooMany
+      limited : may_answer s.shown.networks side echo.source.0 ≡ true → (b : Bool) → may_reply s.shown.moment (station_on s.shown side).said ≡ b → By (let r : Result Reply Reason = cond b (and_then via (if_reply_fits fits)) (Err TooMany) in r)
+      limited may true free = reply-fitted By (refuses TooLong) fits via (via-leaves may free (next_back s.shown side echo.source) refl)
+      limited may false free = refuses TooMany
 
       answers : (b : Bool) → may_answer s.shown.networks side echo.source.0 ≡ b
           → By (let r : Result Reply Reason = cond b (cond (may_reply s.shown.moment (station_on s.shown side).said) (and_then via (if_reply_fits fits)) (Err TooMany)) (Err NoBinding) in r)
-      answers true may = limited may (may_reply s.shown.moment (station_on s.shown side).said)
+      answers true may = limited may (may_reply s.shown.moment (station_on s.shown side).said) refl
       answers false may = refuses NoBinding
 
 -- ---- where it doesn't matter what is said
@@ -202,11 +206,11 @@ complaint-said P s side bytes said complaint next =
 
 pub refused-by : (P : GatewayAndOutput → Type 0) (s : GatewayAndOutput) (side exit : Side) (bytes : List ℕ) → P s → Said P s side → (reason : Reason) → P (refused s side exit bytes reason)
 refused-by P s side exit bytes same said reason =
-    refused-leaves P s side exit bytes same (λ r complaint next is there. complaint-said P s side bytes said complaint next) reason
+    refused-leaves P s side exit bytes same (λ r complaint next is there free. complaint-said P s side bytes said complaint next) reason
 
 pub refusal-by : (P : GatewayAndOutput → Type 0) (s : GatewayAndOutput) (side : Side) (bytes : List ℕ) (flow : Flow) → P s → P (wanted_by s (source_of flow)) → Said P s side → (reason : Reason) → P (by_refusal s side bytes flow reason)
 refusal-by P s side bytes flow same wanted said reason =
-    refusal-leaves P s side bytes flow same wanted (λ r complaint next is there. complaint-said P s side bytes said complaint next) reason
+    refusal-leaves P s side bytes flow same wanted (λ r complaint next is there free. complaint-said P s side bytes said complaint next) reason
 
 pub echo-by : (P : GatewayAndOutput → Type 0) (s : GatewayAndOutput) (side : Side) (bytes : List ℕ) (echo : Echo) → P s → Said P s side
     → ((hop : Ip) → has_place s.shown.kept (wait.Hop side hop) ≡ true → P (framed (keeping s side bytes (wait.Hop side hop)) side (request_by s.shown side hop)))
@@ -214,7 +218,7 @@ pub echo-by : (P : GatewayAndOutput → Type 0) (s : GatewayAndOutput) (side : S
 echo-by P s side bytes echo same said asks again =
     let hop = hop_back s.shown side echo.source in
     echo-leaves P s side bytes echo
-    (λ next may there. said (answer_frame (network_of s.shown.networks side) next bytes) (replied s.shown.moment (station_on s.shown side).said) hop)
+    (λ next may there free. said (answer_frame (network_of s.shown.networks side) next bytes) (replied s.shown.moment (station_on s.shown side).said) hop)
     (λ may there place. asks hop place)
     (λ may there. again hop)
     (λ reason. refused-by P s side side bytes same said reason)

@@ -60,8 +60,11 @@ passed-tells s side bytes by next passed own apart is =
         own = [];
         own_are = rw own refl;
         each_own = tt;
+        counted_inside = refl;
+        counted_outside = refl;
         dropped = [];
         once = IsPermutation-refl (at_hand side bytes ∷ packets_of s.shown.kept);
       };
       roots = λ p t. inl t;
+      within = λ h. h;
     }

@@ -124,6 +124,8 @@ keeping-tells s side bytes w =
         own = [];
         own_are = refl;
         each_own = tt;
+        counted_inside = refl;
+        counted_outside = refl;
         dropped = packets_of made.lost;
         once = subst (λ ps. IsPermutation (at_hand side bytes ∷ packets_of s.shown.kept) (packets_of made.lost ++ ps)) (sym (map-append view (with_room w s.shown.kept) (waiting side bytes s.shown.moment w ∷ [])))
             (IsPermutation-trans _ _ _ (IsPermutation-cons (at_hand side bytes) _ _ made.are)
@@ -131,4 +133,5 @@ keeping-tells s side bytes w =
             (IsPermutation-append_right (packets_of made.lost) _ _ (IsPermutation-append_comm (at_hand side bytes ∷ []) (packets_of (with_room w s.shown.kept))))));
       };
       roots = λ p t. inl t;
+      within = λ h. h;
     }

@@ -6,6 +6,7 @@ use Rattle.std.proofs.lemmas.List.Elements.{filter-append}
 use Rattle.std.proofs.lemmas.Grind.{flat_map-append}
 use Rattle.std.proofs.lemmas.List.Sorted.{IsPermutation-refl, IsPermutation-sym, IsPermutation-trans, IsPermutation-append_comm, IsPermutation-append_left, IsPermutation-append_right, IsPermutation-map, IsPermutation-filter_both}
 use Rattle.nat_types.specs.declared.gateways.Side.{Side}
+use Rattle.nat_types.specs.declared.gateways.Side.TheVariants.{Inside, Outside}
 use Rattle.nat_types.specs.declared.notes.Note.{Note}
 use Rattle.nat_types.specs.declared.pairs.Pair.{Pair}
 use Rattle.spec_binding.specs.Uses.{IsTranslated}
@@ -15,12 +16,15 @@ use Rattle.waiting.specs.Waits.{ends}
 use Rattle.packet_rules.specs.declared.networks.Networks.{Networks}
 use Rattle.packet_rules.specs.Errors.{is_error_frame}
 use Rattle.packet_rules.specs.Frames.{is_translation, pairs_of}
-use Rattle.output.specs.Output.{Sent}
+use Rattle.packet_rules.specs.Own.{is_own_frame}
+use Rattle.interfaces.specs.declared.tallies.Tally.{Tally}
+use Rattle.interfaces.specs.Tallies.{IsWithin}
+use Rattle.output.specs.Output.{Sent, with_frame}
 use Rattle.spec_step.specs.Others.{MayGoBy, is_other}
-use Rattle.spec_step.specs.OwnAnswers.{IsOwnOf, OwnFrame, own_frames}
+use Rattle.spec_step.specs.OwnAnswers.{AreWithin, IsOwnOf, OwnFrame, Purpose, counted_for, own_frames, tallied}
 use Rattle.spec_step.specs.Parts.{framed, old_dropped}
 use Rattle.spec_step.specs.PassedOn.{ArePassedOn, IsPassedOn, TellsAll, error_frames}
-use Rattle.spec_step.specs.Shown.{GatewayAndOutput}
+use Rattle.spec_step.specs.Shown.{GatewayAndOutput, Shown, scene, station_on, with_station}
 use Rattle.spec_step.specs.Truly.{AreSent, AtHand, Known, Sending, Tells, is_own, known_of, packets_of, translated_frames, used_in, used_pairs}
 use Rattle.spec_step.proofs.FrameKinds.{other-none}
 use Rattle.spec_step.proofs.Rooting.{has-more, has-then, same-rooted}
@@ -29,6 +33,17 @@ use Rattle.spec_step.proofs.Rooting.{has-more, has-then, same-rooted}
 pub record Told (hand : List AtHand) (s s2 : GatewayAndOutput) : Type 0 where
   pub all : TellsAll hand s s2
   pub roots : (p : Pair) → IsTranslated s2.shown.ledger.book.entries p → MayGoBy s.shown all.notes p
+  pub within : AreWithin s.shown → AreWithin s2.shown
+
+-- nothing was said
+abbrev pub SameSaid : Shown → Shown → Type 0
+SameSaid g g2 = (g2.inside.said ≡ g.inside.said) × (g2.outside.said ≡ g.outside.said)
+
+pub within-by : (g g2 : Shown) → SameSaid g g2 → AreWithin g → AreWithin g2
+within-by g g2 same within = (subst IsWithin (sym same.0) within.0, subst IsWithin (sym same.1) within.1)
+
+abbrev pub at_hand : Side → List ℕ → AtHand
+at_hand side bytes = record { side = side; bytes = bytes }
 
 -- ---- the same elements
 
@@ -100,6 +115,10 @@ passed-append : (k : Known) (P : Pair → Type 0) (ds es : List Sending) → Are
 passed-append k P [] es x y = y
 passed-append k P (d ∷ ds) es x y = (x.0, passed-append k P ds es x.1 y)
 
+pub tallied-append : (now : ℕ) (side : Side) (os ps : List OwnFrame) (t : Tally) → tallied now side (os ++ ps) t ≡ tallied now side ps (tallied now side os t)
+tallied-append now side [] ps t = refl
+tallied-append now side (o ∷ os) ps t = tallied-append now side os ps _
+
 own-append : (k : Known) (os ps : List OwnFrame) → AllByRecursion (IsOwnOf k) os → AllByRecursion (IsOwnOf k) ps → AllByRecursion (IsOwnOf k) (os ++ ps)
 own-append k [] ps x y = y
 own-append k (o ∷ os) ps x y = (x.0, own-append k os ps x.1 y)
@@ -124,10 +143,13 @@ tells-nothing s hand = record {
     own = [];
     own_are = refl;
     each_own = tt;
+    counted_inside = refl;
+    counted_outside = refl;
     dropped = hand;
     once = IsPermutation-refl (hand ++ packets_of s.shown.kept);
   };
   roots = λ p t. inl t;
+  within = λ h. h;
 }
 
 -- what two parts tell
@@ -187,6 +209,15 @@ module _ (h h2 : List AtHand) (a b c : GatewayAndOutput) (same : known_of c.show
       IsPermutation-sym _ _
       (subst (λ ps. IsPermutation (map view (x.all.done ++ y.all.done) ++ (map view (x.all.passed ++ y.all.passed) ++ (ps ++ rest))) hands) (sym (map-append about x.all.own y.all.own)) passed)
 
+  moment : c.shown.moment ≡ b.shown.moment
+  moment = ap (λ (k : Known). k.moment) same
+
+  both-counted : (side : Side) (ta tb tc : Tally) → tb ≡ tallied b.shown.moment side x.all.own ta → tc ≡ tallied c.shown.moment side y.all.own tb → tc ≡ tallied c.shown.moment side (x.all.own ++ y.all.own) ta
+  both-counted side ta tb tc one two =
+      two
+      ∙ ap (tallied c.shown.moment side y.all.own) (one ∙ ap (λ (n : ℕ). tallied n side x.all.own ta) (sym moment))
+      ∙ sym (tallied-append c.shown.moment side x.all.own y.all.own ta)
+
   -- one behind the other
   pub tells-then : Told (h ++ h2) a c
   tells-then = record {
@@ -205,16 +236,19 @@ module _ (h h2 : List AtHand) (a b c : GatewayAndOutput) (same : known_of c.show
       own = x.all.own ++ y.all.own;
       own_are = both-own;
       each_own = own-append (known_of c.shown) x.all.own y.all.own (subst (λ k. AllByRecursion (IsOwnOf k) x.all.own) (sym same) x.all.each_own) y.all.each_own;
+      counted_inside = both-counted Inside a.shown.inside.said b.shown.inside.said c.shown.inside.said x.all.counted_inside y.all.counted_inside;
+      counted_outside = both-counted Outside a.shown.outside.said b.shown.outside.said c.shown.outside.said x.all.counted_outside y.all.counted_outside;
       dropped = x.all.dropped ++ y.all.dropped;
       once = both-once;
     };
     roots = λ p t. has-then a.shown b.shown x.all.notes y.all.notes x.roots p (y.roots p t);
+    within = λ h. y.within (x.within h);
   }
 
 -- a part of which nothing is told, and that leaves the packets that wait
 pub tells-quietly : (s s2 : GatewayAndOutput) (notes : List Note) → s2.told.frames ≡ s.told.frames → s2.told.notes ≡ s.told.notes ++ notes → used_pairs notes ≡ [] → s2.shown.kept ≡ s.shown.kept
-    → ((p : Pair) → IsTranslated s2.shown.ledger.book.entries p → MayGoBy s.shown notes p) → Told [] s s2
-tells-quietly s s2 notes frames noted none kept roots = record {
+    → ((p : Pair) → IsTranslated s2.shown.ledger.book.entries p → MayGoBy s.shown notes p) → SameSaid s.shown s2.shown → Told [] s s2
+tells-quietly s s2 notes frames noted none kept roots said = record {
   all = record {
     frames = [];
     frames_are = frames ∙ sym (append-nil s.told.frames);
@@ -230,16 +264,19 @@ tells-quietly s s2 notes frames noted none kept roots = record {
     own = [];
     own_are = refl;
     each_own = tt;
+    counted_inside = said.0;
+    counted_outside = said.1;
     dropped = [];
     once = subst (λ (ws : List HeldPacket). IsPermutation (packets_of s.shown.kept) (packets_of ws)) (sym kept) (IsPermutation-refl (packets_of s.shown.kept));
   };
   roots = roots;
+  within = within-by s.shown s2.shown said;
 }
 
 -- and that notes nothing and leaves the table
-pub tells-unseen : (s s2 : GatewayAndOutput) → s2.told.frames ≡ s.told.frames → s2.told.notes ≡ s.told.notes → s2.shown.ledger.book.entries ≡ s.shown.ledger.book.entries → s2.shown.kept ≡ s.shown.kept → Told [] s s2
-tells-unseen s s2 frames notes entries kept =
-    tells-quietly s s2 [] frames (notes ∙ sym (append-nil s.told.notes)) refl kept (same-rooted s.shown.ledger.book.entries s2.shown.ledger.book.entries [] entries)
+pub tells-unseen : (s s2 : GatewayAndOutput) → s2.told.frames ≡ s.told.frames → s2.told.notes ≡ s.told.notes → s2.shown.ledger.book.entries ≡ s.shown.ledger.book.entries → s2.shown.kept ≡ s.shown.kept → SameSaid s.shown s2.shown → Told [] s s2
+tells-unseen s s2 frames notes entries kept said =
+    tells-quietly s s2 [] frames (notes ∙ sym (append-nil s.told.notes)) refl kept (same-rooted s.shown.ledger.book.entries s2.shown.ledger.book.entries [] entries) said
 
 -- a frame of another kind
 pub framed-tells : (s : GatewayAndOutput) (side : Side) (bytes : List ℕ) → is_other s.shown.networks side bytes ≡ true → Told [] s (framed s side bytes)
@@ -261,35 +298,80 @@ framed-tells s side bytes other =
         own = [];
         own_are = rw none.0 refl;
         each_own = tt;
+        counted_inside = refl;
+        counted_outside = refl;
         dropped = [];
         once = IsPermutation-refl (packets_of s.shown.kept);
       };
       roots = λ p t. inl t;
+      within = λ h. h;
     }
 
--- a frame of the gateway's own, of the packet in hand
-pub own-tells : (s : GatewayAndOutput) (o : OwnFrame) → is_own s.shown.networks o.sent ≡ true → IsOwnOf (known_of s.shown) o → Told (o.packet ∷ []) s (framed s o.sent.side o.sent.bytes)
-own-tells s o own is = record {
-  all = record {
-    frames = o.sent ∷ [];
-    frames_are = refl;
-    notes = [];
-    notes_are = sym (append-nil s.told.notes);
-    done = [];
-    translated = rw own refl;
-    used = refl;
-    each = tt;
-    passed = [];
-    errors = rw own refl;
-    each_error = tt;
-    own = o ∷ [];
-    own_are = rw own refl;
-    each_own = (is, tt);
-    dropped = [];
-    once = IsPermutation-refl (o.packet ∷ packets_of s.shown.kept);
-  };
-  roots = λ p t. inl t;
-}
+-- the gateway said something of the packet in hand, and has counted it
+abbrev pub own_scene : GatewayAndOutput → OwnFrame → GatewayAndOutput
+own_scene s o =
+    let side = o.packet.side in
+    let station = station_on s.shown side in
+    scene (with_station s.shown side (record station { said = counted_for o.purpose s.shown.moment station.said })) (with_frame s.told side o.sent.bytes)
+
+pub own-tells : (s : GatewayAndOutput) (side : Side) (bytes : List ℕ) (purpose : Purpose) (frame : List ℕ)
+    → (let x : Sent = record { side = side; bytes = frame } in let o : OwnFrame = record { packet = at_hand side bytes; purpose = purpose; sent = x } in
+    is_own_frame s.shown.networks side frame ≡ true → IsOwnOf (known_of s.shown) o
+    → (IsWithin (station_on s.shown side).said → IsWithin (counted_for purpose s.shown.moment (station_on s.shown side).said)) → Told (o.packet ∷ []) s (own_scene s o))
+own-tells s Inside bytes purpose frame own is within =
+    let x : Sent = record { side = Inside; bytes = frame } in
+    let o : OwnFrame = record { packet = at_hand Inside bytes; purpose = purpose; sent = x } in
+    record {
+      all = record {
+        frames = x ∷ [];
+        frames_are = refl;
+        notes = [];
+        notes_are = sym (append-nil s.told.notes);
+        done = [];
+        translated = rw own refl;
+        used = refl;
+        each = tt;
+        passed = [];
+        errors = rw own refl;
+        each_error = tt;
+        own = o ∷ [];
+        own_are = rw own refl;
+        each_own = (is, tt);
+        counted_inside = refl;
+        counted_outside = refl;
+        dropped = [];
+        once = IsPermutation-refl (o.packet ∷ packets_of s.shown.kept);
+      };
+      roots = λ p t. inl t;
+      within = λ h. (within h.0, h.1);
+    }
+own-tells s Outside bytes purpose frame own is within =
+    let x : Sent = record { side = Outside; bytes = frame } in
+    let o : OwnFrame = record { packet = at_hand Outside bytes; purpose = purpose; sent = x } in
+    record {
+      all = record {
+        frames = x ∷ [];
+        frames_are = refl;
+        notes = [];
+        notes_are = sym (append-nil s.told.notes);
+        done = [];
+        translated = rw own refl;
+        used = refl;
+        each = tt;
+        passed = [];
+        errors = rw own refl;
+        each_error = tt;
+        own = o ∷ [];
+        own_are = rw own refl;
+        each_own = (is, tt);
+        counted_inside = refl;
+        counted_outside = refl;
+        dropped = [];
+        once = IsPermutation-refl (o.packet ∷ packets_of s.shown.kept);
+      };
+      roots = λ p t. inl t;
+      within = λ h. (h.0, within h.1);
+    }
 
 -- old packets are dropped
 pub old-tells : (s : GatewayAndOutput) → Told [] s (old_dropped s)
@@ -317,14 +399,14 @@ old-tells s =
         own = [];
         own_are = refl;
         each_own = tt;
+        counted_inside = refl;
+        counted_outside = refl;
         dropped = packets_of old;
         once = IsPermutation-trans _ _ _ parts (IsPermutation-append_comm (packets_of young) (packets_of old));
       };
       roots = λ p t. inl t;
+      within = λ h. h;
     }
-
-abbrev pub at_hand : Side → List ℕ → AtHand
-at_hand side bytes = record { side = side; bytes = bytes }
 
 -- the kept packets, those whose wait ends first
 pub split-kept : (ended : Ended) (kept : List HeldPacket) → IsPermutation (packets_of (ended_by ended kept) ++ packets_of (left_by ended kept)) (packets_of kept)

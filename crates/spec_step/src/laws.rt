@@ -28,6 +28,7 @@ ghost use Rattle.spec_step.specs.Founding.{HasRanges, begun, bounds_of, founded,
 ghost use Rattle.spec_step.specs.Machine.{Goes, HasBytes, HasPushed, IsAlone, IsStanding, KeepsBytes};
 ghost use Rattle.spec_step.specs.Machine.{letters_in, words_in};
 ghost use Rattle.spec_step.specs.Others.{AreOthers};
+ghost use Rattle.spec_step.specs.OwnAnswers.{AreWithin, ShowsNothing};
 ghost use Rattle.spec_step.specs.Parts.{all_idle_done, echo_taken, error_taken, refused};
 ghost use Rattle.spec_step.specs.PassedOn.{HidesAllInside, LeavesPairs, TellsAll};
 ghost use Rattle.spec_step.specs.Rests.{AccountsOn, Rests, most_notes};
@@ -37,7 +38,8 @@ ghost use Rattle.spec_step.specs.Shown.{with_notes};
 ghost use Rattle.spec_step.specs.Steps.{Does, IsStepOn};
 ghost use Rattle.spec_step.specs.Truly.{IsSetUp, Tells, hand_of};
 
-use packet_rules::{frames_law, own_frames_law, readings_law};
+use interfaces::tallies_law;
+use packet_rules::{frames_law, own_frames_law, readings_law, shows_nothing_inside};
 use rewrite::hides_inside;
 
 /// A step is a step of the pair machine: it reads the letters and the words that the event hands in,
@@ -78,12 +80,15 @@ pub fn steps_tell()
     readings_law();
     frames_law();
     own_frames_law();
+    tallies_law();
 }
 
 /// A step passes errors on: beside the translated frames its error frames are, one for one and in
 /// order, errors at hand that were passed on, each another packet and none of those that were
 /// translated, on the way that the rules say for it, to its next hop, by pairs by which the gateway
-/// translated before or that a Retaken note of the step names.
+/// translated before or that a Retaken note of the step names. And its own frames are, one for one and
+/// in order, answers to Echos at hand and complaints of packets at hand, each of another packet still,
+/// to that packet's sender, and counted at its side.
 pub fn steps_pass_on()
     ensures { (s : GatewayAndOutput) (event : Event) (s2 : GatewayAndOutput) → IsStepOn s event s2
         → HasBytes event → IsBook s.shown.ledger.book → KeepsBytes s.shown → IsSetUp s.shown
@@ -92,6 +97,7 @@ pub fn steps_pass_on()
     readings_law();
     frames_law();
     own_frames_law();
+    tallies_law();
 }
 
 /// An error that a step sends at the outside comes from the outside virtual address, and the packet
@@ -107,7 +113,35 @@ pub fn errors_hide()
     readings_law();
     frames_law();
     own_frames_law();
+    tallies_law();
     hides_inside();
+}
+
+/// A frame of its own that a step sends at the outside has no address of the inside network.
+pub fn own_frames_show_nothing()
+    ensures { (s : GatewayAndOutput) (event : Event) (s2 : GatewayAndOutput) (frames : List Sent)
+        → IsStepOn s event s2
+        → HasBytes event → IsBook s.shown.ledger.book → KeepsBytes s.shown → IsSetUp s.shown
+        → s2.told.frames ≡ s.told.frames ++ frames → ShowsNothing s2.shown.networks frames }
+{
+    readings_law();
+    frames_law();
+    own_frames_law();
+    tallies_law();
+    shows_nothing_inside();
+}
+
+/// No more is counted at either side than may be said there in one second.
+pub fn steps_count()
+    ensures { (s : GatewayAndOutput) (event : Event) (s2 : GatewayAndOutput)
+        → IsStepOn s event s2
+        → HasBytes event → IsBook s.shown.ledger.book → KeepsBytes s.shown → IsSetUp s.shown
+        → AreWithin s.shown → AreWithin s2.shown }
+{
+    readings_law();
+    frames_law();
+    own_frames_law();
+    tallies_law();
 }
 
 /// An error is no use of its pairs: it makes, renews and ends none, it is neither noted nor pushed,
@@ -138,6 +172,7 @@ pub fn other_frames()
     readings_law();
     frames_law();
     own_frames_law();
+    tallies_law();
 }
 
 /// What a step asks for holds already before the datagram at a step's end, of a list of all records
