@@ -20,6 +20,7 @@ mod Lines
 mod Near
 mod Others
 mod Own
+mod OwnTakings
 mod Packets
 mod Passed
 mod Passing

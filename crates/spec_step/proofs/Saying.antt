@@ -457,7 +457,7 @@ echo-says frames s side bytes echo read are =
 
 -- ---- a frame that is read again
 
-retaken-says : Frames → (s : GatewayAndOutput) (side : Side) (bytes : List ℕ) (r : Result Reading Reason) → reading_on s.shown side bytes ≡ r → AreBytes bytes → Saying (at_hand side bytes ∷ []) s (retaken_by s side bytes r)
+pub retaken-says : Frames → (s : GatewayAndOutput) (side : Side) (bytes : List ℕ) (r : Result Reading Reason) → reading_on s.shown side bytes ≡ r → AreBytes bytes → Saying (at_hand side bytes ∷ []) s (retaken_by s side bytes r)
 retaken-says frames s side bytes (Ok (Packet packet)) is are = packet-says frames s side bytes packet is are
 retaken-says frames s side bytes (Ok (Error packet)) is are = error-packet-says frames s side bytes packet is are
 retaken-says frames s side bytes (Ok (Arp p)) is are = saying-nothing s (at_hand side bytes ∷ [])

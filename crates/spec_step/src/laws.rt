@@ -17,19 +17,19 @@ ghost use Rattle.packet_rules.specs.declared.readings.Asked.{Asked as Echo};
 ghost use Rattle.packet_rules.specs.declared.reasons.Reason.{Reason};
 ghost use Rattle.spec_trace.specs.Past.{Idle};
 ghost use Rattle.spec_pair.specs.Talk.{note};
-ghost use Rattle.waiting.specs.Packets.{hop_count};
+ghost use Rattle.waiting.specs.Packets.{HeldPacket, hop_count};
 ghost use Rattle.spec_binding.specs.Books.{IsBook};
 ghost use Rattle.spec_binding.specs.Ledgers.{let_go};
 ghost use Rattle.spec_step.specs.declared.events.Event.{Event};
 ghost use Rattle.spec_step.specs.declared.events.Event.TheVariants.{Tick};
 ghost use Rattle.spec_step.specs.declared.plans.Plan.TheVariants.{Wait as WaitForPair};
-ghost use Rattle.spec_step.specs.Verdict.{error_plan};
+ghost use Rattle.spec_step.specs.Verdict.{error_plan, reading_on};
 ghost use Rattle.spec_step.specs.Founding.{HasRanges, begun, bounds_of, founded, link_places};
-ghost use Rattle.spec_step.specs.Machine.{Goes, HasBytes, HasPushed, IsAlone, IsStanding, KeepsBytes};
+ghost use Rattle.spec_step.specs.Machine.{AreBytes, Goes, HasBytes, HasPushed, IsAlone, IsStanding, KeepsBytes};
 ghost use Rattle.spec_step.specs.Machine.{letters_in, words_in};
 ghost use Rattle.spec_step.specs.Others.{AreOthers};
-ghost use Rattle.spec_step.specs.OwnAnswers.{AreWithin, ShowsNothing};
-ghost use Rattle.spec_step.specs.Parts.{all_idle_done, echo_taken, error_taken, refused};
+ghost use Rattle.spec_step.specs.OwnAnswers.{AreWithin, SaysJust, ShowsNothing, all_own_of, own_of};
+ghost use Rattle.spec_step.specs.Parts.{all_idle_done, all_taken, echo_taken, error_taken, refused, retaken_by};
 ghost use Rattle.spec_step.specs.PassedOn.{HidesAllInside, LeavesPairs, TellsAll};
 ghost use Rattle.spec_step.specs.Rests.{AccountsOn, Rests, most_notes};
 ghost use Rattle.spec_step.specs.Settled.{AreIdle, HaveBegun, IsSettled};
@@ -115,6 +115,23 @@ pub fn errors_hide()
     own_frames_law();
     tallies_law();
     hides_inside();
+}
+
+/// The own frames of one taking of a packet are just those that its verdict says: the answer to an Echo
+/// that is Sent, and what is said of a packet that is dropped because its time to live is over or
+/// because it is too long. So it is of packets whose wait is over, taken one after another.
+pub fn takings_say()
+    ensures one { (s : GatewayAndOutput) (side : Side) (bytes : List ℕ) → AreBytes bytes
+        → IsSetUp s.shown → SaysJust s (retaken_by s side bytes (reading_on s.shown side bytes))
+        (own_of s.shown side bytes) }
+    ensures all { (s : GatewayAndOutput) (ws : List HeldPacket)
+        → KeepsBytes (record s.shown { kept = ws }) → IsBook s.shown.ledger.book
+        → KeepsBytes s.shown → IsSetUp s.shown → SaysJust s (all_taken s ws) (all_own_of s ws) }
+{
+    readings_law();
+    frames_law();
+    own_frames_law();
+    tallies_law();
 }
 
 /// A frame of its own that a step sends at the outside has no address of the inside network.
