@@ -1,5 +1,5 @@
 -- Each part of a step that may ask for a next hop does it as it should: a packet taken, an error, what a wait that ended lets go.
-use Rattle.std.proofs.Common.{◌≡◌, ℕ, Bool, true, false, cond, not, ◌&&◌, inl, inr, Option, Some, None, List, [], ◌∷◌, ◌++◌, Result, Ok, Err, refl, sym, ap, subst, ◌∙◌, append_assoc, map, IsPermutation, arith}
+use Rattle.std.proofs.Common.{◌≡◌, ℕ, Bool, true, false, cond, not, inl, inr, Some, None, List, [], ◌∷◌, ◌++◌, Result, Ok, Err, refl, sym, ap, subst, ◌∙◌, append_assoc, map, IsPermutation, arith}
 use Rattle.std.specs.List.{AllByRecursion}
 use Rattle.std.proofs.lemmas.List.{append-nil}
 use Rattle.std.proofs.lemmas.List.Sorted.{IsPermutation-refl}
@@ -12,7 +12,6 @@ use Rattle.nat_types.specs.declared.pairs.Endpoint.{Endpoint}
 use Rattle.nat_types.specs.declared.pairs.Pair.{Pair}
 use Rattle.arp.specs.Neighbours.{Neighbours, asks_at, mac_at}
 use Rattle.arp.proofs.Offered.{asked-six, forgetful-asked}
-use Rattle.frames.specs.Frame.{frame_of}
 use Rattle.ipv4.specs.declared.flows.Flow.{Flow}
 use Rattle.ipv4.specs.declared.packets.Packet.{Packet as PacketRead}
 use Rattle.bindings.specs.declared.entries.Entry.{Entry}
@@ -39,7 +38,7 @@ use Rattle.packet_rules.specs.Arping.{request_frame}
 use Rattle.packet_rules.specs.Flows.{flow_in, source_of, error_flow_in}
 use Rattle.packet_rules.specs.Frames.{hop_of, sent_frame, way_of}
 use Rattle.packet_rules.specs.Steps.{IsForwardable, IsOfSide, IsPassable}
-use Rattle.packet_rules.specs.Networks.{back_hop, direction_of, may_answer, mtu_of, network_of}
+use Rattle.packet_rules.specs.Networks.{back_hop, direction_of, may_answer, network_of}
 use Rattle.packet_rules.specs.Own.{answer_frame as own_answer, complaint_frame, complaint_of, is_own_frame}
 use Rattle.packet_rules.specs.Errors.{passed_frame, AreErrorPairs, error_direction}
 use Rattle.interfaces.specs.declared.tallies.Tally.{Tally}

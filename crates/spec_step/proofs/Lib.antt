@@ -14,6 +14,7 @@ mod Giving
 mod Hearing
 mod Hiding
 mod Idle
+mod InSeconds
 mod Leaving
 mod Limits
 mod Lines

@@ -24,7 +24,7 @@ use Rattle.packet_rules.specs.declared.reasons.Reason.TheVariants.{ShortFrame, N
 use Rattle.packet_rules.specs.declared.translations.Translation.{Translation}
 use Rattle.packet_rules.specs.declared.translations.Translation.TheVariants.{Outward, Inward, Hairpin}
 use Rattle.packet_rules.specs.Errors.{error_direction, passed_frame}
-use Rattle.packet_rules.specs.Flows.{error_flow_in, flow_in, source_of}
+use Rattle.packet_rules.specs.Flows.{source_of}
 use Rattle.packet_rules.specs.Frames.{sent_frame, way_of}
 use Rattle.packet_rules.specs.Networks.{direction_of, may_answer, network_of}
 use Rattle.packet_rules.specs.Own.{answer_frame, complaint_frame, complaint_of, is_own_frame}
@@ -38,15 +38,15 @@ use Rattle.spec_step.specs.declared.plans.Reply.{Reply}
 use Rattle.spec_step.specs.declared.plans.Reply.TheVariants as reply
 use Rattle.spec_step.specs.Machine.{AreBytes}
 use Rattle.spec_step.specs.OwnAnswers.{SaysJust, all_own_of, own_frames, own_of, own_plan, own_read, own_refused, own_reply, saying_to}
-use Rattle.spec_step.specs.Parts.{all_taken, asked_again, by_error_plan, by_error_verdict, by_plan, by_refusal, by_reply_verdict, by_verdict, carried_all, complained, complained_to, echo_taken, error_taken, flags_in, flow_taken, framed, keeping, length_in, neighbour_asked, refused, renewed_behind, request_by, retaken_by, sender_in, taken_again, wanted_by, wanted_for}
+use Rattle.spec_step.specs.Parts.{all_taken, asked_again, by_error_plan, by_error_verdict, by_plan, by_refusal, by_reply_verdict, by_verdict, carried_all, complained, complained_to, flags_in, framed, keeping, length_in, neighbour_asked, refused, renewed_behind, request_by, retaken_by, sender_in, taken_again, wanted_by, wanted_for}
 use Rattle.spec_step.specs.Shown.{GatewayAndOutput, Shown, is_up, scene, station_on}
-use Rattle.spec_step.specs.Truly.{IsSetUp, Known, is_own, known_of}
-use Rattle.spec_step.specs.Verdict.{error_hop, error_plan, exit_by, fits_at, hop_back, hop_by, if_reply_fits, next_back, next_to, plan_of, reading_on, reply_to, reply_via}
+use Rattle.spec_step.specs.Truly.{IsSetUp, Known, is_own}
+use Rattle.spec_step.specs.Verdict.{error_hop, error_plan, exit_by, fits_at, hop_back, hop_by, if_reply_fits, next_back, plan_of, reading_on, reply_to, reply_via}
 use Rattle.spec_step.proofs.Erring.{ErrorSays, error-says}
 use Rattle.spec_step.proofs.Fitting.{reply-fitted}
-use Rattle.spec_step.proofs.Own.{answer_scene, complaint_scene, exit_in, said-beside, said_scene}
+use Rattle.spec_step.proofs.Own.{answer_scene, complaint_scene, exit_in, said-beside}
 use Rattle.spec_step.proofs.Passing.{IsSound}
-use Rattle.spec_step.proofs.Saying.{Saying, addressed, retaken-says}
+use Rattle.spec_step.proofs.Saying.{addressed, retaken-says}
 use Rattle.spec_step.proofs.Sending.{Frames, answer-own, carried-leaves, complaint-own, next-six, own-six}
 use Rattle.spec_step.proofs.Sends.{plan-sends}
 

@@ -1,5 +1,5 @@
 -- An error that is passed on is told of.
-use Rattle.std.proofs.Common.{◌≡◌, inl, ℕ, true, false, Some, List, [], ◌∷◌, refl, sym, ◌∙◌}
+use Rattle.std.proofs.Common.{◌≡◌, inl, ℕ, true, false, Some, List, [], ◌∷◌, refl, sym, ◌∙◌, arith}
 use Rattle.std.proofs.lemmas.List.{append-nil}
 use Rattle.std.proofs.lemmas.List.Sorted.{IsPermutation-refl}
 use Rattle.addresses.specs.declared.ethernet.Mac.{Mac}
@@ -67,4 +67,5 @@ passed-tells s side bytes by next passed own apart is =
       };
       roots = λ p t. inl t;
       within = λ h. h;
+      later = omega arith;
     }

@@ -1,5 +1,5 @@
 -- One packet or error, and those whose wait is over: what is told of them is true, and what that rests on holds again.
-use Rattle.std.proofs.Common.{◌≡◌, ℕ, Bool, true, false, not, ◌&&◌, List, [], ◌∷◌, ◌++◌, Option, Some, None, Result, Ok, Err, refl, sym, ap, subst, ◌∙◌, cond, IsPermutation, length, inl}
+use Rattle.std.proofs.Common.{◌≡◌, ℕ, Bool, true, false, not, ◌&&◌, List, [], ◌∷◌, ◌++◌, Option, Some, None, Result, Ok, Err, refl, sym, ap, subst, ◌∙◌, cond, IsPermutation, length, inl, arith}
 use Rattle.std.specs.List.{AllByRecursion}
 use Rattle.addresses.specs.declared.ethernet.Mac.{Mac}
 use Rattle.addresses.specs.declared.internet.Ip.{Ip}
@@ -98,7 +98,7 @@ saying-nothing s hand = λ is w. (record { tells = tells-nothing s hand; sound =
 pub row-says : (s : GatewayAndOutput) (row : Transition) → IsUseless row → RowRoots s.shown.ledger.book row → (IsBook s.shown.ledger.book → IsBook (after s.shown.ledger.book row)) → Saying [] s (by_row s row)
 row-says s row useless roots keeps = λ is w. (
   record {
-    tells = tells-quietly s (by_row s row) (noted_by (id_of s.shown) s.shown.moment row.what) refl refl (useless (id_of s.shown) s.shown.moment) refl (roots (id_of s.shown) s.shown.moment) (refl, refl);
+    tells = tells-quietly s (by_row s row) (noted_by (id_of s.shown) s.shown.moment row.what) refl refl (useless (id_of s.shown) s.shown.moment) refl (roots (id_of s.shown) s.shown.moment) (refl, (refl, omega arith));
     sound = record { book = keeps is.book; kept = is.kept };
     wired = w;
   },
@@ -161,11 +161,11 @@ renewed-says frames s exit hop = at exit (asks_at hop.0 s.shown.moment (station_
     -- the neighbours alone are others
     asked : (side : Side) → Saying [] s (scene (neighbour_asked s.shown side hop) s.told)
     asked Inside = λ is w. (
-      record { tells = tells-unseen s _ refl refl refl refl (refl, refl); sound = record { book = is.book; kept = is.kept }; wired = wired Inside w },
+      record { tells = tells-unseen s _ refl refl refl refl (refl, (refl, omega arith)); sound = record { book = is.book; kept = is.kept }; wired = wired Inside w },
       known Inside,
     )
     asked Outside = λ is w. (
-      record { tells = tells-unseen s _ refl refl refl refl (refl, refl); sound = record { book = is.book; kept = is.kept }; wired = wired Outside w },
+      record { tells = tells-unseen s _ refl refl refl refl (refl, (refl, omega arith)); sound = record { book = is.book; kept = is.kept }; wired = wired Outside w },
       known Outside,
     )
 
@@ -214,6 +214,7 @@ again-says frames s exit hop = at (asks_again s.shown.moment (wait.Hop exit hop)
           };
           roots = λ p t. inl t;
           within = λ h. h;
+          later = omega arith;
         };
         sound = record { book = is.book; kept = all-asked (λ (x : HeldPacket). AreBytes x.bytes) (λ x n are. are) s.shown.moment (wait.Hop exit hop) s.shown.kept is.kept };
         wired = w;
@@ -502,6 +503,7 @@ module _ (frames : Frames) (s : GatewayAndOutput) (ended : Ended) where
     };
     roots = x.roots;
     within = x.within;
+    later = x.later;
   }
 
   released-by : AllByRecursion (λ (w : HeldPacket). AreBytes w.bytes) s.shown.kept → Saying (packets_of (ended_by ended s.shown.kept)) start (released s ended)

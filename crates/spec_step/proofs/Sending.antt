@@ -1,5 +1,5 @@
 -- A packet that is sent on is told of truly.
-use Rattle.std.proofs.Common.{◌≡◌, ℕ, Bool, true, false, Some, Ok, List, [], ◌∷◌, ◌++◌, length, IsPermutation, refl, sym, ap, subst, ◌∙◌, append_assoc}
+use Rattle.std.proofs.Common.{◌≡◌, ℕ, Bool, true, false, Some, Ok, List, [], ◌∷◌, ◌++◌, length, IsPermutation, refl, sym, ap, subst, ◌∙◌, append_assoc, arith}
 use Rattle.std.proofs.lemmas.List.{append-nil}
 use Rattle.std.proofs.lemmas.Grind.{flat_map-append}
 use Rattle.std.proofs.lemmas.List.Sorted.{IsPermutation-refl}
@@ -184,8 +184,8 @@ pub record Carries-on (s s2 : GatewayAndOutput) (by : Translation) : Type 0 wher
   pub nets : (s2.shown.inside.network ≡ s.shown.inside.network) × (s2.shown.outside.network ≡ s.shown.outside.network)
 
 pub carried-leaves : (s : GatewayAndOutput) (flow : Flow) (flags : TcpFlags) (by : Translation) → Carries-on s (carried_all s flow flags by) by
-carried-leaves s flow flags (Outward p) = record { frames = refl; notes = refl; kept = refl; known = refl; book = refl; wired = λ w. w; said = (refl, refl); nets = (refl, refl) }
-carried-leaves s flow flags (Inward p) = record { frames = refl; notes = refl; kept = refl; known = refl; book = refl; wired = λ w. w; said = (refl, refl); nets = (refl, refl) }
+carried-leaves s flow flags (Outward p) = record { frames = refl; notes = refl; kept = refl; known = refl; book = refl; wired = λ w. w; said = (refl, (refl, omega arith)); nets = (refl, refl) }
+carried-leaves s flow flags (Inward p) = record { frames = refl; notes = refl; kept = refl; known = refl; book = refl; wired = λ w. w; said = (refl, (refl, omega arith)); nets = (refl, refl) }
 carried-leaves s flow flags (Hairpin own other) = record {
   frames = refl;
   notes = append_assoc s.told.notes (carry_notes s.shown own) (carry_notes s.shown other);
@@ -193,7 +193,7 @@ carried-leaves s flow flags (Hairpin own other) = record {
   known = refl;
   book = refl;
   wired = λ w. w;
-  said = (refl, refl);
+  said = (refl, (refl, omega arith));
   nets = (refl, refl);
 }
 
@@ -313,10 +313,11 @@ sending-tells s side bytes flow flags by frame sent own is all =
         own_are = subst (λ (n : Networks). own_frames n (x ∷ []) ≡ []) (sym nets) (rw own refl);
         each_own = tt;
         counted_inside = c.said.0;
-        counted_outside = c.said.1;
+        counted_outside = c.said.1.0;
         dropped = [];
         once = subst (λ (ws : List HeldPacket). IsPermutation (at_hand side bytes ∷ packets_of s.shown.kept) (at_hand side bytes ∷ packets_of ws)) (sym c.kept) (IsPermutation-refl (at_hand side bytes ∷ packets_of s.shown.kept));
       };
       roots = same-rooted s.shown.ledger.book.entries two.shown.ledger.book.entries (retaken_pairs (all_notes s.shown by)) (ap (λ (b : Book). b.entries) c.book);
       within = within-by s.shown two.shown c.said;
+      later = c.said.1.1;
     }

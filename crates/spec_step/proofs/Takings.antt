@@ -1,5 +1,5 @@
 -- A wish for a port uses no pair, and a packet that is kept is told of.
-use Rattle.std.proofs.Common.{◌≡◌, ℕ, Bool, true, false, cond, List, [], ◌∷◌, Option, Some, None, IsPermutation, refl, sym, subst, nat_lt, ◌++◌, inl}
+use Rattle.std.proofs.Common.{◌≡◌, ℕ, Bool, true, false, cond, List, [], ◌∷◌, Option, Some, None, IsPermutation, refl, sym, subst, nat_lt, ◌++◌, inl, arith}
 use Rattle.std.proofs.lemmas.List.{append-nil, map-append}
 use Rattle.std.proofs.lemmas.List.Sorted.{IsPermutation-append_comm, IsPermutation-append_right, IsPermutation-cons, IsPermutation-refl, IsPermutation-trans}
 use Rattle.addresses.specs.declared.transport.Port.{Port}
@@ -134,4 +134,5 @@ keeping-tells s side bytes w =
       };
       roots = λ p t. inl t;
       within = λ h. h;
+      later = omega arith;
     }

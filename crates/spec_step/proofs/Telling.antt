@@ -1,5 +1,5 @@
 -- What is told of a part: nothing, one part behind the other, frames of another kind, and packets whose wait is over.
-use Rattle.std.proofs.Common.{◌≡◌, inl, ℕ, true, not, ◌&&◌, List, [], ◌∷◌, ◌++◌, map, filter, flat_map, IsPermutation, refl, sym, ap, ◌∙◌, subst, append_assoc}
+use Rattle.std.proofs.Common.{◌≡◌, ◌≤◌, arith, inl, ℕ, true, not, ◌&&◌, List, [], ◌∷◌, ◌++◌, map, filter, flat_map, IsPermutation, refl, sym, ap, ◌∙◌, subst, append_assoc}
 use Rattle.std.specs.List.{AllByRecursion}
 use Rattle.std.proofs.lemmas.List.{map-append, append-nil}
 use Rattle.std.proofs.lemmas.List.Elements.{filter-append}
@@ -34,13 +34,14 @@ pub record Told (hand : List AtHand) (s s2 : GatewayAndOutput) : Type 0 where
   pub all : TellsAll hand s s2
   pub roots : (p : Pair) → IsTranslated s2.shown.ledger.book.entries p → MayGoBy s.shown all.notes p
   pub within : AreWithin s.shown → AreWithin s2.shown
+  pub later : s.shown.moment ≤ s2.shown.moment
 
--- nothing was said
+-- nothing was said, and the clock doesn't run back
 abbrev pub SameSaid : Shown → Shown → Type 0
-SameSaid g g2 = (g2.inside.said ≡ g.inside.said) × (g2.outside.said ≡ g.outside.said)
+SameSaid g g2 = (g2.inside.said ≡ g.inside.said) × ((g2.outside.said ≡ g.outside.said) × (g.moment ≤ g2.moment))
 
 pub within-by : (g g2 : Shown) → SameSaid g g2 → AreWithin g → AreWithin g2
-within-by g g2 same within = (subst IsWithin (sym same.0) within.0, subst IsWithin (sym same.1) within.1)
+within-by g g2 same within = (subst IsWithin (sym same.0) within.0, subst IsWithin (sym same.1.0) within.1)
 
 abbrev pub at_hand : Side → List ℕ → AtHand
 at_hand side bytes = record { side = side; bytes = bytes }
@@ -150,6 +151,7 @@ tells-nothing s hand = record {
   };
   roots = λ p t. inl t;
   within = λ h. h;
+  later = omega arith;
 }
 
 -- what two parts tell
@@ -243,6 +245,7 @@ module _ (h h2 : List AtHand) (a b c : GatewayAndOutput) (same : known_of c.show
     };
     roots = λ p t. has-then a.shown b.shown x.all.notes y.all.notes x.roots p (y.roots p t);
     within = λ h. y.within (x.within h);
+    later = omega (arith, x.later, y.later);
   }
 
 -- a part of which nothing is told, and that leaves the packets that wait
@@ -265,12 +268,13 @@ tells-quietly s s2 notes frames noted none kept roots said = record {
     own_are = refl;
     each_own = tt;
     counted_inside = said.0;
-    counted_outside = said.1;
+    counted_outside = said.1.0;
     dropped = [];
     once = subst (λ (ws : List HeldPacket). IsPermutation (packets_of s.shown.kept) (packets_of ws)) (sym kept) (IsPermutation-refl (packets_of s.shown.kept));
   };
   roots = roots;
   within = within-by s.shown s2.shown said;
+  later = said.1.1;
 }
 
 -- and that notes nothing and leaves the table
@@ -305,6 +309,7 @@ framed-tells s side bytes other =
       };
       roots = λ p t. inl t;
       within = λ h. h;
+      later = omega arith;
     }
 
 -- the gateway said something of the packet in hand, and has counted it
@@ -344,6 +349,7 @@ own-tells s Inside bytes purpose frame own is within =
       };
       roots = λ p t. inl t;
       within = λ h. (within h.0, h.1);
+      later = omega arith;
     }
 own-tells s Outside bytes purpose frame own is within =
     let x : Sent = record { side = Outside; bytes = frame } in
@@ -371,6 +377,7 @@ own-tells s Outside bytes purpose frame own is within =
       };
       roots = λ p t. inl t;
       within = λ h. (h.0, within h.1);
+      later = omega arith;
     }
 
 -- old packets are dropped
@@ -406,6 +413,7 @@ old-tells s =
       };
       roots = λ p t. inl t;
       within = λ h. h;
+      later = omega arith;
     }
 
 -- the kept packets, those whose wait ends first

@@ -1,6 +1,7 @@
 -- What each part of a step tells is true: interfaces, datagrams, the operator's word, ticks; and so what a whole step tells.
-use Rattle.std.proofs.Common.{◌≡◌, ℕ, Bool, true, false, cond, not, ◌&&◌, List, [], ◌∷◌, ◌++◌, length, Option, Some, None, Result, Ok, Err, refl, sym, ap, subst, ◌∙◌}
+use Rattle.std.proofs.Common.{◌≡◌, ℕ, Bool, true, false, cond, not, ◌&&◌, List, [], ◌∷◌, ◌++◌, length, Option, Some, None, Result, Ok, Err, refl, sym, ap, subst, ◌∙◌, arith, min}
 use Rattle.std.specs.List.{AllByRecursion}
+use Rattle.std.proofs.Math.Nat.{le-max_left}
 use Rattle.addresses.specs.declared.ethernet.Mac.{Mac}
 use Rattle.nat_types.specs.declared.gateways.Side.{Side}
 use Rattle.nat_types.specs.declared.gateways.Side.TheVariants.{Inside, Outside}
@@ -43,7 +44,7 @@ use Rattle.spec_step.specs.Parts.{acted, all_framed, all_idle_done, answered_by,
 use Rattle.spec_step.specs.Shown.{GatewayAndOutput, Shown, id_of, is_running, scene, station_on, with_notes, with_station}
 use Rattle.spec_step.specs.Routers.{BothAct, RouterActs}
 use Rattle.spec_step.specs.GivingWay.{GivingWay, left, turn_of}
-use Rattle.spec_step.specs.Steps.{Does, FrameDoes, IsStepOn, ended_on, stopped, ticked, word_by, word_refusal}
+use Rattle.spec_step.specs.Steps.{Does, FrameDoes, IsStepOn, ended_on, last_moment, stopped, ticked, word_by, word_refusal}
 use Rattle.spec_step.specs.PassedOn.{TellsAll}
 use Rattle.spec_step.specs.Truly.{IsSetUp, AtHand, Known, hand_of, known_of, unasked}
 use Rattle.spec_step.specs.Verdict.{reading_on}
@@ -71,12 +72,12 @@ set-up-outside g station same w wired = ((w.0.0, record { placed = w.0.1.placed;
 
 station-speaks : (s : GatewayAndOutput) (side : Side) (station : Interface) → station.network ≡ (station_on s.shown side).network → station.said ≡ (station_on s.shown side).said → (IsSetUp s.shown → IsWired station) → Speaks [] s (scene (with_station s.shown side station) s.told)
 station-speaks s Inside station same said wired = λ is w. record {
-  tells = tells-unseen s (scene (with_station s.shown Inside station) s.told) refl refl refl refl (said, refl);
+  tells = tells-unseen s (scene (with_station s.shown Inside station) s.told) refl refl refl refl (said, (refl, omega arith));
   sound = record { book = is.book; kept = is.kept };
   wired = set-up-inside s.shown station same w (wired w);
 }
 station-speaks s Outside station same said wired = λ is w. record {
-  tells = tells-unseen s (scene (with_station s.shown Outside station) s.told) refl refl refl refl (refl, said);
+  tells = tells-unseen s (scene (with_station s.shown Outside station) s.told) refl refl refl refl (refl, (said, omega arith));
   sound = record { book = is.book; kept = is.kept };
   wired = set-up-outside s.shown station same w (wired w);
 }
@@ -201,7 +202,7 @@ frame-speaks frames s side bytes (Err reason) s2 read are does =
 routed-says : (now : ℕ) (g : Shown) (told : Output) (b : Bool) → Saying [] (scene g told) (scene (let x : Shown = cond b (record g { inside = started g.inside now; outside = started g.outside now }) g in x) told)
 routed-says now g told true = λ is w. (
   record {
-    tells = tells-unseen (scene g told) (scene (record g { inside = started g.inside now; outside = started g.outside now }) told) refl refl refl refl (refl, refl);
+    tells = tells-unseen (scene g told) (scene (record g { inside = started g.inside now; outside = started g.outside now }) told) refl refl refl refl (refl, (refl, omega arith));
     sound = record { book = is.book; kept = is.kept };
     wired = (w.0, (record { own = w.1.0.own; known = w.1.0.known }, record { own = w.1.1.own; known = w.1.1.known }));
   },
@@ -223,7 +224,7 @@ record-says frames s r formed =
     let s3 = scene (record_shown g r) told in
     let first : Saying [] s s2 = λ is w. (
       record {
-        tells = tells-quietly s s2 (noted_by (id_of g) g.moment (taken_what b rests r)) refl refl (taken-useless b rests r (id_of g) g.moment) refl (taken-roots b rests r (id_of g) g.moment) (refl, refl);
+        tells = tells-quietly s s2 (noted_by (id_of g) g.moment (taken_what b rests r)) refl refl (taken-useless b rests r (id_of g) g.moment) refl (taken-roots b rests r (id_of g) g.moment) (refl, (refl, omega arith));
         sound = record { book = taken-keeps b rests r is.book formed; kept = is.kept };
         wired = w;
       },
@@ -241,7 +242,7 @@ records-say frames s (r ∷ rs) all = saying-then [] [] s (record_done s r) (rec
 
 link-says : (s : GatewayAndOutput) (e : Link) → Saying [] s (with_link s e)
 link-says s e = λ is w. (
-  record { tells = tells-unseen s (with_link s e) refl refl refl refl (refl, refl); sound = record { book = is.book; kept = is.kept }; wired = w },
+  record { tells = tells-unseen s (with_link s e) refl refl refl refl (refl, (refl, omega arith)); sound = record { book = is.book; kept = is.kept }; wired = w },
   refl,
 )
 
@@ -252,7 +253,7 @@ reset-says frames s =
     let mid = scene (record g { ledger = restarted_ledger g.ledger; link = restart_link b g.link }) (with_notes s.told notes) in
     let first : Saying [] s mid = λ is w. (
       record {
-        tells = tells-quietly s mid notes refl refl (restart-useless b g.moment) refl (restart-rooted b g.moment is.book.keys) (refl, refl);
+        tells = tells-quietly s mid notes refl refl (restart-useless b g.moment) refl (restart-rooted b g.moment is.book.keys) (refl, (refl, omega arith));
         sound = record { book = restart-keeps b is.book; kept = is.kept };
         wired = w;
       },
@@ -289,7 +290,7 @@ taken-says frames s n synced =
     let mid = scene (record g { ledger = alone_ledger g.moment g.ledger; link = closed_at g.link n }) (with_notes s.told notes) in
     let first : Saying [] s mid = λ is w. (
       record {
-        tells = tells-quietly s mid notes refl refl (retaken-useless (id_of g) g.moment (back_in b.entries)) refl (alone-rooted b (id_of g) g.moment is.book.keys) (refl, refl);
+        tells = tells-quietly s mid notes refl refl (retaken-useless (id_of g) g.moment (back_in b.entries)) refl (alone-rooted b (id_of g) g.moment is.book.keys) (refl, (refl, omega arith));
         sound = record { book = alone-keeps b is.book synced; kept = is.kept };
         wired = w;
       },
@@ -325,13 +326,13 @@ old-says s = λ is w. (
 
 stopped-says : (s : GatewayAndOutput) → Saying [] s (stopped s)
 stopped-says s = λ is w. (
-  record { tells = tells-unseen s (stopped s) refl refl refl refl (refl, refl); sound = record { book = is.book; kept = is.kept }; wired = w },
+  record { tells = tells-unseen s (stopped s) refl refl refl refl (refl, (refl, omega arith)); sound = record { book = is.book; kept = is.kept }; wired = w },
   refl,
 )
 
 ticked-speaks : (s : GatewayAndOutput) (now : ℕ) → Speaks [] s (ticked s now)
 ticked-speaks s now = λ is w. record {
-  tells = tells-unseen s (ticked s now) refl refl refl refl (refl, refl);
+  tells = tells-unseen s (ticked s now) refl refl refl refl (refl, (refl, le-max_left s.shown.moment (min now last_moment)));
   sound = record { book = is.book; kept = is.kept };
   wired = w;
 }
@@ -345,32 +346,32 @@ turn-says frames s s2 takes =
   where
     left-says : (middle : GatewayAndOutput) → Saying [] middle (left middle)
     left-says middle = λ is w. (
-      record { tells = tells-unseen middle (left middle) refl refl refl refl (refl, refl); sound = record { book = is.book; kept = is.kept }; wired = w },
+      record { tells = tells-unseen middle (left middle) refl refl refl refl (refl, (refl, omega arith)); sound = record { book = is.book; kept = is.kept }; wired = w },
       refl,
     )
 
     back : (starts : Bool) → Saying [] s (scene (back_as starts s.shown) s.told)
     back true = λ is w. (
       record {
-        tells = tells-unseen s (scene (back_as true s.shown) s.told) refl refl refl refl (refl, refl);
+        tells = tells-unseen s (scene (back_as true s.shown) s.told) refl refl refl refl (refl, (refl, omega arith));
         sound = record { book = is.book; kept = is.kept };
         wired = (w.0, (record { own = w.1.0.own; known = w.1.0.known }, record { own = w.1.1.own; known = w.1.1.known }));
       },
       refl,
     )
     back false = λ is w. (
-      record { tells = tells-unseen s (scene (back_as false s.shown) s.told) refl refl refl refl (refl, refl); sound = record { book = is.book; kept = is.kept }; wired = w },
+      record { tells = tells-unseen s (scene (back_as false s.shown) s.told) refl refl refl refl (refl, (refl, omega arith)); sound = record { book = is.book; kept = is.kept }; wired = w },
       refl,
     )
 
 -- a side's cable
 plugged-says : (s : GatewayAndOutput) (side : Side) (up : Bool) → Saying [] s (side_plugged s side up)
 plugged-says s Inside up = λ is w. (
-  record { tells = tells-unseen s (side_plugged s Inside up) refl refl refl refl (refl, refl); sound = record { book = is.book; kept = is.kept }; wired = (w.0, (record { own = w.1.0.own; known = w.1.0.known }, w.1.1)) },
+  record { tells = tells-unseen s (side_plugged s Inside up) refl refl refl refl (refl, (refl, omega arith)); sound = record { book = is.book; kept = is.kept }; wired = (w.0, (record { own = w.1.0.own; known = w.1.0.known }, w.1.1)) },
   refl,
 )
 plugged-says s Outside up = λ is w. (
-  record { tells = tells-unseen s (side_plugged s Outside up) refl refl refl refl (refl, refl); sound = record { book = is.book; kept = is.kept }; wired = (w.0, (w.1.0, record { own = w.1.1.own; known = w.1.1.known })) },
+  record { tells = tells-unseen s (side_plugged s Outside up) refl refl refl refl (refl, (refl, omega arith)); sound = record { book = is.book; kept = is.kept }; wired = (w.0, (w.1.0, record { own = w.1.1.own; known = w.1.1.known })) },
   refl,
 )
 
@@ -405,15 +406,15 @@ answered-tells : (s : GatewayAndOutput) → Told [] s (link_answered s)
 answered-tells s = at (handed_in s.shown).link.due
   where
     at : (b : Bool) → Told [] s (let g = handed_in s.shown in scene (record g { link = sent_on_answer g.link }) (let t : Output = cond b (with_datagram s.told (datagram_in g)) s.told in t))
-    at true = tells-unseen s _ refl refl refl refl (refl, refl)
-    at false = tells-unseen s _ refl refl refl refl (refl, refl)
+    at true = tells-unseen s _ refl refl refl refl (refl, (refl, omega arith))
+    at false = tells-unseen s _ refl refl refl refl (refl, (refl, omega arith))
 
 ticked-tells : (s : GatewayAndOutput) → Told [] s (link_ticked s) × ((known_of (link_ticked s).shown ≡ known_of s.shown) × (IsSetUp s.shown → IsSetUp (link_ticked s).shown))
 ticked-tells s = at (is_due_on_tick (handed_in s.shown).link s.shown.moment)
   where
     at : (b : Bool) → (let x : GatewayAndOutput = (let g = handed_in s.shown in cond b (scene (record g { link = sent_on_tick g.link g.moment }) (with_datagram s.told (datagram_in g))) (scene g s.told)) in Told [] s x × ((known_of x.shown ≡ known_of s.shown) × (IsSetUp s.shown → IsSetUp x.shown)))
-    at true = (tells-unseen s _ refl refl refl refl (refl, refl), (refl, λ w. w))
-    at false = (tells-unseen s _ refl refl refl refl (refl, refl), (refl, λ w. w))
+    at true = (tells-unseen s _ refl refl refl refl (refl, (refl, omega arith)), (refl, λ w. w))
+    at false = (tells-unseen s _ refl refl refl refl (refl, (refl, omega arith)), (refl, λ w. w))
 
 answered-ends : (h : List AtHand) (s done : GatewayAndOutput) → Told h s done → IsSetUp done.shown → Told (h ++ []) s (link_answered done) × IsSetUp (link_answered done).shown
 answered-ends h s done x w = (tells-then h [] s done (link_answered done) refl x (answered-tells done), w)

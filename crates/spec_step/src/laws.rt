@@ -34,11 +34,12 @@ ghost use Rattle.spec_step.specs.PassedOn.{HidesAllInside, LeavesPairs, TellsAll
 ghost use Rattle.spec_step.specs.Rests.{AccountsOn, Rests, most_notes};
 ghost use Rattle.spec_step.specs.Settled.{AreIdle, HaveBegun, IsSettled};
 ghost use Rattle.spec_step.specs.Shown.{GatewayAndOutput, Shown, has_side_out, id_of, is_up, scene};
+ghost use Rattle.spec_step.specs.Seconds.{AreStepsSaying, StepOwn, answers_at, complaints_at, in_second};
 ghost use Rattle.spec_step.specs.Shown.{with_notes};
 ghost use Rattle.spec_step.specs.Steps.{Does, IsStepOn};
 ghost use Rattle.spec_step.specs.Truly.{IsSetUp, Tells, hand_of};
 
-use interfaces::tallies_law;
+use interfaces::{limits_law, tallies_law};
 use packet_rules::{frames_law, own_frames_law, readings_law, shows_nothing_inside};
 use rewrite::hides_inside;
 
@@ -159,6 +160,26 @@ pub fn steps_count()
     frames_law();
     own_frames_law();
     tallies_law();
+}
+
+/// So in one life and one second of its clock a gateway sends at each side at most 100 answers and at most
+/// 10 complaints: of steps one behind the other, from a gateway at which no more is counted.
+pub fn few_in_one_second()
+    ensures answers { (g : Shown) (steps : List StepOwn) (g2 : Shown) → IsSetUp g → AreWithin g
+        → AreStepsSaying g steps g2 → (second : ℕ) (side : Side)
+        → in_second (answers_at side) second steps ≤ 100 }
+    ensures complaints { (g : Shown) (steps : List StepOwn) (g2 : Shown) → IsSetUp g
+        → AreWithin g → AreStepsSaying g steps g2 → (second : ℕ) (side : Side)
+        → in_second (complaints_at side) second steps ≤ 10 }
+    ensures begun { (settings : Settings) (id : GatewayId) (boot : ℕ)
+        → AreWithin (begun settings id boot) }
+    ensures founded { (settings : Settings) (boot : ℕ) → AreWithin (founded settings boot) }
+{
+    readings_law();
+    frames_law();
+    own_frames_law();
+    tallies_law();
+    limits_law();
 }
 
 /// An error is no use of its pairs: it makes, renews and ends none, it is neither noted nor pushed,
