@@ -187,7 +187,8 @@ pub fn few_in_one_second()
 pub fn errors_leave_pairs()
     ensures pairs { (s : GatewayAndOutput) (side : Side) (bytes : List ℕ) (flow : ErrorFlow)
         → LeavesPairs s (error_taken s side bytes flow) }
-    ensures no_wait { (g : Shown) (side : Side) (flow : ErrorFlow) (length : ℕ) (endpoint : Endpoint)
+    ensures no_wait { (g : Shown) (side : Side) (flow : ErrorFlow) (length : ℕ)
+        (endpoint : Endpoint)
         → error_plan g side flow length ≢ Ok (WaitForPair endpoint) }
 {}
 
