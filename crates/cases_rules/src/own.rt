@@ -18,9 +18,9 @@ use settings::Settings;
 fn mtu(given: &mut Given) -> Result<u16>
     ensures { IfOk result (λ mtu. (576 ≤ mtu) × (mtu ≤ 1500)) }
 {
-    let mtu = given.number()?;
+    let mtu = u16::try_from(given.number()?)?;
     ensure!(mtu >= 576 && mtu <= 1500, "no mtu");
-    Ok(mtu as u16)
+    Ok(mtu)
 }
 
 pub fn speak(settings: &mut Settings, given: &mut Given) -> Result<()> {

@@ -1,10 +1,10 @@
 //! The sections of a document: ports, the two networks and the router, and what is said by ICMP.
-ghost use Rattle.std.specs.Prelude.{◌≡◌, ◌<◌, ◌≤◌, Some, None, IfOk, IfErr, OnOk};
+ghost use Rattle.std.specs.Prelude.{◌≡◌, IsTrue, ◌<◌, ◌≤◌, Some, None, IfOk, IfErr, OnOk};
 ghost use Rattle.std.specs.Option.{ForSome};
 ghost use Rattle.toml.specs.View.{table_view};
 ghost use Rattle.settings_file.specs.declared.keys.Section.TheVariants.{Inside, Outside};
 ghost use Rattle.settings_file.specs.declared.keys.Name.TheVariants.{Zero, One, Router};
-ghost use Rattle.settings_file.specs.Document.{address_at, is_apart, is_section};
+ghost use Rattle.settings_file.specs.Document.{address_at, is_apart, is_section, IsApart};
 ghost use Rattle.settings_file.specs.Faults.{TellsFirst};
 ghost use Rattle.settings_file.specs.Rows.{bad_ports, bad_inside, bad_outside, bad_icmp, network_at};
 ghost use Rattle.settings_file.specs.Values.{IsRange, IsLimit, IsInterface, IsIcmp};
@@ -56,8 +56,9 @@ pub(crate) fn inside(alloc: Global, document: &Table) -> Result<InterfaceSetting
 /// Whether a network with this address and prefix shares no address with another.
 pub(crate) fn is_apart(network: Prefix, address: Ip, length: u8) -> bool
     requires { length ≤ 30 }
-    ensures { result ≡ is_apart (Some (network.address.0, network.length)) (Some address.0)
+    ensures test { result ≡ is_apart (Some (network.address.0, network.length)) (Some address.0)
         (Some length) }
+    ensures apart { IsTrue result → IsApart network address.0 length }
 {
     let shorter = network.length.min(length);
     !fields::is_in(address, Prefix::new(network.address, shorter))
@@ -71,6 +72,8 @@ pub(crate) fn outside(
     inside: Prefix,
 ) -> Result<(InterfaceSettings, Ip), ValueFault>
     ensures ok { IfOk result (λ r. IsInterface (table_view document.now) Outside r.0) }
+    ensures apart { IfOk result
+        (λ r. IsApart inside r.0.virtual_ip.0 r.0.prefix_length) }
     ensures router { IfOk result
         (λ r. address_at (table_view document.now) Outside Router ≡ Some r.1.0) }
     ensures good { OnOk result (bad_outside (Some (inside.address.0, inside.length))

@@ -2,6 +2,7 @@
 ghost use Rattle.std.specs.Prelude.{◌≡◌, ◌<◌, ◌≤◌, None, Some, map, option_map, vec_len, IfOk, IfErr, OnOk};
 ghost use Rattle.std.specs.Option.{ForSome};
 ghost use Rattle.toml.specs.View.{table_view};
+ghost use Rattle.settings.specs.Placed.{AreApart, LiesIn};
 ghost use Rattle.settings_file.specs.declared.keys.Section.TheVariants.{Inside, Outside, GatewayZero, GatewayOne};
 ghost use Rattle.settings_file.specs.declared.keys.Name.TheVariants.{Zero, One, Router};
 ghost use Rattle.settings_file.specs.Document.{address_at};
@@ -34,6 +35,11 @@ pub(crate) struct Values {
     pub(crate) neighbours: Vec<Neighbour>,
     ghost limited: { ForSome host_limit (λ most. 0 < most) },
     ghost few_neighbours: { vec_len neighbours ≤ 64 },
+    ghost apart: { AreApart inside outside },
+    ghost zero_inside: { LiesIn zero.inside_ip.0 inside },
+    ghost zero_outside: { LiesIn zero.outside_ip.0 outside },
+    ghost one_inside: { LiesIn one.inside_ip.0 inside },
+    ghost one_outside: { LiesIn one.outside_ip.0 outside },
 }
 
 /// The values at the keys of a document.

@@ -27,7 +27,7 @@ use Rattle.packet_rules.specs.Flows.{source_of}
 use Rattle.output.specs.Output.{Sent}
 use Rattle.spec_step.specs.Others.{Asking, Cause, Drops, IsCause, IsDue, IsItsWait, IsNew, IsNextHop, IsOnward, MayGoBy, Sends, Waits, all_noted, firsts, has_come, hops_of, other_frames, packets_asked, request_of, requests, targets, waiting_by, within_limit, is_other}
 use Rattle.spec_step.specs.Machine.{AreBytes, KeepsBytes}
-use Rattle.spec_step.specs.Parts.{by_row, waiting, wanted_by, wanted_for}
+use Rattle.spec_step.specs.Parts.{by_row, wanted_by, wanted_for}
 use Rattle.spec_step.specs.Shown.{GatewayAndOutput, Shown, id_of, station_on}
 use Rattle.spec_step.specs.Truly.{IsSetUp, AtHand, Known, known_of, packets_of}
 use Rattle.spec_step.proofs.Freeing.{Comes-of, comes-then, filter-all, filter-left, filter-none}

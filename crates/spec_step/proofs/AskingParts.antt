@@ -1,5 +1,5 @@
 -- Each part of a step that may ask for a next hop does it as it should: a packet taken, an error, what a wait that ended lets go.
-use Rattle.std.proofs.Common.{◌≡◌, ℕ, Bool, true, false, cond, not, ◌&&◌, inl, inr, Option, Some, None, List, [], ◌∷◌, ◌++◌, Result, Ok, Err, refl, sym, ap, subst, ◌∙◌, append_assoc, map, IsPermutation, arith}
+use Rattle.std.proofs.Common.{◌≡◌, ℕ, Bool, true, false, cond, not, inl, inr, Some, None, List, [], ◌∷◌, ◌++◌, Result, Ok, Err, refl, sym, ap, subst, ◌∙◌, append_assoc, map, IsPermutation, arith}
 use Rattle.std.specs.List.{AllByRecursion}
 use Rattle.std.proofs.lemmas.List.{append-nil}
 use Rattle.std.proofs.lemmas.List.Sorted.{IsPermutation-refl}
@@ -12,7 +12,6 @@ use Rattle.nat_types.specs.declared.pairs.Endpoint.{Endpoint}
 use Rattle.nat_types.specs.declared.pairs.Pair.{Pair}
 use Rattle.arp.specs.Neighbours.{Neighbours, asks_at, mac_at}
 use Rattle.arp.proofs.Offered.{asked-six, forgetful-asked}
-use Rattle.frames.specs.Frame.{frame_of}
 use Rattle.ipv4.specs.declared.flows.Flow.{Flow}
 use Rattle.ipv4.specs.declared.packets.Packet.{Packet as PacketRead}
 use Rattle.bindings.specs.declared.entries.Entry.{Entry}
@@ -39,8 +38,8 @@ use Rattle.packet_rules.specs.Arping.{request_frame}
 use Rattle.packet_rules.specs.Flows.{flow_in, source_of, error_flow_in}
 use Rattle.packet_rules.specs.Frames.{hop_of, sent_frame, way_of}
 use Rattle.packet_rules.specs.Steps.{IsForwardable, IsOfSide, IsPassable}
-use Rattle.packet_rules.specs.Networks.{back_hop, direction_of, may_answer, mtu_of, network_of}
-use Rattle.packet_rules.specs.Own.{answer_frame as own_answer, complaint_about, complaint_frame, complaint_of, is_own_frame, is_told}
+use Rattle.packet_rules.specs.Networks.{back_hop, direction_of, may_answer, network_of}
+use Rattle.packet_rules.specs.Own.{answer_frame as own_answer, complaint_frame, complaint_of, is_own_frame}
 use Rattle.packet_rules.specs.Errors.{passed_frame, AreErrorPairs, error_direction}
 use Rattle.interfaces.specs.declared.tallies.Tally.{Tally}
 use Rattle.interfaces.specs.Stations.{is_active}
@@ -59,11 +58,11 @@ use Rattle.spec_step.proofs.Freeing.{comes-off, filter-all}
 use Rattle.spec_step.proofs.FrameKinds.{error-no_other, own-no_other, sent-no_other}
 use Rattle.spec_step.proofs.Limits.{asks-left, count-left, limit-more}
 use Rattle.spec_step.proofs.Near.{asks-asked}
-use Rattle.spec_step.proofs.Own.{complaint_scene, echo-leaves, exit_in, refusal-leaves, refused-leaves, said-beside, said_scene}
+use Rattle.spec_step.proofs.Own.{complaint_scene, echo-leaves, exit_in, refusal-leaves, refused-leaves, said-beside, said_scene, told-answers}
 use Rattle.spec_step.proofs.Packets.{kept-filter, kept-more}
 use Rattle.spec_step.proofs.Rooting.{has-more}
 use Rattle.spec_step.proofs.Saying.{reading-synced, addressed}
-use Rattle.spec_step.proofs.Sending.{Frames, all_notes, answer-own, carried-leaves, complaint-own, near-mac, next-six, own-six, request-other}
+use Rattle.spec_step.proofs.Sending.{Frames, all_notes, answer-own, asker, carried-leaves, complaint-own, near-mac, next-six, own-six, request-other}
 use Rattle.spec_step.proofs.Sends.{AreFound, plan-sends}
 use Rattle.spec_step.proofs.Telling.{at_hand}
 use Rattle.spec_step.proofs.Translating.{target-translates}
@@ -132,16 +131,16 @@ next-hop : (g : Shown) (side : Side) (bytes : List ℕ) (flow : Flow) (by : Tran
     → direction_of g.networks side flow.protocol flow.source.0 flow.destination.0 ≡ Ok (way_of by) → AreFound g flow by → hop ≡ hop_by g by flow → IsNextHop (known_of g) (MayGoBy g notes) (at_hand side bytes) (exit_by by) hop
 next-hop g side bytes flow by hop notes read way found hop_is = inl (
   by,
-    record {
-      goes = inl (record {
-        passes = read.passes;
-        way = subst (λ (f : Flow). direction_of g.networks side f.protocol f.source.0 f.destination.0 ≡ Ok (way_of by)) read.flow_is way;
-        pairs = subst (λ (f : Flow). AreItsPairs f by) read.flow_is (its-pairs g flow by read.synced found);
-      });
-      target = targets-there g flow by notes read.synced found;
-      exit_is = refl;
-      hop = ap (λ (h : Ip). h.0) (hop_is ∙ ap (hop_by g by) read.flow_is);
-    },
+  record {
+    goes = inl (record {
+      passes = read.passes;
+      way = subst (λ (f : Flow). direction_of g.networks side f.protocol f.source.0 f.destination.0 ≡ Ok (way_of by)) read.flow_is way;
+      pairs = subst (λ (f : Flow). AreItsPairs f by) read.flow_is (its-pairs g flow by read.synced found);
+    });
+    target = targets-there g flow by notes read.synced found;
+    exit_is = refl;
+    hop = ap (λ (h : Ip). h.0) (hop_is ∙ ap (hop_by g by) read.flow_is);
+  },
 )
 
 asked-by : (g : Shown) (side : Side) (bytes : List ℕ) (flow : Flow) (by : Translation) (hop : Ip) (notes : List Note) → IsRead g side bytes flow → IsAsked g side flow by hop
@@ -346,22 +345,6 @@ own-asks frames s side bytes frame tally hop own back = λ w.
       ),
     ) w
 
--- of what something is said may be answered
-and-third : (a b c d : Bool) → (a && (b && (c && d))) ≡ true → c ≡ true
-and-third true true true d is = refl
-and-third true true false d is = absurd (cc)
-and-third true false c d is = absurd (cc)
-and-third false b c d is = absurd (cc)
-
-told-answers : (networks : Networks) (side exit : Side) (reason : Reason) (bytes : List ℕ) (complaint : Complaint) → complaint_of networks side exit reason bytes ≡ Some complaint → may_answer networks side (sender_in bytes).0 ≡ true
-unfolding complaint_of is_told
-told-answers networks side exit reason bytes complaint is = at (is_told networks side (frame_of bytes).body) refl is
-  where
-    at : (b : Bool) → is_told networks side (frame_of bytes).body ≡ b
-        → (let o : Option Complaint = cond b (complaint_about (mtu_of networks exit) reason (frame_of bytes).body) None in o) ≡ Some complaint → may_answer networks side (sender_in bytes).0 ≡ true
-    at true told some = and-third _ _ _ _ told
-    at false told some = absurd (cc)
-
 complaint-asks : Frames → (s : GatewayAndOutput) (side exit : Side) (bytes : List ℕ) (reason : Reason) (complaint : Complaint) (next : Mac) → AreBytes bytes → complaint_of s.shown.networks side exit reason bytes ≡ Some complaint
     → next_back s.shown side (sender_in bytes) ≡ Some next → Ask-on (at_hand side bytes ∷ []) nobody s (renewed_behind (complaint_scene s side bytes complaint next) side (hop_back s.shown side (sender_in bytes)))
 complaint-asks frames s side exit bytes reason complaint next are is there =
@@ -372,7 +355,7 @@ complaint-asks frames s side exit bytes reason complaint next are is there =
 pub refused-asks : Frames → (s : GatewayAndOutput) (side exit : Side) (bytes : List ℕ) (reason : Reason) → AreBytes bytes → Ask-on (at_hand side bytes ∷ []) nobody s (refused s side exit bytes reason)
 refused-asks frames s side exit bytes reason are =
     refused-leaves (λ x. Ask-on (at_hand side bytes ∷ []) nobody s x) s side exit bytes (nothing-asks (at_hand side bytes ∷ []) s)
-    (λ r complaint next is there. complaint-asks frames s side exit bytes r complaint next are is there) reason
+    (λ r complaint next is there free. complaint-asks frames s side exit bytes r complaint next are is there) reason
 
 flow-asks : Frames → (s : GatewayAndOutput) (side : Side) (bytes : List ℕ) (flow : Flow) → IsRead s.shown side bytes flow → Ask-on (at_hand side bytes ∷ []) nobody s (flow_taken s side bytes flow)
 flow-asks frames s side bytes flow read = at (plan_of s.shown side flow (length_in bytes)) refl (plan-says s.shown side flow (length_in bytes))
@@ -382,7 +365,7 @@ flow-asks frames s side bytes flow read = at (plan_of s.shown side flow (length_
     at (Err reason) is says =
         refusal-leaves (λ x. Ask-on (at_hand side bytes ∷ []) nobody s x) s side bytes flow (nothing-asks (at_hand side bytes ∷ []) s)
         (quiet-asks (at_hand side bytes ∷ []) s (wanted_by s (source_of flow)) (wanted-quiet s (source_of flow)))
-        (λ r complaint next said there. complaint-asks frames s side (exit_in s side flow) bytes r complaint next read.are said there) reason
+        (λ r complaint next said there free. complaint-asks frames s side (exit_in s side flow) bytes r complaint next read.are said there) reason
 
 pub packet-asks : Frames → (s : GatewayAndOutput) (side : Side) (bytes : List ℕ) (packet : PacketRead) → reading_on s.shown side bytes ≡ Ok (Packet packet) → AreBytes bytes → Ask-on (at_hand side bytes ∷ []) nobody s (flow_taken s side bytes packet.flow)
 packet-asks frames s side bytes packet is are =
@@ -408,16 +391,16 @@ error-next : (g : Shown) (side : Side) (bytes : List ℕ) (flow : ErrorFlow) (by
     → IsErrorGoing g side flow by → hop ≡ error_hop g by flow → IsNextHop (known_of g) (MayGoBy g notes) (at_hand side bytes) (exit_by by) hop
 error-next g side bytes flow by hop notes read goes hop_is = inl (
   by,
-    record {
-      goes = inr (record {
-        passes = read.passes;
-        way = subst (λ (f : ErrorFlow). error_direction g.networks side f ≡ Ok (way_of by)) read.flow_is goes.way;
-        pairs = subst (λ (f : ErrorFlow). AreErrorPairs f by) read.flow_is (error-pairs g flow by read.synced goes.pairs);
-      });
-      target = error-targets g flow by notes read.synced goes.pairs;
-      exit_is = refl;
-      hop = ap (λ (h : Ip). h.0) (hop_is ∙ ap (error_hop g by) read.flow_is) ∙ ap (hop_of g.networks by) (same-destination bytes);
-    },
+  record {
+    goes = inr (record {
+      passes = read.passes;
+      way = subst (λ (f : ErrorFlow). error_direction g.networks side f ≡ Ok (way_of by)) read.flow_is goes.way;
+      pairs = subst (λ (f : ErrorFlow). AreErrorPairs f by) read.flow_is (error-pairs g flow by read.synced goes.pairs);
+    });
+    target = error-targets g flow by notes read.synced goes.pairs;
+    exit_is = refl;
+    hop = ap (λ (h : Ip). h.0) (hop_is ∙ ap (error_hop g by) read.flow_is) ∙ ap (hop_of g.networks by) (same-destination bytes);
+  },
 )
 
 error-asked : (g : Shown) (side : Side) (bytes : List ℕ) (flow : ErrorFlow) (by : Translation) (hop : Ip) (notes : List Note) → IsErrorRead g bytes flow → IsErrorAsked g side flow by hop
@@ -480,9 +463,9 @@ error-asks frames s side bytes packet is are = by (error_plan s.shown side packe
 pub echo-asks : Frames → (s : GatewayAndOutput) (side : Side) (bytes : List ℕ) (echo : Echo) → reading_on s.shown side bytes ≡ Ok (Asked echo) → AreBytes bytes → Ask-on (at_hand side bytes ∷ []) nobody s (echo_taken s side bytes echo)
 echo-asks frames s side bytes echo read are =
     echo-leaves (λ x. Ask-on (at_hand side bytes ∷ []) nobody s x) s side bytes echo
-    (λ next may there.
+    (λ next may there free.
     own-asks frames s side bytes (own_answer (network_of s.shown.networks side) next bytes) (replied s.shown.moment (station_on s.shown side).said) hop (λ w. answer-own frames s.shown side bytes echo next read are w there) (back may))
-    (λ may there place. waits (inr (back may), unknown there))
+    (λ may there place. waits may there)
     (λ may there. again-asks frames s side bytes side hop (inr (back may), unknown there))
     (λ reason. refused-asks frames s side side bytes reason are)
   where
@@ -490,9 +473,7 @@ echo-asks frames s side bytes echo read are =
     hop = hop_back s.shown side echo.source
 
     source : echo.source ≡ sender_in bytes
-    source =
-        let at = station_on s.shown side in
-        ap (λ (e : Echo). e.source) (frames.reads side at.network (is_active at) (is_up s.shown) bytes (Asked echo) read).1
+    source = asker frames s.shown side bytes echo read
 
     back : may_answer s.shown.networks side echo.source.0 ≡ true → IsBack (known_of s.shown) (at_hand side bytes) side hop
     back may = record {
@@ -504,14 +485,15 @@ echo-asks frames s side bytes echo read are =
     unknown : next_back s.shown side echo.source ≡ None → IsUnknown (known_of s.shown) side hop
     unknown there = near-mac s.shown side hop.0 ∙ there
 
-    waits : IsNextHop (known_of s.shown) (MayGoBy s.shown []) (at_hand side bytes) side hop × IsUnknown (known_of s.shown) side hop
+    waits : may_answer s.shown.networks side echo.source.0 ≡ true → next_back s.shown side echo.source ≡ None
         → Ask-on (at_hand side bytes ∷ []) nobody s (framed (keeping s side bytes (wait.Hop side hop)) side (request_by s.shown side hop))
-    waits asked = λ w.
+    waits may there = λ w.
+        let q = nothing-quiet s in
         let x : Sent = record { side = side; bytes = request_by s.shown side hop } in
         let ask = asking_for side bytes side hop Waits in
-        let new : IsNew (known_of s.shown) (MayGoBy s.shown []) (waiting side bytes s.shown.moment (wait.Hop side hop)) = record { since = refl; asked = refl; wait = asked } in
-        keeping-asks s s (framed (keeping s side bytes (wait.Hop side hop)) side (request_by s.shown side hop)) side bytes (wait.Hop side hop) (x ∷ []) (ask ∷ []) (nothing-quiet s) refl refl refl refl
-        (record { hop = asked.0; cause = asked.1 }, tt)
+        let new : IsNew (known_of s.shown) (MayGoBy s.shown q.notes) (waiting side bytes s.shown.moment (wait.Hop side hop)) = record { since = refl; asked = refl; wait = (inr (back may), unknown there) } in
+        keeping-asks s s (framed (keeping s side bytes (wait.Hop side hop)) side (request_by s.shown side hop)) side bytes (wait.Hop side hop) (x ∷ []) (ask ∷ []) q refl refl refl refl
+        (record { hop = inr (back may); cause = unknown there }, tt)
         (one-other s.shown.networks x (request-other frames s.shown.networks side (station_on s.shown side).network hop (own-six s.shown w.0 side))) new refl (λ ws. refl) refl refl ((refl, refl), (refl, refl)) (λ v. v) are w
 
 -- ---- those whose wait is over

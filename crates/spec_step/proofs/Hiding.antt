@@ -1,5 +1,6 @@
--- What an error sent outward hides: the frame by which it is passed on shows of the inside nothing.
-use Rattle.std.proofs.Common.{◌≡◌, ◌⊎◌, inl, inr, ℕ, ◌-◌, ◌≤◌, ◌<◌, ◌^◌, List, [], ◌∷◌, ◌++◌, map, length, take, drop, refl, sym, ap, subst, ◌∙◌, arith, length-append, length-drop, take-append-drop}
+-- What is sent outward hides: the frame by which an error is passed on shows of the inside nothing, nor does what the gateway
+-- says itself.
+use Rattle.std.proofs.Common.{◌≡◌, ◌⊎◌, inl, inr, ℕ, ◌-◌, ◌≤◌, ◌<◌, ◌^◌, Bool, true, List, [], ◌∷◌, ◌++◌, map, length, take, drop, refl, sym, ap, subst, ◌∙◌, arith, length-append, length-drop, take-append-drop}
 use Rattle.std.specs.List.{AllByRecursion}
 use Rattle.std.proofs.lemmas.List.{append_cancel_left, drop-append-le, length-take-le, take-append-le, take_all}
 use Rattle.std.proofs.lemmas.Bool.{cases_lt}
@@ -7,7 +8,8 @@ use Rattle.std.proofs.Math.Seq.{drop-append_seam}
 use Rattle.addresses.specs.declared.ethernet.Mac.{Mac}
 use Rattle.addresses.specs.declared.internet.Ip.{Ip}
 use Rattle.addresses.specs.declared.transport.Port.{Port}
-use Rattle.nat_types.specs.declared.gateways.Side.TheVariants.{Outside}
+use Rattle.nat_types.specs.declared.gateways.Side.{Side}
+use Rattle.nat_types.specs.declared.gateways.Side.TheVariants.{Inside, Outside}
 use Rattle.nat_types.specs.declared.pairs.Pair.{Pair}
 use Rattle.frames.specs.Frame.{frame_of}
 use Rattle.icmp.specs.declared.packets.ErrorFlow.{ErrorFlow}
@@ -23,14 +25,22 @@ use Rattle.packet_rules.specs.declared.translations.Translation.TheVariants.{Out
 use Rattle.packet_rules.specs.Errors.{HidesInside, passed_by, passed_frame}
 use Rattle.packet_rules.specs.Flows.{error_flow_in}
 use Rattle.packet_rules.specs.Frames.{exit_mac, hop_of}
-use Rattle.packet_rules.specs.Networks.{IsWired}
+use Rattle.packet_rules.specs.declared.complaints.Complaint.{Complaint}
+use Rattle.packet_rules.specs.Asked.{IsAskable, is_asked}
+use Rattle.packet_rules.specs.Networks.{IsPlaced, IsWired, may_answer}
+use Rattle.packet_rules.specs.Own.{HidesHosts, answer_frame, complaint_frame, is_told}
 use Rattle.packet_rules.specs.Steps.{IsPassable}
 use Rattle.output.specs.Output.{Sent}
+use Rattle.spec_step.specs.Machine.{AreBytes}
+use Rattle.spec_step.specs.OwnAnswers.{Answers, Complains, IsOwnOf, IsSaid, OwnFrame, Purpose, ShowsNothing}
+use Rattle.spec_step.specs.Parts.{sender_in}
 use Rattle.spec_step.specs.PassedOn.{ArePassedOn, HidesAllInside, IsPassedOn, TellsAll}
 use Rattle.spec_step.specs.Shown.{GatewayAndOutput, Shown}
 use Rattle.spec_step.specs.Truly.{IsSetUp, AtHand, Sending, known_of}
-use Rattle.spec_step.specs.Verdict.{exit_by}
-use Rattle.spec_step.proofs.Sending.{near-mac, next-six}
+use Rattle.spec_step.specs.Verdict.{exit_by, hop_back}
+use Rattle.spec_step.proofs.Own.{told-is}
+use Rattle.spec_step.proofs.Sending.{back-six, near-mac, next-six}
+use Rattle.spec_step.proofs.Telling.{at_hand}
 
 -- what is known of an error passed on outward
 pub record Hides : Type 0 where
@@ -161,3 +171,40 @@ step-hides hides hand s s2 frames x wired fits are =
     subst (λ (fs : List Sent). HidesAllInside s2.shown.networks fs) same
     (subst (λ (fs : List Sent). AllByRecursion (λ (f : Sent). f.side ≡ Outside → HidesInside outside f.bytes) fs) (sym x.errors)
     (all-hide hides s2.shown wired fits _ x.passed x.each_error))
+
+-- ---- what the gateway says itself
+
+-- what is known of its own frames at the outside
+pub record HidesOwn : Type 0 where
+  pub answer : (networks : Networks) (active : Bool) (next : Mac) (bytes : List ℕ) → IsWired networks → IsPlaced networks → length next.0 ≡ 6 → AreBytes bytes → IsAskable bytes
+      → is_asked networks.outside active (frame_of bytes) ≡ true → may_answer networks Outside (header_of (frame_of bytes).body).source ≡ true → HidesHosts networks (answer_frame networks.outside next bytes)
+  pub complaint : (networks : Networks) (complaint : Complaint) (next : Mac) (bytes : List ℕ) → IsWired networks → IsPlaced networks → length next.0 ≡ 6 → AreBytes bytes
+      → is_told networks Outside (frame_of bytes).body ≡ true → HidesHosts networks (complaint_frame networks.outside complaint next bytes)
+
+module _ (hides : HidesOwn) (g : Shown) (w : IsSetUp g) where
+  said-hides : (side : Side) (bytes : List ℕ) (purpose : Purpose) (next : Mac) (frame : List ℕ) → side ≡ Outside → AreBytes bytes → may_answer g.networks side (sender_in bytes).0 ≡ true → length next.0 ≡ 6
+      → IsSaid g.networks (at_hand side bytes) purpose next frame → HidesHosts g.networks frame
+  said-hides Outside bytes Answers next frame out are may six said =
+      subst (λ (f : List ℕ). HidesHosts g.networks f) (sym said.1.1) (hides.answer g.networks said.1.0.0 next bytes w.0.0 w.0.1.placed six are said.0 said.1.0.1 may)
+  said-hides Outside bytes (Complains reason exit) next frame out are may six said =
+      subst (λ (f : List ℕ). HidesHosts g.networks f) (sym said.1.1)
+      (hides.complaint g.networks said.0 next bytes w.0.0 w.0.1.placed six are (told-is g.networks Outside exit reason bytes said.0 said.1.0))
+  said-hides Inside bytes purpose next frame out are may six said = absurd (cc)
+
+  own-hides : (o : OwnFrame) → IsOwnOf (known_of g) o → o.sent.side ≡ Outside → HidesHosts g.networks o.sent.bytes
+  own-hides o is out =
+      let side = o.packet.side in
+      let host = hop_back g side (sender_in o.packet.bytes) in
+      let known = sym (near-mac g side host.0) ∙ is.hop in
+      said-hides side o.packet.bytes o.purpose is.next o.sent.bytes (sym is.side ∙ out) is.bytes is.sender (back-six g side (sender_in o.packet.bytes) is.next w known) is.says
+
+  all-own-hide : (os : List OwnFrame) → AllByRecursion (IsOwnOf (known_of g)) os → AllByRecursion (λ (f : Sent). f.side ≡ Outside → HidesHosts g.networks f.bytes) (map (λ (o : OwnFrame). o.sent) os)
+  all-own-hide [] all = tt
+  all-own-hide (o ∷ os) all = (own-hides o all.0, all-own-hide os all.1)
+
+pub step-shows-nothing : HidesOwn → (hand : List AtHand) (s s2 : GatewayAndOutput) (frames : List Sent) → TellsAll hand s s2 → IsSetUp s2.shown → s2.told.frames ≡ s.told.frames ++ frames → ShowsNothing s2.shown.networks frames
+step-shows-nothing hides hand s s2 frames x w are =
+    let networks = s2.shown.networks in
+    let same = append_cancel_left s.told.frames x.frames frames (sym x.frames_are ∙ are) in
+    subst (λ (fs : List Sent). ShowsNothing networks fs) same
+    (subst (λ (fs : List Sent). AllByRecursion (λ (f : Sent). f.side ≡ Outside → HidesHosts networks f.bytes) fs) (sym x.own_are) (all-own-hide hides s2.shown w x.own x.each_own))

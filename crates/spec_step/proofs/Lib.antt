@@ -14,12 +14,14 @@ mod Giving
 mod Hearing
 mod Hiding
 mod Idle
+mod InSeconds
 mod Leaving
 mod Limits
 mod Lines
 mod Near
 mod Others
 mod Own
+mod OwnTakings
 mod Packets
 mod Passed
 mod Passing

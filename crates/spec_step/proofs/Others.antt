@@ -357,13 +357,10 @@ refused-others : Frames → (s : GatewayAndOutput) (side : Side) (bytes : List �
     → Sends-others (FrameOwes s.shown side (Err reason)) (packet_as side bytes (Err reason)) (frees_as s.shown side (Err reason)) s (refused s side side bytes reason)
 refused-others frames s side bytes reason are w = at reason
   where
-    abbrev Gone : Reason → Type 0
-    Gone r = Sends-others (FrameOwes s.shown side (Err r)) (packet_as side bytes (Err r)) (frees_as s.shown side (Err r)) s (refused s side side bytes r)
-
     quiet : Sends-others (λ own. own ≡ []) [] nobody s s
     quiet = others-then (λ own. own ≡ []) [] nobody [] s s s refl (gives-here s w) (nothing-asks [] s w).asks
 
-    at : (r : Reason) → Gone r
+    at : (r : Reason) → Sends-others (FrameOwes s.shown side (Err r)) (packet_as side bytes (Err r)) (frees_as s.shown side (Err r)) s (refused s side side bytes r)
     at TtlOver = others-then (λ own. own ≡ []) (at_hand side bytes ∷ []) nobody [] s s (refused s side side bytes TtlOver) refl (gives-here s w) (refused-asks frames s side side bytes TtlOver are w).asks
     at TooLong = others-then (λ own. own ≡ []) (at_hand side bytes ∷ []) nobody [] s s (refused s side side bytes TooLong) refl (gives-here s w) (refused-asks frames s side side bytes TooLong are w).asks
     at ShortFrame = quiet

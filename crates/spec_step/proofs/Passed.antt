@@ -1,5 +1,5 @@
 -- An error that is passed on is told of.
-use Rattle.std.proofs.Common.{◌≡◌, inl, ℕ, true, false, Some, List, [], ◌∷◌, refl, sym, ◌∙◌}
+use Rattle.std.proofs.Common.{◌≡◌, inl, ℕ, true, false, Some, List, [], ◌∷◌, refl, sym, ◌∙◌, arith}
 use Rattle.std.proofs.lemmas.List.{append-nil}
 use Rattle.std.proofs.lemmas.List.Sorted.{IsPermutation-refl}
 use Rattle.addresses.specs.declared.ethernet.Mac.{Mac}
@@ -57,8 +57,15 @@ passed-tells s side bytes by next passed own apart is =
         passed = d ∷ [];
         errors = rw (own, is) refl;
         each_error = (passed, tt);
+        own = [];
+        own_are = rw own refl;
+        each_own = tt;
+        counted_inside = refl;
+        counted_outside = refl;
         dropped = [];
         once = IsPermutation-refl (at_hand side bytes ∷ packets_of s.shown.kept);
       };
       roots = λ p t. inl t;
+      within = λ h. h;
+      later = omega arith;
     }

@@ -1,5 +1,5 @@
 -- One packet or error, and those whose wait is over: what is told of them is true, and what that rests on holds again.
-use Rattle.std.proofs.Common.{◌≡◌, ℕ, Bool, true, false, not, ◌&&◌, List, [], ◌∷◌, ◌++◌, Option, Some, None, Result, Ok, Err, refl, sym, ap, subst, ◌∙◌, cond, IsPermutation, length, inl}
+use Rattle.std.proofs.Common.{◌≡◌, ℕ, Bool, true, false, not, ◌&&◌, List, [], ◌∷◌, ◌++◌, Option, Some, None, Result, Ok, Err, refl, sym, ap, subst, ◌∙◌, cond, IsPermutation, length, inl, arith}
 use Rattle.std.specs.List.{AllByRecursion}
 use Rattle.addresses.specs.declared.ethernet.Mac.{Mac}
 use Rattle.addresses.specs.declared.internet.Ip.{Ip}
@@ -31,10 +31,9 @@ use Rattle.packet_rules.specs.Frames.{sent_frame}
 use Rattle.packet_rules.specs.Steps.{IsForwardable, IsOfSide, unless, up_refusal, IsPassable}
 use Rattle.packet_rules.specs.Errors.{passed_frame}
 use Rattle.packet_rules.specs.Networks.{network_of}
-use Rattle.packet_rules.specs.Own.{answer_frame as own_answer, complaint_frame, is_own_frame}
+use Rattle.packet_rules.specs.Own.{answer_frame as own_answer, complaint_frame, complaint_of, is_own_frame}
 use Rattle.packet_rules.specs.declared.complaints.Complaint.{Complaint}
-use Rattle.interfaces.specs.declared.tallies.Tally.{Tally}
-use Rattle.interfaces.specs.Tallies.{complained as tally_complained, replied}
+use Rattle.interfaces.specs.Tallies.{IsWithin, may_complain}
 use Rattle.interfaces.specs.Stations.{is_active}
 use Rattle.output.specs.Output.{Sent}
 use Rattle.arp.specs.Neighbours.{Neighbours, asks_at}
@@ -43,14 +42,15 @@ use Rattle.spec_step.specs.declared.plans.Plan.{Plan}
 use Rattle.spec_step.specs.declared.plans.Plan.TheVariants.{Send, Ask, AskAgain, Wait as WaitFor}
 use Rattle.spec_step.specs.Machine.{AreBytes}
 use Rattle.spec_step.specs.Others.{is_other}
+use Rattle.spec_step.specs.OwnAnswers.{Answers, Complains, IsOwnOf, OwnFrame, Purpose, counted_for}
 use Rattle.spec_step.specs.Parts.{all_taken, asked_again, by_plan, by_refusal, by_row, by_verdict, carried_all, flags_in, flow_taken, framed, keeping, neighbour_asked, released, renewed_behind, request_by, retaken_by, taken_again, wanted_by, wanted_for, by_error_plan, by_error_verdict, error_taken, echo_taken, length_in, refused, sender_in}
 use Rattle.spec_step.specs.Shown.{GatewayAndOutput, Shown, id_of, is_up, scene, station_on}
 use Rattle.spec_step.specs.Truly.{IsSetUp, AtHand, IsSentBy, Known, known_of, packets_of}
 use Rattle.spec_step.specs.Verdict.{error_hop, error_plan, exit_by, hop_back, hop_by, next_back, next_to, plan_of, reading_on}
 use Rattle.spec_step.proofs.Packets.{PlanFits, kept-filter, kept-more, plan-fits, source-formed}
-use Rattle.spec_step.proofs.Own.{complaint_scene, echo-leaves, refusal-leaves, refused-leaves, said-beside, said_scene}
+use Rattle.spec_step.proofs.Own.{complaint_scene, echo-leaves, exit_in, refusal-leaves, refused-leaves, said-beside, said_scene}
 use Rattle.spec_step.proofs.Passing.{IsSound}
-use Rattle.spec_step.proofs.Sending.{AllTranslate, Frames, answer-own, carried-leaves, complaint-own, found-translate, is-sent, next-six, own-six, request-other, sending-tells}
+use Rattle.spec_step.proofs.Sending.{AllTranslate, Frames, answer-is, answer-own, carried-leaves, complaint-is, complaint-own, found-translate, is-sent, next-six, own-six, request-other, sending-tells}
 use Rattle.spec_step.proofs.Sends.{plan-sends}
 use Rattle.spec_step.proofs.Takings.{IsUseless, keeping-tells, wanted-for-known, wish-useless}
 use Rattle.spec_step.proofs.Telling.{Told, at_hand, framed-tells, own-tells, split-kept, tells-nothing, tells-quietly, tells-then, tells-unseen}
@@ -98,7 +98,7 @@ saying-nothing s hand = λ is w. (record { tells = tells-nothing s hand; sound =
 pub row-says : (s : GatewayAndOutput) (row : Transition) → IsUseless row → RowRoots s.shown.ledger.book row → (IsBook s.shown.ledger.book → IsBook (after s.shown.ledger.book row)) → Saying [] s (by_row s row)
 row-says s row useless roots keeps = λ is w. (
   record {
-    tells = tells-quietly s (by_row s row) (noted_by (id_of s.shown) s.shown.moment row.what) refl refl (useless (id_of s.shown) s.shown.moment) refl (roots (id_of s.shown) s.shown.moment);
+    tells = tells-quietly s (by_row s row) (noted_by (id_of s.shown) s.shown.moment row.what) refl refl (useless (id_of s.shown) s.shown.moment) refl (roots (id_of s.shown) s.shown.moment) (refl, (refl, omega arith));
     sound = record { book = keeps is.book; kept = is.kept };
     wired = w;
   },
@@ -161,11 +161,11 @@ renewed-says frames s exit hop = at exit (asks_at hop.0 s.shown.moment (station_
     -- the neighbours alone are others
     asked : (side : Side) → Saying [] s (scene (neighbour_asked s.shown side hop) s.told)
     asked Inside = λ is w. (
-      record { tells = tells-unseen s _ refl refl refl refl; sound = record { book = is.book; kept = is.kept }; wired = wired Inside w },
+      record { tells = tells-unseen s _ refl refl refl refl (refl, (refl, omega arith)); sound = record { book = is.book; kept = is.kept }; wired = wired Inside w },
       known Inside,
     )
     asked Outside = λ is w. (
-      record { tells = tells-unseen s _ refl refl refl refl; sound = record { book = is.book; kept = is.kept }; wired = wired Outside w },
+      record { tells = tells-unseen s _ refl refl refl refl (refl, (refl, omega arith)); sound = record { book = is.book; kept = is.kept }; wired = wired Outside w },
       known Outside,
     )
 
@@ -204,10 +204,17 @@ again-says frames s exit hop = at (asks_again s.shown.moment (wait.Hop exit hop)
             passed = [];
             errors = refl;
             each_error = tt;
+            own = [];
+            own_are = refl;
+            each_own = tt;
+            counted_inside = refl;
+            counted_outside = refl;
             dropped = [];
             once = subst (λ (ps : List AtHand). IsPermutation (packets_of s.shown.kept) ps) (sym same) (IsPermutation-refl (packets_of s.shown.kept));
           };
           roots = λ p t. inl t;
+          within = λ h. h;
+          later = omega arith;
         };
         sound = record { book = is.book; kept = all-asked (λ (x : HeldPacket). AreBytes x.bytes) (λ x n are. are) s.shown.moment (wait.Hop exit hop) s.shown.kept is.kept };
         wired = w;
@@ -289,49 +296,55 @@ plan-says frames s side bytes flow (AskAgain by hop) read plan fits =
 plan-says frames s side bytes flow (WaitFor e) read plan fits =
     saying-then [] (at_hand side bytes ∷ []) s (wanted_by s e) (by_plan s side bytes flow (WaitFor e)) (wanted-says s e fits) (keeping-says (wanted_by s e) side bytes (wait.Pair e) read.are)
 
--- the gateway says something itself, of the packets in hand
-own-says : Frames → (s : GatewayAndOutput) (side : Side) (hand : List AtHand) (frame : List ℕ) (tally : Tally) (hop : Ip) → (IsSetUp s.shown → is_own_frame s.shown.networks side frame ≡ true)
-    → Saying hand s (renewed_behind (said_scene s side frame tally) side hop)
-own-says frames s side hand frame tally hop own =
-    let one = framed s side frame in
+-- the gateway says something itself, of the packet in hand
+own-says : Frames → (s : GatewayAndOutput) (side : Side) (bytes : List ℕ) (purpose : Purpose) (frame : List ℕ) (hop : Ip) → (IsSetUp s.shown → is_own_frame s.shown.networks side frame ≡ true)
+    → (let x : Sent = record { side = side; bytes = frame } in let o : OwnFrame = record { packet = at_hand side bytes; purpose = purpose; sent = x } in IsSetUp s.shown → IsOwnOf (known_of s.shown) o)
+    → (IsWithin (station_on s.shown side).said → IsWithin (counted_for purpose s.shown.moment (station_on s.shown side).said))
+    → Saying (at_hand side bytes ∷ []) s (renewed_behind (said_scene s side frame (counted_for purpose s.shown.moment (station_on s.shown side).said)) side hop)
+own-says frames s side bytes purpose frame hop own is_of within =
+    let hand = at_hand side bytes ∷ [] in
+    let tally = counted_for purpose s.shown.moment (station_on s.shown side).said in
     let two = said_scene s side frame tally in
     let beside = said-beside s side frame tally in
-    let said : Saying hand s one = λ is w. (record { tells = own-tells s side frame hand (own w); sound = record { book = is.book; kept = is.kept }; wired = w }, refl) in
-    let counts : Saying [] one two = λ is w. (
+    let said : Saying hand s two = λ is w. (
       record {
-        tells = tells-unseen one two refl refl (ap (λ (l : Ledger). l.book.entries) beside.ledger) beside.kept;
+        tells = own-tells s side bytes purpose frame (own w) (is_of w) within;
         sound = record {
           book = subst (λ (l : Ledger). IsBook l.book) (sym beside.ledger) is.book;
-          kept = subst (λ (ws : List HeldPacket). AllByRecursion (λ (x : HeldPacket). AreBytes x.bytes) ws) (sym beside.kept) is.kept;
+          kept = subst (λ (ws : List HeldPacket). AllByRecursion (λ (v : HeldPacket). AreBytes v.bytes) ws) (sym beside.kept) is.kept;
         };
         wired = beside.set_up w;
       },
       beside.known,
     ) in
-    saying-then hand [] s two (renewed_behind two side hop) (saying-then hand [] s one two said counts) (renewed-says frames two side hop)
+    saying-then hand [] s two (renewed_behind two side hop) said (renewed-says frames two side hop)
 
-complaint-says : Frames → (s : GatewayAndOutput) (side : Side) (bytes : List ℕ) (hand : List AtHand) (complaint : Complaint) (next : Mac) → AreBytes bytes → next_back s.shown side (sender_in bytes) ≡ Some next
-    → Saying hand s (renewed_behind (complaint_scene s side bytes complaint next) side (hop_back s.shown side (sender_in bytes)))
-complaint-says frames s side bytes hand complaint next are there =
-    own-says frames s side hand (complaint_frame (network_of s.shown.networks side) complaint next bytes) (tally_complained s.shown.moment (station_on s.shown side).said) (hop_back s.shown side (sender_in bytes))
-    (λ w. complaint-own frames s.shown side bytes complaint next are w there)
+complaint-says : Frames → (s : GatewayAndOutput) (side exit : Side) (bytes : List ℕ) (reason : Reason) (complaint : Complaint) (next : Mac) → AreBytes bytes → complaint_of s.shown.networks side exit reason bytes ≡ Some complaint
+    → next_back s.shown side (sender_in bytes) ≡ Some next → may_complain s.shown.moment (station_on s.shown side).said ≡ true
+    → Saying (at_hand side bytes ∷ []) s (renewed_behind (complaint_scene s side bytes complaint next) side (hop_back s.shown side (sender_in bytes)))
+complaint-says frames s side exit bytes reason complaint next are is there free =
+    own-says frames s side bytes (Complains reason exit) (complaint_frame (network_of s.shown.networks side) complaint next bytes) (hop_back s.shown side (sender_in bytes))
+    (λ w. complaint-own frames s.shown side bytes complaint next are w there) (λ w. complaint-is s.shown side exit bytes reason complaint next are is there)
+    (λ h. frames.tallies.complained s.shown.moment (station_on s.shown side).said h free)
 
-pub refused-says : Frames → (s : GatewayAndOutput) (side exit : Side) (bytes : List ℕ) (hand : List AtHand) (reason : Reason) → AreBytes bytes → Saying hand s (refused s side exit bytes reason)
-refused-says frames s side exit bytes hand reason are =
-    refused-leaves (λ x. Saying hand s x) s side exit bytes (saying-nothing s hand) (λ r complaint next is there. complaint-says frames s side bytes hand complaint next are there) reason
+pub refused-says : Frames → (s : GatewayAndOutput) (side exit : Side) (bytes : List ℕ) (reason : Reason) → AreBytes bytes → Saying (at_hand side bytes ∷ []) s (refused s side exit bytes reason)
+refused-says frames s side exit bytes reason are =
+    let hand = at_hand side bytes ∷ [] in
+    refused-leaves (λ x. Saying hand s x) s side exit bytes (saying-nothing s hand) (λ r complaint next is there free. complaint-says frames s side exit bytes r complaint next are is there free) reason
 
-refusal-says : Frames → (s : GatewayAndOutput) (side : Side) (bytes : List ℕ) (flow : Flow) (reason : Reason) → AreBytes bytes → IsWellFormedEndpoint (source_of flow) → Saying [] s (by_refusal s side bytes flow reason)
+refusal-says : Frames → (s : GatewayAndOutput) (side : Side) (bytes : List ℕ) (flow : Flow) (reason : Reason) → AreBytes bytes → IsWellFormedEndpoint (source_of flow) → Saying (at_hand side bytes ∷ []) s (by_refusal s side bytes flow reason)
 refusal-says frames s side bytes flow reason are formed =
-    refusal-leaves (λ x. Saying [] s x) s side bytes flow (saying-nothing s []) (wanted-says s (source_of flow) formed) (λ r complaint next is there. complaint-says frames s side bytes [] complaint next are there) reason
+    let hand = at_hand side bytes ∷ [] in
+    refusal-leaves (λ x. Saying hand s x) s side bytes flow (saying-nothing s hand)
+    (saying-then hand [] s s (wanted_by s (source_of flow)) (saying-nothing s hand) (wanted-says s (source_of flow) formed))
+    (λ r complaint next is there free. complaint-says frames s side (exit_in s side flow) bytes r complaint next are is there free) reason
 
 flow-says : Frames → (s : GatewayAndOutput) (side : Side) (bytes : List ℕ) (flow : Flow) → IsRead s side bytes flow → Saying (at_hand side bytes ∷ []) s (flow_taken s side bytes flow)
 flow-says frames s side bytes flow read = at (plan_of s.shown side flow (length_in bytes)) refl (plan-fits s.shown side flow (length_in bytes) (read-from s side bytes flow read))
   where
     at : (r : Result Plan Reason) → plan_of s.shown side flow (length_in bytes) ≡ r → PlanFits r → Saying (at_hand side bytes ∷ []) s (by_verdict s side bytes flow r)
     at (Ok plan) is fits = plan-says frames s side bytes flow plan read is fits
-    at (Err reason) is fits =
-        saying-then (at_hand side bytes ∷ []) [] s s (by_refusal s side bytes flow reason) (saying-nothing s (at_hand side bytes ∷ []))
-        (refusal-says frames s side bytes flow reason read.are (read-from s side bytes flow read))
+    at (Err reason) is fits = refusal-says frames s side bytes flow reason read.are (read-from s side bytes flow read)
 
 -- ---- frames as they are read
 
@@ -434,22 +447,24 @@ echo-says frames s side bytes echo read are =
     let network = (station_on s.shown side).network in
     let one = keeping s side bytes (wait.Hop side hop) in
     echo-leaves (λ x. Saying hand s x) s side bytes echo
-    (λ next may there.
-    own-says frames s side hand (own_answer (network_of s.shown.networks side) next bytes) (replied s.shown.moment (station_on s.shown side).said) hop (λ w. answer-own frames s.shown side bytes echo next read are w there))
+    (λ next may there free.
+    own-says frames s side bytes Answers (own_answer (network_of s.shown.networks side) next bytes) hop
+    (λ w. answer-own frames s.shown side bytes echo next read are w there) (λ w. answer-is frames s.shown side bytes echo next read are w may there)
+    (λ h. frames.tallies.replied s.shown.moment (station_on s.shown side).said h free))
     (λ may there place is w. saying-then hand [] s one (framed one side (request_frame network hop)) (keeping-says s side bytes (wait.Hop side hop) are)
     (framed-says one side (request_frame network hop) (λ x. request-other frames one.shown.networks side network hop (own-six s.shown w side))) is w)
     (λ may there. saying-then hand [] s s (asked_again s side hop) (saying-nothing s hand) (again-says frames s side hop))
-    (λ reason. refused-says frames s side side bytes hand reason are)
+    (λ reason. refused-says frames s side side bytes reason are)
 
 -- ---- a frame that is read again
 
-retaken-says : Frames → (s : GatewayAndOutput) (side : Side) (bytes : List ℕ) (r : Result Reading Reason) → reading_on s.shown side bytes ≡ r → AreBytes bytes → Saying (at_hand side bytes ∷ []) s (retaken_by s side bytes r)
+pub retaken-says : Frames → (s : GatewayAndOutput) (side : Side) (bytes : List ℕ) (r : Result Reading Reason) → reading_on s.shown side bytes ≡ r → AreBytes bytes → Saying (at_hand side bytes ∷ []) s (retaken_by s side bytes r)
 retaken-says frames s side bytes (Ok (Packet packet)) is are = packet-says frames s side bytes packet is are
 retaken-says frames s side bytes (Ok (Error packet)) is are = error-packet-says frames s side bytes packet is are
 retaken-says frames s side bytes (Ok (Arp p)) is are = saying-nothing s (at_hand side bytes ∷ [])
 retaken-says frames s side bytes (Ok (Advert a from)) is are = saying-nothing s (at_hand side bytes ∷ [])
 retaken-says frames s side bytes (Ok (Asked echo)) is are = echo-says frames s side bytes echo is are
-retaken-says frames s side bytes (Err reason) is are = refused-says frames s side side bytes (at_hand side bytes ∷ []) reason are
+retaken-says frames s side bytes (Err reason) is are = refused-says frames s side side bytes reason are
 
 -- ---- those whose wait is over
 
@@ -478,10 +493,17 @@ module _ (frames : Frames) (s : GatewayAndOutput) (ended : Ended) where
       passed = x.all.passed;
       errors = x.all.errors;
       each_error = x.all.each_error;
+      own = x.all.own;
+      own_are = x.all.own_are;
+      each_own = x.all.each_own;
+      counted_inside = x.all.counted_inside;
+      counted_outside = x.all.counted_outside;
       dropped = x.all.dropped;
       once = IsPermutation-trans _ _ _ (IsPermutation-sym _ _ (split-kept ended s.shown.kept)) x.all.once;
     };
     roots = x.roots;
+    within = x.within;
+    later = x.later;
   }
 
   released-by : AllByRecursion (λ (w : HeldPacket). AreBytes w.bytes) s.shown.kept → Saying (packets_of (ended_by ended s.shown.kept)) start (released s ended)

@@ -1,5 +1,5 @@
 -- A packet that is sent on is told of truly.
-use Rattle.std.proofs.Common.{◌≡◌, ℕ, Bool, true, false, Some, Ok, List, [], ◌∷◌, ◌++◌, length, IsPermutation, refl, sym, ap, subst, ◌∙◌, append_assoc}
+use Rattle.std.proofs.Common.{◌≡◌, ℕ, Bool, true, false, Some, Ok, List, [], ◌∷◌, ◌++◌, length, IsPermutation, refl, sym, ap, subst, ◌∙◌, append_assoc, arith}
 use Rattle.std.proofs.lemmas.List.{append-nil}
 use Rattle.std.proofs.lemmas.Grind.{flat_map-append}
 use Rattle.std.proofs.lemmas.List.Sorted.{IsPermutation-refl}
@@ -24,6 +24,7 @@ use Rattle.packet_rules.specs.declared.networks.Network.{Network}
 use Rattle.packet_rules.specs.declared.networks.Networks.{Networks}
 use Rattle.packet_rules.specs.declared.readings.Asked.{Asked as Echo}
 use Rattle.packet_rules.specs.declared.readings.Reading.TheVariants.{Asked}
+use Rattle.packet_rules.specs.declared.reasons.Reason.{Reason}
 use Rattle.packet_rules.specs.declared.translations.Translation.{Translation}
 use Rattle.packet_rules.specs.declared.translations.Translation.TheVariants.{Outward, Inward, Hairpin}
 use Rattle.packet_rules.specs.Adverts.{advert_frame}
@@ -31,25 +32,34 @@ use Rattle.packet_rules.specs.Asked.{IsAskable, is_asked}
 use Rattle.packet_rules.specs.Arping.{answer_frame, gratuitous_frame, request_frame}
 use Rattle.packet_rules.specs.Flows.{error_flow_in, flow_in, source_of}
 use Rattle.packet_rules.specs.Frames.{hop_of, is_translation, pairs_of, sent_frame, way_of}
-use Rattle.packet_rules.specs.Networks.{IsPlaced, IsWired, direction_of, exit_of, network_of}
-use Rattle.packet_rules.specs.Own.{answer_frame as own_answer, complaint_frame, is_own_frame}
+use Rattle.packet_rules.specs.Networks.{IsPlaced, IsWired, direction_of, exit_of, may_answer, network_of}
+use Rattle.packet_rules.specs.Own.{answer_frame as own_answer, complaint_frame, complaint_of, is_own_frame}
 use Rattle.packet_rules.specs.Steps.{IsForwardable, IsOfSide, IsPassable, reading_of}
 use Rattle.packet_rules.specs.Errors.{error_direction, is_error_frame, passed_frame}
+use Rattle.interfaces.specs.declared.tallies.Tally.{Tally}
 use Rattle.interfaces.specs.Stations.{is_active}
+use Rattle.interfaces.specs.Tallies.{IsWithin, complained, may_complain, may_reply, replied}
 use Rattle.output.specs.Output.{Sent}
 use Rattle.spec_step.specs.Others.{is_other, retaken_pairs}
 use Rattle.spec_step.specs.Machine.{AreBytes}
 use Rattle.spec_step.specs.Parts.{carried_all, framed, sender_in, wanted_for}
+use Rattle.spec_step.specs.OwnAnswers.{Answers, Complains, IsOwnOf, OwnFrame, own_frames}
 use Rattle.spec_step.specs.PassedOn.{error_frames}
 use Rattle.spec_step.specs.Shown.{GatewayAndOutput, Shown, id_of, is_up, station_on}
 use Rattle.spec_step.specs.Truly.{AreItsPairs, IsSetUp, IsSentBy, Known, Sending, known_of, near_on, packets_of, translated_frames, unasked, used_in, used_pairs}
 use Rattle.spec_step.specs.Verdict.{exit_by, hop_back, hop_by, next_back, next_by, reading_on}
+use Rattle.spec_step.proofs.Own.{told-answers}
 use Rattle.spec_step.proofs.FrameKinds.{other-by, sent-no_error}
 use Rattle.spec_step.proofs.Packets.{Reads}
 use Rattle.spec_step.proofs.Rooting.{same-rooted}
 use Rattle.spec_step.proofs.Sends.{AreFound, IsOwn, IsPlanned}
-use Rattle.spec_step.proofs.Telling.{Told, at_hand}
+use Rattle.spec_step.proofs.Telling.{SameSaid, Told, at_hand, within-by}
 use Rattle.spec_step.proofs.Translating.{Translates, carry-note, target-translates, wish-owns, wish-still}
+
+-- a tally stays within its limits
+pub record Limited : Type 0 where
+  pub replied : (now : ℕ) (tally : Tally) → IsWithin tally → may_reply now tally ≡ true → IsWithin (replied now tally)
+  pub complained : (now : ℕ) (tally : Tally) → IsWithin tally → may_complain now tally ≡ true → IsWithin (complained now tally)
 
 -- which frames are the gateway's own
 pub record OwnFrames : Type 0 where
@@ -71,6 +81,7 @@ pub record Frames : Type 0 where
   pub reads : Reads
   pub asked : (side : Side) (network : Network) (active up : Bool) (bytes : List ℕ) (echo : Echo) → reading_of side network active up bytes ≡ Ok (Asked echo) → is_asked network active (frame_of bytes) ≡ true
   pub own : OwnFrames
+  pub tallies : Limited
   pub sent : (networks : Networks) (side : Side) (t : Translation) (next : Mac) (bytes : List ℕ) → IsWired networks → length next.0 ≡ 6 → IsForwardable bytes → IsOfSide side bytes
       → (let flow = flow_in bytes in direction_of networks side flow.protocol flow.source.0 flow.destination.0 ≡ Ok (way_of t)) → is_translation (exit_of (way_of t)) (sent_frame networks t next bytes) ≡ true
   pub answer : (exit : Side) (network : Network) (p : ArpPacket) (mac : Mac) → length network.own_mac.0 ≡ 6 → length p.sender_mac.0 ≡ 6 → is_translation exit (answer_frame network p mac) ≡ false
@@ -169,11 +180,12 @@ pub record Carries-on (s s2 : GatewayAndOutput) (by : Translation) : Type 0 wher
   pub known : known_of s2.shown ≡ known_of s.shown
   pub book : s2.shown.ledger.book ≡ s.shown.ledger.book
   pub wired : IsSetUp s.shown → IsSetUp s2.shown
+  pub said : SameSaid s.shown s2.shown
   pub nets : (s2.shown.inside.network ≡ s.shown.inside.network) × (s2.shown.outside.network ≡ s.shown.outside.network)
 
 pub carried-leaves : (s : GatewayAndOutput) (flow : Flow) (flags : TcpFlags) (by : Translation) → Carries-on s (carried_all s flow flags by) by
-carried-leaves s flow flags (Outward p) = record { frames = refl; notes = refl; kept = refl; known = refl; book = refl; wired = λ w. w; nets = (refl, refl) }
-carried-leaves s flow flags (Inward p) = record { frames = refl; notes = refl; kept = refl; known = refl; book = refl; wired = λ w. w; nets = (refl, refl) }
+carried-leaves s flow flags (Outward p) = record { frames = refl; notes = refl; kept = refl; known = refl; book = refl; wired = λ w. w; said = (refl, (refl, omega arith)); nets = (refl, refl) }
+carried-leaves s flow flags (Inward p) = record { frames = refl; notes = refl; kept = refl; known = refl; book = refl; wired = λ w. w; said = (refl, (refl, omega arith)); nets = (refl, refl) }
 carried-leaves s flow flags (Hairpin own other) = record {
   frames = refl;
   notes = append_assoc s.told.notes (carry_notes s.shown own) (carry_notes s.shown other);
@@ -181,6 +193,7 @@ carried-leaves s flow flags (Hairpin own other) = record {
   known = refl;
   book = refl;
   wired = λ w. w;
+  said = (refl, (refl, omega arith));
   nets = (refl, refl);
 }
 
@@ -219,6 +232,53 @@ answer-own frames g side bytes echo next read are w there =
     frames.own.answer g.networks side (is_active at) next bytes w.0.0 w.0.1.placed (back-six g side echo.source next w there) are carries.0
     (subst (λ (n : Network). is_asked n (is_active at) (frame_of bytes) ≡ true) (house-network g w side) asked)
 
+abbrev pub answer_of : Shown → Side → List ℕ → Mac → OwnFrame
+answer_of g side bytes next = record {
+  packet = at_hand side bytes;
+  purpose = Answers;
+  sent = record { side = side; bytes = own_answer (network_of g.networks side) next bytes };
+}
+
+-- who asked it
+pub asker : Frames → (g : Shown) (side : Side) (bytes : List ℕ) (echo : Echo) → reading_on g side bytes ≡ Ok (Asked echo) → echo.source ≡ sender_in bytes
+asker frames g side bytes echo read =
+    let at = station_on g side in
+    ap (λ (e : Echo). e.source) (frames.reads side at.network (is_active at) (is_up g) bytes (Asked echo) read).1
+
+pub answer-is : Frames → (g : Shown) (side : Side) (bytes : List ℕ) (echo : Echo) (next : Mac) → reading_on g side bytes ≡ Ok (Asked echo) → AreBytes bytes → IsSetUp g → may_answer g.networks side echo.source.0 ≡ true
+    → next_back g side echo.source ≡ Some next → IsOwnOf (known_of g) (answer_of g side bytes next)
+answer-is frames g side bytes echo next read are w may there =
+    let at = station_on g side in
+    let carries = frames.reads side at.network (is_active at) (is_up g) bytes (Asked echo) read in
+    let asked = frames.asked side at.network (is_active at) (is_up g) bytes echo read in
+    let source = asker frames g side bytes echo read in
+    record {
+      bytes = are;
+      sender = subst (λ (i : Ip). may_answer g.networks side i.0 ≡ true) source may;
+      side = refl;
+      next = next;
+      hop = near-mac g side (hop_back g side (sender_in bytes)).0 ∙ subst (λ (i : Ip). next_back g side i ≡ Some next) source there;
+      says = (carries.0, ((is_active at, subst (λ (n : Network). is_asked n (is_active at) (frame_of bytes) ≡ true) (house-network g w side) asked), refl));
+    }
+
+abbrev pub complaint_by : Shown → Side → Side → List ℕ → Reason → Complaint → Mac → OwnFrame
+complaint_by g side exit bytes reason complaint next = record {
+  packet = at_hand side bytes;
+  purpose = Complains reason exit;
+  sent = record { side = side; bytes = complaint_frame (network_of g.networks side) complaint next bytes };
+}
+
+pub complaint-is : (g : Shown) (side exit : Side) (bytes : List ℕ) (reason : Reason) (complaint : Complaint) (next : Mac) → AreBytes bytes → complaint_of g.networks side exit reason bytes ≡ Some complaint → next_back g side (sender_in bytes) ≡ Some next
+    → IsOwnOf (known_of g) (complaint_by g side exit bytes reason complaint next)
+complaint-is g side exit bytes reason complaint next are is there = record {
+  bytes = are;
+  sender = told-answers g.networks side exit reason bytes complaint is;
+  side = refl;
+  next = next;
+  hop = near-mac g side (hop_back g side (sender_in bytes)).0 ∙ there;
+  says = (complaint, (is, refl));
+}
+
 -- and so is what it says of a packet
 pub complaint-own : Frames → (g : Shown) (side : Side) (bytes : List ℕ) (complaint : Complaint) (next : Mac) → AreBytes bytes → IsSetUp g → next_back g side (sender_in bytes) ≡ Some next
     → is_own_frame g.networks side (complaint_frame (network_of g.networks side) complaint next bytes) ≡ true
@@ -249,8 +309,15 @@ sending-tells s side bytes flow flags by frame sent own is all =
         passed = [];
         errors = subst (λ (n : Networks). error_frames n (x ∷ []) ≡ []) (sym nets) (rw (own, none) refl);
         each_error = tt;
+        own = [];
+        own_are = subst (λ (n : Networks). own_frames n (x ∷ []) ≡ []) (sym nets) (rw own refl);
+        each_own = tt;
+        counted_inside = c.said.0;
+        counted_outside = c.said.1.0;
         dropped = [];
         once = subst (λ (ws : List HeldPacket). IsPermutation (at_hand side bytes ∷ packets_of s.shown.kept) (at_hand side bytes ∷ packets_of ws)) (sym c.kept) (IsPermutation-refl (at_hand side bytes ∷ packets_of s.shown.kept));
       };
       roots = same-rooted s.shown.ledger.book.entries two.shown.ledger.book.entries (retaken_pairs (all_notes s.shown by)) (ap (λ (b : Book). b.entries) c.book);
+      within = within-by s.shown two.shown c.said;
+      later = c.said.1.1;
     }

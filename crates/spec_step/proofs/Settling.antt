@@ -143,10 +143,10 @@ again-calms s exit hop = at (asks_again s.shown.moment (wait.Hop exit hop) s.sho
 said-calms : (s : GatewayAndOutput) (side : Side) → Said (λ x. Calming s x) s side
 said-calms s Inside = λ frame tally hop.
     let one = said_scene s Inside frame tally in
-    calming-then s one _ (calm-by s.shown one.shown refl refl refl (λ k. k)) (renewed-calms one Inside hop)
+    calming-then s one (renewed_behind one Inside hop) (calm-by s.shown one.shown refl refl refl (λ k. k)) (renewed-calms one Inside hop)
 said-calms s Outside = λ frame tally hop.
     let one = said_scene s Outside frame tally in
-    calming-then s one _ (calm-by s.shown one.shown refl refl refl (λ k. k)) (renewed-calms one Outside hop)
+    calming-then s one (renewed_behind one Outside hop) (calm-by s.shown one.shown refl refl refl (λ k. k)) (renewed-calms one Outside hop)
 
 refused-calms : (s : GatewayAndOutput) (side exit : Side) (bytes : List ℕ) (reason : Reason) → Calming s (refused s side exit bytes reason)
 refused-calms s side exit bytes reason = refused-by (λ x. Calming s x) s side exit bytes (nothing-calms s) (said-calms s side) reason

@@ -1,6 +1,7 @@
 -- What each part of a step tells is true: interfaces, datagrams, the operator's word, ticks; and so what a whole step tells.
-use Rattle.std.proofs.Common.{◌≡◌, ℕ, Bool, true, false, cond, not, ◌&&◌, List, [], ◌∷◌, ◌++◌, length, Option, Some, None, Result, Ok, Err, refl, sym, ap, subst, ◌∙◌}
+use Rattle.std.proofs.Common.{◌≡◌, ℕ, Bool, true, false, cond, not, ◌&&◌, List, [], ◌∷◌, ◌++◌, length, Option, Some, None, Result, Ok, Err, refl, sym, ap, subst, ◌∙◌, arith, min}
 use Rattle.std.specs.List.{AllByRecursion}
+use Rattle.std.proofs.Math.Nat.{le-max_left}
 use Rattle.addresses.specs.declared.ethernet.Mac.{Mac}
 use Rattle.nat_types.specs.declared.gateways.Side.{Side}
 use Rattle.nat_types.specs.declared.gateways.Side.TheVariants.{Inside, Outside}
@@ -43,7 +44,7 @@ use Rattle.spec_step.specs.Parts.{acted, all_framed, all_idle_done, answered_by,
 use Rattle.spec_step.specs.Shown.{GatewayAndOutput, Shown, id_of, is_running, scene, station_on, with_notes, with_station}
 use Rattle.spec_step.specs.Routers.{BothAct, RouterActs}
 use Rattle.spec_step.specs.GivingWay.{GivingWay, left, turn_of}
-use Rattle.spec_step.specs.Steps.{Does, FrameDoes, IsStepOn, ended_on, stopped, ticked, word_by, word_refusal}
+use Rattle.spec_step.specs.Steps.{Does, FrameDoes, IsStepOn, ended_on, last_moment, stopped, ticked, word_by, word_refusal}
 use Rattle.spec_step.specs.PassedOn.{TellsAll}
 use Rattle.spec_step.specs.Truly.{IsSetUp, AtHand, Known, hand_of, known_of, unasked}
 use Rattle.spec_step.specs.Verdict.{reading_on}
@@ -69,14 +70,14 @@ set-up-inside g station same w wired = ((w.0.0, record { placed = w.0.1.placed; 
 pub set-up-outside : (g : Shown) (station : Interface) → station.network ≡ g.outside.network → IsSetUp g → IsWired station → IsSetUp (with_station g Outside station)
 set-up-outside g station same w wired = ((w.0.0, record { placed = w.0.1.placed; inside_is = w.0.1.inside_is; outside_is = same ∙ w.0.1.outside_is }), (w.1.0, wired))
 
-station-speaks : (s : GatewayAndOutput) (side : Side) (station : Interface) → station.network ≡ (station_on s.shown side).network → (IsSetUp s.shown → IsWired station) → Speaks [] s (scene (with_station s.shown side station) s.told)
-station-speaks s Inside station same wired = λ is w. record {
-  tells = tells-unseen s (scene (with_station s.shown Inside station) s.told) refl refl refl refl;
+station-speaks : (s : GatewayAndOutput) (side : Side) (station : Interface) → station.network ≡ (station_on s.shown side).network → station.said ≡ (station_on s.shown side).said → (IsSetUp s.shown → IsWired station) → Speaks [] s (scene (with_station s.shown side station) s.told)
+station-speaks s Inside station same said wired = λ is w. record {
+  tells = tells-unseen s (scene (with_station s.shown Inside station) s.told) refl refl refl refl (said, (refl, omega arith));
   sound = record { book = is.book; kept = is.kept };
   wired = set-up-inside s.shown station same w (wired w);
 }
-station-speaks s Outside station same wired = λ is w. record {
-  tells = tells-unseen s (scene (with_station s.shown Outside station) s.told) refl refl refl refl;
+station-speaks s Outside station same said wired = λ is w. record {
+  tells = tells-unseen s (scene (with_station s.shown Outside station) s.told) refl refl refl refl (refl, (said, omega arith));
   sound = record { book = is.book; kept = is.kept };
   wired = set-up-outside s.shown station same w (wired w);
 }
@@ -99,6 +100,14 @@ after-wired station p now six w = at (is_learnable station.network p)
     at true = record { own = w.own; known = learn-six station.neighbours (record { address = p.sender_ip; mac = p.sender_mac; at = now; asked = now }) w.known six }
     at false = w
 
+after-said : (station : Interface) (p : ArpPacket) (now : ℕ) → (after_arp station p now).said ≡ station.said
+unfolding after_arp
+after-said station p now = at (is_learnable station.network p)
+  where
+    at : (b : Bool) → (let x : Interface = cond b (with_neighbour station p now) station in x.said) ≡ station.said
+    at true = refl
+    at false = refl
+
 pub after-net : (station : Interface) (p : ArpPacket) (now : ℕ) → (after_arp station p now).network ≡ station.network
 unfolding after_arp
 after-net station p now = at (is_learnable station.network p)
@@ -119,7 +128,7 @@ arp-speaks frames s side p six =
     let told = answered_by heard side p (answer_to station.network (is_active station) p) in
     speaks-then [] [] s told (arp_taken s side p)
     (speaks-then [] [] s heard told
-    (station-speaks s side (after_arp station p s.shown.moment) (after-net station p s.shown.moment) (λ w. after-wired station p s.shown.moment six (wired-on s.shown w side)))
+    (station-speaks s side (after_arp station p s.shown.moment) (after-net station p s.shown.moment) (after-said station p s.shown.moment) (λ w. after-wired station p s.shown.moment six (wired-on s.shown w side)))
     (answered-says frames heard side p (answer_to station.network (is_active station) p) six))
     (at (is_learnable station.network p) told)
   where
@@ -151,7 +160,7 @@ routed-wired station router w = record { own = w.own; known = w.known }
 acted-says : Frames → (s : GatewayAndOutput) (side : Side) (station : Interface) (action : Action) → station ≡ record (station_on s.shown side) { router = station.router } → Saying [] s (acted s side station action)
 acted-says frames s side station action rest =
     let mid = scene (with_station s.shown side station) s.told in
-    let first : Speaks [] s mid = station-speaks s side station (ap (λ (x : Interface). x.network) rest) (λ w. subst IsWired (sym rest) (routed-wired (station_on s.shown side) station.router (wired-on s.shown w side))) in
+    let first : Speaks [] s mid = station-speaks s side station (ap (λ (x : Interface). x.network) rest) (ap (λ (x : Interface). x.said) rest) (λ w. subst IsWired (sym rest) (routed-wired (station_on s.shown side) station.router (wired-on s.shown w side))) in
     saying-then [] [] s mid (acted s side station action)
     (λ is w. (first is w, station-known s.shown side station (ap (λ (x : Interface). x.neighbours) rest)))
     (all-framed-says mid side (frames_of station action) (action-frames frames side station action))
@@ -186,14 +195,14 @@ frame-speaks frames s side bytes (Ok (Asked echo)) s2 read are does =
     subst (λ (x : GatewayAndOutput). Speaks hand s x) (sym does) (speaks-of hand s (echo_taken s side bytes echo) (echo-says frames s side bytes echo read are))
 frame-speaks frames s side bytes (Err reason) s2 read are does =
     let hand = at_hand side bytes ∷ [] in
-    subst (λ (x : GatewayAndOutput). Speaks hand s x) (sym does) (speaks-of hand s (refused s side side bytes reason) (refused-says frames s side side bytes hand reason are))
+    subst (λ (x : GatewayAndOutput). Speaks hand s x) (sym does) (speaks-of hand s (refused s side side bytes reason) (refused-says frames s side side bytes reason are))
 
 -- ---- records
 
 routed-says : (now : ℕ) (g : Shown) (told : Output) (b : Bool) → Saying [] (scene g told) (scene (let x : Shown = cond b (record g { inside = started g.inside now; outside = started g.outside now }) g in x) told)
 routed-says now g told true = λ is w. (
   record {
-    tells = tells-unseen (scene g told) (scene (record g { inside = started g.inside now; outside = started g.outside now }) told) refl refl refl refl;
+    tells = tells-unseen (scene g told) (scene (record g { inside = started g.inside now; outside = started g.outside now }) told) refl refl refl refl (refl, (refl, omega arith));
     sound = record { book = is.book; kept = is.kept };
     wired = (w.0, (record { own = w.1.0.own; known = w.1.0.known }, record { own = w.1.1.own; known = w.1.1.known }));
   },
@@ -215,7 +224,7 @@ record-says frames s r formed =
     let s3 = scene (record_shown g r) told in
     let first : Saying [] s s2 = λ is w. (
       record {
-        tells = tells-quietly s s2 (noted_by (id_of g) g.moment (taken_what b rests r)) refl refl (taken-useless b rests r (id_of g) g.moment) refl (taken-roots b rests r (id_of g) g.moment);
+        tells = tells-quietly s s2 (noted_by (id_of g) g.moment (taken_what b rests r)) refl refl (taken-useless b rests r (id_of g) g.moment) refl (taken-roots b rests r (id_of g) g.moment) (refl, (refl, omega arith));
         sound = record { book = taken-keeps b rests r is.book formed; kept = is.kept };
         wired = w;
       },
@@ -233,7 +242,7 @@ records-say frames s (r ∷ rs) all = saying-then [] [] s (record_done s r) (rec
 
 link-says : (s : GatewayAndOutput) (e : Link) → Saying [] s (with_link s e)
 link-says s e = λ is w. (
-  record { tells = tells-unseen s (with_link s e) refl refl refl refl; sound = record { book = is.book; kept = is.kept }; wired = w },
+  record { tells = tells-unseen s (with_link s e) refl refl refl refl (refl, (refl, omega arith)); sound = record { book = is.book; kept = is.kept }; wired = w },
   refl,
 )
 
@@ -244,7 +253,7 @@ reset-says frames s =
     let mid = scene (record g { ledger = restarted_ledger g.ledger; link = restart_link b g.link }) (with_notes s.told notes) in
     let first : Saying [] s mid = λ is w. (
       record {
-        tells = tells-quietly s mid notes refl refl (restart-useless b g.moment) refl (restart-rooted b g.moment is.book.keys);
+        tells = tells-quietly s mid notes refl refl (restart-useless b g.moment) refl (restart-rooted b g.moment is.book.keys) (refl, (refl, omega arith));
         sound = record { book = restart-keeps b is.book; kept = is.kept };
         wired = w;
       },
@@ -281,7 +290,7 @@ taken-says frames s n synced =
     let mid = scene (record g { ledger = alone_ledger g.moment g.ledger; link = closed_at g.link n }) (with_notes s.told notes) in
     let first : Saying [] s mid = λ is w. (
       record {
-        tells = tells-quietly s mid notes refl refl (retaken-useless (id_of g) g.moment (back_in b.entries)) refl (alone-rooted b (id_of g) g.moment is.book.keys);
+        tells = tells-quietly s mid notes refl refl (retaken-useless (id_of g) g.moment (back_in b.entries)) refl (alone-rooted b (id_of g) g.moment is.book.keys) (refl, (refl, omega arith));
         sound = record { book = alone-keeps b is.book synced; kept = is.kept };
         wired = w;
       },
@@ -317,13 +326,13 @@ old-says s = λ is w. (
 
 stopped-says : (s : GatewayAndOutput) → Saying [] s (stopped s)
 stopped-says s = λ is w. (
-  record { tells = tells-unseen s (stopped s) refl refl refl refl; sound = record { book = is.book; kept = is.kept }; wired = w },
+  record { tells = tells-unseen s (stopped s) refl refl refl refl (refl, (refl, omega arith)); sound = record { book = is.book; kept = is.kept }; wired = w },
   refl,
 )
 
 ticked-speaks : (s : GatewayAndOutput) (now : ℕ) → Speaks [] s (ticked s now)
 ticked-speaks s now = λ is w. record {
-  tells = tells-unseen s (ticked s now) refl refl refl refl;
+  tells = tells-unseen s (ticked s now) refl refl refl refl (refl, (refl, le-max_left s.shown.moment (min now last_moment)));
   sound = record { book = is.book; kept = is.kept };
   wired = w;
 }
@@ -337,32 +346,32 @@ turn-says frames s s2 takes =
   where
     left-says : (middle : GatewayAndOutput) → Saying [] middle (left middle)
     left-says middle = λ is w. (
-      record { tells = tells-unseen middle (left middle) refl refl refl refl; sound = record { book = is.book; kept = is.kept }; wired = w },
+      record { tells = tells-unseen middle (left middle) refl refl refl refl (refl, (refl, omega arith)); sound = record { book = is.book; kept = is.kept }; wired = w },
       refl,
     )
 
     back : (starts : Bool) → Saying [] s (scene (back_as starts s.shown) s.told)
     back true = λ is w. (
       record {
-        tells = tells-unseen s (scene (back_as true s.shown) s.told) refl refl refl refl;
+        tells = tells-unseen s (scene (back_as true s.shown) s.told) refl refl refl refl (refl, (refl, omega arith));
         sound = record { book = is.book; kept = is.kept };
         wired = (w.0, (record { own = w.1.0.own; known = w.1.0.known }, record { own = w.1.1.own; known = w.1.1.known }));
       },
       refl,
     )
     back false = λ is w. (
-      record { tells = tells-unseen s (scene (back_as false s.shown) s.told) refl refl refl refl; sound = record { book = is.book; kept = is.kept }; wired = w },
+      record { tells = tells-unseen s (scene (back_as false s.shown) s.told) refl refl refl refl (refl, (refl, omega arith)); sound = record { book = is.book; kept = is.kept }; wired = w },
       refl,
     )
 
 -- a side's cable
 plugged-says : (s : GatewayAndOutput) (side : Side) (up : Bool) → Saying [] s (side_plugged s side up)
 plugged-says s Inside up = λ is w. (
-  record { tells = tells-unseen s (side_plugged s Inside up) refl refl refl refl; sound = record { book = is.book; kept = is.kept }; wired = (w.0, (record { own = w.1.0.own; known = w.1.0.known }, w.1.1)) },
+  record { tells = tells-unseen s (side_plugged s Inside up) refl refl refl refl (refl, (refl, omega arith)); sound = record { book = is.book; kept = is.kept }; wired = (w.0, (record { own = w.1.0.own; known = w.1.0.known }, w.1.1)) },
   refl,
 )
 plugged-says s Outside up = λ is w. (
-  record { tells = tells-unseen s (side_plugged s Outside up) refl refl refl refl; sound = record { book = is.book; kept = is.kept }; wired = (w.0, (w.1.0, record { own = w.1.1.own; known = w.1.1.known })) },
+  record { tells = tells-unseen s (side_plugged s Outside up) refl refl refl refl (refl, (refl, omega arith)); sound = record { book = is.book; kept = is.kept }; wired = (w.0, (w.1.0, record { own = w.1.1.own; known = w.1.1.known })) },
   refl,
 )
 
@@ -397,15 +406,15 @@ answered-tells : (s : GatewayAndOutput) → Told [] s (link_answered s)
 answered-tells s = at (handed_in s.shown).link.due
   where
     at : (b : Bool) → Told [] s (let g = handed_in s.shown in scene (record g { link = sent_on_answer g.link }) (let t : Output = cond b (with_datagram s.told (datagram_in g)) s.told in t))
-    at true = tells-unseen s _ refl refl refl refl
-    at false = tells-unseen s _ refl refl refl refl
+    at true = tells-unseen s _ refl refl refl refl (refl, (refl, omega arith))
+    at false = tells-unseen s _ refl refl refl refl (refl, (refl, omega arith))
 
 ticked-tells : (s : GatewayAndOutput) → Told [] s (link_ticked s) × ((known_of (link_ticked s).shown ≡ known_of s.shown) × (IsSetUp s.shown → IsSetUp (link_ticked s).shown))
 ticked-tells s = at (is_due_on_tick (handed_in s.shown).link s.shown.moment)
   where
     at : (b : Bool) → (let x : GatewayAndOutput = (let g = handed_in s.shown in cond b (scene (record g { link = sent_on_tick g.link g.moment }) (with_datagram s.told (datagram_in g))) (scene g s.told)) in Told [] s x × ((known_of x.shown ≡ known_of s.shown) × (IsSetUp s.shown → IsSetUp x.shown)))
-    at true = (tells-unseen s _ refl refl refl refl, (refl, λ w. w))
-    at false = (tells-unseen s _ refl refl refl refl, (refl, λ w. w))
+    at true = (tells-unseen s _ refl refl refl refl (refl, (refl, omega arith)), (refl, λ w. w))
+    at false = (tells-unseen s _ refl refl refl refl (refl, (refl, omega arith)), (refl, λ w. w))
 
 answered-ends : (h : List AtHand) (s done : GatewayAndOutput) → Told h s done → IsSetUp done.shown → Told (h ++ []) s (link_answered done) × IsSetUp (link_answered done).shown
 answered-ends h s done x w = (tells-then h [] s done (link_answered done) refl x (answered-tells done), w)
@@ -421,8 +430,11 @@ end-tells s (PeerOff n) done x w = answered-ends [] s done x w
 end-tells s (SideIs side up) done x w = (x, w)
 
 -- a whole step
-pub step-tells : Frames → (s : GatewayAndOutput) (event : Event) (s2 : GatewayAndOutput) → IsStepOn s event s2 → HasBytes event → IsSound s.shown → IsSetUp s.shown → TellsAll (hand_of event) s s2 × IsSetUp s2.shown
-step-tells frames s event s2 step has is w =
+pub step-told : Frames → (s : GatewayAndOutput) (event : Event) (s2 : GatewayAndOutput) → IsStepOn s event s2 → HasBytes event → IsSound s.shown → IsSetUp s.shown → Told (hand_of event) s s2 × IsSetUp s2.shown
+step-told frames s event s2 step has is w =
     let said = does-speak frames s event step.done step.does has is w in
     let end = end-tells s event step.done said.tells said.wired in
-    subst (λ (x : GatewayAndOutput). TellsAll (hand_of event) s x × IsSetUp x.shown) (sym step.sends) (end.0.all, end.1)
+    subst (λ (x : GatewayAndOutput). Told (hand_of event) s x × IsSetUp x.shown) (sym step.sends) end
+
+pub step-tells : Frames → (s : GatewayAndOutput) (event : Event) (s2 : GatewayAndOutput) → IsStepOn s event s2 → HasBytes event → IsSound s.shown → IsSetUp s.shown → TellsAll (hand_of event) s s2 × IsSetUp s2.shown
+step-tells frames s event s2 step has is w = let told = step-told frames s event s2 step has is w in (told.0.all, told.1)

@@ -4,7 +4,7 @@ use Rattle.std.specs.Prelude.{◌≡◌, Some, List, not, ◌&&◌, ◌++◌, ma
 use Rattle.std.specs.List.{AllByRecursion, filter, flat_map}
 use Rattle.std.specs.List.Sorted.{IsPermutation}
 use Rattle.addresses.specs.declared.ethernet.Mac.{Mac}
-use Rattle.nat_types.specs.declared.gateways.Side.TheVariants.{Outside}
+use Rattle.nat_types.specs.declared.gateways.Side.TheVariants.{Inside, Outside}
 use Rattle.nat_types.specs.declared.notes.Note.{Note}
 use Rattle.nat_types.specs.declared.pairs.Pair.{Pair}
 use Rattle.arp.specs.Neighbours.{mac_at}
@@ -15,6 +15,7 @@ use Rattle.packet_rules.specs.Flows.{error_flow_in}
 use Rattle.packet_rules.specs.Frames.{hop_of, pairs_of}
 use Rattle.output.specs.Output.{Sent}
 use Rattle.spec_step.specs.Others.{IsErrorBy, MayGoBy}
+use Rattle.spec_step.specs.OwnAnswers.{IsOwnOf, OwnFrame, own_frames, tallied}
 use Rattle.spec_step.specs.Shown.{GatewayAndOutput}
 use Rattle.spec_step.specs.Truly.{AreSent, AtHand, Known, Sending, is_own, known_of, near_on, packets_of, translated_frames, used_pairs}
 use Rattle.spec_step.specs.Verdict.{exit_by}
@@ -36,9 +37,10 @@ ArePassedOn k may passed = AllByRecursion (λ d. IsPassedOn k may d.packet d.by 
 abbrev pub error_frames : Networks → List Sent → List Sent
 error_frames networks frames = filter (λ f. not (is_own networks f) && is_error_frame f.bytes) frames
 
--- From a scene to a later one, with these packets in hand: what was told more, errors among it. Beside the packets that were
--- translated, as `Tells` has them, stand the errors that were passed on: others of those at hand or kept before, each once,
--- and none of them is dropped or kept afterwards. The gateway translated by their pairs before, or takes them up on the way.
+-- From a scene to a later one, with these packets in hand: what was told more, errors among it, and what the gateway said
+-- itself. Beside the packets that were translated, as `Tells` has them, stand the errors that were passed on, and the packets
+-- that were answered or complained of: others of those at hand or kept before, each once, and none of them is kept afterwards.
+-- The gateway translated by the errors' pairs before, or takes them up on the way. What it says is counted at its side.
 pub record TellsAll (hand : List AtHand) (old new : GatewayAndOutput) : Type 0 where
   pub frames : List Sent
   pub frames_are : new.told.frames ≡ old.told.frames ++ frames
@@ -51,9 +53,15 @@ pub record TellsAll (hand : List AtHand) (old new : GatewayAndOutput) : Type 0 w
   pub passed : List Sending
   pub errors : error_frames new.shown.networks frames ≡ map (λ d. d.sent) passed
   pub each_error : ArePassedOn (known_of new.shown) (MayGoBy old.shown notes) passed
+  pub own : List OwnFrame
+  pub own_are : own_frames new.shown.networks frames ≡ map (λ o. o.sent) own
+  pub each_own : AllByRecursion (IsOwnOf (known_of new.shown)) own
+  pub counted_inside : new.shown.inside.said ≡ tallied new.shown.moment Inside own old.shown.inside.said
+  pub counted_outside : new.shown.outside.said ≡ tallied new.shown.moment Outside own old.shown.outside.said
   pub dropped : List AtHand
   pub once : IsPermutation (hand ++ packets_of old.shown.kept)
-      (map (λ d. d.packet) done ++ (map (λ d. d.packet) passed ++ (dropped ++ packets_of new.shown.kept)))
+      (map (λ d. d.packet) done ++ (map (λ d. d.packet) passed
+      ++ (map (λ o. o.packet) own ++ (dropped ++ packets_of new.shown.kept))))
 
 -- in each error among these frames that was sent outward the source, and the destination of the packet inside, are the
 -- outside virtual address

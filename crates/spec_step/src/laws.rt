@@ -17,27 +17,30 @@ ghost use Rattle.packet_rules.specs.declared.readings.Asked.{Asked as Echo};
 ghost use Rattle.packet_rules.specs.declared.reasons.Reason.{Reason};
 ghost use Rattle.spec_trace.specs.Past.{Idle};
 ghost use Rattle.spec_pair.specs.Talk.{note};
-ghost use Rattle.waiting.specs.Packets.{hop_count};
+ghost use Rattle.waiting.specs.Packets.{HeldPacket, hop_count};
 ghost use Rattle.spec_binding.specs.Books.{IsBook};
 ghost use Rattle.spec_binding.specs.Ledgers.{let_go};
 ghost use Rattle.spec_step.specs.declared.events.Event.{Event};
 ghost use Rattle.spec_step.specs.declared.events.Event.TheVariants.{Tick};
 ghost use Rattle.spec_step.specs.declared.plans.Plan.TheVariants.{Wait as WaitForPair};
-ghost use Rattle.spec_step.specs.Verdict.{error_plan};
+ghost use Rattle.spec_step.specs.Verdict.{error_plan, reading_on};
 ghost use Rattle.spec_step.specs.Founding.{HasRanges, begun, bounds_of, founded, link_places};
-ghost use Rattle.spec_step.specs.Machine.{Goes, HasBytes, HasPushed, IsAlone, IsStanding, KeepsBytes};
+ghost use Rattle.spec_step.specs.Machine.{AreBytes, Goes, HasBytes, HasPushed, IsAlone, IsStanding, KeepsBytes};
 ghost use Rattle.spec_step.specs.Machine.{letters_in, words_in};
 ghost use Rattle.spec_step.specs.Others.{AreOthers};
-ghost use Rattle.spec_step.specs.Parts.{all_idle_done, echo_taken, error_taken, refused};
+ghost use Rattle.spec_step.specs.OwnAnswers.{AreWithin, SaysJust, ShowsNothing, all_own_of, own_of};
+ghost use Rattle.spec_step.specs.Parts.{all_idle_done, all_taken, echo_taken, error_taken, refused, retaken_by};
 ghost use Rattle.spec_step.specs.PassedOn.{HidesAllInside, LeavesPairs, TellsAll};
 ghost use Rattle.spec_step.specs.Rests.{AccountsOn, Rests, most_notes};
 ghost use Rattle.spec_step.specs.Settled.{AreIdle, HaveBegun, IsSettled};
 ghost use Rattle.spec_step.specs.Shown.{GatewayAndOutput, Shown, has_side_out, id_of, is_up, scene};
+ghost use Rattle.spec_step.specs.Seconds.{AreStepsSaying, StepOwn, answers_at, complaints_at, in_second};
 ghost use Rattle.spec_step.specs.Shown.{with_notes};
 ghost use Rattle.spec_step.specs.Steps.{Does, IsStepOn};
 ghost use Rattle.spec_step.specs.Truly.{IsSetUp, Tells, hand_of};
 
-use packet_rules::{frames_law, own_frames_law, readings_law};
+use interfaces::{limits_law, tallies_law};
+use packet_rules::{frames_law, own_frames_law, readings_law, shows_nothing_inside};
 use rewrite::hides_inside;
 
 /// A step is a step of the pair machine: it reads the letters and the words that the event hands in,
@@ -78,12 +81,15 @@ pub fn steps_tell()
     readings_law();
     frames_law();
     own_frames_law();
+    tallies_law();
 }
 
 /// A step passes errors on: beside the translated frames its error frames are, one for one and in
 /// order, errors at hand that were passed on, each another packet and none of those that were
 /// translated, on the way that the rules say for it, to its next hop, by pairs by which the gateway
-/// translated before or that a Retaken note of the step names.
+/// translated before or that a Retaken note of the step names. And its own frames are, one for one and
+/// in order, answers to Echos at hand and complaints of packets at hand, each of another packet still,
+/// to that packet's sender, and counted at its side.
 pub fn steps_pass_on()
     ensures { (s : GatewayAndOutput) (event : Event) (s2 : GatewayAndOutput) → IsStepOn s event s2
         → HasBytes event → IsBook s.shown.ledger.book → KeepsBytes s.shown → IsSetUp s.shown
@@ -92,6 +98,7 @@ pub fn steps_pass_on()
     readings_law();
     frames_law();
     own_frames_law();
+    tallies_law();
 }
 
 /// An error that a step sends at the outside comes from the outside virtual address, and the packet
@@ -107,7 +114,72 @@ pub fn errors_hide()
     readings_law();
     frames_law();
     own_frames_law();
+    tallies_law();
     hides_inside();
+}
+
+/// The own frames of one taking of a packet are just those that its verdict says: the answer to an Echo
+/// that is Sent, and what is said of a packet that is dropped because its time to live is over or
+/// because it is too long. So it is of packets whose wait is over, taken one after another.
+pub fn takings_say()
+    ensures one { (s : GatewayAndOutput) (side : Side) (bytes : List ℕ) → AreBytes bytes
+        → IsSetUp s.shown → SaysJust s (retaken_by s side bytes (reading_on s.shown side bytes))
+        (own_of s.shown side bytes) }
+    ensures all { (s : GatewayAndOutput) (ws : List HeldPacket)
+        → KeepsBytes (record s.shown { kept = ws }) → IsBook s.shown.ledger.book
+        → KeepsBytes s.shown → IsSetUp s.shown → SaysJust s (all_taken s ws) (all_own_of s ws) }
+{
+    readings_law();
+    frames_law();
+    own_frames_law();
+    tallies_law();
+}
+
+/// A frame of its own that a step sends at the outside has no address of the inside network.
+pub fn own_frames_show_nothing()
+    ensures { (s : GatewayAndOutput) (event : Event) (s2 : GatewayAndOutput) (frames : List Sent)
+        → IsStepOn s event s2
+        → HasBytes event → IsBook s.shown.ledger.book → KeepsBytes s.shown → IsSetUp s.shown
+        → s2.told.frames ≡ s.told.frames ++ frames → ShowsNothing s2.shown.networks frames }
+{
+    readings_law();
+    frames_law();
+    own_frames_law();
+    tallies_law();
+    shows_nothing_inside();
+}
+
+/// No more is counted at either side than may be said there in one second.
+pub fn steps_count()
+    ensures { (s : GatewayAndOutput) (event : Event) (s2 : GatewayAndOutput)
+        → IsStepOn s event s2
+        → HasBytes event → IsBook s.shown.ledger.book → KeepsBytes s.shown → IsSetUp s.shown
+        → AreWithin s.shown → AreWithin s2.shown }
+{
+    readings_law();
+    frames_law();
+    own_frames_law();
+    tallies_law();
+}
+
+/// So in one life and one second of its clock a gateway sends at each side at most 100 answers and at most
+/// 10 complaints: of steps one behind the other, from a gateway at which no more is counted.
+pub fn few_in_one_second()
+    ensures answers { (g : Shown) (steps : List StepOwn) (g2 : Shown) → IsSetUp g → AreWithin g
+        → AreStepsSaying g steps g2 → (second : ℕ) (side : Side)
+        → in_second (answers_at side) second steps ≤ 100 }
+    ensures complaints { (g : Shown) (steps : List StepOwn) (g2 : Shown) → IsSetUp g
+        → AreWithin g → AreStepsSaying g steps g2 → (second : ℕ) (side : Side)
+        → in_second (complaints_at side) second steps ≤ 10 }
+    ensures begun { (settings : Settings) (id : GatewayId) (boot : ℕ)
+        → AreWithin (begun settings id boot) }
+    ensures founded { (settings : Settings) (boot : ℕ) → AreWithin (founded settings boot) }
+{
+    readings_law();
+    frames_law();
+    own_frames_law();
+    tallies_law();
+    limits_law();
 }
 
 /// An error is no use of its pairs: it makes, renews and ends none, it is neither noted nor pushed,
@@ -115,7 +187,8 @@ pub fn errors_hide()
 pub fn errors_leave_pairs()
     ensures pairs { (s : GatewayAndOutput) (side : Side) (bytes : List ℕ) (flow : ErrorFlow)
         → LeavesPairs s (error_taken s side bytes flow) }
-    ensures no_wait { (g : Shown) (side : Side) (flow : ErrorFlow) (length : ℕ) (endpoint : Endpoint)
+    ensures no_wait { (g : Shown) (side : Side) (flow : ErrorFlow) (length : ℕ)
+        (endpoint : Endpoint)
         → error_plan g side flow length ≢ Ok (WaitForPair endpoint) }
 {}
 
@@ -138,6 +211,7 @@ pub fn other_frames()
     readings_law();
     frames_law();
     own_frames_law();
+    tallies_law();
 }
 
 /// What a step asks for holds already before the datagram at a step's end, of a list of all records
