@@ -13,7 +13,7 @@ TCP_PLACE, UDP_PLACE, CLOSED = (SERVER, 8080), (SERVER, 8081), (SERVER, 9)
 SIZE = 3_000_000
 NARROW = 1200
 # An upload has this time; at full width it takes a part of a second.
-LONGEST = 4.0
+LONGEST = 8.0
 # An answer of a host's kernel comes within so many seconds.
 PATIENCE = 1.0
 IP_MTU_DISCOVER, NEVER_CUT, MAY_CUT = 10, 2, 0

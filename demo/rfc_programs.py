@@ -72,13 +72,16 @@ def by_programs(current, bench, report, alive):
         traced(current, bench, report)
 
 
-def told_width(current, bench, report):
-    """`ping` with a packet that is too long for the box's outside; and what `tracepath` finds out."""
+def told_width(current, hosts, bench, report):
+    """`ping` with a packet that is too long for the box's outside; and what `tracepath` finds out, from a host that has
+    forgotten what `ping` was told."""
     own, _ = bench.box_place("inside")
+    hosts.widen()
     found = output(current, current.networks.host, *PING, *LONG, SERVER)
     wanted = f"From {own} icmp_seq=1 Frag needed and DF set (mtu = {WIDTH})"
     seen = next((line for line in found.splitlines() if line.startswith("From ")), "nothing")
     report.note(bench, "4787 REQ-13 b", f"`ping {' '.join(LONG)}`: {wanted}", "so" if seen == wanted else seen, seen == wanted)
+    hosts.widen()
     found = NARROW_PATH.findall(output(current, current.networks.host, "tracepath", "-n", "-m", "6", SERVER))
     who = [address for _, address, most in found if int(most) == WIDTH]
     report.note(bench, "1191 4", f"`tracepath` finds {WIDTH:,} bytes, by the box", told(who) or "nothing", who == [own])
@@ -88,11 +91,11 @@ def at_a_narrow_side(current, bench, report):
     """The same pair where the boxes' outside takes less than the hosts' network."""
     with contextlib.ExitStack() as stack:
         hosts = Hosts(current, stack)
-        hosts.widen()
-        told_width(current, bench, report)
+        told_width(current, hosts, bench, report)
         hosts.widen()
         come = hosts.upload()
         report.note(bench, "1191 3", f"a host's upload of {SIZE:,} bytes learns that, and comes", f"{come:,} bytes", come == SIZE)
+        hosts.widen()
         found = hosts.datagram(WIDTH)
         report.note(bench, "4787 REQ-13 c", f"a host's datagram of {WIDTH + 28:,} bytes, which may be cut, comes", yes(found),
                     found)
