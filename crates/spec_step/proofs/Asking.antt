@@ -25,7 +25,7 @@ use Rattle.packet_rules.specs.declared.translations.Translation.TheVariants.{Out
 use Rattle.packet_rules.specs.Arping.{request_frame}
 use Rattle.packet_rules.specs.Flows.{source_of}
 use Rattle.output.specs.Output.{Sent}
-use Rattle.spec_step.specs.Others.{Asking, Cause, Drops, IsCause, IsDue, IsItsWait, IsNew, IsNextHop, IsOnward, MayGoBy, Sends, Waits, all_noted, firsts, has_come, hops_of, other_frames, packets_asked, request_of, requests, targets, waiting_by, within_limit, is_other}
+use Rattle.spec_step.specs.Others.{Asking, Cause, Drops, IsCause, IsDue, IsHost, IsItsWait, IsNew, IsNextHop, IsOnward, MayGoBy, Sends, Waits, all_noted, firsts, has_come, hops_of, other_frames, packets_asked, request_of, requests, targets, waiting_by, within_limit, is_other}
 use Rattle.spec_step.specs.Machine.{AreBytes, KeepsBytes}
 use Rattle.spec_step.specs.Parts.{by_row, wanted_by, wanted_for}
 use Rattle.spec_step.specs.Shown.{GatewayAndOutput, Shown, id_of, station_on}
@@ -149,6 +149,12 @@ module _ (k : Known) (P Q : Pair → Type 0) (more : (p : Pair) → P p → Q p)
   wait-more packet (wait.Pair e) is = is
   wait-more packet (wait.Hop exit host) is = (hop-more packet exit host is.0, is.1)
 
+  host-more : (packet : AtHand) (exit : Side) (host : Ip) (c : Cause) → IsHost k P packet exit host c → IsHost k Q packet exit host c
+  host-more packet exit host Waits is = hop-more packet exit host is
+  host-more packet exit host Sends (inl is) = inl (hop-more packet exit host is)
+  host-more packet exit host Sends (inr told) = inr told
+  host-more packet exit host Drops is = hop-more packet exit host is
+
   pub new-more : (ws : List HeldPacket) → AllByRecursion (IsNew k P) ws → AllByRecursion (IsNew k Q) ws
   new-more [] all = tt
   new-more (w ∷ ws) all = (record { since = all.0.since; asked = all.0.asked; wait = wait-more (at_hand w.side w.bytes) w.wait all.0.wait }, new-more ws all.1)
@@ -158,7 +164,7 @@ module _ (k : Known) (P Q : Pair → Type 0) (more : (p : Pair) → P p → Q p)
       → (qs : List Asking) → AllByRecursion (IsDue g2 k P) qs → AllByRecursion (IsDue g k Q) qs
   due-more g g2 near again [] all = tt
   due-more g g2 near again (a ∷ qs) all =
-      (record { hop = hop-more a.packet a.exit a.host all.0.hop; cause = at a.exit a.host a.cause all.0.cause }, due-more g g2 near again qs all.1)
+      (record { hop = host-more a.packet a.exit a.host a.cause all.0.hop; cause = at a.exit a.host a.cause all.0.cause }, due-more g g2 near again qs all.1)
     where
       at : (exit : Side) (host : Ip) (c : Cause) → IsCause g2 k exit host c → IsCause g k exit host c
       at exit host Waits is = is

@@ -47,7 +47,7 @@ use Rattle.interfaces.specs.Tallies.{complained as tally_complained, replied}
 use Rattle.output.specs.Output.{Sent}
 use Rattle.spec_step.specs.declared.plans.Plan.{Plan}
 use Rattle.spec_step.specs.declared.plans.Plan.TheVariants.{Send, Ask, AskAgain, Wait as WaitFor}
-use Rattle.spec_step.specs.Others.{Asking, Cause, Drops, IsBack, IsDue, IsNew, IsNextHop, IsUnknown, MayGoBy, Sends, Waits, all_noted, firsts, hops_of, other_frames, packets_asked, requests, targets, waiting_by, within_limit, is_other}
+use Rattle.spec_step.specs.Others.{Asking, Cause, Drops, IsBack, IsDue, IsEcho, IsHost, IsNew, IsNextHop, IsUnknown, MayGoBy, Sends, Waits, all_noted, firsts, hops_of, other_frames, packets_asked, requests, targets, waiting_by, within_limit, is_other}
 use Rattle.spec_step.specs.Machine.{AreBytes}
 use Rattle.spec_step.specs.Parts.{all_taken, asked_again, by_plan, by_verdict, carried_all, flags_in, flow_taken, framed, neighbour_asked, released, renewed_behind, request_by, retaken_by, taken_again, waiting, wanted_by, wanted_for, by_error_plan, by_error_verdict, error_taken, echo_taken, keeping, length_in, refused, sender_in}
 use Rattle.spec_step.specs.Shown.{GatewayAndOutput, Shown, is_up, scene, station_on}
@@ -62,7 +62,7 @@ use Rattle.spec_step.proofs.Own.{complaint_scene, echo-leaves, exit_in, refusal-
 use Rattle.spec_step.proofs.Packets.{kept-filter, kept-more}
 use Rattle.spec_step.proofs.Rooting.{has-more}
 use Rattle.spec_step.proofs.Saying.{reading-synced, addressed}
-use Rattle.spec_step.proofs.Sending.{Frames, all_notes, answer-own, asker, carried-leaves, complaint-own, near-mac, next-six, own-six, request-other}
+use Rattle.spec_step.proofs.Sending.{Frames, all_notes, answer-own, asked-is, asker, carried-leaves, complaint-own, near-mac, next-six, own-six, request-other}
 use Rattle.spec_step.proofs.Sends.{AreFound, plan-sends}
 use Rattle.spec_step.proofs.Telling.{at_hand}
 use Rattle.spec_step.proofs.Translating.{target-translates}
@@ -164,7 +164,7 @@ module _ (frames : Frames) (s two : GatewayAndOutput) (side : Side) (bytes : Lis
   abbrev IsSentFrom : Type 0
   IsSentFrom = (two.told.frames ≡ s.told.frames ++ x ∷ []) × ((is_other s.shown.networks x.side x.bytes ≡ false) × ((two.told.notes ≡ s.told.notes ++ notes)
       × (((p : Pair) → IsTranslated two.shown.ledger.book.entries p → MayGoBy s.shown notes p) × ((two.shown.kept ≡ s.shown.kept) × ((known_of two.shown ≡ known_of s.shown)
-      × (SameStations s.shown two.shown × ((IsSetUp s.shown → IsSetUp two.shown) × IsNextHop (known_of s.shown) (MayGoBy s.shown notes) (at_hand side bytes) exit hop)))))))
+      × (SameStations s.shown two.shown × ((IsSetUp s.shown → IsSetUp two.shown) × IsHost (known_of s.shown) (MayGoBy s.shown notes) (at_hand side bytes) exit hop Sends)))))))
 
   renewed-asks : IsSentFrom → Ask-on (at_hand side bytes ∷ []) nobody s (renewed_behind two exit hop)
   renewed-asks (frames_are, (is, (notes_are, (roots, (kept, (known, (stations, (wired, next)))))))) = λ w. at w (asks_at hop.0 two.shown.moment (station_on two.shown exit).neighbours) refl
@@ -298,7 +298,7 @@ plan-asks frames s side bytes flow (Send by next) read plan says = λ w.
               c.kept ∙ q.kept,
               (
                 c.known ∙ q.known,
-                (sent-stations s bytes flow by next, (λ v. c.wired (q.wired v), next-hop s.shown side bytes flow by (hop_by s.shown by flow) notes read planned.way planned.pairs refl)),
+                (sent-stations s bytes flow by next, (λ v. c.wired (q.wired v), inl (next-hop s.shown side bytes flow by (hop_by s.shown by flow) notes read planned.way planned.pairs refl))),
               ),
             ),
           ),
@@ -325,9 +325,10 @@ plan-asks frames s side bytes flow (WaitFor e) read plan says =
 -- ---- what the gateway says itself
 
 -- its next hop is that of the packet's source
-own-asks : Frames → (s : GatewayAndOutput) (side : Side) (bytes frame : List ℕ) (tally : Tally) (hop : Ip) → (IsSetUp s.shown → is_own_frame s.shown.networks side frame ≡ true) → IsBack (known_of s.shown) (at_hand side bytes) side hop
+own-asks : Frames → (s : GatewayAndOutput) (side : Side) (bytes frame : List ℕ) (tally : Tally) (hop : Ip) → (IsSetUp s.shown → is_own_frame s.shown.networks side frame ≡ true)
+    → (IsSetUp s.shown → IsHost (known_of s.shown) (MayGoBy s.shown []) (at_hand side bytes) side hop Sends)
     → Ask-on (at_hand side bytes ∷ []) nobody s (renewed_behind (said_scene s side frame tally) side hop)
-own-asks frames s side bytes frame tally hop own back = λ w.
+own-asks frames s side bytes frame tally hop own host = λ w.
     let two = said_scene s side frame tally in
     let beside = said-beside s side frame tally in
     let x : Sent = record { side = side; bytes = frame } in
@@ -339,7 +340,7 @@ own-asks frames s side bytes frame tally hop own back = λ w.
           sym (append-nil s.told.notes),
           (
             λ p t. inl (subst (λ (l : Ledger). IsTranslated l.book.entries p) beside.ledger t),
-            (beside.kept, (beside.known, ((beside.nets, beside.near), (beside.set_up, inr back)))),
+            (beside.kept, (beside.known, ((beside.nets, beside.near), (beside.set_up, host w.0)))),
           ),
         ),
       ),
@@ -350,7 +351,7 @@ complaint-asks : Frames → (s : GatewayAndOutput) (side exit : Side) (bytes : L
 complaint-asks frames s side exit bytes reason complaint next are is there =
     own-asks frames s side bytes (complaint_frame (network_of s.shown.networks side) complaint next bytes) (tally_complained s.shown.moment (station_on s.shown side).said) (hop_back s.shown side (sender_in bytes))
     (λ w. complaint-own frames s.shown side bytes complaint next are w there)
-    (record { source = told-answers s.shown.networks side exit reason bytes complaint is; exit_is = refl; hop = refl })
+    (λ w. inr ((reason, (exit, (complaint, is))), record { source = told-answers s.shown.networks side exit reason bytes complaint is; exit_is = refl; hop = refl }))
 
 pub refused-asks : Frames → (s : GatewayAndOutput) (side exit : Side) (bytes : List ℕ) (reason : Reason) → AreBytes bytes → Ask-on (at_hand side bytes ∷ []) nobody s (refused s side exit bytes reason)
 refused-asks frames s side exit bytes reason are =
@@ -428,7 +429,7 @@ error-plan-asks frames s side bytes flow (Send by next) read says = λ w.
           sym (append-nil s.told.notes),
           (
             λ p t. inl t,
-            (refl, (refl, (((refl, refl), (refl, refl)), (λ v. v, error-next s.shown side bytes flow by (error_hop s.shown by flow) [] read says.0 refl)))),
+            (refl, (refl, (((refl, refl), (refl, refl)), (λ v. v, inl (error-next s.shown side bytes flow by (error_hop s.shown by flow) [] read says.0 refl))))),
           ),
         ),
       ),
@@ -464,9 +465,9 @@ pub echo-asks : Frames → (s : GatewayAndOutput) (side : Side) (bytes : List �
 echo-asks frames s side bytes echo read are =
     echo-leaves (λ x. Ask-on (at_hand side bytes ∷ []) nobody s x) s side bytes echo
     (λ next may there free.
-    own-asks frames s side bytes (own_answer (network_of s.shown.networks side) next bytes) (replied s.shown.moment (station_on s.shown side).said) hop (λ w. answer-own frames s.shown side bytes echo next read are w there) (back may))
+    own-asks frames s side bytes (own_answer (network_of s.shown.networks side) next bytes) (replied s.shown.moment (station_on s.shown side).said) hop (λ w. answer-own frames s.shown side bytes echo next read are w there) (λ w. inl (inr (echoed w, back may))))
     (λ may there place. waits may there)
-    (λ may there. again-asks frames s side bytes side hop (inr (back may), unknown there))
+    (λ may there w. again-asks frames s side bytes side hop (inr (echoed w.0, back may), unknown there) w)
     (λ reason. refused-asks frames s side side bytes reason are)
   where
     hop : Ip
@@ -474,6 +475,9 @@ echo-asks frames s side bytes echo read are =
 
     source : echo.source ≡ sender_in bytes
     source = asker frames s.shown side bytes echo read
+
+    echoed : IsSetUp s.shown → IsEcho (known_of s.shown) (at_hand side bytes)
+    echoed w = asked-is frames s.shown side bytes echo read w
 
     back : may_answer s.shown.networks side echo.source.0 ≡ true → IsBack (known_of s.shown) (at_hand side bytes) side hop
     back may = record {
@@ -491,9 +495,9 @@ echo-asks frames s side bytes echo read are =
         let q = nothing-quiet s in
         let x : Sent = record { side = side; bytes = request_by s.shown side hop } in
         let ask = asking_for side bytes side hop Waits in
-        let new : IsNew (known_of s.shown) (MayGoBy s.shown q.notes) (waiting side bytes s.shown.moment (wait.Hop side hop)) = record { since = refl; asked = refl; wait = (inr (back may), unknown there) } in
+        let new : IsNew (known_of s.shown) (MayGoBy s.shown q.notes) (waiting side bytes s.shown.moment (wait.Hop side hop)) = record { since = refl; asked = refl; wait = (inr (echoed w.0, back may), unknown there) } in
         keeping-asks s s (framed (keeping s side bytes (wait.Hop side hop)) side (request_by s.shown side hop)) side bytes (wait.Hop side hop) (x ∷ []) (ask ∷ []) q refl refl refl refl
-        (record { hop = inr (back may); cause = unknown there }, tt)
+        (record { hop = inr (echoed w.0, back may); cause = unknown there }, tt)
         (one-other s.shown.networks x (request-other frames s.shown.networks side (station_on s.shown side).network hop (own-six s.shown w.0 side))) new refl (λ ws. refl) refl refl ((refl, refl), (refl, refl)) (λ v. v) are w
 
 -- ---- those whose wait is over

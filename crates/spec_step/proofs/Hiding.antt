@@ -1,6 +1,6 @@
 -- What is sent outward hides: the frame by which an error is passed on shows of the inside nothing, nor does what the gateway
 -- says itself.
-use Rattle.std.proofs.Common.{◌≡◌, ◌⊎◌, inl, inr, ℕ, ◌-◌, ◌≤◌, ◌<◌, ◌^◌, Bool, true, List, [], ◌∷◌, ◌++◌, map, length, take, drop, refl, sym, ap, subst, ◌∙◌, arith, length-append, length-drop, take-append-drop}
+use Rattle.std.proofs.Common.{◌≡◌, ◌⊎◌, inl, inr, ℕ, ◌-◌, ◌≤◌, ◌<◌, ◌^◌, Bool, true, false, cond, Option, Some, None, List, [], ◌∷◌, ◌++◌, map, length, take, drop, refl, sym, ap, subst, ◌∙◌, arith, length-append, length-drop, take-append-drop}
 use Rattle.std.specs.List.{AllByRecursion}
 use Rattle.std.proofs.lemmas.List.{append_cancel_left, drop-append-le, length-take-le, take-append-le, take_all}
 use Rattle.std.proofs.lemmas.Bool.{cases_lt}
@@ -26,9 +26,12 @@ use Rattle.packet_rules.specs.Errors.{HidesInside, passed_by, passed_frame}
 use Rattle.packet_rules.specs.Flows.{error_flow_in}
 use Rattle.packet_rules.specs.Frames.{exit_mac, hop_of}
 use Rattle.packet_rules.specs.declared.complaints.Complaint.{Complaint}
+use Rattle.packet_rules.specs.declared.complaints.Complaint.TheVariants.{TooBig}
+use Rattle.packet_rules.specs.declared.reasons.Reason.{Reason}
+use Rattle.packet_rules.specs.declared.reasons.Reason.TheVariants.{ShortFrame, NotMine, BadHeader, BadLength, BadHeaderSum, Fragment, TtlOver, NotUdpTcp, BadTransport, BadArp, BadAdvert, NotUp, NoBinding, NoPort, CannotWait, BadDatagram, OldWord, HostLimit, TooLong, TooMany}
 use Rattle.packet_rules.specs.Asked.{IsAskable, is_asked}
-use Rattle.packet_rules.specs.Networks.{IsPlaced, IsWired, may_answer}
-use Rattle.packet_rules.specs.Own.{HidesHosts, answer_frame, complaint_frame, is_told}
+use Rattle.packet_rules.specs.Networks.{IsPlaced, IsWired, may_answer, mtu_of}
+use Rattle.packet_rules.specs.Own.{HidesHosts, answer_frame, complaint_about, complaint_frame, complaint_of, is_told, is_unbroken}
 use Rattle.packet_rules.specs.Steps.{IsPassable}
 use Rattle.output.specs.Output.{Sent}
 use Rattle.spec_step.specs.Machine.{AreBytes}
@@ -208,3 +211,39 @@ step-shows-nothing hides hand s s2 frames x w are =
     let same = append_cancel_left s.told.frames x.frames frames (sym x.frames_are ∙ are) in
     subst (λ (fs : List Sent). ShowsNothing networks fs) same
     (subst (λ (fs : List Sent). AllByRecursion (λ (f : Sent). f.side ≡ Outside → HidesHosts networks f.bytes) fs) (sym x.own_are) (all-own-hide hides s2.shown w x.own x.each_own))
+
+-- the length that it names is that of the side at which the packet would have left
+about-mtu : (most : ℕ) (reason : Reason) (packet : List ℕ) (mtu : ℕ) → complaint_about most reason packet ≡ Some (TooBig mtu) → mtu ≡ most
+unfolding complaint_about
+about-mtu most TtlOver packet mtu is = absurd (cc)
+about-mtu most TooLong packet mtu is = at (is_unbroken packet) is
+  where
+    at : (b : Bool) → (let o : Option Complaint = cond b (Some (TooBig most)) None in o) ≡ Some (TooBig mtu) → mtu ≡ most
+    at true same = cc
+    at false same = absurd (cc)
+about-mtu most ShortFrame packet mtu is = absurd (cc)
+about-mtu most NotMine packet mtu is = absurd (cc)
+about-mtu most BadHeader packet mtu is = absurd (cc)
+about-mtu most BadLength packet mtu is = absurd (cc)
+about-mtu most BadHeaderSum packet mtu is = absurd (cc)
+about-mtu most Fragment packet mtu is = absurd (cc)
+about-mtu most NotUdpTcp packet mtu is = absurd (cc)
+about-mtu most BadTransport packet mtu is = absurd (cc)
+about-mtu most BadArp packet mtu is = absurd (cc)
+about-mtu most BadAdvert packet mtu is = absurd (cc)
+about-mtu most NotUp packet mtu is = absurd (cc)
+about-mtu most NoBinding packet mtu is = absurd (cc)
+about-mtu most NoPort packet mtu is = absurd (cc)
+about-mtu most CannotWait packet mtu is = absurd (cc)
+about-mtu most BadDatagram packet mtu is = absurd (cc)
+about-mtu most OldWord packet mtu is = absurd (cc)
+about-mtu most HostLimit packet mtu is = absurd (cc)
+about-mtu most TooMany packet mtu is = absurd (cc)
+
+pub named-mtu : (networks : Networks) (side exit : Side) (reason : Reason) (bytes : List ℕ) (mtu : ℕ) → complaint_of networks side exit reason bytes ≡ Some (TooBig mtu) → mtu ≡ mtu_of networks exit
+unfolding complaint_of
+named-mtu networks side exit reason bytes mtu is = at (is_told networks side (frame_of bytes).body) is
+  where
+    at : (b : Bool) → (let o : Option Complaint = cond b (complaint_about (mtu_of networks exit) reason (frame_of bytes).body) None in o) ≡ Some (TooBig mtu) → mtu ≡ mtu_of networks exit
+    at true some = about-mtu (mtu_of networks exit) reason (frame_of bytes).body mtu some
+    at false some = absurd (cc)

@@ -12,7 +12,7 @@ use Rattle.bindings.specs.Lives.{idle_keys_in}
 use Rattle.link.specs.declared.datagrams.Datagram.{Datagram}
 use Rattle.link.specs.declared.faults.LinkFault.{LinkFault}
 use Rattle.link.specs.Grammar.{IsWellFormed, IsWellFormedRecord}
-use Rattle.link.specs.Link.{after_take, is_due_on_tick, is_restart, records_taken, refusal, sent_on_answer, sent_on_tick}
+use Rattle.link.specs.Link.{after_take, is_due_on_tick, is_restart, records_taken, refusal, sent_on_tick}
 use Rattle.link.specs.Reading.{reading}
 use Rattle.link.proofs.Offered.{all_taken as all_formed, reading_takes}
 use Rattle.spec_binding.specs.Books.{is_lone}
@@ -21,14 +21,13 @@ use Rattle.spec_binding.specs.Rows.{answered, taken_answer, taken_ended}
 use Rattle.waiting.specs.declared.waits.Ended.{Ended}
 use Rattle.waiting.specs.declared.waits.Ended.TheVariants.{AllPairs, One}
 use Rattle.waiting.specs.declared.waits.WaitsFor.TheVariants as wait
-use Rattle.waiting.specs.Packets.{HeldPacket, ended_by, left_by}
+use Rattle.waiting.specs.Packets.{ended_by, left_by}
 use Rattle.packet_rules.specs.declared.readings.Reading.{Reading}
 use Rattle.packet_rules.specs.declared.readings.Reading.TheVariants.{Arp, Advert, Packet, Error, Asked}
 use Rattle.packet_rules.specs.declared.reasons.Reason.{Reason}
 use Rattle.packet_rules.specs.Arping.{answer_frame, answer_to, is_learnable}
 use Rattle.interfaces.specs.Stations.{Interface, after_arp, is_active}
 use Rattle.output.specs.Output.{Output, Sent, with_datagram}
-use Rattle.vrrp_states.specs.declared.Action.{Action}
 use Rattle.vrrp_states.specs.Table as table
 use Rattle.vrrp_states.specs.Table.{Event as RouterEvent}
 use Rattle.spec_step.specs.declared.events.Event.{Event}
@@ -36,7 +35,7 @@ use Rattle.spec_step.specs.declared.events.Event.TheVariants.{Frame, Datagram as
 use Rattle.spec_step.specs.GivingWay.{GivingWay, left, turn_of}
 use Rattle.spec_step.specs.Machine.{AreBytes, HasBytes}
 use Rattle.spec_step.specs.OwnAnswers.{SaysJust}
-use Rattle.spec_step.specs.Parts.{acted, all_framed, all_idle_done, all_taken, answered_by, arp_taken, datagram_in, datagram_read, framed, frames_of, handed_in, has_synced, heard_by, heard_unless, idle_done, idle_taken, link_answered, link_ticked, old_dropped, record_done, record_shown, records_done, released, reset, routers_started, side_plugged, wait_ended, with_link, with_routers, word_taken}
+use Rattle.spec_step.specs.Parts.{acted, all_framed, all_idle_done, answered_by, arp_taken, datagram_in, datagram_read, framed, frames_of, handed_in, has_synced, heard_by, heard_unless, idle_done, idle_taken, link_answered, link_ticked, old_dropped, record_done, records_done, released, reset, routers_started, side_plugged, wait_ended, with_link, with_routers, word_taken}
 use Rattle.spec_step.specs.Routers.{BothAct, RouterActs}
 use Rattle.spec_step.specs.Sayings.{own_arp, own_datagram, own_ended, own_framed, own_heard, own_in, own_record, own_records, own_released, own_reset, own_word}
 use Rattle.spec_step.specs.Shown.{GatewayAndOutput, Shown, is_running, scene, station_on, with_station}
@@ -47,7 +46,7 @@ use Rattle.spec_step.proofs.FrameKinds.{other-none}
 use Rattle.spec_step.proofs.OwnTakings.{Just, all-just, just-then, nothing-just, other-just, quiet-just, read-just}
 use Rattle.spec_step.proofs.Packets.{kept-filter}
 use Rattle.spec_step.proofs.Passing.{IsSound}
-use Rattle.spec_step.proofs.Saying.{Saying, Speaks}
+use Rattle.spec_step.proofs.Saying.{Saying}
 use Rattle.spec_step.proofs.Sending.{Frames, answer-other, own-six}
 use Rattle.spec_step.proofs.Truths.{AllOther, action-frames, after-net, after-said, after-wired, answered-says, link-says, record-first, record-says, record_scene, reset-first, reset-says, reset_scene, station-speaks, wired-on, word-first, word-synced, word_scene}
 use Rattle.spec_step.proofs.Turning.{back_as, turn-by}

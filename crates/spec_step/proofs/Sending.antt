@@ -40,7 +40,7 @@ use Rattle.interfaces.specs.declared.tallies.Tally.{Tally}
 use Rattle.interfaces.specs.Stations.{is_active}
 use Rattle.interfaces.specs.Tallies.{IsWithin, complained, may_complain, may_reply, replied}
 use Rattle.output.specs.Output.{Sent}
-use Rattle.spec_step.specs.Others.{is_other, retaken_pairs}
+use Rattle.spec_step.specs.Others.{IsEcho, is_other, retaken_pairs}
 use Rattle.spec_step.specs.Machine.{AreBytes}
 use Rattle.spec_step.specs.Parts.{carried_all, framed, sender_in, wanted_for}
 use Rattle.spec_step.specs.OwnAnswers.{Answers, Complains, IsOwnOf, OwnFrame, own_frames}
@@ -245,12 +245,18 @@ asker frames g side bytes echo read =
     let at = station_on g side in
     ap (λ (e : Echo). e.source) (frames.reads side at.network (is_active at) (is_up g) bytes (Asked echo) read).1
 
-pub answer-is : Frames → (g : Shown) (side : Side) (bytes : List ℕ) (echo : Echo) (next : Mac) → reading_on g side bytes ≡ Ok (Asked echo) → AreBytes bytes → IsSetUp g → may_answer g.networks side echo.source.0 ≡ true
-    → next_back g side echo.source ≡ Some next → IsOwnOf (known_of g) (answer_of g side bytes next)
-answer-is frames g side bytes echo next read are w may there =
+-- it is an Echo to the gateway
+pub asked-is : Frames → (g : Shown) (side : Side) (bytes : List ℕ) (echo : Echo) → reading_on g side bytes ≡ Ok (Asked echo) → IsSetUp g → IsEcho (known_of g) (at_hand side bytes)
+asked-is frames g side bytes echo read w =
     let at = station_on g side in
     let carries = frames.reads side at.network (is_active at) (is_up g) bytes (Asked echo) read in
     let asked = frames.asked side at.network (is_active at) (is_up g) bytes echo read in
+    (carries.0, (is_active at, subst (λ (n : Network). is_asked n (is_active at) (frame_of bytes) ≡ true) (house-network g w side) asked))
+
+pub answer-is : Frames → (g : Shown) (side : Side) (bytes : List ℕ) (echo : Echo) (next : Mac) → reading_on g side bytes ≡ Ok (Asked echo) → AreBytes bytes → IsSetUp g → may_answer g.networks side echo.source.0 ≡ true
+    → next_back g side echo.source ≡ Some next → IsOwnOf (known_of g) (answer_of g side bytes next)
+answer-is frames g side bytes echo next read are w may there =
+    let is_echo = asked-is frames g side bytes echo read w in
     let source = asker frames g side bytes echo read in
     record {
       bytes = are;
@@ -258,7 +264,7 @@ answer-is frames g side bytes echo next read are w may there =
       side = refl;
       next = next;
       hop = near-mac g side (hop_back g side (sender_in bytes)).0 ∙ subst (λ (i : Ip). next_back g side i ≡ Some next) source there;
-      says = (carries.0, ((is_active at, subst (λ (n : Network). is_asked n (is_active at) (frame_of bytes) ≡ true) (house-network g w side) asked), refl));
+      says = (is_echo.0, (is_echo.1, refl));
     }
 
 abbrev pub complaint_by : Shown → Side → Side → List ℕ → Reason → Complaint → Mac → OwnFrame

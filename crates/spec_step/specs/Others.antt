@@ -39,8 +39,11 @@ use Rattle.packet_rules.specs.Arping.{answer_frame, answer_to, is_learnable}
 use Rattle.packet_rules.specs.Errors.{AreErrorPairs, error_direction, is_error_frame}
 use Rattle.packet_rules.specs.Flows.{flow_in, source_of, error_flow_in}
 use Rattle.packet_rules.specs.Frames.{hop_of, is_translation, way_of}
-use Rattle.packet_rules.specs.Networks.{back_hop, direction_of, may_answer}
-use Rattle.packet_rules.specs.Own.{is_own_frame}
+use Rattle.frames.specs.Frame.{frame_of}
+use Rattle.packet_rules.specs.declared.complaints.Complaint.{Complaint}
+use Rattle.packet_rules.specs.Asked.{IsAskable, is_asked}
+use Rattle.packet_rules.specs.Networks.{back_hop, direction_of, may_answer, network_of}
+use Rattle.packet_rules.specs.Own.{complaint_of, is_own_frame}
 use Rattle.packet_rules.specs.Steps.{IsForwardable, IsPassable}
 use Rattle.interfaces.specs.Stations.{IsRouterStep, Interface, is_active}
 use Rattle.output.specs.Output.{Sent}
@@ -177,7 +180,7 @@ is_old g (SideIs side up) w = false
 
 -- ---- the packets that come to wait
 
--- the packet of an event, where the frame is read as one, or something may be said of it
+-- the packet of an event, where the frame is read as one, or something may be said of it (none is read as too long)
 abbrev pub packet_as : Side → List ℕ → Result Reading Reason → List AtHand
 packet_as side bytes (Ok (Arp p)) = []
 packet_as side bytes (Ok (Advert a from)) = []
@@ -240,15 +243,27 @@ pub record IsOnward (k : Known) (may : Pair → Type 0) (packet : AtHand) (by : 
   pub exit_is : exit ≡ exit_by by
   pub hop : host.0 ≡ hop_of k.networks by (flow_in packet.bytes).destination.0
 
--- or that of what the gateway says itself to the packet's source, at the side at which the packet came
+-- or that of what the gateway says itself to the packet's sender, at the side at which the packet came
 pub record IsBack (k : Known) (packet : AtHand) (exit : Side) (host : Ip) : Type 0 where
   pub source : may_answer k.networks packet.side (sender_in packet.bytes).0 ≡ true
   pub exit_is : exit ≡ packet.side
   pub hop : host.0 ≡ back_hop k.networks packet.side (sender_in packet.bytes).0
 
+-- the packet is an Echo to the gateway
+abbrev pub IsEcho : Known → AtHand → Type 0
+IsEcho k packet =
+    IsAskable packet.bytes
+    × ((active : Bool) × (is_asked (network_of k.networks packet.side) active (frame_of packet.bytes) ≡ true))
+
+-- there is something to say of the packet where it is dropped
+abbrev pub IsTold : Known → AtHand → Type 0
+IsTold k packet = (reason : Reason) × ((exit : Side) × ((complaint : Complaint)
+    × (complaint_of k.networks packet.side exit reason packet.bytes ≡ Some complaint)))
+
+-- the next hop of a packet or an error, or of the answer to an Echo
 abbrev pub IsNextHop : Known → (Pair → Type 0) → AtHand → Side → Ip → Type 0
 IsNextHop k may packet exit host =
-    ((by : Translation) × IsOnward k may packet by exit host) ⊎ IsBack k packet exit host
+    ((by : Translation) × IsOnward k may packet by exit host) ⊎ (IsEcho k packet × IsBack k packet exit host)
 
 -- no hardware address is known for a host
 abbrev pub IsUnknown : Known → Side → Ip → Type 0
@@ -300,8 +315,15 @@ IsCause g k exit host Waits = IsUnknown k exit host
 IsCause g k exit host Sends = asks_at host.0 k.moment (station_on g exit).neighbours ≡ true
 IsCause g k exit host Drops = IsUnknown k exit host × (asks_again k.moment (wait.Hop exit host) g.kept ≡ true)
 
+-- behind what was sent it may be the next hop of what the gateway said of a packet, too
+abbrev pub IsHost : Known → (Pair → Type 0) → AtHand → Side → Ip → Cause → Type 0
+IsHost k may packet exit host Waits = IsNextHop k may packet exit host
+IsHost k may packet exit host Sends =
+    IsNextHop k may packet exit host ⊎ (IsTold k packet × IsBack k packet exit host)
+IsHost k may packet exit host Drops = IsNextHop k may packet exit host
+
 pub record IsDue (g : Shown) (k : Known) (may : Pair → Type 0) (a : Asking) : Type 0 where
-  pub hop : IsNextHop k may a.packet a.exit a.host
+  pub hop : IsHost k may a.packet a.exit a.host a.cause
   pub cause : IsCause g k a.exit a.host a.cause
 
 -- those of packets that come to wait, and the packets of the others

@@ -43,7 +43,7 @@ pub record OwnFrame : Type 0 where
   pub purpose : Purpose
   pub sent : Sent
 
--- The bytes are the answer to the packet, an Echo to the box; or what there is to say of it. The next hop is the same of both.
+-- The bytes are the answer to the packet, an Echo to the box; or what there is to say of it.
 abbrev pub IsSaid : Networks → AtHand → Purpose → Mac → List ℕ → Type 0
 IsSaid networks packet Answers next bytes =
     IsAskable packet.bytes
@@ -99,7 +99,7 @@ own_plan g side bytes flow (Err reason) =
     let way = direction_of g.networks side flow.protocol flow.source.0 flow.destination.0 in
     own_refused g side (exit_for side way) bytes reason
 
--- the own frames of one taking of a packet, which is read as this; nothing is said about an error
+-- the own frames of one taking of a packet, which is read as this; an error that is passed on, waits or is too long says nothing
 abbrev pub own_read : Shown → Side → List ℕ → Result Reading Reason → List Sent
 own_read g side bytes (Ok (Arp p)) = []
 own_read g side bytes (Ok (Advert a from)) = []

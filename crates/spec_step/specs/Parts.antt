@@ -155,7 +155,7 @@ asked_again s exit hop = let g = s.shown in let what = wait.Hop exit hop in
 
 -- ---- plans
 
--- the bytes of a frame's packet, and who sent it
+-- how many bytes a frame's packet has, and who sent it
 abbrev pub length_in : List ℕ → ℕ
 length_in bytes = (header_of (frame_of bytes).body).total_length
 

@@ -1,4 +1,4 @@
--- Errors passed on: the error frames of a step are, one for one and in order, errors at hand with addresses and ports
+-- Errors passed on, and Own answers: the error frames of a step are, one for one and in order, errors at hand with addresses and ports
 -- replaced, by pairs that translate there; what an error sent outward hides; and that an error is no use of its pairs.
 use Rattle.std.specs.Prelude.{◌≡◌, Some, List, not, ◌&&◌, ◌++◌, map}
 use Rattle.std.specs.List.{AllByRecursion, filter, flat_map}
@@ -16,7 +16,7 @@ use Rattle.packet_rules.specs.Frames.{hop_of, pairs_of}
 use Rattle.output.specs.Output.{Sent}
 use Rattle.spec_step.specs.Others.{IsErrorBy, MayGoBy}
 use Rattle.spec_step.specs.OwnAnswers.{IsOwnOf, OwnFrame, own_frames, tallied}
-use Rattle.spec_step.specs.Shown.{GatewayAndOutput}
+use Rattle.spec_step.specs.Shown.{GatewayAndOutput, Shown}
 use Rattle.spec_step.specs.Truly.{AreSent, AtHand, Known, Sending, is_own, known_of, near_on, packets_of, translated_frames, used_pairs}
 use Rattle.spec_step.specs.Verdict.{exit_by}
 
@@ -75,3 +75,14 @@ pub record LeavesPairs (old new : GatewayAndOutput) : Type 0 where
   pub link : new.shown.link ≡ old.shown.link
   pub notes : new.told.notes ≡ old.told.notes
   pub datagrams : new.told.datagrams ≡ old.told.datagrams
+
+-- nothing of a gateway changes but how much was said at its sides, and when neighbours were last asked for
+pub record ChangesLittle (old new : Shown) : Type 0 where
+  pub known : known_of new ≡ known_of old
+  pub stopped : new.stopped ≡ old.stopped
+  pub away : new.away ≡ old.away
+  pub ledger : new.ledger ≡ old.ledger
+  pub link : new.link ≡ old.link
+  pub kept : new.kept ≡ old.kept
+  pub inside : new.inside ≡ record old.inside { neighbours = new.inside.neighbours; said = new.inside.said }
+  pub outside : new.outside ≡ record old.outside { neighbours = new.outside.neighbours; said = new.outside.said }

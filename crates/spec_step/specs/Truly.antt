@@ -64,7 +64,7 @@ packets_of kept = map (λ w. record { side = w.side; bytes = w.bytes }) kept
 abbrev pub unasked : Neighbours → Neighbours
 unasked known = record known { learnt = map (λ (e : CacheEntry). record e { asked = 0 }) known.learnt }
 
--- what decides where a translated packet goes
+-- what decides where a translated packet goes, and what the gateway says itself
 pub record Known : Type 0 where
   pub networks : Networks
   pub moment : ℕ

@@ -108,7 +108,8 @@ plan_on g flow way.Hairpin =
 abbrev pub fits_at : Shown → Side → ℕ → Bool
 fits_at g exit length = nat_le length (mtu_of g.networks exit)
 
--- what would go on or wait is dropped where it is too long, before anything else is done for it
+-- what would go on or wait is dropped where it is too long, before anything else is done for it; one that is dropped anyway,
+-- because another waits for its next hop, stays so
 abbrev pub if_fits : Bool → Plan → Result Plan Reason
 if_fits fits (Send by next) = (if fits then Ok (Send by next) else Err TooLong)
 if_fits fits (Ask by hop) = (if fits then Ok (Ask by hop) else Err TooLong)

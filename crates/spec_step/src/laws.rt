@@ -1,6 +1,6 @@
 //! What holds of a step of a gateway. Each law is the contract of a function that does nothing.
 
-ghost use Rattle.std.specs.Prelude.{◌≡◌, ◌≢◌, Ok, ◌≤◌, ◌<◌, ◌+◌, ◌^◌, ◌∷◌, ◌++◌, ℕ, true, false, [], List, length, reverse};
+ghost use Rattle.std.specs.Prelude.{◌≡◌, ◌≢◌, Ok, ◌≤◌, ◌<◌, ◌+◌, ◌^◌, ◌∷◌, ◌++◌, ℕ, true, false, [], List, length, reverse, Err, Some};
 ghost use Rattle.nat_types.specs.declared.gateways.GatewayId.{GatewayId};
 ghost use Rattle.nat_types.specs.declared.gateways.Side.{Side};
 ghost use Rattle.nat_types.specs.declared.notes.NoteKind.TheVariants.{Booted, Crashed};
@@ -14,7 +14,13 @@ ghost use Rattle.icmp.specs.declared.packets.ErrorFlow.{ErrorFlow};
 ghost use Rattle.link.specs.Hearing.{peer_serves};
 ghost use Rattle.output.specs.Output.{Sent};
 ghost use Rattle.packet_rules.specs.declared.readings.Asked.{Asked as Echo};
+ghost use Rattle.ipv4.specs.declared.flows.Flow.{Flow};
+ghost use Rattle.packet_rules.specs.declared.complaints.Complaint.TheVariants.{TooBig};
+ghost use Rattle.packet_rules.specs.declared.networks.Networks.{Networks};
 ghost use Rattle.packet_rules.specs.declared.reasons.Reason.{Reason};
+ghost use Rattle.packet_rules.specs.declared.reasons.Reason.TheVariants.{TooLong};
+ghost use Rattle.packet_rules.specs.Networks.{direction_of, mtu_of};
+ghost use Rattle.packet_rules.specs.Own.{complaint_of, exit_for};
 ghost use Rattle.spec_trace.specs.Past.{Idle};
 ghost use Rattle.spec_pair.specs.Talk.{note};
 ghost use Rattle.waiting.specs.Packets.{HeldPacket, hop_count};
@@ -23,14 +29,14 @@ ghost use Rattle.spec_binding.specs.Ledgers.{let_go};
 ghost use Rattle.spec_step.specs.declared.events.Event.{Event};
 ghost use Rattle.spec_step.specs.declared.events.Event.TheVariants.{Tick};
 ghost use Rattle.spec_step.specs.declared.plans.Plan.TheVariants.{Wait as WaitForPair};
-ghost use Rattle.spec_step.specs.Verdict.{error_plan, reading_on};
+ghost use Rattle.spec_step.specs.Verdict.{error_plan, plan_of, reading_on};
 ghost use Rattle.spec_step.specs.Founding.{HasRanges, begun, bounds_of, founded, link_places};
 ghost use Rattle.spec_step.specs.Machine.{AreBytes, Goes, HasBytes, HasPushed, IsAlone, IsStanding, KeepsBytes};
 ghost use Rattle.spec_step.specs.Machine.{letters_in, words_in};
 ghost use Rattle.spec_step.specs.Others.{AreOthers};
 ghost use Rattle.spec_step.specs.OwnAnswers.{AreWithin, SaysJust, ShowsNothing, all_own_of, own_of};
-ghost use Rattle.spec_step.specs.Parts.{all_idle_done, all_taken, echo_taken, error_taken, refused, retaken_by};
-ghost use Rattle.spec_step.specs.PassedOn.{HidesAllInside, LeavesPairs, TellsAll};
+ghost use Rattle.spec_step.specs.Parts.{all_idle_done, all_taken, echo_taken, error_taken, flow_taken, length_in, refused, retaken_by};
+ghost use Rattle.spec_step.specs.PassedOn.{ChangesLittle, HidesAllInside, LeavesPairs, TellsAll};
 ghost use Rattle.spec_step.specs.Rests.{AccountsOn, Rests, most_notes};
 ghost use Rattle.spec_step.specs.Settled.{AreIdle, HaveBegun, IsSettled};
 ghost use Rattle.spec_step.specs.Shown.{GatewayAndOutput, Shown, has_side_out, id_of, is_up, scene};
@@ -150,9 +156,13 @@ pub fn steps_say()
     tallies_law();
 }
 
-/// A frame of its own that a step sends at the outside has no address of the inside network.
+/// A frame of its own that a step sends at the outside has no address of the inside network; and the length
+/// that Fragmentation Needed names is that of the side at which the packet would have left.
 pub fn own_frames_show_nothing()
-    ensures { (s : GatewayAndOutput) (event : Event) (s2 : GatewayAndOutput) (frames : List Sent)
+    ensures mtu { (networks : Networks) (side exit : Side) (reason : Reason) (bytes : List ℕ)
+        (mtu : ℕ) → complaint_of networks side exit reason bytes ≡ Some (TooBig mtu)
+        → mtu ≡ mtu_of networks exit }
+    ensures hosts { (s : GatewayAndOutput) (event : Event) (s2 : GatewayAndOutput) (frames : List Sent)
         → IsStepOn s event s2
         → HasBytes event → IsBook s.shown.ledger.book → KeepsBytes s.shown → IsSetUp s.shown
         → s2.told.frames ≡ s.told.frames ++ frames → ShowsNothing s2.shown.networks frames }
@@ -207,12 +217,21 @@ pub fn errors_leave_pairs()
         → error_plan g side flow length ≢ Ok (WaitForPair endpoint) }
 {}
 
-/// What a gateway says itself leaves the pairs as they are, too.
+/// What a gateway says itself leaves the pairs as they are, too. A drop of which it says something counts
+/// it, and may set when its next hop was last asked for: nothing else of the gateway changes. A packet that
+/// is found too long comes to just that.
 pub fn own_leaves_pairs()
     ensures answers { (s : GatewayAndOutput) (side : Side) (bytes : List ℕ) (echo : Echo)
         → LeavesPairs s (echo_taken s side bytes echo) }
     ensures complaints { (s : GatewayAndOutput) (side exit : Side) (bytes : List ℕ)
         (reason : Reason) → LeavesPairs s (refused s side exit bytes reason) }
+    ensures little { (s : GatewayAndOutput) (side exit : Side) (bytes : List ℕ)
+        (reason : Reason) → ChangesLittle s.shown (refused s side exit bytes reason).shown }
+    ensures too_long { (s : GatewayAndOutput) (side : Side) (bytes : List ℕ) (flow : Flow)
+        → plan_of s.shown side flow (length_in bytes) ≡ Err TooLong
+        → (let way = direction_of s.shown.networks side flow.protocol flow.source.0
+        flow.destination.0 in flow_taken s side bytes flow
+        ≡ refused s side (exit_for side way) bytes TooLong) }
 {}
 
 /// All other frames of a step are, in their order: an answer to the ARP request that came in, or the

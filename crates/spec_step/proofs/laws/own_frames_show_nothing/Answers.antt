@@ -1,10 +1,13 @@
 use Rattle.spec_step.specs.Truly.{hand_of}
-use Rattle.spec_step.proofs.Hiding.{step-shows-nothing}
+use Rattle.spec_step.proofs.Hiding.{named-mtu, step-shows-nothing}
 use Rattle.spec_step.proofs.Truths.{step-tells}
 use Rattle.spec_step.proofs.laws.own_frames_show_nothing.Goals as goal
 
-pub returns : goal.returns
-returns c = λ s event s2 frames step has book kept set are.
+pub returns-clause-mtu : goal.returns-clause-mtu
+returns-clause-mtu c = named-mtu
+
+pub returns-clause-hosts : goal.returns-clause-hosts
+returns-clause-hosts c = λ s event s2 frames step has book kept set are.
     let f = c.frames_law.ensures in
     let o = c.own_frames_law.ensures in
     let l = c.tallies_law.ensures in
