@@ -3,7 +3,6 @@ ghost use Rattle.std.specs.Prelude.{◌≡◌, ◌≤◌, ◌+◌, true, IfOk, O
 ghost use Rattle.frames.specs.Frame.{frame_of};
 ghost use Rattle.interfaces.specs.Stations.{with_reply};
 ghost use Rattle.interfaces.specs.Tallies.{may_reply};
-ghost use Rattle.nat_types.specs.declared.gateways.Side.{Side as OnSide};
 ghost use Rattle.addresses.specs.declared.internet.Ip.{Ip as Address};
 ghost use Rattle.waiting.specs.declared.waits.WaitsFor.TheVariants.{Hop};
 ghost use Rattle.waiting.specs.Packets.{has_place};
