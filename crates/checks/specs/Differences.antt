@@ -91,19 +91,24 @@ abbrev pub other_in_gateway : Section → GatewaySettings → GatewaySettings �
 other_in_gateway section a b =
     all_bad (same_addresses section a b) ++ (all_bad (same_role section a b) ++ all_bad (same_sockets section a b))
 
+-- of the two networks, and the router
+abbrev pub other_in_networks : Settings → Settings → List Key
+other_in_networks a b =
+    all_bad (same_interface Inside a.inside b.inside)
+    ++ (all_bad (same_mtu Inside a.inside b.inside)
+    ++ (all_bad (same_interface Outside a.outside b.outside)
+    ++ (all_bad (same_router a b)
+    ++ all_bad (same_mtu Outside a.outside b.outside))))
+
 -- the keys in which two settings differ, in the order of the text
 unfoldable pub differing : Settings → Settings → List Key
 differing a b =
     all_bad (same_ports a b)
-    ++ (all_bad (same_interface Inside a.inside b.inside)
-    ++ (all_bad (same_mtu Inside a.inside b.inside)
-    ++ (all_bad (same_interface Outside a.outside b.outside)
-    ++ (all_bad (same_router a b)
-    ++ (all_bad (same_mtu Outside a.outside b.outside)
+    ++ (other_in_networks a b
     ++ (all_bad (same_icmp a.icmp b.icmp)
     ++ (other_in_gateway GatewayZero a.zero b.zero
     ++ (other_in_gateway GatewayOne a.one b.one
-    ++ all_bad (same_list a b)))))))))
+    ++ all_bad (same_list a b)))))
 
 -- what one box alone reads, or the machine that it runs on: its boot file, its loopback ports, and how it takes part in VRRP
 abbrev pub may_differ : Option Name → Bool

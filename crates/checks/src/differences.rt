@@ -1,6 +1,6 @@
 //! In what two settings differ.
 ghost use Rattle.std.specs.Prelude.{◌≡◌, ◌++◌, IfOk, OnOk};
-ghost use Rattle.checks.specs.Differences.{same_range, same_limit, same_neighbour, same_neighbours, same_ports, same_interface, same_router, same_mtu, same_icmp, same_addresses, same_role, same_sockets, same_list, other_in_gateway, differing, may_differ};
+ghost use Rattle.checks.specs.Differences.{same_range, same_limit, same_neighbour, same_neighbours, same_ports, same_interface, same_router, same_mtu, same_icmp, same_addresses, same_role, same_sockets, same_list, other_in_networks, other_in_gateway, differing, may_differ};
 
 use crate::warnings::same_host;
 use settings::{GatewaySettings, IcmpSettings, InterfaceSettings, Neighbour, PortRange, Settings};
@@ -204,6 +204,26 @@ fn add_other_in_gateway(
     Ok(())
 }
 
+fn add_other_in_networks(
+    one: &Settings,
+    other: &Settings,
+    found: &mut Vec<Key>,
+) -> Result<(), AllocError>
+    ensures { OnOk result
+        (found.new.items ≡ found.old.items ++ other_in_networks one.now other.now) }
+{
+    let (inside, outside) = (Section::Inside, Section::Outside);
+    add_bad(&same_interface(inside, &one.inside, &other.inside), found)?;
+    add_bad(&same_mtu(inside, &one.inside, &other.inside), found)?;
+    add_bad(
+        &same_interface(outside, &one.outside, &other.outside),
+        found,
+    )?;
+    add_bad(&same_router(one, other), found)?;
+    add_bad(&same_mtu(outside, &one.outside, &other.outside), found)?;
+    Ok(())
+}
+
 /// The keys in which two settings differ, in the order of the text.
 #[tactic(auto, unfolding(crate::specs::Differences::differing))]
 pub fn differing_keys(
@@ -215,23 +235,7 @@ pub fn differing_keys(
 {
     let mut found = Vec::new(alloc);
     add_bad(&same_ports(one, other), &mut found)?;
-    add_bad(
-        &same_interface(Section::Inside, &one.inside, &other.inside),
-        &mut found,
-    )?;
-    add_bad(
-        &same_mtu(Section::Inside, &one.inside, &other.inside),
-        &mut found,
-    )?;
-    add_bad(
-        &same_interface(Section::Outside, &one.outside, &other.outside),
-        &mut found,
-    )?;
-    add_bad(&same_router(one, other), &mut found)?;
-    add_bad(
-        &same_mtu(Section::Outside, &one.outside, &other.outside),
-        &mut found,
-    )?;
+    add_other_in_networks(one, other, &mut found)?;
     add_bad(&same_icmp(one.icmp, other.icmp), &mut found)?;
     add_other_in_gateway(Section::GatewayZero, &one.zero, &other.zero, &mut found)?;
     add_other_in_gateway(Section::GatewayOne, &one.one, &other.one, &mut found)?;

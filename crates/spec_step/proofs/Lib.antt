@@ -21,6 +21,7 @@ mod Lines
 mod Near
 mod Others
 mod Own
+mod OwnSteps
 mod OwnTakings
 mod Packets
 mod Passed

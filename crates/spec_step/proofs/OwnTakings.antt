@@ -51,12 +51,12 @@ use Rattle.spec_step.proofs.Sending.{Frames, answer-own, carried-leaves, complai
 use Rattle.spec_step.proofs.Sends.{plan-sends}
 
 -- and the networks stay
-record Just (s s2 : GatewayAndOutput) (own : List Sent) : Type 0 where
-  says : SaysJust s s2 own
-  nets : s2.shown.networks ≡ s.shown.networks
+pub record Just (s s2 : GatewayAndOutput) (own : List Sent) : Type 0 where
+  pub says : SaysJust s s2 own
+  pub nets : s2.shown.networks ≡ s.shown.networks
 
 -- one part behind the other
-just-then : (xs ys : List Sent) (a b c : GatewayAndOutput) → Just a b xs → Just b c ys → Just a c (xs ++ ys)
+pub just-then : (xs ys : List Sent) (a b c : GatewayAndOutput) → Just a b xs → Just b c ys → Just a c (xs ++ ys)
 just-then xs ys a b c x y = record {
   says = record {
     frames = x.says.frames ++ y.says.frames;
@@ -69,14 +69,14 @@ just-then xs ys a b c x y = record {
 }
 
 -- no frame is sent
-quiet-just : (s s2 : GatewayAndOutput) → s2.told.frames ≡ s.told.frames → s2.shown.networks ≡ s.shown.networks → Just s s2 []
+pub quiet-just : (s s2 : GatewayAndOutput) → s2.told.frames ≡ s.told.frames → s2.shown.networks ≡ s.shown.networks → Just s s2 []
 quiet-just s s2 same nets = record { says = record { frames = []; frames_are = same ∙ sym (append-nil s.told.frames); own_are = refl }; nets = nets }
 
-nothing-just : (s : GatewayAndOutput) → Just s s []
+pub nothing-just : (s : GatewayAndOutput) → Just s s []
 nothing-just s = quiet-just s s refl refl
 
 -- one is, which isn't the gateway's own, or is
-other-just : (s : GatewayAndOutput) (side : Side) (bytes : List ℕ) → is_own_frame s.shown.networks side bytes ≡ false → Just s (framed s side bytes) []
+pub other-just : (s : GatewayAndOutput) (side : Side) (bytes : List ℕ) → is_own_frame s.shown.networks side bytes ≡ false → Just s (framed s side bytes) []
 other-just s side bytes is = record { says = record { frames = record { side = side; bytes = bytes } ∷ []; frames_are = refl; own_are = rw is refl }; nets = refl }
 
 own-just : (s : GatewayAndOutput) (side : Side) (bytes : List ℕ) → is_own_frame s.shown.networks side bytes ≡ true → Just s (framed s side bytes) (let x : Sent = record { side = side; bytes = bytes } in x ∷ [])
@@ -304,7 +304,7 @@ module _ (frames : Frames) (s : GatewayAndOutput) (side : Side) (bytes : List �
 
   -- ---- a frame as it is read
 
-  read-just : (r : Result Reading Reason) → reading_on s.shown side bytes ≡ r → Just s (retaken_by s side bytes r) (own_read s.shown side bytes r)
+  pub read-just : (r : Result Reading Reason) → reading_on s.shown side bytes ≡ r → Just s (retaken_by s side bytes r) (own_read s.shown side bytes r)
   read-just (Ok (Packet packet)) is = verdict-just packet (plan_of s.shown side packet.flow (length_in bytes)) is refl
   read-just (Ok (Error packet)) is = error-verdict-just packet (error_plan s.shown side packet.flow (length_in bytes)) is (error-says s.shown side packet.flow (length_in bytes))
   read-just (Ok (Asked echo)) is = reply-just echo (reply_to s.shown side echo) is (λ next. reply-sends s.shown side echo next)
@@ -317,7 +317,7 @@ taking-just frames s side bytes are w = (read-just frames s side bytes are w (re
 
 -- ---- takings one after another
 
-all-just : Frames → (s : GatewayAndOutput) (ws : List HeldPacket) → AllByRecursion (λ (w : HeldPacket). AreBytes w.bytes) ws → IsSound s.shown → IsSetUp s.shown → Just s (all_taken s ws) (all_own_of s ws)
+pub all-just : Frames → (s : GatewayAndOutput) (ws : List HeldPacket) → AllByRecursion (λ (w : HeldPacket). AreBytes w.bytes) ws → IsSound s.shown → IsSetUp s.shown → Just s (all_taken s ws) (all_own_of s ws)
 all-just frames s [] all is w = nothing-just s
 all-just frames s (p ∷ ps) all is w =
     let next = taken_again s p in

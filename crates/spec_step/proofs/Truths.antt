@@ -70,7 +70,7 @@ set-up-inside g station same w wired = ((w.0.0, record { placed = w.0.1.placed; 
 pub set-up-outside : (g : Shown) (station : Interface) → station.network ≡ g.outside.network → IsSetUp g → IsWired station → IsSetUp (with_station g Outside station)
 set-up-outside g station same w wired = ((w.0.0, record { placed = w.0.1.placed; inside_is = w.0.1.inside_is; outside_is = same ∙ w.0.1.outside_is }), (w.1.0, wired))
 
-station-speaks : (s : GatewayAndOutput) (side : Side) (station : Interface) → station.network ≡ (station_on s.shown side).network → station.said ≡ (station_on s.shown side).said → (IsSetUp s.shown → IsWired station) → Speaks [] s (scene (with_station s.shown side station) s.told)
+pub station-speaks : (s : GatewayAndOutput) (side : Side) (station : Interface) → station.network ≡ (station_on s.shown side).network → station.said ≡ (station_on s.shown side).said → (IsSetUp s.shown → IsWired station) → Speaks [] s (scene (with_station s.shown side station) s.told)
 station-speaks s Inside station same said wired = λ is w. record {
   tells = tells-unseen s (scene (with_station s.shown Inside station) s.told) refl refl refl refl (said, (refl, omega arith));
   sound = record { book = is.book; kept = is.kept };
@@ -100,7 +100,7 @@ after-wired station p now six w = at (is_learnable station.network p)
     at true = record { own = w.own; known = learn-six station.neighbours (record { address = p.sender_ip; mac = p.sender_mac; at = now; asked = now }) w.known six }
     at false = w
 
-after-said : (station : Interface) (p : ArpPacket) (now : ℕ) → (after_arp station p now).said ≡ station.said
+pub after-said : (station : Interface) (p : ArpPacket) (now : ℕ) → (after_arp station p now).said ≡ station.said
 unfolding after_arp
 after-said station p now = at (is_learnable station.network p)
   where
@@ -116,7 +116,7 @@ after-net station p now = at (is_learnable station.network p)
     at true = refl
     at false = refl
 
-answered-says : Frames → (s : GatewayAndOutput) (side : Side) (p : ArpPacket) (o : Option Mac) → length p.sender_mac.0 ≡ 6 → Saying [] s (answered_by s side p o)
+pub answered-says : Frames → (s : GatewayAndOutput) (side : Side) (p : ArpPacket) (o : Option Mac) → length p.sender_mac.0 ≡ 6 → Saying [] s (answered_by s side p o)
 answered-says frames s side p (Some mac) six =
     framed-says s side (answer_frame (station_on s.shown side).network p mac) (λ w. answer-other frames s.shown.networks side (station_on s.shown side).network p mac (own-six s.shown w side) six)
 answered-says frames s side p None six = saying-nothing s []
@@ -214,8 +214,12 @@ ended-says : Frames → (s : GatewayAndOutput) (o : Option Endpoint) → Saying 
 ended-says frames s None = saying-nothing s []
 ended-says frames s (Some e) = released-says frames s (One (wait.Pair e))
 
-record-says : Frames → (s : GatewayAndOutput) (r : Record) → IsWellFormedRecord r → Saying [] s (record_done s r)
-record-says frames s r formed =
+-- the scene in which a record is taken, before anybody's wait is over
+abbrev pub record_scene : GatewayAndOutput → Record → GatewayAndOutput
+record_scene s r = scene (record_shown s.shown r) (record_told s.shown r s.told)
+
+pub record-first : (s : GatewayAndOutput) (r : Record) → IsWellFormedRecord r → Saying [] s (record_scene s r)
+record-first s r formed =
     let g = s.shown in let b = g.ledger.book in
     let rests = rests_for g.moment g.ledger r in
     let g2 : Shown = record g { ledger = taken_ledger g.moment g.ledger r; link = answered g.link (taken_answer b rests r) } in
@@ -230,36 +234,47 @@ record-says frames s r formed =
       },
       refl,
     ) in
-    saying-then [] [] s s3 (record_done s r)
-    (saying-then [] [] s s2 s3 first (routed-says g2.moment g2 told (has_synced g g2 && is_running g2)))
-    (ended-says frames s3 (taken_ended b rests r))
+    saying-then [] [] s s2 s3 first (routed-says g2.moment g2 told (has_synced g g2 && is_running g2))
 
-records-say : Frames → (s : GatewayAndOutput) (rs : List Record) → AllByRecursion IsWellFormedRecord rs → Saying [] s (records_done s rs)
+pub record-says : Frames → (s : GatewayAndOutput) (r : Record) → IsWellFormedRecord r → Saying [] s (record_done s r)
+record-says frames s r formed =
+    let g = s.shown in
+    saying-then [] [] s (record_scene s r) (record_done s r) (record-first s r formed) (ended-says frames (record_scene s r) (taken_ended g.ledger.book (rests_for g.moment g.ledger r) r))
+
+pub records-say : Frames → (s : GatewayAndOutput) (rs : List Record) → AllByRecursion IsWellFormedRecord rs → Saying [] s (records_done s rs)
 records-say frames s [] all = saying-nothing s []
 records-say frames s (r ∷ rs) all = saying-then [] [] s (record_done s r) (records_done s (r ∷ rs)) (record-says frames s r all.0) (records-say frames (record_done s r) rs all.1)
 
 -- ---- datagrams, and the operator's word
 
-link-says : (s : GatewayAndOutput) (e : Link) → Saying [] s (with_link s e)
+pub link-says : (s : GatewayAndOutput) (e : Link) → Saying [] s (with_link s e)
 link-says s e = λ is w. (
   record { tells = tells-unseen s (with_link s e) refl refl refl refl (refl, (refl, omega arith)); sound = record { book = is.book; kept = is.kept }; wired = w },
   refl,
 )
 
-reset-says : Frames → (s : GatewayAndOutput) → Saying [] s (reset s)
-reset-says frames s =
+-- the scene in which a greater boot is heard, before anybody's wait is over
+abbrev pub reset_scene : GatewayAndOutput → GatewayAndOutput
+reset_scene s =
+    let g = s.shown in let b = g.ledger.book in
+    scene (record g { ledger = restarted_ledger g.ledger; link = restart_link b g.link }) (with_notes s.told (restart_notes b g.moment))
+
+pub reset-first : (s : GatewayAndOutput) → Saying [] s (reset_scene s)
+reset-first s =
     let g = s.shown in let b = g.ledger.book in
     let notes = restart_notes b g.moment in
-    let mid = scene (record g { ledger = restarted_ledger g.ledger; link = restart_link b g.link }) (with_notes s.told notes) in
-    let first : Saying [] s mid = λ is w. (
+    let mid = reset_scene s in
+    λ is w. (
       record {
         tells = tells-quietly s mid notes refl refl (restart-useless b g.moment) refl (restart-rooted b g.moment is.book.keys) (refl, (refl, omega arith));
         sound = record { book = restart-keeps b is.book; kept = is.kept };
         wired = w;
       },
       refl,
-    ) in
-    saying-then [] [] s mid (reset s) first (released-says frames mid AllPairs)
+    )
+
+pub reset-says : Frames → (s : GatewayAndOutput) → Saying [] s (reset s)
+reset-says frames s = saying-then [] [] s (reset_scene s) (reset s) (reset-first s) (released-says frames (reset_scene s) AllPairs)
 
 heard-says : Frames → (s : GatewayAndOutput) (d : Datagram) → IsWellFormed d → Saying [] s (heard_by s d)
 heard-says frames s d fits = at (is_restart s.shown.link d)
@@ -283,27 +298,39 @@ datagram-says frames s bytes (Ok d) read are = at (refusal s.shown.link d)
     at (Some fault) = saying-nothing s []
 datagram-says frames s bytes (Err fault) read are = saying-nothing s []
 
-taken-says : Frames → (s : GatewayAndOutput) (n : ℕ) → is_synced s.shown.ledger.book.stage ≡ true → Saying [] s (word_taken s n)
-taken-says frames s n synced =
+-- the scene in which the operator's word is taken, before anybody's wait is over
+abbrev pub word_scene : GatewayAndOutput → ℕ → GatewayAndOutput
+word_scene s n =
+    let g = s.shown in let b = g.ledger.book in
+    scene (record g { ledger = alone_ledger g.moment g.ledger; link = closed_at g.link n }) (with_notes s.told (retaken (id_of g) g.moment (back_in b.entries)))
+
+pub word-first : (s : GatewayAndOutput) (n : ℕ) → is_synced s.shown.ledger.book.stage ≡ true → Saying [] s (word_scene s n)
+word-first s n synced =
     let g = s.shown in let b = g.ledger.book in
     let notes = retaken (id_of g) g.moment (back_in b.entries) in
-    let mid = scene (record g { ledger = alone_ledger g.moment g.ledger; link = closed_at g.link n }) (with_notes s.told notes) in
-    let first : Saying [] s mid = λ is w. (
+    let mid = word_scene s n in
+    λ is w. (
       record {
         tells = tells-quietly s mid notes refl refl (retaken-useless (id_of g) g.moment (back_in b.entries)) refl (alone-rooted b (id_of g) g.moment is.book.keys) (refl, (refl, omega arith));
         sound = record { book = alone-keeps b is.book synced; kept = is.kept };
         wired = w;
       },
       refl,
-    ) in
-    saying-then [] [] s mid (word_taken s n) first (released-says frames mid AllPairs)
+    )
 
-word-says : Frames → (s : GatewayAndOutput) (n : ℕ) (o : Option Reason) → word_refusal s.shown n ≡ o → Saying [] s (word_by s n o)
-word-says frames s n None is = taken-says frames s n (at (is_synced s.shown.ledger.book.stage) _ is)
+taken-says : Frames → (s : GatewayAndOutput) (n : ℕ) → is_synced s.shown.ledger.book.stage ≡ true → Saying [] s (word_taken s n)
+taken-says frames s n synced = saying-then [] [] s (word_scene s n) (word_taken s n) (word-first s n synced) (released-says frames (word_scene s n) AllPairs)
+
+-- a word that is taken finds the gateway synced
+pub word-synced : (g : Shown) (n : ℕ) → word_refusal g n ≡ None → is_synced g.ledger.book.stage ≡ true
+word-synced g n is = at (is_synced g.ledger.book.stage) _ is
   where
     at : (b c : Bool) → (let o : Option Reason = cond (not b) (Some NotUp) (cond c (Some OldWord) None) in o) ≡ None → b ≡ true
     at true c is = refl
     at false c is = absurd (cc)
+
+word-says : Frames → (s : GatewayAndOutput) (n : ℕ) (o : Option Reason) → word_refusal s.shown n ≡ o → Saying [] s (word_by s n o)
+word-says frames s n None is = taken-says frames s n (word-synced s.shown n is)
 word-says frames s n (Some reason) is = saying-nothing s []
 
 -- ---- ticks

@@ -9,6 +9,7 @@ pub mod Others
 pub mod OwnAnswers
 pub mod PassedOn
 pub mod Machine
+pub mod Sayings
 pub mod Seconds
 pub mod Rests
 pub mod Settled

@@ -34,6 +34,7 @@ ghost use Rattle.spec_step.specs.PassedOn.{HidesAllInside, LeavesPairs, TellsAll
 ghost use Rattle.spec_step.specs.Rests.{AccountsOn, Rests, most_notes};
 ghost use Rattle.spec_step.specs.Settled.{AreIdle, HaveBegun, IsSettled};
 ghost use Rattle.spec_step.specs.Shown.{GatewayAndOutput, Shown, has_side_out, id_of, is_up, scene};
+ghost use Rattle.spec_step.specs.Sayings.{own_in};
 ghost use Rattle.spec_step.specs.Seconds.{AreStepsSaying, StepOwn, answers_at, complaints_at, in_second};
 ghost use Rattle.spec_step.specs.Shown.{with_notes};
 ghost use Rattle.spec_step.specs.Steps.{Does, IsStepOn};
@@ -128,6 +129,20 @@ pub fn takings_say()
     ensures all { (s : GatewayAndOutput) (ws : List HeldPacket)
         → KeepsBytes (record s.shown { kept = ws }) → IsBook s.shown.ledger.book
         → KeepsBytes s.shown → IsSetUp s.shown → SaysJust s (all_taken s ws) (all_own_of s ws) }
+{
+    readings_law();
+    frames_law();
+    own_frames_law();
+    tallies_law();
+}
+
+/// The own frames of a whole step are just those of its takings, in their order: of the frame that came,
+/// and of the packets whose wait it ended. A tick, a stop and the word of a side have none.
+pub fn steps_say()
+    ensures { (s : GatewayAndOutput) (event : Event) (s2 : GatewayAndOutput)
+        → IsStepOn s event s2
+        → HasBytes event → IsBook s.shown.ledger.book → KeepsBytes s.shown → IsSetUp s.shown
+        → SaysJust s s2 (own_in s event) }
 {
     readings_law();
     frames_law();
