@@ -164,12 +164,12 @@ def is_silent_about(bench, report):
              ("by the broadcast MAC", dying(bench, "inside"), EVERYBODY),
              ("a later fragment", ipv4(host.address, place[0], UDP, bytes(24), dead._replace(fragment=MORE_FRAGMENTS | 3)), None),
              ("from 127.0.0.1", martian, None))
-    told = [name for name, packet, mac in cases if bench_told(bench, host, packet, mac)]
+    told = [name for name, packet, mac in cases if any_error_about(bench, host, packet, mac)]
     for name in ("1122 3.2.2 b", "1812 4.3.2.7"):
         report.note(bench, name, f"no error about: {', '.join(name for name, *_ in cases)}", ", ".join(told) or "none", not told)
 
 
-def bench_told(bench, station, packet, mac):
+def any_error_about(bench, station, packet, mac):
     """Whether any error about a packet comes out, to whomever."""
     bench.put(station.side, ethernet(mac or bench.own_mac(station.side), station.mac, IPV4, packet))
     return bench.heard(lambda frame: is_error(frame, packet[12:28]), SILENCE)
