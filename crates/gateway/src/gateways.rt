@@ -87,7 +87,7 @@ impl Gateway {
     pub fn recall(&self)
         ensures gateway { IsGateway self.now }
         ensures link { IsLink self.now.link }
-        ensures wired { IsSetUp self.now }
+        ensures set_up { IsSetUp self.now }
         ensures outside { self.now.networks.outside.interface.virtual_ip.0 < 2 ^ 32 }
     {
         recall_address(self.forwarder.networks.outside.interface.virtual_ip);
