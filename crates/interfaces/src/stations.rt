@@ -27,8 +27,8 @@ use vrrp_packet::Advert;
 use vrrp_states::laws::exactly_one_line;
 use vrrp_states::{Action, Router, State};
 
-/// One interface of a gateway: its network, its cable, its virtual router, and the neighbours that it
-/// knows.
+/// One interface of a gateway: its network, its cable, its virtual router, the neighbours that it knows,
+/// and how much was said there of the gateway's own.
 /// Each moment is of one clock, in centiseconds.
 #[derive(Drop)]
 pub struct Interface {

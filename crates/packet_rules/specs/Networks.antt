@@ -155,7 +155,8 @@ abbrev pub mtu_of : Networks → Side → ℕ
 mtu_of networks side = (network_of networks side).interface.mtu
 
 -- The box's addresses are placed so that its own frames can be told from all others: both own addresses lie in
--- their networks and differ from the virtual ones, and no address lies in both networks.
+-- their networks and differ from the virtual ones, and no address lies in both networks; both sides know the outside
+-- virtual address; and all four have 32 bits.
 pub record IsPlaced (networks : Networks) : Type 0 where
   pub inside_own : lies_in networks.inside.own_ip.0 networks.inside.interface ≡ true
   pub outside_own : lies_in networks.outside.own_ip.0 networks.outside.interface ≡ true

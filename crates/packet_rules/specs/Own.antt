@@ -65,7 +65,7 @@ is_told networks side packet =
 unfoldable pub is_unbroken : List ℕ → Bool
 is_unbroken packet = (header_of packet).flags_word / 0x4000 % 2 == 1
 
--- the side at which a packet of this way would leave; what has no way is answered where it came in
+-- the side at which a packet of this way would leave; without a way it isn't looked at how long a packet is
 abbrev pub exit_for : Side → Result Direction Reason → Side
 exit_for side (Ok way) = exit_of way
 exit_for side (Err reason) = side
@@ -84,7 +84,7 @@ complaint_of networks side exit reason bytes =
     else None)
 
 -- an own frame sent at a side: of EtherType 0x0800 and protocol 1, from the own address there; or a Reply (its message
--- begins with 0) from the virtual address there or from the outside one
+-- begins with 0; an empty one, which nobody sends, counts as that) from the virtual address there or from the outside one
 unfoldable pub is_own_frame : Networks → Side → List ℕ → Bool
 is_own_frame networks side bytes =
     let packet = (frame_of bytes).body in

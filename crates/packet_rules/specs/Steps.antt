@@ -38,7 +38,7 @@ reason_of fault.TheVariants.Fragment = Fragment
 reason_of fault.TheVariants.NotUdpTcp = NotUdpTcp
 reason_of fault.TheVariants.BadTransport = BadTransport
 
--- the reason for a fault of an ICMP message
+-- the reason for a fault of an ICMP message; that a message asks nothing drops no packet, since such a one goes on as before
 abbrev pub reason_of_icmp : IcmpFault → Reason
 reason_of_icmp NotError = NotUdpTcp
 reason_of_icmp BadError = BadTransport

@@ -93,7 +93,8 @@ fn complaint_about(mtu: u16, reason: Reason, packet: &Ipv4View<'_>) -> Option<Co
     }
 }
 
-/// The side at which a packet of this way would leave; what has no way is answered where it came in.
+/// The side at which a packet of this way would leave. Of a packet without a way it isn't looked at how long
+/// it is, so it is any side: the one where it came in.
 pub fn exit_for(side: Side, way: Result<Direction, Reason>) -> Side
     ensures { result ≡ exit_for side way }
 {

@@ -35,8 +35,8 @@ pub fn limits_law()
 
 /// What is known of a frame by what it is read as; and that it has a whole packet where its time to live is over.
 pub fn readings_law()
-    ensures carries { (side : SideValue) (network : NetworkValue) (active up : Bool) (bytes : List ℕ)
-        (reading : ReadingValue)
+    ensures carries { (side : SideValue) (network : NetworkValue) (active up : Bool)
+        (bytes : List ℕ) (reading : ReadingValue)
         → reading_of side network active up bytes ≡ Ok reading → Carries side bytes reading }
     ensures over { (side : SideValue) (network : NetworkValue) (active up : Bool) (bytes : List ℕ)
         → reading_of side network active up bytes ≡ Err TtlOver → IsWhole bytes }

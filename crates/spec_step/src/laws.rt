@@ -162,7 +162,8 @@ pub fn own_frames_show_nothing()
     ensures mtu { (networks : Networks) (side exit : Side) (reason : Reason) (bytes : List ℕ)
         (mtu : ℕ) → complaint_of networks side exit reason bytes ≡ Some (TooBig mtu)
         → mtu ≡ mtu_of networks exit }
-    ensures hosts { (s : GatewayAndOutput) (event : Event) (s2 : GatewayAndOutput) (frames : List Sent)
+    ensures hosts { (s : GatewayAndOutput) (event : Event) (s2 : GatewayAndOutput)
+        (frames : List Sent)
         → IsStepOn s event s2
         → HasBytes event → IsBook s.shown.ledger.book → KeepsBytes s.shown → IsSetUp s.shown
         → s2.told.frames ≡ s.told.frames ++ frames → ShowsNothing s2.shown.networks frames }
