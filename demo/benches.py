@@ -42,9 +42,10 @@ class End(NamedTuple):
 class Bench:
     """What both kinds have: stations, and packets between their ends."""
 
-    def __init__(self, name, settings):
+    def __init__(self, name, settings, box=0):
         self.name = name
         self.settings = settings
+        self.box = box
         self.virtual = settings["outside"]["virtual"]
 
     def announce(self):
@@ -54,6 +55,11 @@ class Bench:
 
     def own_mac(self, side):
         return virtual_mac(self.settings[side]["vrid"])
+
+    def box_place(self, side):
+        """The box's own address on a side, and its own MAC."""
+        own = self.settings[f"gateway_{self.box}"]
+        return own[f"{side}_ip"], bytes.fromhex(own[f"{side}_mac"].replace("-", ""))
 
     def ask(self, station, packet, mark, patient=True):
         """A station hands a packet to the virtual MAC of its network; what of its protocol came out with this mark in it."""
@@ -108,7 +114,6 @@ class Scripted(Bench):
         with open(settings_file, "rb") as file:
             super().__init__("sim", tomllib.load(file))
         self.words = (str(program), "sim", str(settings_file), "/dev/stdin")
-        self.box = 0
         self.moment = ACTIVE
         self.lines = list(lines)
         self.frames = []
@@ -206,7 +211,7 @@ class Wired(Bench):
     `first` on, for pairs that have to be new."""
 
     def __init__(self, number, current):
-        super().__init__(f"box {number}", current.networks.settings)
+        super().__init__(f"box {number}", current.networks.settings, number)
         self.first = number * 1000
         self.current = current
         self.cards = {}

@@ -254,7 +254,7 @@ class Surroundings:
 class Networks(Surroundings):
     """Everything that is built: the surroundings and both boxes."""
 
-    def __init__(self, options, stack):
+    def __init__(self, options, stack, settings=SETTINGS):
         with undisturbed():
             folder = pathlib.Path(tempfile.mkdtemp(prefix="natpair-demo-"))
             stack.callback(shutil.rmtree, folder, ignore_errors=True)
@@ -264,8 +264,8 @@ class Networks(Surroundings):
         folder.chmod(0o711)
         shutil.copy(options.program, folder / "natpair")
         shutil.copy(options.launcher, folder / "natpair-launch")
-        shutil.copy(SETTINGS, folder)
-        with open(SETTINGS, "rb") as file:
+        shutil.copy(settings, folder / SETTINGS.name)
+        with open(settings, "rb") as file:
             super().__init__(tomllib.load(file))
         self.boxes = (Box(0, options, folder), Box(1, options, folder))
         for space in self.spaces() + [box.space for box in self.boxes]:

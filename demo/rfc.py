@@ -1,5 +1,6 @@
 """What the standards ask, measured on the running pair from outside, and held against docs/RFC.md."""
 
+import contextlib
 import functools
 import math
 import signal
@@ -14,12 +15,18 @@ from rfc_clock import BY_THE_CLOCK, both_boxes, no_room
 from rfc_errors import OF_ERRORS
 from rfc_hosts import by_hosts
 from rfc_linux import at_linux
+from rfc_own import AT_ITSELF, by_default, nobody_there, too_long_in, too_long_out
 from rfc_packets import AT_A_BOX
 from rfc_pings import OF_PINGS, Pings, through_a_kill
+from rfc_programs import at_a_narrow_side, by_programs
 from rfc_routers import BY_THE_TABLE, ended, on_the_wire, taken_over
 from scene import scene, show
 
-RANGE, NARROW = "zero = [20000, 39999]", "zero = [20000, 20001]"
+# What a settings file has in the place of what stands in the demo's: two ports, sides that take 1,400 bytes, and no `[icmp]`.
+TWO_PORTS = ("zero = [20000, 39999]", "zero = [20000, 20001]")
+SHORT_OUTSIDE = ('router = "192.0.2.254"', 'router = "192.0.2.254"\nmtu = 1400')
+SHORT_INSIDE = ("wire = 7101", "wire = 7101\nmtu = 1400")
+SILENT = ("[icmp]\necho = true\nerrors = true\n", "")
 
 
 class Line(NamedTuple):
@@ -66,23 +73,40 @@ class Fresh:
         return self.make(lines)
 
 
+@contextlib.contextmanager
+def settings_with(*changes):
+    """A settings file that is the demo's but for these changes, each a text and what stands in its place."""
+    text = SETTINGS.read_text(encoding="utf-8")
+    for old, new in changes:
+        if old not in text:
+            raise SystemExit(f"demo: {SETTINGS.name} has no {old!r}")
+        text = text.replace(old, new)
+    with tempfile.TemporaryDirectory(prefix="natpair-rfc-") as folder:
+        file = Path(folder) / SETTINGS.name
+        file.write_text(text, encoding="utf-8")
+        yield file
+
+
 def by_sim(options, report):
     fresh = Fresh(options.program, SETTINGS)
-    for probe in (*BY_THE_CLOCK, *BY_THE_TABLE):
+    for probe in (*BY_THE_CLOCK, *BY_THE_TABLE, nobody_there):
         probe(fresh, report)
     both_boxes(functools.partial(Couple, options.program, SETTINGS), report)
-    with tempfile.TemporaryDirectory(prefix="natpair-rfc-") as folder:
-        narrow = Path(folder) / "natpair.toml"
-        narrow.write_text(SETTINGS.read_text(encoding="utf-8").replace(RANGE, NARROW), encoding="utf-8")
-        no_room(Fresh(options.program, narrow), report)
+    for changes, probes in (((TWO_PORTS,), (no_room,)), ((SILENT,), (by_default,)),
+                            ((SHORT_INSIDE, SHORT_OUTSIDE), (too_long_out, too_long_in))):
+        with settings_with(*changes) as file:
+            for probe in probes:
+                probe(Fresh(options.program, file), report)
 
 
-def at_box(current, number, report):
+def at_box(current, number, report, alive):
+    """Each probe at a box; `alive` are the boxes that run."""
     bench = Wired(number, current)
-    for probe in (*AT_A_BOX, *OF_ERRORS, *OF_PINGS):
+    for probe in (*AT_A_BOX, *OF_ERRORS, *OF_PINGS, *AT_ITSELF):
         probe(bench, report)
     on_the_wire(bench, report)
     by_hosts(current, bench, report)
+    by_programs(current, bench, report, alive)
     current.say(f"box {number}: {sum(line.bench == bench.name for line in report.lines)} lines")
     return bench
 
@@ -90,7 +114,7 @@ def at_box(current, number, report):
 def on_the_pair(options, report):
     """Each probe at box 0, and after its kill at box 1; at last box 1 is ended."""
     with scene(options, options.capture) as current:
-        at_box(current, 0, report)
+        at_box(current, 0, report, (0, 1))
         bench, pings = Wired(1, current), Pings(current)
         killed = ended(bench, report, "9568 6.4 stop c", "SIGTERM", lambda: current.kill(0, signal.SIGTERM))
         current.tell_takeover(1, killed)
@@ -99,9 +123,20 @@ def on_the_pair(options, report):
         through_a_kill(pings, bench, report, killed, moment)
         current.boxes[1].peer_off(current.boxes[0].boot)
         current.say("box 1 is told that box 0 is off")
-        bench = at_box(current, 1, report)
+        bench = at_box(current, 1, report, (1,))
         current.tell_drops()
         ended(bench, report, "9568 6.4 stop b", "`natpair stop`", current.boxes[1].stop)
+
+
+def on_a_narrow_pair(options, report):
+    """What the programs of everybody see of boxes whose outside takes 1,400 bytes: of box 0, and after its kill of box 1."""
+    capture = options.capture and options.capture / "narrow"
+    with settings_with(SHORT_OUTSIDE) as file, scene(options, capture, settings=file) as current:
+        at_a_narrow_side(current, Wired(0, current), report)
+        current.tell_takeover(1, current.kill(0))
+        current.boxes[1].peer_off(current.boxes[0].boot)
+        at_a_narrow_side(current, Wired(1, current), report)
+        current.tell_drops()
 
 
 def order_of(page, name):
@@ -151,5 +186,6 @@ def rfc(options):
         return at_linux(report, page)
     if not options.sim:
         on_the_pair(options, report)
+        on_a_narrow_pair(options, report)
     by_sim(options, report)
     return tell(report, page, not options.sim)

@@ -220,7 +220,7 @@ def too_large(fresh, report):
                   PLAIN._replace(fragment=DONT_FRAGMENT))
     bench.put("inside", ethernet(bench.own_mac("inside"), HOSTS[0].mac, IPV4, packet))
     found = bench.heard(lambda frame: is_error(frame, packet[12:28]), 0)
-    report.note(bench, "4787 REQ-13 b", f"{LONGEST + 1} bytes, not to be cut, are answered by an error", yes(found),
+    report.note(bench, "4787 REQ-13 d", f"{LONGEST + 1} bytes, not to be cut, are answered by an error", yes(found),
                 bool(found))
 
 

@@ -18,7 +18,7 @@ RULES = ("add table ip nat; add chain ip nat out { type nat hook postrouting pri
          "add rule ip nat out oifname outside masquerade")
 # What this NAT meets, of which the pair meets a part, and what it doesn't and the pair does.
 MEETS = ("4787 REQ-12 b", "4787 REQ-14", "5382 REQ-2", "5382 REQ-9", "5508 REQ-1 a", "5508 REQ-1 b", "5508 REQ-4",
-         "5508 REQ-10")
+         "5508 REQ-10 a", "5508 REQ-10 b")
 DOES_NOT = ("4787 REQ-8", "4787 REQ-9", "5382 REQ-3", "5382 REQ-4 a", "5382 REQ-8", "5508 REQ-3", "5508 REQ-5",
             "5508 REQ-7")
 

@@ -211,12 +211,12 @@ def own_messages(bench, report):
     for station, address in ((HOSTS[0], bench.settings["inside"]["virtual"]), (REMOTES[0], bench.virtual)):
         found = bench.icmp(station, address, ECHO, 0, b"\0\7\0\1")
         answered = arrived(found, REPLY, station) and found.source == address
-        report.note(bench, "5508 REQ-10", f"{address} answers an Echo", yes(answered), answered)
+        report.note(bench, "5508 REQ-10 b", f"{address} answers an Echo", yes(answered), answered)
     packet = ipv4(HOSTS[0].address, REMOTES[0].address, UDP, udp((HOSTS[0].address, 5000), PLACES[0], b""),
                   PLAIN._replace(ttl=1))
     bench.put("inside", ethernet(bench.own_mac("inside"), HOSTS[0].mac, IPV4, packet))
     found = bench.heard(lambda frame: is_error(frame, packet[12:28]), SILENCE)
-    report.note(bench, "5508 REQ-10", "a packet with TTL 1 is answered by an error", yes(found), bool(found))
+    report.note(bench, "5508 REQ-10 a", "a packet with TTL 1 is answered by an error", yes(found), bool(found))
 
 
 def unasked(bench, report):

@@ -8,7 +8,7 @@ import time
 
 from flows import PORT, Flow, Loop
 from observer import NAMES, Observer
-from pair import FOLDER, PYTHON, SERVER, Networks
+from pair import FOLDER, PYTHON, SERVER, SETTINGS, Networks
 
 # So many of what was seen wrong are told one by one.
 TOLD = 10
@@ -20,11 +20,11 @@ AGAIN = 0.02
 class Scene:
     """Both networks with the pair founded, box 1 synced, and box 0 Active on both sides."""
 
-    def __init__(self, options, stack, capture, all_frames):
+    def __init__(self, options, stack, capture, all_frames, settings):
         self.stack = stack
         self.options = options
         self.begun = time.monotonic()
-        self.networks = Networks(options, stack)
+        self.networks = Networks(options, stack, settings)
         self.boxes = self.networks.boxes
         self.loop = Loop()
         if capture:
@@ -102,9 +102,9 @@ class Probe:
 
 
 @contextlib.contextmanager
-def scene(options, capture=None, all_frames=True):
+def scene(options, capture=None, all_frames=True, settings=SETTINGS):
     with contextlib.ExitStack() as stack:
-        yield Scene(options, stack, capture, all_frames)
+        yield Scene(options, stack, capture, all_frames, settings)
 
 
 def show(title, heads, rows, left=False):

@@ -1,4 +1,4 @@
--- The numbers of transport protocols, when two protocols are one, and the parity of a port.
+-- The numbers of the protocols with ports or identifiers, when two protocols are one, and the parity of a port.
 use Rattle.std.specs.Prelude.{ℕ, ◌%◌, Bool, true, false, ◌==◌, Option, Some, None, if◌then◌else◌}
 use Rattle.addresses.specs.declared.transport.Protocol.{Protocol}
 use Rattle.addresses.specs.declared.transport.Protocol.TheVariants.{Icmp, Tcp, Udp}

@@ -6,6 +6,26 @@ use gateway::{Event, Gateway, Out, Outcome};
 use nat_types::Side;
 use std::io::{self, Write};
 
+/// How the clock goes on between frames.
+#[derive(Clone, Copy)]
+pub(crate) enum Pace {
+    /// It stands.
+    AtOnce,
+    /// Each frame comes in a second of its own, the next one at this moment in centiseconds.
+    Apart(u64),
+}
+
+impl Pace {
+    /// The next frame's moment comes.
+    fn go_on(&mut self, gateway: &mut Gateway, out: &mut Out) -> Result<()> {
+        if let Pace::Apart(moment) = *self {
+            let _outcome = gateway.step(Event::Tick(moment), out)?;
+            *self = Pace::Apart(moment.saturating_add(100));
+        }
+        Ok(())
+    }
+}
+
 /// What came of so many frames.
 #[derive(Clone, Copy)]
 struct Count {
@@ -23,7 +43,7 @@ impl Count {
         }
     }
 
-    /// One frame more.
+    /// One frame more, and the clock before it.
     fn add(&mut self, outcome: Outcome, out: &Out) {
         self.all = self.all.saturating_add(1);
         if outcome == Outcome::Sent {
@@ -53,12 +73,13 @@ pub(crate) fn cut<O: Write>(
     gateway: &mut Gateway,
     side: Side,
     frame: &[u8],
+    mut pace: Pace,
     out: &mut Out,
     output: &mut O,
 ) -> Result<()> {
     let mut count = Count::none();
     for length in 0..frame.len() {
-        hand_in(gateway, side, &frame[..length], out, &mut count)?;
+        hand_in(gateway, side, &frame[..length], &mut pace, out, &mut count)?;
     }
     count.tell(output)?;
     Ok(())
@@ -69,12 +90,13 @@ pub(crate) fn change<O: Write>(
     gateway: &mut Gateway,
     side: Side,
     frame: &mut [u8],
+    mut pace: Pace,
     out: &mut Out,
     output: &mut O,
 ) -> Result<()> {
     let mut all = Count::none();
     for at in 0..frame.len() {
-        let count = change_at(gateway, side, frame, at, out)?;
+        let count = change_at(gateway, side, frame, at, &mut pace, out)?;
         if 0 < count.sent {
             writeln!(output, "  byte {at}: sent {}", count.sent)?;
         }
@@ -90,6 +112,7 @@ fn change_at(
     side: Side,
     frame: &mut [u8],
     at: usize,
+    pace: &mut Pace,
     out: &mut Out,
 ) -> Result<Count> {
     let mut count = Count::none();
@@ -98,7 +121,7 @@ fn change_at(
     };
     for step in 1..=255u8 {
         set(frame, at, was.wrapping_add(step));
-        hand_in(gateway, side, frame, out, &mut count)?;
+        hand_in(gateway, side, frame, pace, out, &mut count)?;
     }
     set(frame, at, was);
     Ok(count)
@@ -110,15 +133,17 @@ fn set(frame: &mut [u8], at: usize, value: u8) {
     }
 }
 
-/// One step.
+/// The clock goes on, and the frame comes.
 fn hand_in(
     gateway: &mut Gateway,
     side: Side,
     frame: &[u8],
+    pace: &mut Pace,
     out: &mut Out,
     count: &mut Count,
 ) -> Result<()> {
     out.clear();
+    pace.go_on(gateway, out)?;
     let outcome = gateway.step(Event::Frame(side, frame), out)?;
     count.add(outcome, out);
     Ok(())

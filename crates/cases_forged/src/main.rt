@@ -9,6 +9,7 @@ mod telling;
 mod words;
 
 use anyhow::{Context, Result, bail};
+use changing::Pace;
 use settings::Settings;
 use stations::Station;
 use std::io::{self, BufWriter, Write};
@@ -61,6 +62,8 @@ fn read_settings(rt: &HostRuntime, name: &str) -> Result<Settings> {
 /// - `cuts HEX`: a datagram comes cut at every length
 /// - `frame-cuts SIDE HEX`, `frame-changes SIDE HEX`: a frame comes cut at every length; with every byte changed to every
 ///   other value
+/// - `frame-cuts SIDE HEX from MOMENT`, `frame-changes SIDE HEX from MOMENT`: the same, each frame in a second of its
+///   own, the first one at that moment
 /// - `table`: how the gateway stands
 fn act<O: Write>(rt: &HostRuntime, desk: &mut Desk, line: &str, output: &mut O) -> Result<()> {
     let words = line.split(' ').collect::<Vec<&str>>(rt.alloc())?;
@@ -78,6 +81,15 @@ fn act<O: Write>(rt: &HostRuntime, desk: &mut Desk, line: &str, output: &mut O) 
     }
 }
 
+/// Frames come at once, or apart from a moment on.
+fn pace_of(words: &[&str]) -> Result<Pace> {
+    match words {
+        [] => Ok(Pace::AtOnce),
+        ["from", moment] => Ok(Pace::Apart(moment.parse::<u64>()?)),
+        _ => bail!("no pace"),
+    }
+}
+
 /// What happens to the gateway of a case.
 fn happen<O: Write>(
     station: &mut Station,
@@ -92,8 +104,12 @@ fn happen<O: Write>(
         ["bytes", bytes] => station.bytes(bytes, output),
         ["again"] => station.again(output),
         ["cuts", bytes] => station.cuts(bytes, output),
-        ["frame-cuts", side, bytes] => station.frame_cuts(side, bytes, output),
-        ["frame-changes", side, bytes] => station.frame_changes(side, bytes, output),
+        ["frame-cuts", side, bytes, pace @ ..] => {
+            station.frame_cuts(side, bytes, pace_of(pace)?, output)
+        }
+        ["frame-changes", side, bytes, pace @ ..] => {
+            station.frame_changes(side, bytes, pace_of(pace)?, output)
+        }
         ["table"] => station.table(output),
         _ => bail!("no line of the cases: {line}"),
     }

@@ -1,8 +1,9 @@
 //! The gateway of a case.
 
+use crate::changing::{Pace, change, cut};
 use crate::letters::spelled;
 use crate::telling::{tell, tell_owned};
-use crate::{changing, words};
+use crate::words;
 use anyhow::{Result, bail};
 use gateway::{Event, Gateway, Hashers, Out, Outcome, Reason};
 use nat_types::GatewayId;
@@ -109,14 +110,16 @@ impl Station {
         &mut self,
         side: &str,
         text: &str,
+        pace: Pace,
         output: &mut O,
     ) -> Result<()> {
         let side = words::side(side)?;
         let frame = hex::decode(self.alloc, text)?;
-        changing::cut(
+        cut(
             &mut self.gateway,
             side,
             frame.as_slice(),
+            pace,
             &mut self.out,
             output,
         )
@@ -127,14 +130,16 @@ impl Station {
         &mut self,
         side: &str,
         text: &str,
+        pace: Pace,
         output: &mut O,
     ) -> Result<()> {
         let side = words::side(side)?;
         let mut frame = hex::decode(self.alloc, text)?;
-        changing::change(
+        change(
             &mut self.gateway,
             side,
             frame.as_mut_slice(),
+            pace,
             &mut self.out,
             output,
         )

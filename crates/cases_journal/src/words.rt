@@ -6,7 +6,7 @@ use nat_types::Side;
 use packet_rules::Reason;
 
 /// The reasons, in the order of their numbers.
-const REASONS: [Reason; 18] = [
+const REASONS: [Reason; 20] = [
     Reason::ShortFrame,
     Reason::NotMine,
     Reason::BadHeader,
@@ -25,6 +25,8 @@ const REASONS: [Reason; 18] = [
     Reason::BadDatagram,
     Reason::OldWord,
     Reason::HostLimit,
+    Reason::TooLong,
+    Reason::TooMany,
 ];
 
 /// A text, or none for `-`.

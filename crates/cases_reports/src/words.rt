@@ -9,7 +9,7 @@ use reports::Count;
 use vrrp_states::State;
 
 /// The reasons, in the order of their numbers.
-const REASONS: [Reason; 18] = [
+const REASONS: [Reason; 20] = [
     Reason::ShortFrame,
     Reason::NotMine,
     Reason::BadHeader,
@@ -28,6 +28,8 @@ const REASONS: [Reason; 18] = [
     Reason::BadDatagram,
     Reason::OldWord,
     Reason::HostLimit,
+    Reason::TooLong,
+    Reason::TooMany,
 ];
 
 pub(crate) fn role(given: &mut Given<'_>) -> Result<State> {

@@ -6,6 +6,7 @@
 
 mod both_sides;
 mod calls;
+mod own;
 mod packets;
 mod routers;
 
@@ -18,7 +19,7 @@ use std::alloc::Global;
 use std::fs;
 
 /// The lines for the cases of frames.
-fn frame_answers(alloc: Global, settings: &Settings, text: &str) -> Result<String> {
+fn frame_answers(alloc: Global, settings: &mut Settings, text: &str) -> Result<String> {
     let mut interfaces = Interfaces::new(alloc, settings)?;
     let mut out = String::new(alloc);
     for line in text.lines() {
@@ -51,9 +52,9 @@ fn router_answers(alloc: Global, text: &str) -> Result<String> {
 
 fn main(rt: HostRuntime) -> Result<()> {
     let alloc = rt.alloc();
-    let settings = Settings::sample(alloc)?;
+    let mut settings = Settings::sample(alloc)?;
     let text = fs::read_to_string(&rt, "rules.cases")?;
-    let answers = frame_answers(alloc, &settings, text.as_str())?;
+    let answers = frame_answers(alloc, &mut settings, text.as_str())?;
     print!(rt; "{answers}")?;
     let text = fs::read_to_string(&rt, "routers.cases")?;
     let answers = router_answers(alloc, text.as_str())?;

@@ -9,7 +9,7 @@ use interfaces::Interface;
 use ipv4::Flow;
 use nat_types::{Key, Pair};
 use packet_rules::{
-    Direction, Reading, Reason, Translation, append_answer, append_request, append_sent,
+    Asked, Direction, Reading, Reason, Translation, append_answer, append_request, append_sent,
     direction_taken,
 };
 use std::alloc::Global;
@@ -48,7 +48,16 @@ fn advert_text(alloc: Global, advert: Advert) -> Result<String> {
     Ok(format!(in alloc; "router {router} of priority {priority}, {interval} cs, {address}")?)
 }
 
-fn reading_text(alloc: Global, reading: Result<Reading, Reason>) -> Result<String> {
+fn asked_text(alloc: Global, asked: Asked) -> Result<String> {
+    let Asked {
+        source,
+        destination,
+        length,
+    } = asked;
+    Ok(format!(in alloc; "{source} asks {destination}, {length} bytes")?)
+}
+
+pub fn reading_text(alloc: Global, reading: Result<Reading, Reason>) -> Result<String> {
     match reading {
         Ok(Reading::Arp(packet)) => arp_text(alloc, &packet),
         Ok(Reading::Advert(advert, from)) => {
@@ -57,6 +66,7 @@ fn reading_text(alloc: Global, reading: Result<Reading, Reason>) -> Result<Strin
         }
         Ok(Reading::Packet(packet)) => flow_text(alloc, packet.flow),
         Ok(Reading::Error(packet)) => error_text(alloc, packet.flow),
+        Ok(Reading::Asked(asked)) => asked_text(alloc, asked),
         Err(reason) => {
             let number = reason.number();
             Ok(format!(in alloc; "dropped {number}, {reason}")?)

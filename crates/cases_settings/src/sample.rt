@@ -1,7 +1,7 @@
 //! The built-in settings, as the text that spells them.
 
 use addresses::Ip;
-use settings::{GatewaySettings, InterfaceSettings, Neighbour, PortRange, Settings};
+use settings::{GatewaySettings, IcmpSettings, InterfaceSettings, Neighbour, PortRange, Settings};
 use std::io::{self, Write};
 
 pub fn print<O: Write>(output: &mut O, settings: &Settings) -> io::Result<()> {
@@ -10,6 +10,7 @@ pub fn print<O: Write>(output: &mut O, settings: &Settings) -> io::Result<()> {
     range(output, "one", settings.ports.one)?;
     interface(output, "inside", &settings.inside, None)?;
     interface(output, "outside", &settings.outside, Some(settings.router))?;
+    icmp(output, settings.icmp)?;
     gateway(output, 0, &settings.zero)?;
     gateway(output, 1, &settings.one)?;
     for host in &settings.neighbours {
@@ -39,7 +40,13 @@ fn interface<O: Write>(
     if let Some(router) = router {
         writeln!(output, "router = \"{router}\"")?;
     }
-    Ok(())
+    let mtu = it.mtu;
+    writeln!(output, "mtu = {mtu}")
+}
+
+fn icmp<O: Write>(output: &mut O, it: IcmpSettings) -> io::Result<()> {
+    let (echo, errors) = (it.echo, it.errors);
+    writeln!(output, "\n[icmp]\necho = {echo}\nerrors = {errors}")
 }
 
 fn gateway<O: Write>(output: &mut O, number: u8, it: &GatewaySettings) -> io::Result<()> {

@@ -1,5 +1,5 @@
 //! Which call a case names.
-use crate::{datagrams, errors, neighbours, packets, queries};
+use crate::{datagrams, errors, neighbours, own, packets, queries};
 use anyhow::{Result, bail};
 use cases_words::Given;
 use std::alloc::Global;
@@ -24,6 +24,9 @@ pub fn answer(given: &mut Given) -> Result<String> {
         ),
         "query" => queries::query(given),
         "write-query" => queries::write_query(given),
+        "ask" => own::ask(given),
+        "reply" => own::reply(given),
+        call @ ("exceeded" | "too-long") => own::own_error(given, call),
         call @ ("arp-request" | "arp-reply" | "gratuitous") => neighbours::arp_written(given, call),
         "is-learnable" => is_learnt(given),
         "cache" => neighbours::found(given.alloc, given.left()),

@@ -7,6 +7,7 @@ mod calls;
 mod datagrams;
 mod errors;
 mod neighbours;
+mod own;
 mod packets;
 mod queries;
 

@@ -3,17 +3,18 @@ use Rattle.std.specs.Prelude.{ℕ, ◌==◌, ◌&&◌, Bool, true, false, List, 
 use Rattle.std.specs.Str.{bytes_eq}
 use Rattle.settings.specs.declared.whole.Settings.{Settings}
 use Rattle.settings.specs.declared.ranges.PortRange.{PortRange}
+use Rattle.settings.specs.declared.icmp_settings.IcmpSettings.{IcmpSettings}
 use Rattle.settings.specs.declared.interfaces.InterfaceSettings.{InterfaceSettings}
 use Rattle.settings.specs.declared.gateway_settings.GatewaySettings.{GatewaySettings}
 use Rattle.settings.specs.declared.interfaces.Neighbour.{Neighbour as NeighbourValue}
 use Rattle.settings_file.specs.declared.keys.Section.{Section}
-use Rattle.settings_file.specs.declared.keys.Section.TheVariants.{Ports, Inside, Outside, GatewayZero, GatewayOne}
+use Rattle.settings_file.specs.declared.keys.Section.TheVariants.{Ports, Inside, Outside, Icmp, GatewayZero, GatewayOne}
+use Rattle.settings_file.specs.declared.keys.Section.TheVariants as sections
 use Rattle.settings_file.specs.declared.keys.Name.{Name}
-use Rattle.settings_file.specs.declared.keys.Name.TheVariants.{Zero, One, HostLimit, Virtual, Prefix, Vrid, Wire, Router, InsideIp, InsideMac, OutsideIp, OutsideMac, Priority, Interval, Preempt, BootFile, Link, InsidePort, OutsidePort}
+use Rattle.settings_file.specs.declared.keys.Name.TheVariants.{Zero, One, HostLimit, Virtual, Prefix, Vrid, Wire, Router, Mtu, Echo, Errors, InsideIp, InsideMac, OutsideIp, OutsideMac, Priority, Interval, Preempt, BootFile, Link, InsidePort, OutsidePort}
 use Rattle.settings_file.specs.declared.keys.Key.{Key}
-use Rattle.settings_file.specs.Keys.{key}
+use Rattle.settings_file.specs.Keys.{key, whole}
 use Rattle.settings_file.specs.Faults.{all_bad}
-use Rattle.settings_file.specs.Neighbours.{whole}
 use Rattle.checks.specs.Doubts.{same_bool, same_host}
 
 abbrev pub same_range : PortRange → PortRange → Bool
@@ -53,6 +54,13 @@ same_interface section a b =
 abbrev pub same_router : Settings → Settings → List (Key × Bool)
 same_router a b = (key Outside Router, a.router.0 == b.router.0) ∷ []
 
+abbrev pub same_mtu : Section → InterfaceSettings → InterfaceSettings → List (Key × Bool)
+same_mtu section a b = (key section Mtu, a.mtu == b.mtu) ∷ []
+
+abbrev pub same_icmp : IcmpSettings → IcmpSettings → List (Key × Bool)
+same_icmp a b =
+    (key Icmp Echo, same_bool a.echo b.echo) ∷ (key Icmp Errors, same_bool a.errors b.errors) ∷ []
+
 abbrev pub same_addresses : Section → GatewaySettings → GatewaySettings → List (Key × Bool)
 same_addresses section a b =
     (key section InsideIp, a.inside_ip.0 == b.inside_ip.0)
@@ -77,22 +85,30 @@ same_sockets section a b =
     ∷ []
 
 abbrev pub same_list : Settings → Settings → List (Key × Bool)
-same_list a b = (whole, same_neighbours a.neighbours.items b.neighbours.items) ∷ []
+same_list a b = (whole sections.Neighbour, same_neighbours a.neighbours.items b.neighbours.items) ∷ []
 
 abbrev pub other_in_gateway : Section → GatewaySettings → GatewaySettings → List Key
 other_in_gateway section a b =
     all_bad (same_addresses section a b) ++ (all_bad (same_role section a b) ++ all_bad (same_sockets section a b))
 
+-- of the two networks, and the router
+abbrev pub other_in_networks : Settings → Settings → List Key
+other_in_networks a b =
+    all_bad (same_interface Inside a.inside b.inside)
+    ++ (all_bad (same_mtu Inside a.inside b.inside)
+    ++ (all_bad (same_interface Outside a.outside b.outside)
+    ++ (all_bad (same_router a b)
+    ++ all_bad (same_mtu Outside a.outside b.outside))))
+
 -- the keys in which two settings differ, in the order of the text
 unfoldable pub differing : Settings → Settings → List Key
 differing a b =
     all_bad (same_ports a b)
-    ++ (all_bad (same_interface Inside a.inside b.inside)
-    ++ (all_bad (same_interface Outside a.outside b.outside)
-    ++ (all_bad (same_router a b)
+    ++ (other_in_networks a b
+    ++ (all_bad (same_icmp a.icmp b.icmp)
     ++ (other_in_gateway GatewayZero a.zero b.zero
     ++ (other_in_gateway GatewayOne a.one b.one
-    ++ all_bad (same_list a b))))))
+    ++ all_bad (same_list a b)))))
 
 -- what one box alone reads, or the machine that it runs on: its boot file, its loopback ports, and how it takes part in VRRP
 abbrev pub may_differ : Option Name → Bool

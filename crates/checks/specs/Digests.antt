@@ -1,5 +1,5 @@
 -- A digest of the settings that must be equal on both boxes.
-use Rattle.std.specs.Prelude.{ℕ, List, [], ◌∷◌, ◌++◌, take, Option, Some, None}
+use Rattle.std.specs.Prelude.{ℕ, Bool, if◌then◌else◌, List, [], ◌∷◌, ◌++◌, take, Option, Some, None}
 use Rattle.std.specs.Int.{w16, w32, w64, to_be_bytes, from_be_bytes}
 use Rattle.std.specs.List.{flat_map}
 use Rattle.sha2.specs.Sha256.{sha256}
@@ -7,6 +7,7 @@ use Rattle.nat_types.specs.declared.gateways.Side.{Side}
 use Rattle.nat_types.specs.declared.gateways.Side.TheVariants.{Inside, Outside}
 use Rattle.settings.specs.declared.whole.Settings.{Settings}
 use Rattle.settings.specs.declared.ranges.PortRanges.{PortRanges}
+use Rattle.settings.specs.declared.icmp_settings.IcmpSettings.{IcmpSettings}
 use Rattle.settings.specs.declared.interfaces.InterfaceSettings.{InterfaceSettings}
 use Rattle.settings.specs.declared.gateway_settings.GatewaySettings.{GatewaySettings}
 use Rattle.settings.specs.declared.interfaces.Neighbour.{Neighbour}
@@ -25,9 +26,17 @@ port_bytes p =
     ++ to_be_bytes w16 p.one.highest.0
     ++ to_be_bytes w16 (limit_number p.host_limit)
 
--- the virtual address, the prefix and the virtual router's number
+-- the virtual address, the prefix, the virtual router's number and the longest packet
 abbrev pub interface_bytes : InterfaceSettings → List ℕ
-interface_bytes i = to_be_bytes w32 i.virtual_ip.0 ++ i.prefix_length ∷ i.virtual_router ∷ []
+interface_bytes i = to_be_bytes w32 i.virtual_ip.0 ++ i.prefix_length ∷ i.virtual_router ∷ [] ++ to_be_bytes w16 i.mtu
+
+-- 1 for what is said, else 0
+abbrev pub flag_byte : Bool → ℕ
+flag_byte said = if said then 1 else 0
+
+-- whether Echos are answered, and whether errors are told
+abbrev pub icmp_bytes : IcmpSettings → List ℕ
+icmp_bytes i = flag_byte i.echo ∷ flag_byte i.errors ∷ []
 
 -- the addresses of a gateway
 abbrev pub gateway_bytes : GatewaySettings → List ℕ
@@ -47,6 +56,7 @@ shared_bytes s =
     ++ interface_bytes s.inside
     ++ interface_bytes s.outside
     ++ to_be_bytes w32 s.router.0
+    ++ icmp_bytes s.icmp
     ++ gateway_bytes s.zero
     ++ gateway_bytes s.one
     ++ flat_map neighbour_bytes s.neighbours.items

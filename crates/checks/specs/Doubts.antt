@@ -11,7 +11,7 @@ use Rattle.settings.specs.declared.interfaces.Neighbour.{Neighbour as NeighbourV
 use Rattle.settings_file.specs.declared.keys.Section.{Section}
 use Rattle.settings_file.specs.declared.keys.Section.TheVariants.{Ports, Inside, Outside, GatewayZero, GatewayOne, Neighbour}
 use Rattle.settings_file.specs.declared.keys.Name.{Name}
-use Rattle.settings_file.specs.declared.keys.Name.TheVariants.{Zero, One, Virtual, Vrid, Router, OutsideMac, Priority, Interval, Preempt, BootFile, Ip, Mac}
+use Rattle.settings_file.specs.declared.keys.Name.TheVariants.{Zero, One, Virtual, Vrid, Router, OutsideMac, Priority, Interval, Preempt, BootFile, Ip}
 use Rattle.settings_file.specs.declared.keys.Key.{Key}
 use Rattle.settings_file.specs.Keys.{key}
 use Rattle.settings_file.specs.Clashes.{all_taken, ports_of_both}

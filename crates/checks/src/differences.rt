@@ -1,9 +1,9 @@
 //! In what two settings differ.
 ghost use Rattle.std.specs.Prelude.{◌≡◌, ◌++◌, IfOk, OnOk};
-ghost use Rattle.checks.specs.Differences.{same_range, same_limit, same_neighbour, same_neighbours, same_ports, same_interface, same_router, same_addresses, same_role, same_sockets, same_list, other_in_gateway, differing, may_differ};
+ghost use Rattle.checks.specs.Differences.{same_range, same_limit, same_neighbour, same_neighbours, same_ports, same_interface, same_router, same_mtu, same_icmp, same_addresses, same_role, same_sockets, same_list, other_in_networks, other_in_gateway, differing, may_differ};
 
 use crate::warnings::same_host;
-use settings::{GatewaySettings, InterfaceSettings, Neighbour, PortRange, Settings};
+use settings::{GatewaySettings, IcmpSettings, InterfaceSettings, Neighbour, PortRange, Settings};
 use settings_file::{Key, Name, Section, add_bad};
 use std::alloc::{AllocError, Global};
 
@@ -91,6 +91,28 @@ fn same_router(one: &Settings, other: &Settings) -> [(Key, bool); 1]
     [(Key::new(Section::Outside, Name::Router), same)]
 }
 
+fn same_mtu(
+    section: Section,
+    one: &InterfaceSettings,
+    other: &InterfaceSettings,
+) -> [(Key, bool); 1]
+    ensures { result ≡ same_mtu section one.now other.now }
+{
+    [(Key::new(section, Name::Mtu), one.mtu == other.mtu)]
+}
+
+fn same_icmp(one: IcmpSettings, other: IcmpSettings) -> [(Key, bool); 2]
+    ensures { result ≡ same_icmp one other }
+{
+    [
+        (Key::new(Section::Icmp, Name::Echo), one.echo == other.echo),
+        (
+            Key::new(Section::Icmp, Name::Errors),
+            one.errors == other.errors,
+        ),
+    ]
+}
+
 fn same_addresses(
     section: Section,
     one: &GatewaySettings,
@@ -162,10 +184,7 @@ fn same_sockets(
 fn same_list(one: &Settings, other: &Settings) -> [(Key, bool); 1]
     ensures { result ≡ same_list one.now other.now }
 {
-    let whole = Key {
-        section: Section::Neighbour,
-        name: None,
-    };
+    let whole = Key::whole(Section::Neighbour);
     let same = same_neighbours(one.neighbours.as_slice(), other.neighbours.as_slice());
     [(whole, same)]
 }
@@ -185,6 +204,26 @@ fn add_other_in_gateway(
     Ok(())
 }
 
+fn add_other_in_networks(
+    one: &Settings,
+    other: &Settings,
+    found: &mut Vec<Key>,
+) -> Result<(), AllocError>
+    ensures { OnOk result
+        (found.new.items ≡ found.old.items ++ other_in_networks one.now other.now) }
+{
+    let (inside, outside) = (Section::Inside, Section::Outside);
+    add_bad(&same_interface(inside, &one.inside, &other.inside), found)?;
+    add_bad(&same_mtu(inside, &one.inside, &other.inside), found)?;
+    add_bad(
+        &same_interface(outside, &one.outside, &other.outside),
+        found,
+    )?;
+    add_bad(&same_router(one, other), found)?;
+    add_bad(&same_mtu(outside, &one.outside, &other.outside), found)?;
+    Ok(())
+}
+
 /// The keys in which two settings differ, in the order of the text.
 #[tactic(auto, unfolding(crate::specs::Differences::differing))]
 pub fn differing_keys(
@@ -196,15 +235,8 @@ pub fn differing_keys(
 {
     let mut found = Vec::new(alloc);
     add_bad(&same_ports(one, other), &mut found)?;
-    add_bad(
-        &same_interface(Section::Inside, &one.inside, &other.inside),
-        &mut found,
-    )?;
-    add_bad(
-        &same_interface(Section::Outside, &one.outside, &other.outside),
-        &mut found,
-    )?;
-    add_bad(&same_router(one, other), &mut found)?;
+    add_other_in_networks(one, other, &mut found)?;
+    add_bad(&same_icmp(one.icmp, other.icmp), &mut found)?;
     add_other_in_gateway(Section::GatewayZero, &one.zero, &other.zero, &mut found)?;
     add_other_in_gateway(Section::GatewayOne, &one.one, &other.one, &mut found)?;
     add_bad(&same_list(one, other), &mut found)?;

@@ -1,10 +1,10 @@
 //! A digest of the settings that must be equal on both boxes.
 ghost use Rattle.std.specs.Prelude.{◌≡◌, ◌++◌, IfOk, OnOk};
 ghost use Rattle.std.specs.List.{flat_map};
-ghost use Rattle.checks.specs.Digests.{port_bytes, interface_bytes, gateway_bytes, neighbour_bytes, side_byte, shared_bytes, digest};
+ghost use Rattle.checks.specs.Digests.{port_bytes, interface_bytes, icmp_bytes, gateway_bytes, neighbour_bytes, side_byte, shared_bytes, digest};
 
 use nat_types::Side;
-use settings::{GatewaySettings, InterfaceSettings, Neighbour, PortRanges, Settings};
+use settings::{GatewaySettings, IcmpSettings, InterfaceSettings, Neighbour, PortRanges, Settings};
 use sha2::{Digest, Sha256};
 use std::alloc::{AllocError, Global};
 
@@ -24,6 +24,14 @@ fn add_interface(interface: &InterfaceSettings, bytes: &mut Vec<u8>) -> Result<(
 {
     bytes.extend_from_slice(&interface.virtual_ip.0.to_be_bytes())?;
     bytes.extend_from_slice(&[interface.prefix_length, interface.virtual_router])?;
+    bytes.extend_from_slice(&interface.mtu.to_be_bytes())?;
+    Ok(())
+}
+
+fn add_icmp(icmp: IcmpSettings, bytes: &mut Vec<u8>) -> Result<(), AllocError>
+    ensures { OnOk result (bytes.new.items ≡ bytes.old.items ++ icmp_bytes icmp) }
+{
+    bytes.extend_from_slice(&[u8::from(icmp.echo), u8::from(icmp.errors)])?;
     Ok(())
 }
 
@@ -75,6 +83,7 @@ fn shared_bytes(alloc: Global, settings: &Settings) -> Result<Vec<u8>, AllocErro
     add_interface(&settings.inside, &mut bytes)?;
     add_interface(&settings.outside, &mut bytes)?;
     bytes.extend_from_slice(&settings.router.0.to_be_bytes())?;
+    add_icmp(settings.icmp, &mut bytes)?;
     add_gateway(&settings.zero, &mut bytes)?;
     add_gateway(&settings.one, &mut bytes)?;
     add_neighbours(settings.neighbours.as_slice(), &mut bytes)?;
@@ -82,8 +91,8 @@ fn shared_bytes(alloc: Global, settings: &Settings) -> Result<Vec<u8>, AllocErro
 }
 
 /// The first 64 bits of the SHA-256 of the settings that must be equal on both boxes: the port ranges and the limit of
-/// each host, of each side the virtual address, the prefix and the virtual router's number, the router, the addresses of
-/// both gateways, and the neighbours in their order.
+/// each host, of each side the virtual address, the prefix, the virtual router's number and the longest packet, the
+/// router, what is said by ICMP, the addresses of both gateways, and the neighbours in their order.
 pub fn digest(alloc: Global, settings: &Settings) -> Result<u64, AllocError>
     ensures { IfOk result (λ number. number ≡ digest settings.now) }
 {

@@ -1,3 +1,4 @@
 mod Planning
+mod Reading
 mod Taking
 mod Wishing

@@ -1,5 +1,5 @@
 -- What a plan holds of the gateway that it was made for.
-use Rattle.std.proofs.Common.{◌≡◌, Bool, true, false, cond, Option, Some, None, Result, Ok, Err, refl, sym, ap, subst, ◌∙◌}
+use Rattle.std.proofs.Common.{◌≡◌, ℕ, Bool, true, false, cond, Option, Some, None, Result, Ok, Err, refl, sym, ap, subst, ◌∙◌}
 use Rattle.addresses.specs.declared.ethernet.Mac.{Mac}
 use Rattle.addresses.specs.declared.internet.Ip.{Ip}
 use Rattle.nat_types.specs.declared.gateways.Side.{Side}
@@ -13,17 +13,21 @@ use Rattle.waiting.specs.Packets.{has_place}
 use Rattle.packet_rules.specs.declared.networks.Direction.{Direction}
 use Rattle.packet_rules.specs.declared.networks.Direction.TheVariants as way
 use Rattle.packet_rules.specs.declared.reasons.Reason.{Reason}
-use Rattle.packet_rules.specs.declared.reasons.Reason.TheVariants.{CannotWait}
+use Rattle.packet_rules.specs.declared.readings.Asked.{Asked as Echo}
+use Rattle.packet_rules.specs.declared.reasons.Reason.TheVariants.{CannotWait, NoBinding, TooMany}
+use Rattle.interfaces.specs.Tallies.{may_reply}
 use Rattle.packet_rules.specs.declared.translations.Translation.{Translation}
 use Rattle.packet_rules.specs.declared.translations.Translation.TheVariants.{Outward, Inward, Hairpin}
 use Rattle.packet_rules.specs.Flows.{source_of}
-use Rattle.packet_rules.specs.Networks.{direction_of}
+use Rattle.packet_rules.specs.Networks.{direction_of, exit_of, may_answer}
 use Rattle.packet_rules.specs.Steps.{and_then}
 use Rattle.packet_rules.specs.Errors.{error_direction}
 use Rattle.spec_step.specs.declared.plans.Plan.{Plan}
 use Rattle.spec_step.specs.declared.plans.Plan.TheVariants.{Send, Ask, AskAgain, Wait as WaitFor}
-use Rattle.spec_step.specs.Shown.{Shown}
-use Rattle.spec_step.specs.Verdict.{exit_by, hop_to, look_for, next_to, plan_by, plan_from, plan_of, plan_on, plan_to, plan_via, target_pair, error_by, error_on, error_plan, pair_in_of, pair_out}
+use Rattle.spec_step.specs.declared.plans.Reply.{Reply}
+use Rattle.spec_step.specs.declared.plans.Reply.TheVariants as reply
+use Rattle.spec_step.specs.Shown.{Shown, station_on}
+use Rattle.spec_step.specs.Verdict.{exit_by, fits_at, hop_back, if_fits, if_reply_fits, next_back, reply_to, reply_via, hop_to, look_for, next_to, plan_by, plan_from, plan_of, plan_on, plan_to, plan_via, target_pair, error_by, error_on, error_plan, pair_in_of, pair_out}
 use Rattle.icmp.specs.declared.packets.ErrorFlow.{ErrorFlow}
 use Rattle.forwarder.specs.Plans.{IsOwn}
 
@@ -78,16 +82,28 @@ on-holds g flow way.Hairpin = at (target_pair g flow)
     at (Ok p) = from-holds g flow (λ own. Hairpin own p) (look_for g flow) (λ own is. is)
     at (Err reason) = tt
 
-holds : (g : Shown) (side : Side) (flow : Flow) → Holds g flow (plan_of g side flow)
-holds g side flow = at (direction_of g.networks side flow.protocol flow.source.0 flow.destination.0)
+-- a packet that is too long is refused, and holds nothing
+fits-holds : (g : Shown) (flow : Flow) (fits : Bool) (r : Result Plan Reason) → Holds g flow r → Holds g flow (and_then r (if_fits fits))
+fits-holds g flow true (Ok (Send by next)) held = held
+fits-holds g flow true (Ok (Ask by hop)) held = held
+fits-holds g flow true (Ok (AskAgain by hop)) held = tt
+fits-holds g flow true (Ok (WaitFor e)) held = held
+fits-holds g flow false (Ok (Send by next)) held = tt
+fits-holds g flow false (Ok (Ask by hop)) held = tt
+fits-holds g flow false (Ok (AskAgain by hop)) held = tt
+fits-holds g flow false (Ok (WaitFor e)) held = tt
+fits-holds g flow fits (Err reason) held = tt
+
+holds : (g : Shown) (side : Side) (flow : Flow) (length : ℕ) → Holds g flow (plan_of g side flow length)
+holds g side flow length = at (direction_of g.networks side flow.protocol flow.source.0 flow.destination.0)
   where
-    at : (r : Result Direction Reason) → Holds g flow (and_then r (plan_on g flow))
-    at (Ok w) = on-holds g flow w
+    at : (r : Result Direction Reason) → Holds g flow (and_then r (λ way. and_then (plan_on g flow way) (if_fits (fits_at g (exit_of way) length))))
+    at (Ok w) = fits-holds g flow (fits_at g (exit_of w) length) (plan_on g flow w) (on-holds g flow w)
     at (Err reason) = tt
 
 -- of a plan that was made for this gateway
-pub plan-holds : (g : Shown) (side : Side) (flow : Flow) (plan : Result Plan Reason) → plan ≡ plan_of g side flow → Holds g flow plan
-plan-holds g side flow plan is = subst (λ (p : Result Plan Reason). Holds g flow p) (sym is) (holds g side flow)
+pub plan-holds : (g : Shown) (side : Side) (flow : Flow) (length : ℕ) (plan : Result Plan Reason) → plan ≡ plan_of g side flow length → Holds g flow plan
+plan-holds g side flow length plan is = subst (λ (p : Result Plan Reason). Holds g flow p) (sym is) (holds g side flow length)
 
 -- ---- an error
 
@@ -121,13 +137,80 @@ on-error g flow way.Hairpin = at (pair_out g flow)
     at (Ok other) = found-error g flow (λ own. Hairpin own other) (pair_in_of g flow)
     at (Err reason) = tt
 
-error-holds : (g : Shown) (side : Side) (flow : ErrorFlow) → HoldsError g (error_plan g side flow)
-error-holds g side flow = at (error_direction g.networks side flow)
+fits-error : (g : Shown) (fits : Bool) (r : Result Plan Reason) → HoldsError g r → HoldsError g (and_then r (if_fits fits))
+fits-error g true (Ok (Send by next)) held = tt
+fits-error g true (Ok (Ask by hop)) held = held
+fits-error g true (Ok (AskAgain by hop)) held = tt
+fits-error g true (Ok (WaitFor e)) held = held
+fits-error g false (Ok (Send by next)) held = tt
+fits-error g false (Ok (Ask by hop)) held = tt
+fits-error g false (Ok (AskAgain by hop)) held = tt
+fits-error g false (Ok (WaitFor e)) held = tt
+fits-error g fits (Err reason) held = tt
+
+error-holds : (g : Shown) (side : Side) (flow : ErrorFlow) (length : ℕ) → HoldsError g (error_plan g side flow length)
+error-holds g side flow length = at (error_direction g.networks side flow)
   where
-    at : (r : Result Direction Reason) → HoldsError g (and_then r (error_on g flow))
-    at (Ok w) = on-error g flow w
+    at : (r : Result Direction Reason) → HoldsError g (and_then r (λ way. and_then (error_on g flow way) (if_fits (fits_at g (exit_of way) length))))
+    at (Ok w) = fits-error g (fits_at g (exit_of w) length) (error_on g flow w) (on-error g flow w)
     at (Err reason) = tt
 
 -- of a plan that was made for this gateway
-pub error-plan-holds : (g : Shown) (side : Side) (flow : ErrorFlow) (plan : Result Plan Reason) → plan ≡ error_plan g side flow → HoldsError g plan
-error-plan-holds g side flow plan is = subst (λ (p : Result Plan Reason). HoldsError g p) (sym is) (error-holds g side flow)
+pub error-plan-holds : (g : Shown) (side : Side) (flow : ErrorFlow) (length : ℕ) (plan : Result Plan Reason) → plan ≡ error_plan g side flow length → HoldsError g plan
+error-plan-holds g side flow length plan is = subst (λ (p : Result Plan Reason). HoldsError g p) (sym is) (error-holds g side flow length)
+
+-- ---- an Echo to the gateway
+
+-- an answer that is planned at once may be sent in this second; what is planned to wait has a place
+abbrev pub HoldsReply : Shown → Side → Result Reply Reason → Type 0
+HoldsReply g side (Ok (reply.Send next)) = may_reply g.moment (station_on g side).said ≡ true
+HoldsReply g side (Ok (reply.Ask hop)) = has_place g.kept (wait.Hop side hop) ≡ true
+HoldsReply g side (Ok (reply.AskAgain hop)) = Unit {0}
+HoldsReply g side (Err reason) = Unit {0}
+
+via-reply : (g : Shown) (side : Side) (hop : Ip) (next : Option Mac) → may_reply g.moment (station_on g side).said ≡ true → HoldsReply g side (reply_via g side hop next)
+via-reply g side hop (Some next) may = may
+via-reply g side hop None may = at (has_place g.kept (wait.Hop side hop)) refl
+  where
+    at : (b : Bool) → has_place g.kept (wait.Hop side hop) ≡ b → HoldsReply g side (let r : Result Reply Reason = cond b (Ok (reply.Ask hop)) (Ok (reply.AskAgain hop)) in r)
+    at true is = is
+    at false is = tt
+
+-- an Echo whose next hop isn't known waits for it, where there is a place
+pub reply-waits : (g : Shown) (side : Side) (source hop : Ip) (place : Bool) → hop ≡ hop_back g side source → next_back g side source ≡ None → has_place g.kept (wait.Hop side hop) ≡ place
+    → (let r : Result Reply Reason = cond place (Ok (reply.Ask hop)) (Ok (reply.AskAgain hop)) in r) ≡ reply_via g side (hop_back g side source) (next_back g side source)
+reply-waits g side source hop place is none at =
+    sym (
+    ap (λ (o : Option Mac). reply_via g side (hop_back g side source) o) none
+    ∙ ap (λ (i : Ip). let r : Result Reply Reason = cond (has_place g.kept (wait.Hop side i)) (Ok (reply.Ask i)) (Ok (reply.AskAgain i)) in r) (sym is)
+    ∙ ap (λ (b : Bool). let r : Result Reply Reason = cond b (Ok (reply.Ask hop)) (Ok (reply.AskAgain hop)) in r) at
+    )
+
+fits-reply : (g : Shown) (side : Side) (fits : Bool) (r : Result Reply Reason) → HoldsReply g side r → HoldsReply g side (and_then r (if_reply_fits fits))
+fits-reply g side true (Ok (reply.Send next)) held = held
+fits-reply g side true (Ok (reply.Ask hop)) held = held
+fits-reply g side true (Ok (reply.AskAgain hop)) held = tt
+fits-reply g side false (Ok (reply.Send next)) held = tt
+fits-reply g side false (Ok (reply.Ask hop)) held = tt
+fits-reply g side false (Ok (reply.AskAgain hop)) held = tt
+fits-reply g side fits (Err reason) held = tt
+
+reply-holds : (g : Shown) (side : Side) (echo : Echo) → HoldsReply g side (reply_to g side echo)
+reply-holds g side echo = may-be (may_answer g.networks side echo.source.0)
+  where
+    planned : Result Reply Reason
+    planned = and_then (reply_via g side (hop_back g side echo.source) (next_back g side echo.source)) (if_reply_fits (fits_at g side echo.length))
+
+    counted : (b : Bool) → may_reply g.moment (station_on g side).said ≡ b → HoldsReply g side (cond b planned (Err TooMany))
+    counted true is =
+        fits-reply g side (fits_at g side echo.length) (reply_via g side (hop_back g side echo.source) (next_back g side echo.source))
+        (via-reply g side (hop_back g side echo.source) (next_back g side echo.source) is)
+    counted false is = tt
+
+    may-be : (b : Bool) → HoldsReply g side (cond b (cond (may_reply g.moment (station_on g side).said) planned (Err TooMany)) (Err NoBinding))
+    may-be true = counted (may_reply g.moment (station_on g side).said) refl
+    may-be false = tt
+
+-- of a plan that was made for this gateway
+pub reply-plan-holds : (g : Shown) (side : Side) (echo : Echo) (plan : Result Reply Reason) → plan ≡ reply_to g side echo → HoldsReply g side plan
+reply-plan-holds g side echo plan is = subst (λ (p : Result Reply Reason). HoldsReply g side p) (sym is) (reply-holds g side echo)

@@ -15,7 +15,7 @@ ghost use Rattle.forwarder.specs.Room.{HasRoomFor, Spends, frames_alone};
 
 use crate::Forwarder;
 use crate::outgoing::PassedFrame;
-use crate::plans::pair_of;
+use crate::plans::{if_fits, pair_of};
 use addresses::{Ip, Mac};
 use icmp::{ErrorFlow, ErrorPacket};
 use nat_types::{NoMemory, Pair, Side};
@@ -29,11 +29,14 @@ use waiting::{HeldPacket, WaitsFor};
 
 impl Forwarder {
     /// What an error is to do, or why it is dropped; nothing changes.
-    fn plan_error(&self, side: Side, flow: ErrorFlow) -> Result<Plan, Reason>
-        ensures { result ≡ error_plan (shown_of self.now) side flow }
+    fn plan_error(&self, side: Side, packet: ErrorPacket) -> Result<Plan, Reason>
+        ensures { result ≡ error_plan (shown_of self.now) side packet.flow packet.length }
     {
-        match error_direction(&self.networks, side, flow) {
-            Ok(way) => self.plan_error_on(flow, way),
+        match error_direction(&self.networks, side, packet.flow) {
+            Ok(way) => match self.plan_error_on(packet.flow, way) {
+                Ok(plan) => if_fits(self.fits_at(way.exit(), packet.length), plan),
+                Err(reason) => Err(reason),
+            },
             Err(reason) => Err(reason),
         }
     }
@@ -164,16 +167,17 @@ impl Forwarder {
         requires read { packet ≡ error_in bytes.now }
         requires room { HasRoomFor (frames_alone 2) self.old page.old }
         ensures outcome { IfOk result (λ o. o
-            ≡ outcome_by (error_plan (shown_of self.old) side packet.flow)) }
+            ≡ outcome_by (error_plan (shown_of self.old) side packet.flow packet.length)) }
         ensures scene { OnOk result (scene_on self.new page.new
             ≡ error_taken (scene_on self.old page.old) side bytes.now packet.flow) }
         ensures err { OnErr result (scene_on self.new page.new ≡ scene_on self.old page.old) }
         ensures waits { OnErr result
-            (outcome_by (error_plan (shown_of self.old) side packet.flow) ≡ Waiting) }
+            (outcome_by (error_plan (shown_of self.old) side packet.flow packet.length)
+            ≡ Waiting) }
         ensures link { self.new.link ≡ self.old.link }
         ensures spends { Spends (frames_alone 2) self.old page.old self.new page.new }
     {
-        match self.plan_error(side, packet.flow) {
+        match self.plan_error(side, packet) {
             Ok(Plan::Send { by, next }) => {
                 self.pass(page, bytes, packet, by, next);
                 Ok(Outcome::Sent)
@@ -185,7 +189,7 @@ impl Forwarder {
                 Ok(Outcome::Waiting)
             }
             Ok(Plan::AskAgain { by, hop }) => {
-                self.ask_again(page, by, hop);
+                self.ask_again(page, by.direction().exit(), hop);
                 Ok(Outcome::Dropped(Reason::CannotWait))
             }
             Ok(Plan::Wait(_)) => unreachable!(),
@@ -208,14 +212,14 @@ impl Forwarder {
         ensures link { self.new.link ≡ self.old.link }
         ensures spends { Spends (frames_alone 2) self.old page.old self.new page.new }
     {
-        match self.plan_error(packet.side, reading.flow) {
+        match self.plan_error(packet.side, reading) {
             Ok(Plan::Send { by, next }) => self.pass(page, &packet.bytes, reading, by, next),
             Ok(Plan::Ask { by, hop }) => {
                 let wait = WaitsFor::Hop(by.direction().exit(), hop);
                 let copy = packet.again(self.moment, wait);
                 self.ask_for_error(page, reading.flow, by, hop, copy);
             }
-            Ok(Plan::AskAgain { by, hop }) => self.ask_again(page, by, hop),
+            Ok(Plan::AskAgain { by, hop }) => self.ask_again(page, by.direction().exit(), hop),
             Ok(Plan::Wait(_)) => unreachable!(),
             Err(_) => {}
         }

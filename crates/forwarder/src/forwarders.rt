@@ -1,5 +1,7 @@
 //! A gateway as far as packets need it.
-ghost use Rattle.std.specs.Prelude.{◌≡◌, IfOk};
+ghost use Rattle.std.specs.Prelude.{◌≡◌, ◌≢◌, IfErr, IfOk};
+ghost use Rattle.packet_rules.specs.Asked.{IsWhole};
+ghost use Rattle.packet_rules.specs.declared.reasons.Reason.TheVariants.{TooLong, TtlOver};
 ghost use Rattle.packet_rules.specs.Steps.{Carries};
 ghost use Rattle.spec_step.specs.Shown.{is_running, is_up, station_on};
 ghost use Rattle.spec_step.specs.Verdict.{reading_on};
@@ -59,6 +61,8 @@ impl Forwarder {
     pub fn read_frame(&self, side: Side, bytes: &[u8]) -> Result<Reading, Reason>
         ensures reading { result ≡ reading_on (shown_of self.now) side bytes.now }
         ensures carries { IfOk result (Carries side bytes.now) }
+        ensures over { IfErr result (λ reason. reason ≡ TtlOver → IsWhole bytes.now) }
+        ensures fits { IfErr result (λ reason. reason ≢ TooLong) }
     {
         self.station(side).read_frame(side, self.is_up(), bytes)
     }

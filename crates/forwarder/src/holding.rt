@@ -5,13 +5,14 @@ ghost use Rattle.waiting.specs.Packets.{has_place};
 ghost use Rattle.spec_binding.specs.WellFormed.{IsWellFormedEndpoint};
 ghost use Rattle.packet_rules.specs.Arping.{request_frame};
 ghost use Rattle.packet_rules.specs.Flows.{source_of};
+ghost use Rattle.packet_rules.specs.Steps.{IsForwardable};
 ghost use Rattle.spec_step.specs.declared.plans.Plan.TheVariants.{Ask, Wait as WaitFor};
 ghost use Rattle.spec_step.specs.Parts.{asked_again, by_plan, by_refusal, framed};
 ghost use Rattle.spec_step.specs.Shown.{station_on};
 ghost use Rattle.spec_step.specs.Verdict.{exit_by};
 ghost use Rattle.forwarder.specs.Forwarder.{scene_on, shown_of};
 ghost use Rattle.forwarder.specs.Plans.{IsOwn};
-ghost use Rattle.forwarder.specs.Room.{HasRoomFor, LeavesPlaces, Spends, a_wish, an_ask, frames_alone};
+ghost use Rattle.forwarder.specs.Room.{HasRoomFor, LeavesPlaces, Spends, a_packet, a_wish, an_ask, frames_alone};
 
 use crate::Forwarder;
 use crate::outgoing::Request;
@@ -19,7 +20,7 @@ use addresses::Ip;
 use ipv4::Flow;
 use nat_types::Side;
 use output::OutputBuffer;
-use packet_rules::{Reason, Translation, source_endpoint};
+use packet_rules::{Reason, Translation, exit_for, source_endpoint};
 use waiting::{HeldPacket, WaitsFor};
 
 impl Forwarder {
@@ -67,14 +68,13 @@ impl Forwarder {
 
     /// A packet is dropped because another one waits for its next hop, which is asked for again
     /// where it wasn't just now.
-    pub(crate) fn ask_again(&mut self, page: &mut OutputBuffer, by: Translation, hop: Ip)
+    pub(crate) fn ask_again(&mut self, page: &mut OutputBuffer, exit: Side, hop: Ip)
         requires room { HasRoomFor (frames_alone 1) self.old page.old }
         ensures scene { scene_on self.new page.new
-            ≡ asked_again (scene_on self.old page.old) (exit_by by) hop }
+            ≡ asked_again (scene_on self.old page.old) exit hop }
         ensures rest { self.new ≡ record self.old { kept = self.new.kept } }
         ensures spends { Spends (frames_alone 1) self.old page.old self.new page.new }
     {
-        let exit = by.direction().exit();
         if self.kept.ask_again(WaitsFor::Hop(exit, hop), self.moment) {
             self.send_request(page, exit, hop);
         }
@@ -98,17 +98,30 @@ impl Forwarder {
         self.kept.keep(copy);
     }
 
-    /// A packet is dropped; where no port was free, ports may be asked for.
-    pub(crate) fn refuse(&mut self, page: &mut OutputBuffer, flow: Flow, reason: Reason)
+    /// A packet is dropped; where no port was free, ports may be asked for, and where it is too long
+    /// its source may be told.
+    pub(crate) fn refuse(
+        &mut self,
+        page: &mut OutputBuffer,
+        side: Side,
+        bytes: &[u8],
+        flow: Flow,
+        reason: Reason,
+    )
+        requires forwardable { IsForwardable bytes.now }
         requires formed { IsWellFormedEndpoint (source_of flow) }
-        requires room { HasRoomFor a_wish self.old page.old }
+        requires room { HasRoomFor a_packet self.old page.old }
         ensures scene { scene_on self.new page.new
-            ≡ by_refusal (scene_on self.old page.old) flow reason }
-        ensures spends { Spends a_wish self.old page.old self.new page.new }
+            ≡ by_refusal (scene_on self.old page.old) side bytes.now flow reason }
+        ensures spends { Spends a_packet self.old page.old self.new page.new }
         ensures places { LeavesPlaces self.old self.new }
     {
         match reason {
             Reason::NoPort => self.wish(page, source_endpoint(flow)),
+            Reason::TooLong | Reason::TtlOver => {
+                let exit = exit_for(side, self.way_of(side, flow));
+                self.refuse_whole(page, side, exit, bytes, reason);
+            }
             _ => {}
         }
     }

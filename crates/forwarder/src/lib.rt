@@ -1,6 +1,8 @@
 //! What takes packets: a gateway but for its clock, its routers and the other gateway's datagrams.
 #![tactic(auto)]
 
+mod answers;
+mod complaining;
 mod errors;
 mod forwarders;
 mod holding;

@@ -1,10 +1,13 @@
 //! The frames that are made where they are to lie.
 ghost use Rattle.std.specs.Prelude.{◌≡◌, length, ⊤};
 ghost use Rattle.arp.specs.declared.packets.TheConstants.{ARP_FRAME};
+ghost use Rattle.packet_rules.specs.declared.complaints.TheConstants.{COMPLAINT_FRAME};
 ghost use Rattle.packet_rules.specs.Arping.{answer_frame, request_frame};
+ghost use Rattle.packet_rules.specs.Asked.{IsAskable, IsWhole};
 ghost use Rattle.packet_rules.specs.Errors.{passed_frame};
 ghost use Rattle.packet_rules.specs.Flows.{error_in, packet_in};
 ghost use Rattle.packet_rules.specs.Frames.{sent_frame};
+ghost use Rattle.packet_rules.specs.Own.{answer_frame as own_answer, complaint_frame};
 ghost use Rattle.packet_rules.specs.Steps.{IsForwardable, IsPassable};
 
 use addresses::{Ip, Mac};
@@ -13,7 +16,8 @@ use icmp::ErrorPacket;
 use ipv4::Packet;
 use output::WriteBytes;
 use packet_rules::{
-    Network, Networks, Translation, append_answer, append_passed, append_request, append_sent,
+    Complaint, Network, Networks, Translation, append_answer, append_complaint, append_echo_reply,
+    append_passed, append_request, append_sent,
 };
 
 /// The frame by which a packet is sent on.
@@ -75,6 +79,49 @@ impl WriteBytes for PassedFrame<'_> {
             self.bytes,
             self.packet,
         );
+    }
+}
+
+/// The frame that answers an Echo to the gateway itself.
+#[derive(Drop)]
+pub(crate) struct OwnAnswer<'a> {
+    pub network: Network,
+    pub next: Mac,
+    /// The frame that came.
+    pub bytes: &'a [u8],
+}
+
+impl WriteBytes for OwnAnswer<'_> {
+    ghost can_write = { λ f. IsAskable f.bytes.now };
+
+    ghost bytes = { λ f. own_answer f.network f.next f.bytes.now };
+
+    ghost room = { λ f. length f.bytes.now };
+
+    fn write_to(&self, list: &mut Vec<u8>) {
+        append_echo_reply(list, &self.network, self.next, self.bytes);
+    }
+}
+
+/// The frame that says why a packet is dropped.
+#[derive(Drop)]
+pub(crate) struct OwnComplaint<'a> {
+    pub network: Network,
+    pub complaint: Complaint,
+    pub next: Mac,
+    /// The frame that came.
+    pub bytes: &'a [u8],
+}
+
+impl WriteBytes for OwnComplaint<'_> {
+    ghost can_write = { λ f. IsWhole f.bytes.now };
+
+    ghost bytes = { λ f. complaint_frame f.network f.complaint f.next f.bytes.now };
+
+    ghost room = { λ _. COMPLAINT_FRAME };
+
+    fn write_to(&self, list: &mut Vec<u8>) {
+        append_complaint(list, &self.network, self.complaint, self.next, self.bytes);
     }
 }
 

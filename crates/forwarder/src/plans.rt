@@ -2,7 +2,8 @@
 ghost use Rattle.std.specs.Prelude.{◌≡◌};
 ghost use Rattle.spec_binding.specs.Rows.{new_pair};
 ghost use Rattle.packet_rules.specs.Flows.{source_of};
-ghost use Rattle.spec_step.specs.Verdict.{look_for, plan_from, plan_of, plan_via};
+ghost use Rattle.packet_rules.specs.Networks.{direction_of};
+ghost use Rattle.spec_step.specs.Verdict.{fits_at, if_fits, look_for, plan_from, plan_of, plan_via};
 ghost use Rattle.spec_step.specs.Verdict.{pair_at, plan_on, target_pair};
 ghost use Rattle.forwarder.specs.Forwarder.{shown_of};
 ghost use Rattle.forwarder.specs.Plans.{leaving_by};
@@ -10,9 +11,11 @@ ghost use Rattle.forwarder.specs.Plans.{leaving_by};
 use crate::Forwarder;
 use addresses::{Ip, Port};
 use bindings::Entry;
-use ipv4::Flow;
+use ipv4::{Flow, Packet};
 use nat_types::{EntryState, Key, Pair, Side};
-use packet_rules::{Direction, Reason, Translation, direction_taken, source_endpoint, target_key};
+use packet_rules::{
+    Direction, Reason, Translation, direction_taken, mtu_at, source_endpoint, target_key,
+};
 use spec_binding::Want;
 use spec_step::Plan;
 use waiting::WaitsFor;
@@ -52,21 +55,51 @@ fn leaving(own: Pair, other: Option<Pair>) -> Translation
     }
 }
 
+/// What would go on or wait, where it isn't too long for the side at which it leaves.
+pub(crate) fn if_fits(fits: bool, plan: Plan) -> Result<Plan, Reason>
+    ensures { result ≡ if_fits fits plan }
+{
+    match plan {
+        Plan::AskAgain { .. } => Ok(plan),
+        Plan::Send { .. } | Plan::Ask { .. } | Plan::Wait(_) => {
+            if fits { Ok(plan) } else { Err(Reason::TooLong) }
+        }
+    }
+}
+
 impl Forwarder {
     /// What a packet is to do, or why it is dropped; nothing changes.
-    pub(crate) fn plan(&self, side: Side, flow: Flow) -> Result<Plan, Reason>
-        ensures { result ≡ plan_of (shown_of self.now) side flow }
+    pub(crate) fn plan(&self, side: Side, packet: Packet) -> Result<Plan, Reason>
+        ensures { result ≡ plan_of (shown_of self.now) side packet.flow packet.length }
     {
-        match direction_taken(
+        match self.way_of(side, packet.flow) {
+            Ok(way) => match self.plan_on(packet.flow, way) {
+                Ok(plan) => if_fits(self.fits_at(way.exit(), packet.length), plan),
+                Err(reason) => Err(reason),
+            },
+            Err(reason) => Err(reason),
+        }
+    }
+
+    /// Which way a packet goes that came in on a side.
+    pub(crate) fn way_of(&self, side: Side, flow: Flow) -> Result<Direction, Reason>
+        ensures { result ≡ direction_of self.now.networks side flow.protocol flow.source.0
+            flow.destination.0 }
+    {
+        direction_taken(
             &self.networks,
             side,
             flow.protocol,
             flow.source,
             flow.destination,
-        ) {
-            Ok(way) => self.plan_on(flow, way),
-            Err(reason) => Err(reason),
-        }
+        )
+    }
+
+    /// Whether a packet of so many bytes isn't too long for the side at which it leaves.
+    pub(crate) fn fits_at(&self, exit: Side, length: usize) -> bool
+        ensures { result ≡ fits_at (shown_of self.now) exit length }
+    {
+        length <= usize::from(mtu_at(&self.networks, exit))
     }
 
     fn plan_on(&self, flow: Flow, way: Direction) -> Result<Plan, Reason>

@@ -44,7 +44,7 @@ impl Forwarder {
         requires read { packet ≡ packet_in bytes.now }
         requires room { HasRoomFor a_packet self.old page.old }
         ensures outcome { IfOk result (λ o. o
-            ≡ outcome_by (plan_of (shown_of self.old) side packet.flow)) }
+            ≡ outcome_by (plan_of (shown_of self.old) side packet.flow packet.length)) }
         ensures scene { OnOk result (scene_on self.new page.new
             ≡ flow_taken (scene_on self.old page.old) side bytes.now packet.flow) }
         ensures err { OnErr result (scene_on self.new page.new ≡ scene_on self.old page.old) }
@@ -52,7 +52,7 @@ impl Forwarder {
         ensures places { LeavesPlaces self.old self.new }
     {
         recall_source(bytes, packet);
-        match self.plan(side, packet.flow) {
+        match self.plan(side, packet) {
             Ok(Plan::Send { by, next }) => {
                 self.send(page, bytes, packet, by, next);
                 Ok(Outcome::Sent)
@@ -64,7 +64,7 @@ impl Forwarder {
                 Ok(Outcome::Waiting)
             }
             Ok(Plan::AskAgain { by, hop }) => {
-                self.ask_again(page, by, hop);
+                self.ask_again(page, by.direction().exit(), hop);
                 Ok(Outcome::Dropped(Reason::CannotWait))
             }
             Ok(Plan::Wait(endpoint)) => {
@@ -74,7 +74,7 @@ impl Forwarder {
                 Ok(Outcome::Waiting)
             }
             Err(reason) => {
-                self.refuse(page, packet.flow, reason);
+                self.refuse(page, side, bytes, packet.flow, reason);
                 Ok(Outcome::Dropped(reason))
             }
         }
@@ -92,19 +92,19 @@ impl Forwarder {
     {
         recall_source(&packet.bytes, reading);
         let flow = reading.flow;
-        match self.plan(packet.side, flow) {
+        match self.plan(packet.side, reading) {
             Ok(Plan::Send { by, next }) => self.send(page, &packet.bytes, reading, by, next),
             Ok(Plan::Ask { by, hop }) => {
                 let wait = WaitsFor::Hop(by.direction().exit(), hop);
                 let copy = packet.again(self.moment, wait);
                 self.ask(page, flow, by, hop, copy);
             }
-            Ok(Plan::AskAgain { by, hop }) => self.ask_again(page, by, hop),
+            Ok(Plan::AskAgain { by, hop }) => self.ask_again(page, by.direction().exit(), hop),
             Ok(Plan::Wait(endpoint)) => {
                 let copy = packet.again(self.moment, WaitsFor::Pair(endpoint));
                 self.wait(page, flow, copy);
             }
-            Err(reason) => self.refuse(page, flow, reason),
+            Err(reason) => self.refuse(page, packet.side, &packet.bytes, flow, reason),
         }
     }
 
@@ -121,7 +121,8 @@ impl Forwarder {
             Ok(Reading::Error(reading)) => self.take_error_again(page, reading, packet),
             Ok(Reading::Arp(_)) => {}
             Ok(Reading::Advert(_, _)) => {}
-            Err(_) => {}
+            Ok(Reading::Asked(echo)) => self.take_echo_again(page, echo, packet),
+            Err(reason) => self.refuse_unread(page, packet.side, &packet.bytes, reason),
         }
     }
 

@@ -2,16 +2,19 @@
 use Rattle.std.proofs.Common.{◌≡◌, ℕ, Bool, true, false, [], refl, sym, subst, arith}
 use Rattle.std.specs.Prelude.{if◌then◌else◌}
 use Rattle.nat_types.specs.declared.gateways.GatewayId.{GatewayId}
+use Rattle.nat_types.specs.declared.gateways.GatewayId.TheVariants.{Zero}
 use Rattle.settings.specs.declared.whole.Settings.{Settings}
+use Rattle.packet_rules.specs.Networks.{IsPlaced, networks_of}
+use Rattle.interfaces.specs.Stations.{new_station}
 use Rattle.spec_step.specs.Founding.{begun, founded}
 use Rattle.spec_step.specs.Machine.{IsStanding}
 use Rattle.spec_step.specs.Settled.{IsSettled}
 use Rattle.spec_step.specs.Shown.{Shown}
 use Rattle.gateway.specs.Gateway.{IsGateway}
 
-begun-is : (settings : Settings) (id : GatewayId) (boot : ℕ) → IsStanding (begun settings id boot) [] → IsSettled (begun settings id boot) → IsGateway (begun settings id boot)
-unfolding begun
-begun-is settings id boot stands settled = record {
+begun-is : (settings : Settings) (id : GatewayId) (boot : ℕ) → IsStanding (begun settings id boot) [] → IsSettled (begun settings id boot) → IsPlaced (networks_of settings id) → IsGateway (begun settings id boot)
+unfolding begun new_station
+begun-is settings id boot stands settled placed = record {
   book = stands.book;
   alone = stands.alone;
   bytes = stands.kept;
@@ -19,12 +22,13 @@ begun-is settings id boot stands settled = record {
   history = [];
   pushed = stands.pushed;
   places = refl;
+  house = record { placed = placed; inside_is = refl; outside_is = refl };
   settled = settled;
 }
 
-founded-is : (settings : Settings) (boot : ℕ) → IsStanding (founded settings boot) [] → IsSettled (founded settings boot) → IsGateway (founded settings boot)
-unfolding founded begun
-founded-is settings boot stands settled = record {
+founded-is : (settings : Settings) (boot : ℕ) → IsStanding (founded settings boot) [] → IsSettled (founded settings boot) → IsPlaced (networks_of settings Zero) → IsGateway (founded settings boot)
+unfolding founded begun new_station
+founded-is settings boot stands settled placed = record {
   book = stands.book;
   alone = stands.alone;
   bytes = stands.kept;
@@ -32,12 +36,14 @@ founded-is settings boot stands settled = record {
   history = [];
   pushed = stands.pushed;
   places = refl;
+  house = record { placed = placed; inside_is = refl; outside_is = refl };
   settled = settled;
 }
 
 -- founded or not
 pub beginning-is : (settings : Settings) (id : GatewayId) (boot : ℕ) (found : Bool) (g : Shown) → IsStanding (begun settings id boot) [] → IsStanding (founded settings boot) []
     → IsSettled (begun settings id boot) → IsSettled (founded settings boot)
+    → IsPlaced (networks_of settings id) → IsPlaced (networks_of settings Zero)
     → g ≡ (if found then founded settings boot else begun settings id boot) → IsGateway g
-beginning-is settings id boot true g b f x y is = subst IsGateway (sym is) (founded-is settings boot f y)
-beginning-is settings id boot false g b f x y is = subst IsGateway (sym is) (begun-is settings id boot b x)
+beginning-is settings id boot true g b f x y placed first is = subst IsGateway (sym is) (founded-is settings boot f y first)
+beginning-is settings id boot false g b f x y placed first is = subst IsGateway (sym is) (begun-is settings id boot b x placed)

@@ -1,5 +1,5 @@
--- What no step changes: the ranges of ports, and for how much the link has room. And the clock goes on within its bounds.
-use Rattle.std.proofs.Common.{◌≡◌, ℕ, Bool, true, false, List, [], ◌∷◌, Option, Some, None, Result, Ok, Err, refl, sym, subst, ◌∙◌, arith, cond, ◌&&◌}
+-- What no step changes: the ranges of ports, for how much the link has room, and the networks. And the clock goes on within its bounds.
+use Rattle.std.proofs.Common.{◌≡◌, ℕ, Bool, true, false, List, [], ◌∷◌, Option, Some, None, Result, Ok, Err, refl, sym, ap, subst, ◌∙◌, arith, cond, ◌&&◌}
 use Rattle.nat_types.specs.declared.gateways.Side.{Side}
 use Rattle.nat_types.specs.declared.gateways.Side.TheVariants.{Inside, Outside}
 use Rattle.nat_types.specs.declared.pairs.Endpoint.{Endpoint}
@@ -21,10 +21,10 @@ use Rattle.spec_binding.proofs.Offered.{change-leaves}
 use Rattle.waiting.specs.declared.waits.Ended.TheVariants.{One, AllPairs}
 use Rattle.waiting.specs.declared.waits.WaitsFor.TheVariants as wait
 use Rattle.packet_rules.specs.declared.readings.Reading.{Reading}
-use Rattle.packet_rules.specs.declared.readings.Reading.TheVariants.{Arp, Advert, Packet, Error}
+use Rattle.packet_rules.specs.declared.readings.Reading.TheVariants.{Arp, Advert, Packet, Error, Asked}
 use Rattle.packet_rules.specs.declared.reasons.Reason.{Reason}
 use Rattle.packet_rules.specs.Arping.{answer_to, is_learnable}
-use Rattle.interfaces.specs.Stations.{Interface, after_arp, is_active, with_plug}
+use Rattle.interfaces.specs.Stations.{Interface, after_arp, is_active, with_neighbour, with_plug}
 use Rattle.vrrp_states.specs.Table as table
 use Rattle.vrrp_states.specs.Table.{Event as RouterEvent, IsMoment}
 use Rattle.vrrp_states.specs.declared.Action.{Action}
@@ -38,7 +38,7 @@ use Rattle.spec_step.specs.Routers.{BothAct, RouterActs}
 use Rattle.spec_step.specs.Shown.{GatewayAndOutput, Shown, id_of, is_running, is_up, scene, station_on, with_notes, with_station}
 use Rattle.spec_step.specs.Steps.{Does, FrameDoes, ended_on, stopped, ticked, word_by, word_refusal}
 use Rattle.spec_step.specs.Verdict.{reading_on}
-use Rattle.gateway.proofs.Staying.{Stays, answered-capacity, flow-stays, released-stays, row-stays, stays-here, stays-then, error-stays}
+use Rattle.gateway.proofs.Staying.{IsAsOn, Stays, answered-capacity, flow-stays, released-stays, row-stays, station-stays, stays-here, stays-then, echo-stays, error-stays, refused-stays}
 
 -- an equal scene
 stays-as : (g : Shown) (s s2 : GatewayAndOutput) → s2 ≡ s → Stays g s.shown → Stays g s2.shown
@@ -46,25 +46,29 @@ stays-as g s s2 e x = subst (λ (y : GatewayAndOutput). Stays g y.shown) (sym e)
 
 -- ---- ARP and the routers
 
-station-stays : (g : Shown) (side : Side) (station : Interface) → Stays g (with_station g side station)
-station-stays g Inside station = record { moment = refl; capacity = refl; zero = refl; one = refl }
-station-stays g Outside station = record { moment = refl; capacity = refl; zero = refl; one = refl }
-
 framed-same : (s : GatewayAndOutput) (side : Side) (frames : List (List ℕ)) → (all_framed s side frames).shown ≡ s.shown
 framed-same s side [] = refl
 framed-same s side (frame ∷ frames) = framed-same (framed s side frame) side frames
 
-acted-stays : (s : GatewayAndOutput) (side : Side) (station : Interface) (action : Action) → Stays s.shown (acted s side station action).shown
-acted-stays s side station action =
+acted-stays : (s : GatewayAndOutput) (side : Side) (station : Interface) (action : Action) → IsAsOn s.shown side station → Stays s.shown (acted s side station action).shown
+acted-stays s side station action same =
     let moved = scene (with_station s.shown side station) s.told in
-    subst (λ (g : Shown). Stays s.shown g) (sym (framed-same moved side (frames_of station action))) (station-stays s.shown side station)
+    subst (λ (g : Shown). Stays s.shown g) (sym (framed-same moved side (frames_of station action))) (station-stays s.shown side station same)
 
 router-stays : (s : GatewayAndOutput) (side : Side) (e : RouterEvent) (s2 : GatewayAndOutput) → RouterActs s side e s2 → Stays s.shown s2.shown
-router-stays s side e s2 a = stays-as s.shown (acted s side a.station a.action) s2 a.is (acted-stays s side a.station a.action)
+router-stays s side e s2 a = stays-as s.shown (acted s side a.station a.action) s2 a.is (acted-stays s side a.station a.action (ap (λ (i : Interface). i.network) a.step.rest))
 
 both-stay : (s : GatewayAndOutput) (e : RouterEvent) (s2 : GatewayAndOutput) → BothAct s e s2 → Stays s.shown s2.shown
 both-stay s e s2 b =
     stays-then s.shown b.between.shown s2.shown (router-stays s Inside e b.between b.inside) (router-stays b.between Outside e s2 b.outside)
+
+heard-network : (station : Interface) (p : ArpPacket) (now : ℕ) → (after_arp station p now).network ≡ station.network
+unfolding after_arp
+heard-network station p now = at (is_learnable station.network p)
+  where
+    at : (b : Bool) → (let i : Interface = cond b (with_neighbour station p now) station in i.network) ≡ station.network
+    at true = refl
+    at false = refl
 
 answered-stays : (s : GatewayAndOutput) (side : Side) (p : ArpPacket) (o : Option Mac) → Stays s.shown (answered_by s side p o).shown
 answered-stays s side p None = stays-here s.shown
@@ -81,14 +85,15 @@ arp-stays s side p =
     let answer = answer_to station.network (is_active station) p in
     let told = answered_by heard side p answer in
     arp-by s told side p (is_learnable station.network p)
-    (stays-then s.shown heard.shown told.shown (station-stays s.shown side (after_arp station p s.shown.moment)) (answered-stays heard side p answer))
+    (stays-then s.shown heard.shown told.shown (station-stays s.shown side (after_arp station p s.shown.moment) (heard-network station p s.shown.moment)) (answered-stays heard side p answer))
 
 frame-stays : (s : GatewayAndOutput) (side : Side) (bytes : List ℕ) (r : Result Reading Reason) (s2 : GatewayAndOutput) → FrameDoes s side bytes r s2 → Stays s.shown s2.shown
 frame-stays s side bytes (Ok (Arp p)) s2 does = stays-as s.shown (arp_taken s side p) s2 does (arp-stays s side p)
 frame-stays s side bytes (Ok (Advert a from)) s2 does = router-stays s side _ s2 does
 frame-stays s side bytes (Ok (Packet packet)) s2 does = stays-as s.shown _ s2 does (flow-stays s side bytes packet.flow)
 frame-stays s side bytes (Ok (Error packet)) s2 does = stays-as s.shown _ s2 does (error-stays s side bytes packet.flow)
-frame-stays s side bytes (Err reason) s2 does = stays-as s.shown s s2 does (stays-here s.shown)
+frame-stays s side bytes (Ok (Asked echo)) s2 does = stays-as s.shown _ s2 does (echo-stays s side bytes echo)
+frame-stays s side bytes (Err reason) s2 does = stays-as s.shown _ s2 does (refused-stays s side side bytes reason)
 
 -- ---- datagrams
 
@@ -123,10 +128,10 @@ reset-stays s =
     let g = s.shown in
     let begun = scene (record g { ledger = restarted_ledger g.ledger; link = restart_link b g.link }) (with_notes s.told (restart_notes b g.moment)) in
     let x = released-stays begun AllPairs in
-    record { moment = x.moment; capacity = x.capacity ∙ capacity; zero = x.zero ∙ ranges.zero; one = x.one ∙ ranges.one }
+    record { moment = x.moment; capacity = x.capacity ∙ capacity; zero = x.zero ∙ ranges.zero; one = x.one ∙ ranges.one; networks = x.networks; inside = x.inside; outside = x.outside }
 
 with-routers-stays : (g g2 : Shown) (starts : Bool) → (has_synced g g2 && is_running g2) ≡ starts → Stays g2 (with_routers g g2)
-with-routers-stays g g2 true is = rw is (record { moment = refl; capacity = refl; zero = refl; one = refl })
+with-routers-stays g g2 true is = rw is (record { moment = refl; capacity = refl; zero = refl; one = refl; networks = refl; inside = refl; outside = refl })
 with-routers-stays g g2 false is = rw is (stays-here g2)
 
 shown-stays : (g : Shown) (r : Record) → Stays g (record_shown g r)
@@ -136,7 +141,7 @@ shown-stays g r =
     let g2 : Shown = record g { ledger = taken_ledger g.moment g.ledger r; link = answered g.link (taken_answer b rests r) } in
     let ranges = taken-by b rests r (is_synced b.stage) refl in
     stays-then g g2 (record_shown g r)
-    (record { moment = refl; capacity = answered-capacity g.link (taken_answer b rests r); zero = ranges.zero; one = ranges.one })
+    (record { moment = refl; capacity = answered-capacity g.link (taken_answer b rests r); zero = ranges.zero; one = ranges.one; networks = refl; inside = refl; outside = refl })
     (with-routers-stays g g2 (has_synced g g2 && is_running g2) refl)
 
 ended-stays : (s : GatewayAndOutput) (o : Option Endpoint) → Stays s.shown (wait_ended o s).shown
@@ -170,7 +175,7 @@ heard-stays s d =
     let restarts = is_restart e d in
     let start : GatewayAndOutput = cond restarts (reset after) after in
     stays-then s.shown after.shown (heard_by s d).shown
-    (record { moment = refl; capacity = met-capacity e d restarts refl; zero = refl; one = refl })
+    (record { moment = refl; capacity = met-capacity e d restarts refl; zero = refl; one = refl; networks = refl; inside = refl; outside = refl })
     (stays-then after.shown start.shown (heard_by s d).shown (reset-where after restarts) (records-stay start (records_taken e d)))
 
 unless-stays : (s : GatewayAndOutput) (d : Datagram) (o : Option LinkFault) → Stays s.shown (heard_unless s d o).shown
@@ -188,7 +193,7 @@ word-stays s n None =
     let g = s.shown in
     let alone = scene (record g { ledger = alone_ledger g.moment g.ledger; link = closed_at g.link n }) (with_notes s.told (retaken (id_of g) g.moment (back_in g.ledger.book.entries))) in
     let x = released-stays alone AllPairs in
-    record { moment = x.moment; capacity = x.capacity; zero = x.zero; one = x.one }
+    record { moment = x.moment; capacity = x.capacity; zero = x.zero; one = x.one; networks = x.networks; inside = x.inside; outside = x.outside }
 word-stays s n (Some reason) = stays-here s.shown
 
 idle-stays : (s : GatewayAndOutput) (keys : List Key) → Stays s.shown (all_idle_done s keys).shown
@@ -210,13 +215,13 @@ begun_by s (SideIs side up) = s
 
 -- the turn with which a tick begins
 returned-stays : (g : Shown) (up : Bool) → is_up g ≡ up → Stays g (returned g)
-returned-stays g true is = rw is (record { moment = refl; capacity = refl; zero = refl; one = refl })
-returned-stays g false is = rw is (record { moment = refl; capacity = refl; zero = refl; one = refl })
+returned-stays g true is = rw is (record { moment = refl; capacity = refl; zero = refl; one = refl; networks = refl; inside = refl; outside = refl })
+returned-stays g false is = rw is (record { moment = refl; capacity = refl; zero = refl; one = refl; networks = refl; inside = refl; outside = refl })
 
 turn-stays : (s : GatewayAndOutput) (turn : Turn) (s2 : GatewayAndOutput) → TakesTurn s turn s2 → Stays s.shown s2.shown
 turn-stays s Leaves s2 takes =
     let x = both-stay s table.Stop takes.0 takes.1 in
-    stays-as s.shown (left takes.0) s2 takes.2 (record { moment = x.moment; capacity = x.capacity; zero = x.zero; one = x.one })
+    stays-as s.shown (left takes.0) s2 takes.2 (record { moment = x.moment; capacity = x.capacity; zero = x.zero; one = x.one; networks = x.networks; inside = x.inside; outside = x.outside })
 turn-stays s Returns s2 takes = stays-as s.shown (scene (returned s.shown) s.told) s2 takes (returned-stays s.shown (is_up s.shown) refl)
 turn-stays s Remains s2 takes = stays-as s.shown s s2 takes (stays-here s.shown)
 
@@ -233,20 +238,20 @@ does-stays s (Tick now) done does =
     let y = idle-stays young keys in
     stays-as (ticked s now).shown (idle_taken young) done does.4
     (stays-then (ticked s now).shown middle.shown (idle_taken young).shown x
-    (record { moment = y.moment; capacity = y.capacity; zero = y.zero; one = y.one }))
+    (record { moment = y.moment; capacity = y.capacity; zero = y.zero; one = y.one; networks = y.networks; inside = y.inside; outside = y.outside }))
 does-stays s Stop done does =
     let middle = does.0 in
     let x = both-stay s table.Stop middle does.1 in
-    stays-as s.shown (stopped middle) done does.2 (record { moment = x.moment; capacity = x.capacity; zero = x.zero; one = x.one })
+    stays-as s.shown (stopped middle) done does.2 (record { moment = x.moment; capacity = x.capacity; zero = x.zero; one = x.one; networks = x.networks; inside = x.inside; outside = x.outside })
 does-stays s (PeerOff n) done does = stays-as s.shown (word_by s n (word_refusal s.shown n)) done does (word-stays s n (word_refusal s.shown n))
-does-stays s (SideIs side up) done does = stays-as s.shown (side_plugged s side up) done does (station-stays s.shown side (with_plug (station_on s.shown side) up s.shown.moment))
+does-stays s (SideIs side up) done does = stays-as s.shown (side_plugged s side up) done does (station-stays s.shown side (with_plug (station_on s.shown side) up s.shown.moment) refl)
 
 ticked-by : (s : GatewayAndOutput) (due : Bool) → is_due_on_tick (handed_in s.shown).link s.shown.moment ≡ due → Stays s.shown (link_ticked s).shown
-ticked-by s true is = rw is (record { moment = refl; capacity = refl; zero = refl; one = refl })
-ticked-by s false is = rw is (record { moment = refl; capacity = refl; zero = refl; one = refl })
+ticked-by s true is = rw is (record { moment = refl; capacity = refl; zero = refl; one = refl; networks = refl; inside = refl; outside = refl })
+ticked-by s false is = rw is (record { moment = refl; capacity = refl; zero = refl; one = refl; networks = refl; inside = refl; outside = refl })
 
 answer-stays : (s : GatewayAndOutput) → Stays s.shown (link_answered s).shown
-answer-stays s = record { moment = refl; capacity = refl; zero = refl; one = refl }
+answer-stays s = record { moment = refl; capacity = refl; zero = refl; one = refl; networks = refl; inside = refl; outside = refl }
 
 ended-event : (event : Event) (done : GatewayAndOutput) → Stays done.shown (ended_on event done).shown
 ended-event (Frame side bytes) done = answer-stays done
@@ -262,14 +267,17 @@ pub record Lasts (g g2 : Shown) : Type 0 where
   pub capacity : g2.link.capacity ≡ g.link.capacity
   pub zero : g2.ledger.book.zero ≡ g.ledger.book.zero
   pub one : g2.ledger.book.one ≡ g.ledger.book.one
+  pub networks : g2.networks ≡ g.networks
+  pub inside : g2.inside.network ≡ g.inside.network
+  pub outside : g2.outside.network ≡ g.outside.network
 
 begun-lasts : (s : GatewayAndOutput) (event : Event) → IsMoment s.shown.moment → Lasts s.shown (begun_by s event).shown
-begun-lasts s (Frame side bytes) is = record { moment = is; capacity = refl; zero = refl; one = refl }
-begun-lasts s (Comes bytes) is = record { moment = is; capacity = refl; zero = refl; one = refl }
-begun-lasts s (Tick now) is = record { moment = omega (arith, is); capacity = refl; zero = refl; one = refl }
-begun-lasts s Stop is = record { moment = is; capacity = refl; zero = refl; one = refl }
-begun-lasts s (PeerOff n) is = record { moment = is; capacity = refl; zero = refl; one = refl }
-begun-lasts s (SideIs side up) is = record { moment = is; capacity = refl; zero = refl; one = refl }
+begun-lasts s (Frame side bytes) is = record { moment = is; capacity = refl; zero = refl; one = refl; networks = refl; inside = refl; outside = refl }
+begun-lasts s (Comes bytes) is = record { moment = is; capacity = refl; zero = refl; one = refl; networks = refl; inside = refl; outside = refl }
+begun-lasts s (Tick now) is = record { moment = omega (arith, is); capacity = refl; zero = refl; one = refl; networks = refl; inside = refl; outside = refl }
+begun-lasts s Stop is = record { moment = is; capacity = refl; zero = refl; one = refl; networks = refl; inside = refl; outside = refl }
+begun-lasts s (PeerOff n) is = record { moment = is; capacity = refl; zero = refl; one = refl; networks = refl; inside = refl; outside = refl }
+begun-lasts s (SideIs side up) is = record { moment = is; capacity = refl; zero = refl; one = refl; networks = refl; inside = refl; outside = refl }
 
 pub step-lasts : (s : GatewayAndOutput) (event : Event) (done s2 : GatewayAndOutput) → IsMoment s.shown.moment → Does s event done → s2 ≡ ended_on event done → Lasts s.shown s2.shown
 step-lasts s event done s2 is does sends =
@@ -281,4 +289,7 @@ step-lasts s event done s2 is does sends =
       capacity = end.capacity ∙ (own.capacity ∙ first.capacity);
       zero = end.zero ∙ (own.zero ∙ first.zero);
       one = end.one ∙ (own.one ∙ first.one);
+      networks = end.networks ∙ (own.networks ∙ first.networks);
+      inside = end.inside ∙ (own.inside ∙ first.inside);
+      outside = end.outside ∙ (own.outside ∙ first.outside);
     }

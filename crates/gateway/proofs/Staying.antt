@@ -1,5 +1,6 @@
--- What no part of a step changes: the clock's moment, the ranges of ports, and for how much the link has room.
+-- What no part of a step changes: the clock's moment, the ranges of ports, for how much the link has room, and the networks.
 use Rattle.std.proofs.Common.{◌≡◌, ℕ, Bool, true, false, cond, List, [], ◌∷◌, Option, Some, None, Result, Ok, Err, refl, ◌∙◌}
+use Rattle.addresses.specs.declared.ethernet.Mac.{Mac}
 use Rattle.addresses.specs.declared.internet.Ip.{Ip}
 use Rattle.nat_types.specs.declared.gateways.Side.{Side}
 use Rattle.nat_types.specs.declared.gateways.Side.TheVariants.{Inside, Outside}
@@ -17,20 +18,28 @@ use Rattle.waiting.specs.declared.waits.Ended.{Ended}
 use Rattle.arp.specs.Neighbours.{asks_at}
 use Rattle.waiting.specs.declared.waits.WaitsFor.TheVariants as wait
 use Rattle.waiting.specs.Packets.{HeldPacket, asks_again, ended_by, left_by, with_asked}
+use Rattle.interfaces.specs.Stations.{Interface, with_complaint, with_reply}
+use Rattle.interfaces.specs.Tallies.{may_complain}
+use Rattle.packet_rules.specs.declared.complaints.Complaint.{Complaint}
+use Rattle.packet_rules.specs.declared.readings.Asked.{Asked as Echo}
 use Rattle.packet_rules.specs.declared.readings.Reading.{Reading}
-use Rattle.packet_rules.specs.declared.readings.Reading.TheVariants.{Arp, Advert, Packet, Error}
+use Rattle.packet_rules.specs.declared.readings.Reading.TheVariants.{Arp, Advert, Packet, Error, Asked}
 use Rattle.packet_rules.specs.declared.reasons.Reason.{Reason}
-use Rattle.packet_rules.specs.declared.reasons.Reason.TheVariants.{ShortFrame, NotMine, BadHeader, BadLength, BadHeaderSum, Fragment, TtlOver, NotUdpTcp, BadTransport, BadArp, BadAdvert, NotUp, NoBinding, NoPort, CannotWait, BadDatagram, OldWord, HostLimit}
+use Rattle.packet_rules.specs.declared.reasons.Reason.TheVariants.{ShortFrame, NotMine, BadHeader, BadLength, BadHeaderSum, Fragment, TtlOver, NotUdpTcp, BadTransport, BadArp, BadAdvert, NotUp, NoBinding, NoPort, CannotWait, BadDatagram, OldWord, HostLimit, TooLong, TooMany}
 use Rattle.packet_rules.specs.declared.translations.Translation.{Translation}
 use Rattle.packet_rules.specs.declared.translations.Translation.TheVariants.{Outward, Inward, Hairpin}
 use Rattle.packet_rules.specs.Flows.{source_of}
 use Rattle.packet_rules.specs.Frames.{sent_frame}
 use Rattle.packet_rules.specs.Errors.{passed_frame}
+use Rattle.packet_rules.specs.Networks.{direction_of, network_of}
+use Rattle.packet_rules.specs.Own.{answer_frame as own_answer, complaint_frame, complaint_of, exit_for}
+use Rattle.spec_step.specs.declared.plans.Reply.{Reply}
+use Rattle.spec_step.specs.declared.plans.Reply.TheVariants as reply
 use Rattle.spec_step.specs.declared.plans.Plan.{Plan}
 use Rattle.spec_step.specs.declared.plans.Plan.TheVariants.{Send, Ask, AskAgain, Wait as WaitFor}
-use Rattle.spec_step.specs.Parts.{all_taken, asked_again, by_plan, by_refusal, by_row, by_verdict, carried_all, carried_by, flow_taken, released, retaken_by, taken_again, flags_in, framed, neighbour_asked, renewed_behind, request_by, wanted_by, wanted_for, by_error_plan, by_error_verdict, error_taken}
-use Rattle.spec_step.specs.Shown.{GatewayAndOutput, Shown, scene, station_on}
-use Rattle.spec_step.specs.Verdict.{exit_by, hop_by, plan_of, reading_on, error_hop, error_plan}
+use Rattle.spec_step.specs.Parts.{all_taken, asked_again, by_plan, by_refusal, by_row, by_verdict, carried_all, carried_by, flow_taken, released, retaken_by, taken_again, flags_in, framed, neighbour_asked, renewed_behind, request_by, wanted_by, wanted_for, by_error_plan, by_error_verdict, error_taken, by_reply, by_reply_verdict, complained, complained_to, counted, echo_taken, length_in, refused, sender_in}
+use Rattle.spec_step.specs.Shown.{GatewayAndOutput, Shown, scene, station_on, with_station}
+use Rattle.spec_step.specs.Verdict.{exit_by, hop_by, plan_of, reading_on, error_hop, error_plan, hop_back, next_back, reply_to}
 use Rattle.icmp.specs.declared.packets.ErrorFlow.{ErrorFlow}
 
 pub record Stays (g g2 : Shown) : Type 0 where
@@ -38,9 +47,12 @@ pub record Stays (g g2 : Shown) : Type 0 where
   pub capacity : g2.link.capacity ≡ g.link.capacity
   pub zero : g2.ledger.book.zero ≡ g.ledger.book.zero
   pub one : g2.ledger.book.one ≡ g.ledger.book.one
+  pub networks : g2.networks ≡ g.networks
+  pub inside : g2.inside.network ≡ g.inside.network
+  pub outside : g2.outside.network ≡ g.outside.network
 
 pub stays-here : (g : Shown) → Stays g g
-stays-here g = record { moment = refl; capacity = refl; zero = refl; one = refl }
+stays-here g = record { moment = refl; capacity = refl; zero = refl; one = refl; networks = refl; inside = refl; outside = refl }
 
 pub stays-then : (g g2 g3 : Shown) → Stays g g2 → Stays g2 g3 → Stays g g3
 stays-then g g2 g3 x y = record {
@@ -48,6 +60,9 @@ stays-then g g2 g3 x y = record {
   capacity = y.capacity ∙ x.capacity;
   zero = y.zero ∙ x.zero;
   one = y.one ∙ x.one;
+  networks = y.networks ∙ x.networks;
+  inside = y.inside ∙ x.inside;
+  outside = y.outside ∙ x.outside;
 }
 
 -- an answer is pushed, or none
@@ -58,18 +73,18 @@ answered-capacity e (Some r) = refl
 pub row-stays : (s : GatewayAndOutput) (row : Transition) → Stays s.shown (by_row s row).shown
 row-stays s row =
     let beside = change-leaves s.shown.ledger.book row.change in
-    record { moment = refl; capacity = answered-capacity s.shown.link row.answer; zero = beside.zero; one = beside.one }
+    record { moment = refl; capacity = answered-capacity s.shown.link row.answer; zero = beside.zero; one = beside.one; networks = refl; inside = refl; outside = refl }
 
 wanted-stays : (s : GatewayAndOutput) (e : Endpoint) → Stays s.shown (wanted_by s e).shown
 wanted-stays s e = row-stays s (wish_of s.shown.ledger.book (is_full s.shown.link) e).row
 
 carried-stays : (s : GatewayAndOutput) (k : Key) (p : Carried) → Stays s.shown (carried_by s k p).shown
-carried-stays s k p = record { moment = refl; capacity = refl; zero = refl; one = refl }
+carried-stays s k p = record { moment = refl; capacity = refl; zero = refl; one = refl; networks = refl; inside = refl; outside = refl }
 
 carried-all-stays : (s : GatewayAndOutput) (flow : Flow) (flags : TcpFlags) (by : Translation) → Stays s.shown (carried_all s flow flags by).shown
-carried-all-stays s flow flags (Outward p) = record { moment = refl; capacity = refl; zero = refl; one = refl }
-carried-all-stays s flow flags (Inward p) = record { moment = refl; capacity = refl; zero = refl; one = refl }
-carried-all-stays s flow flags (Hairpin own other) = record { moment = refl; capacity = refl; zero = refl; one = refl }
+carried-all-stays s flow flags (Outward p) = record { moment = refl; capacity = refl; zero = refl; one = refl; networks = refl; inside = refl; outside = refl }
+carried-all-stays s flow flags (Inward p) = record { moment = refl; capacity = refl; zero = refl; one = refl; networks = refl; inside = refl; outside = refl }
+carried-all-stays s flow flags (Hairpin own other) = record { moment = refl; capacity = refl; zero = refl; one = refl; networks = refl; inside = refl; outside = refl }
 
 wanted-for-stays : (s : GatewayAndOutput) (flow : Flow) (by : Translation) → Stays s.shown (wanted_for s flow by).shown
 wanted-for-stays s flow (Outward p) = wanted-stays s (source_of flow)
@@ -78,8 +93,8 @@ wanted-for-stays s flow (Hairpin own other) = wanted-stays s (source_of flow)
 
 -- a neighbour is asked for, or a next hop again
 neighbour-stays : (g : Shown) (exit : Side) (hop : Ip) → Stays g (neighbour_asked g exit hop)
-neighbour-stays g Inside hop = record { moment = refl; capacity = refl; zero = refl; one = refl }
-neighbour-stays g Outside hop = record { moment = refl; capacity = refl; zero = refl; one = refl }
+neighbour-stays g Inside hop = record { moment = refl; capacity = refl; zero = refl; one = refl; networks = refl; inside = refl; outside = refl }
+neighbour-stays g Outside hop = record { moment = refl; capacity = refl; zero = refl; one = refl; networks = refl; inside = refl; outside = refl }
 
 renewed-stays : (s : GatewayAndOutput) (exit : Side) (hop : Ip) → Stays s.shown (renewed_behind s exit hop).shown
 renewed-stays s exit hop = at (asks_at hop.0 s.shown.moment (station_on s.shown exit).neighbours)
@@ -92,7 +107,7 @@ again-asked-stays : (s : GatewayAndOutput) (exit : Side) (hop : Ip) → Stays s.
 again-asked-stays s exit hop = at (asks_again s.shown.moment (wait.Hop exit hop) s.shown.kept)
   where
     at : (b : Bool) → Stays s.shown (let r : GatewayAndOutput = cond b (framed (scene (record s.shown { kept = with_asked s.shown.moment (wait.Hop exit hop) s.shown.kept }) s.told) exit (request_by s.shown exit hop)) s in r.shown)
-    at true = record { moment = refl; capacity = refl; zero = refl; one = refl }
+    at true = record { moment = refl; capacity = refl; zero = refl; one = refl; networks = refl; inside = refl; outside = refl }
     at false = stays-here s.shown
 
 plan-stays : (s : GatewayAndOutput) (side : Side) (bytes : List ℕ) (flow : Flow) (plan : Plan) → Stays s.shown (by_plan s side bytes flow plan).shown
@@ -105,59 +120,130 @@ plan-stays s side bytes flow (Send by next) =
     (renewed-stays carried (exit_by by) (hop_by s.shown by flow))
 plan-stays s side bytes flow (Ask by hop) =
     let wanted = wanted-for-stays s flow by in
-    record { moment = wanted.moment; capacity = wanted.capacity; zero = wanted.zero; one = wanted.one }
+    record { moment = wanted.moment; capacity = wanted.capacity; zero = wanted.zero; one = wanted.one; networks = wanted.networks; inside = wanted.inside; outside = wanted.outside }
 plan-stays s side bytes flow (AskAgain by hop) = again-asked-stays s (exit_by by) hop
 plan-stays s side bytes flow (WaitFor endpoint) =
     let wanted = wanted-stays s endpoint in
-    record { moment = wanted.moment; capacity = wanted.capacity; zero = wanted.zero; one = wanted.one }
+    record { moment = wanted.moment; capacity = wanted.capacity; zero = wanted.zero; one = wanted.one; networks = wanted.networks; inside = wanted.inside; outside = wanted.outside }
 
-refusal-stays : (s : GatewayAndOutput) (flow : Flow) (reason : Reason) → Stays s.shown (by_refusal s flow reason).shown
-refusal-stays s flow NoPort = wanted-stays s (source_of flow)
-refusal-stays s flow ShortFrame = stays-here s.shown
-refusal-stays s flow NotMine = stays-here s.shown
-refusal-stays s flow BadHeader = stays-here s.shown
-refusal-stays s flow BadLength = stays-here s.shown
-refusal-stays s flow BadHeaderSum = stays-here s.shown
-refusal-stays s flow Fragment = stays-here s.shown
-refusal-stays s flow TtlOver = stays-here s.shown
-refusal-stays s flow NotUdpTcp = stays-here s.shown
-refusal-stays s flow BadTransport = stays-here s.shown
-refusal-stays s flow BadArp = stays-here s.shown
-refusal-stays s flow BadAdvert = stays-here s.shown
-refusal-stays s flow NotUp = stays-here s.shown
-refusal-stays s flow NoBinding = stays-here s.shown
-refusal-stays s flow CannotWait = stays-here s.shown
-refusal-stays s flow BadDatagram = stays-here s.shown
-refusal-stays s flow OldWord = stays-here s.shown
-refusal-stays s flow HostLimit = stays-here s.shown
+-- ---- what is said of the gateway's own
+
+-- an interface stands in the same network as that of its side
+abbrev pub IsAsOn : Shown → Side → Interface → Type 0
+IsAsOn g side station = station.network ≡ (station_on g side).network
+
+pub station-stays : (g : Shown) (side : Side) (station : Interface) → IsAsOn g side station → Stays g (with_station g side station)
+station-stays g Inside station same = record { moment = refl; capacity = refl; zero = refl; one = refl; networks = refl; inside = same; outside = refl }
+station-stays g Outside station same = record { moment = refl; capacity = refl; zero = refl; one = refl; networks = refl; inside = refl; outside = same }
+
+-- something is sent and counted, and its next hop may be asked for
+said-stays : (s : GatewayAndOutput) (side : Side) (frame : List ℕ) (station : Interface) (hop : Ip) → IsAsOn s.shown side station → Stays s.shown (renewed_behind (counted (framed s side frame) side station) side hop).shown
+said-stays s side frame station hop same =
+    let said = counted (framed s side frame) side station in
+    stays-then s.shown said.shown (renewed_behind said side hop).shown (station-stays s.shown side station same) (renewed-stays said side hop)
+
+complained-stays : (s : GatewayAndOutput) (side : Side) (bytes : List ℕ) (o : Option Complaint) → Stays s.shown (complained s side bytes o).shown
+complained-stays s side bytes None = stays-here s.shown
+complained-stays s side bytes (Some complaint) = to (next_back s.shown side (sender_in bytes))
+  where
+    sent : (next : Mac) (may : Bool) → Stays s.shown (let r : GatewayAndOutput = cond may (renewed_behind (counted (framed s side (complaint_frame (network_of s.shown.networks side) complaint next bytes)) side (with_complaint (station_on s.shown side) s.shown.moment)) side (hop_back s.shown side (sender_in bytes))) s in r.shown)
+    sent next true = said-stays s side _ (with_complaint (station_on s.shown side) s.shown.moment) (hop_back s.shown side (sender_in bytes)) refl
+    sent next false = stays-here s.shown
+
+    to : (next : Option Mac) → Stays s.shown (complained_to s side bytes complaint next).shown
+    to (Some next) = sent next (may_complain s.shown.moment (station_on s.shown side).said)
+    to None = stays-here s.shown
+
+pub refused-stays : (s : GatewayAndOutput) (side exit : Side) (bytes : List ℕ) (reason : Reason) → Stays s.shown (refused s side exit bytes reason).shown
+refused-stays s side exit bytes TtlOver = complained-stays s side bytes (complaint_of s.shown.networks side exit TtlOver bytes)
+refused-stays s side exit bytes TooLong = complained-stays s side bytes (complaint_of s.shown.networks side exit TooLong bytes)
+refused-stays s side exit bytes ShortFrame = stays-here s.shown
+refused-stays s side exit bytes NotMine = stays-here s.shown
+refused-stays s side exit bytes BadHeader = stays-here s.shown
+refused-stays s side exit bytes BadLength = stays-here s.shown
+refused-stays s side exit bytes BadHeaderSum = stays-here s.shown
+refused-stays s side exit bytes Fragment = stays-here s.shown
+refused-stays s side exit bytes NotUdpTcp = stays-here s.shown
+refused-stays s side exit bytes BadTransport = stays-here s.shown
+refused-stays s side exit bytes BadArp = stays-here s.shown
+refused-stays s side exit bytes BadAdvert = stays-here s.shown
+refused-stays s side exit bytes NotUp = stays-here s.shown
+refused-stays s side exit bytes NoBinding = stays-here s.shown
+refused-stays s side exit bytes NoPort = stays-here s.shown
+refused-stays s side exit bytes CannotWait = stays-here s.shown
+refused-stays s side exit bytes BadDatagram = stays-here s.shown
+refused-stays s side exit bytes OldWord = stays-here s.shown
+refused-stays s side exit bytes HostLimit = stays-here s.shown
+refused-stays s side exit bytes TooMany = stays-here s.shown
+
+-- the side at which a packet would leave
+abbrev exit_taken : GatewayAndOutput → Side → Flow → Side
+exit_taken s side flow = exit_for side (direction_of s.shown.networks side flow.protocol flow.source.0 flow.destination.0)
+
+refusal-stays : (s : GatewayAndOutput) (side : Side) (bytes : List ℕ) (flow : Flow) (reason : Reason) → Stays s.shown (by_refusal s side bytes flow reason).shown
+refusal-stays s side bytes flow NoPort = wanted-stays s (source_of flow)
+refusal-stays s side bytes flow ShortFrame = stays-here s.shown
+refusal-stays s side bytes flow NotMine = stays-here s.shown
+refusal-stays s side bytes flow BadHeader = stays-here s.shown
+refusal-stays s side bytes flow BadLength = stays-here s.shown
+refusal-stays s side bytes flow BadHeaderSum = stays-here s.shown
+refusal-stays s side bytes flow Fragment = stays-here s.shown
+refusal-stays s side bytes flow TtlOver = refused-stays s side (exit_taken s side flow) bytes TtlOver
+refusal-stays s side bytes flow NotUdpTcp = stays-here s.shown
+refusal-stays s side bytes flow BadTransport = stays-here s.shown
+refusal-stays s side bytes flow BadArp = stays-here s.shown
+refusal-stays s side bytes flow BadAdvert = stays-here s.shown
+refusal-stays s side bytes flow NotUp = stays-here s.shown
+refusal-stays s side bytes flow NoBinding = stays-here s.shown
+refusal-stays s side bytes flow CannotWait = stays-here s.shown
+refusal-stays s side bytes flow BadDatagram = stays-here s.shown
+refusal-stays s side bytes flow OldWord = stays-here s.shown
+refusal-stays s side bytes flow HostLimit = stays-here s.shown
+refusal-stays s side bytes flow TooLong = refused-stays s side (exit_taken s side flow) bytes TooLong
+refusal-stays s side bytes flow TooMany = stays-here s.shown
 
 verdict-stays : (s : GatewayAndOutput) (side : Side) (bytes : List ℕ) (flow : Flow) (r : Result Plan Reason) → Stays s.shown (by_verdict s side bytes flow r).shown
 verdict-stays s side bytes flow (Ok plan) = plan-stays s side bytes flow plan
-verdict-stays s side bytes flow (Err reason) = refusal-stays s flow reason
+verdict-stays s side bytes flow (Err reason) = refusal-stays s side bytes flow reason
 
 pub flow-stays : (s : GatewayAndOutput) (side : Side) (bytes : List ℕ) (flow : Flow) → Stays s.shown (flow_taken s side bytes flow).shown
-flow-stays s side bytes flow = verdict-stays s side bytes flow (plan_of s.shown side flow)
+flow-stays s side bytes flow = verdict-stays s side bytes flow (plan_of s.shown side flow (length_in bytes))
 
 -- an error
 error-plan-stays : (s : GatewayAndOutput) (side : Side) (bytes : List ℕ) (flow : ErrorFlow) (plan : Plan) → Stays s.shown (by_error_plan s side bytes flow plan).shown
 error-plan-stays s side bytes flow (Send by next) = renewed-stays (framed s (exit_by by) (passed_frame s.shown.networks by next bytes)) (exit_by by) (error_hop s.shown by flow)
-error-plan-stays s side bytes flow (Ask by hop) = record { moment = refl; capacity = refl; zero = refl; one = refl }
+error-plan-stays s side bytes flow (Ask by hop) = record { moment = refl; capacity = refl; zero = refl; one = refl; networks = refl; inside = refl; outside = refl }
 error-plan-stays s side bytes flow (AskAgain by hop) = again-asked-stays s (exit_by by) hop
 error-plan-stays s side bytes flow (WaitFor endpoint) = stays-here s.shown
 
 pub error-stays : (s : GatewayAndOutput) (side : Side) (bytes : List ℕ) (flow : ErrorFlow) → Stays s.shown (error_taken s side bytes flow).shown
-error-stays s side bytes flow = at (error_plan s.shown side flow)
+error-stays s side bytes flow = at (error_plan s.shown side flow (length_in bytes))
   where
     at : (r : Result Plan Reason) → Stays s.shown (by_error_verdict s side bytes flow r).shown
     at (Ok plan) = error-plan-stays s side bytes flow plan
     at (Err reason) = stays-here s.shown
+
+-- an Echo to the gateway
+reply-stays : (s : GatewayAndOutput) (side : Side) (bytes : List ℕ) (source : Ip) (plan : Reply) → Stays s.shown (by_reply s side bytes source plan).shown
+reply-stays s side bytes source (reply.Send next) =
+    said-stays s side (own_answer (network_of s.shown.networks side) next bytes) (with_reply (station_on s.shown side) s.shown.moment) (hop_back s.shown side source) refl
+reply-stays s side bytes source (reply.Ask hop) = record { moment = refl; capacity = refl; zero = refl; one = refl; networks = refl; inside = refl; outside = refl }
+reply-stays s side bytes source (reply.AskAgain hop) = again-asked-stays s side hop
+
+pub echo-stays : (s : GatewayAndOutput) (side : Side) (bytes : List ℕ) (echo : Echo) → Stays s.shown (echo_taken s side bytes echo).shown
+echo-stays s side bytes echo = at (reply_to s.shown side echo)
+  where
+    at : (r : Result Reply Reason) → Stays s.shown (by_reply_verdict s side bytes echo.source r).shown
+    at (Ok plan) = reply-stays s side bytes echo.source plan
+    at (Err reason) = refused-stays s side side bytes reason
 
 retaken-stays : (s : GatewayAndOutput) (side : Side) (bytes : List ℕ) (r : Result Reading Reason) → Stays s.shown (retaken_by s side bytes r).shown
 retaken-stays s side bytes (Ok (Packet packet)) = flow-stays s side bytes packet.flow
 retaken-stays s side bytes (Ok (Error packet)) = error-stays s side bytes packet.flow
 retaken-stays s side bytes (Ok (Arp p)) = stays-here s.shown
 retaken-stays s side bytes (Ok (Advert a from)) = stays-here s.shown
-retaken-stays s side bytes (Err reason) = stays-here s.shown
+retaken-stays s side bytes (Ok (Asked echo)) = echo-stays s side bytes echo
+retaken-stays s side bytes (Err reason) = refused-stays s side side bytes reason
 
 again-stays : (s : GatewayAndOutput) (w : HeldPacket) → Stays s.shown (taken_again s w).shown
 again-stays s w = retaken-stays s w.side w.bytes (reading_on s.shown w.side w.bytes)
@@ -172,4 +258,4 @@ pub released-stays : (s : GatewayAndOutput) (ended : Ended) → Stays s.shown (r
 released-stays s ended =
     let off = scene (record s.shown { kept = left_by ended s.shown.kept }) s.told in
     let all = all-stay off (ended_by ended s.shown.kept) in
-    record { moment = all.moment; capacity = all.capacity; zero = all.zero; one = all.one }
+    record { moment = all.moment; capacity = all.capacity; zero = all.zero; one = all.one; networks = all.networks; inside = all.inside; outside = all.outside }

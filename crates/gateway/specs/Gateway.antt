@@ -7,6 +7,7 @@ use Rattle.spec_step.specs.Founding.{link_places}
 use Rattle.spec_step.specs.Machine.{HasPushed, IsAlone, KeepsBytes}
 use Rattle.spec_step.specs.Settled.{IsSettled}
 use Rattle.spec_step.specs.Shown.{Shown}
+use Rattle.spec_step.specs.Truly.{IsHouse}
 
 pub record IsGateway (g : Shown) : Type 0 where
   pub book : IsBook g.ledger.book
@@ -18,5 +19,7 @@ pub record IsGateway (g : Shown) : Type 0 where
   pub pushed : HasPushed g history
   -- a whole batch finds room in the link, and 64 answers beside it
   pub places : g.link.capacity ≡ link_places g.ledger.book.zero g.ledger.book.one
+  -- its addresses lie where they belong, and its interfaces stand in its networks
+  pub house : IsHouse g.networks g.inside.network g.outside.network
   -- idle routers where it isn't up, no datagram due, kept packets in their limits
   pub settled : IsSettled g

@@ -48,5 +48,6 @@ pub(crate) fn take_reading(
         }
         Reading::Packet(packet) => forwarder.take_packet(alloc, page, side, bytes, packet),
         Reading::Error(packet) => forwarder.take_error(alloc, page, side, bytes, packet),
+        Reading::Asked(echo) => forwarder.take_echo(alloc, page, side, bytes, echo),
     }
 }

@@ -6,7 +6,7 @@ ghost use Rattle.spec_binding.specs.Books.{empty_book, founded_book};
 ghost use Rattle.bindings.specs.Ports.{ports_in};
 ghost use Rattle.link.specs.Link.{fresh};
 ghost use Rattle.bind_core.specs.Cores.{ledger_of};
-ghost use Rattle.packet_rules.specs.Networks.{networks_of};
+ghost use Rattle.packet_rules.specs.Networks.{IsPlaced, networks_of};
 ghost use Rattle.interfaces.specs.Stations.{new_station};
 ghost use Rattle.spec_step.specs.Founding.{HasRanges, begun, bounds_of as bounds_in, founded};
 ghost use Rattle.spec_step.specs.Founding.{link_places as places_of};
@@ -38,6 +38,13 @@ fn recall_ranges(settings: &Settings)
 {
     recall_port(settings.ports.zero.highest);
     recall_port(settings.ports.one.highest);
+}
+
+/// Reminds the prover that a gateway's addresses lie where they belong; it does nothing when it runs.
+fn recall_places(settings: &Settings, id: GatewayId)
+    ensures { IsPlaced (networks_of settings.now id) }
+{
+    let _networks = Networks::of_gateway(settings, id);
 }
 
 fn bounds_of(range: PortRange) -> PortBounds
@@ -211,10 +218,14 @@ pub(crate) fn begin(
 ) -> Result<Forwarder, NoMemory>
     requires { 0 < boot }
     ensures ranges { HasRanges settings.now }
+    ensures placed { IsPlaced (networks_of settings.now id) }
+    ensures first { IsPlaced (networks_of settings.now Zero) }
     ensures shown { IfOk result (λ f. shown_of f
         ≡ (if found then founded settings.now boot else begun settings.now id boot)) }
 {
     recall_ranges(settings);
+    recall_places(settings, id);
+    recall_places(settings, GatewayId::Zero);
     if found {
         begin_founded(alloc, settings, boot, hashers)
     } else {

@@ -12,7 +12,7 @@ ghost use Rattle.spec_step.specs.Founding.{begun, founded};
 ghost use Rattle.spec_step.specs.Machine.{HasBytes};
 ghost use Rattle.spec_step.specs.Shown.{scene, station_on};
 ghost use Rattle.spec_step.specs.Steps.{IsStepOn, outcome_on};
-ghost use Rattle.spec_step.specs.Truly.{AreWired};
+ghost use Rattle.spec_step.specs.Truly.{IsSetUp};
 ghost use Rattle.link.specs.Hearing.{peer_serves};
 ghost use Rattle.link.specs.Link.{IsLink};
 ghost use Rattle.waiting.specs.Packets.{hop_count as hops_in, pair_count as pairs_waiting};
@@ -87,7 +87,7 @@ impl Gateway {
     pub fn recall(&self)
         ensures gateway { IsGateway self.now }
         ensures link { IsLink self.now.link }
-        ensures wired { AreWired self.now }
+        ensures set_up { IsSetUp self.now }
         ensures outside { self.now.networks.outside.interface.virtual_ip.0 < 2 ^ 32 }
     {
         recall_address(self.forwarder.networks.outside.interface.virtual_ip);

@@ -65,6 +65,13 @@ pub(crate) const FRAME_ROOM: Room = Room {
     notes: PACKET_NOTES,
 };
 
+/// What a frame asks room for of which something may be said: that, and a request behind it.
+pub(crate) const OVER_ROOM: Room = Room {
+    frames: PACKET_FRAMES,
+    datagrams: 1,
+    notes: 0,
+};
+
 /// What the stop of both routers asks room for.
 pub(crate) const STOP_ROOM: Room = Room {
     frames: ROUTER_FRAMES,

@@ -21,8 +21,8 @@ use crate::arrivals::take_reading;
 use crate::datagrams::take_datagram;
 use crate::ends::{end_other, end_tick};
 use crate::rooms::{
-    END_ROOM, FRAME_ROOM, MOST_PAIRS, STOP_ROOM, WAITING, datagram_room, list_for, make_ready,
-    tick_room, word_room,
+    END_ROOM, FRAME_ROOM, MOST_PAIRS, OVER_ROOM, STOP_ROOM, WAITING, datagram_room, list_for,
+    make_ready, tick_room, word_room,
 };
 use crate::ticks::{take_stop, take_tick};
 use crate::turns::plug;
@@ -30,6 +30,7 @@ use crate::words::take_word;
 use forwarder::Forwarder;
 use nat_types::Side;
 use output::OutputBuffer;
+use packet_rules::Reason;
 use spec_step::{Event, Outcome, parts_stand, steps_go, steps_keep, steps_settle};
 use std::alloc::Global;
 
@@ -52,6 +53,11 @@ fn frame_came(
         Ok(reading) => {
             make_ready(forwarder, page, FRAME_ROOM, 1)?;
             take_reading(alloc, forwarder, page, side, bytes, reading)
+        }
+        Err(Reason::TtlOver) => {
+            make_ready(forwarder, page, OVER_ROOM, 0)?;
+            forwarder.refuse_whole(page, side, side, bytes, Reason::TtlOver);
+            Ok(Outcome::Dropped(Reason::TtlOver))
         }
         Err(reason) => {
             make_ready(forwarder, page, END_ROOM, 0)?;

@@ -1,2 +1,5 @@
 mod Grammar
+mod Putting
+mod Quoting
+mod Saying
 mod Told

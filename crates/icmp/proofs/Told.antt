@@ -7,8 +7,10 @@ use Rattle.sums.specs.Sum.{word_sum}
 use Rattle.ipv4.specs.Header.{header_of, has_wrong_sum}
 use Rattle.icmp.specs.declared.faults.IcmpFault.{IcmpFault}
 use Rattle.icmp.specs.declared.kinds.Kind.{Kind}
+use Rattle.icmp.specs.declared.kinds.Kind.TheVariants.{Echo}
 use Rattle.icmp.specs.Query.{IsQuery, begins_with, has_no_identifier, kind_number, query_of}
 use Rattle.icmp.specs.Quoted.{IsQuoted, has_no_query, has_no_packet, port_from, port_to}
+use Rattle.icmp.specs.Ask.{IsAsk, has_no_ask}
 use Rattle.icmp.specs.Error.{IsError, inside_of, has_error_kind, has_no_error}
 use Rattle.icmp.proofs.Grammar.{none-passes, passes-none, three-clear}
 
@@ -152,3 +154,41 @@ told-begins kind message g =
 
 pub told-identified : (kind : Kind) (message : List ℕ) → IsQuery kind message → has_no_identifier message ≡ false
 told-identified kind message g = identified-back (length message) (query_of message).identifier g.long g.identifier
+
+-- one test alone
+pub one-clear : (x : IcmpFault) (b : Bool) → (if b then Some x else None) ≡ None → b ≡ false
+one-clear x false e = refl
+one-clear x true e = cc
+
+pub clear-one : (x : IcmpFault) (b : Bool) → b ≡ false → (if b then Some x else None) ≡ None
+clear-one x false e = refl
+clear-one x true e = cc
+
+was-not : (b : Bool) → not b ≡ false → b ≡ true
+was-not true e = refl
+was-not false e = cc
+
+not-was : (b : Bool) → b ≡ true → not b ≡ false
+not-was true e = refl
+not-was false e = cc
+
+-- a whole Echo with a right checksum
+pub ask-told : (message : List ℕ) → has_no_ask message ≡ false → IsAsk message
+ask-told message e =
+    let q = query_of message in
+    let p = three-clear (nat_lt (length message) 8) (not (begins_with Echo message)) (has_wrong_sum message) e in
+    let first = begun (length message) q.kind (kind_number Echo) q.code (was-not (begins_with Echo message) p.1.0) in
+    record {
+      long = not_below (length message) 8 p.0;
+      type_is = first.0;
+      code = first.1;
+      sum = right-clear (word_sum message) p.1.1;
+    }
+
+pub told-ask : (message : List ℕ) → IsAsk message → has_no_ask message ≡ false
+told-ask message g =
+    let q = query_of message in
+    clear-three (nat_lt (length message) 8) (not (begins_with Echo message)) (has_wrong_sum message)
+    (below_not (length message) 8 g.long)
+    (not-was (begins_with Echo message) (begun-back (length message) q.kind (kind_number Echo) q.code g.long g.type_is g.code))
+    (clear-right (word_sum message) g.sum.0 g.sum.1)

@@ -49,9 +49,9 @@ mod field {
 }
 
 /// Destination Unreachable, of which Fragmentation Needed is one.
-const UNREACHABLE: u8 = 3;
+pub(crate) const UNREACHABLE: u8 = 3;
 
-const TIME_EXCEEDED: u8 = 11;
+pub(crate) const TIME_EXCEEDED: u8 = 11;
 
 const PARAMETER_PROBLEM: u8 = 12;
 

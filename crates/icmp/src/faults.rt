@@ -16,4 +16,7 @@ pub enum IcmpFault {
     /// A header that is cut off, or an identifier 0.
     #[error("a bad ICMP query")]
     BadQuery,
+    /// No Echo to the box: of another type, of a code other than 0, cut off or of a wrong checksum.
+    #[error("no Echo to the box")]
+    NotAsked,
 }

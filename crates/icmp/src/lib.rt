@@ -1,16 +1,21 @@
-//! ICMP errors and the packets inside them, and ICMP queries (RFC 792), read and written in place.
+//! ICMP errors and the packets inside them, and ICMP queries (RFC 792), read and written in place; Echos to the
+//! box itself, and what it says.
 #![tactic(auto)]
 
+mod asks;
 mod errors;
 mod faults;
 mod kinds;
+mod own;
 mod packets;
 mod queries;
 mod quoted;
 
+pub use asks::{AskView, ask_grammar};
 pub use errors::{ErrorView, ErrorViewMut, PROTOCOL, error_grammar, is_error_message};
 pub use faults::IcmpFault;
 pub use kinds::Kind;
+pub use own::{exceeded, own_error_law, own_packet_law, reply, reply_law, too_long};
 pub use packets::{
     ErrorFlow, ErrorPacket, error_packet_grammar, query_flow, query_packet, query_packet_grammar,
 };

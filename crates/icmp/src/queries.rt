@@ -28,7 +28,7 @@ use byteorder::{BigEndian, ByteOrder};
 use frames::Refused;
 
 /// Where the message's fields lie.
-mod field {
+pub(crate) mod field {
     use std::ops::Range;
 
     pub const KIND: usize = 0;
@@ -100,7 +100,7 @@ impl<'a> QueryView<'a> {
     }
 }
 
-fn checksum(bytes: &[u8]) -> u16
+pub(crate) fn checksum(bytes: &[u8]) -> u16
     requires { 8 ≤ length bytes.now }
     ensures { result ≡ (query_of bytes.now).checksum }
 {
@@ -114,7 +114,7 @@ pub(crate) fn identifier(bytes: &[u8]) -> Port
     Port(BigEndian::read_u16(&bytes[field::IDENTIFIER]))
 }
 
-fn sequence_number(bytes: &[u8]) -> u16
+pub(crate) fn sequence_number(bytes: &[u8]) -> u16
     requires { 8 ≤ length bytes.now }
     ensures { result ≡ (query_of bytes.now).sequence_number }
 {

@@ -1,1 +1,2 @@
 mod Starting
+mod Telling

@@ -1,2 +1,3 @@
 pub mod Cables
 pub mod Stations
+pub mod Tallies

@@ -21,15 +21,18 @@ use Rattle.packet_rules.specs.Networks.{network_of, networks_of}
 use Rattle.interfaces.specs.declared.cables.Cable.{Cable}
 use Rattle.interfaces.specs.declared.cables.Cable.TheVariants.{In}
 use Rattle.interfaces.specs.Cables.{plugged}
+use Rattle.interfaces.specs.declared.tallies.Tally.{Tally}
+use Rattle.interfaces.specs.Tallies.{complained, none_in, replied}
 
--- an interface: its network, its cable, the interval (cs) at which it advertises, its virtual router, and
--- the neighbours that it knows
+-- an interface: its network, its cable, the interval (cs) at which it advertises, its virtual router,
+-- the neighbours that it knows, and how much was said there of the gateway's own
 pub record Interface : Type 0 where
   pub network : Network
   pub cable : Cable
   pub interval : ℕ
   pub router : Router
   pub neighbours : Neighbours
+  pub said : Tally
 
 abbrev pub is_active_in : State → Bool
 is_active_in Initialize = false
@@ -70,6 +73,7 @@ new_station settings id side =
       interval = own.interval;
       router = new_router own.priority own.interval own.preempt network.own_ip.0;
       neighbours = record { fixed = fixed_on side settings.neighbours.items; learnt = [] };
+      said = none_in 0;
     }
 
 -- its router takes a step, and all else stays
@@ -81,6 +85,13 @@ pub record IsRouterStep (old : Interface) (event : Event) (now : ℕ) (action : 
 -- its cable is said to be in (true) or out, at a moment
 abbrev pub with_plug : Interface → Bool → ℕ → Interface
 with_plug station up now = record station { cable = plugged station.cable up now }
+
+-- one more Echo was answered there at a moment, or one more error sent
+abbrev pub with_reply : Interface → ℕ → Interface
+with_reply station now = record station { said = replied now station.said }
+
+abbrev pub with_complaint : Interface → ℕ → Interface
+with_complaint station now = record station { said = complained now station.said }
 
 -- a neighbour is learnt or renewed
 abbrev pub with_neighbour : Interface → ArpPacket → ℕ → Interface

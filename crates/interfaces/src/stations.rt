@@ -1,5 +1,5 @@
 //! An interface with its state.
-ghost use Rattle.std.specs.Prelude.{◌≡◌, ℕ, ◌≤◌, ◌+◌, ◌++◌, IfOk, IfSome, length, vec_len, vec_capacity, if◌then◌else◌};
+ghost use Rattle.std.specs.Prelude.{◌≡◌, true, ℕ, ◌≤◌, ◌+◌, ◌++◌, IfOk, IfErr, IfSome, length, vec_len, vec_capacity, if◌then◌else◌};
 ghost use Rattle.arp.specs.Neighbours.{mac_at, asks_at, asked_at};
 ghost use Rattle.arp.specs.declared.packets.TheConstants.{ARP_FRAME};
 ghost use Rattle.vrrp_packet.specs.declared.TheConstants.{ADVERT_FRAME};
@@ -8,11 +8,14 @@ ghost use Rattle.vrrp_states.specs.Table.{IsMoment, IsInterval, Start, Stop, Hea
 ghost use Rattle.packet_rules.specs.Arping.{is_learnable, answer_to};
 ghost use Rattle.packet_rules.specs.Adverts.{advert_frame};
 ghost use Rattle.packet_rules.specs.Arping.{gratuitous_frame};
+ghost use Rattle.packet_rules.specs.Asked.{IsWhole};
+ghost use Rattle.packet_rules.specs.declared.reasons.Reason.TheVariants.{TtlOver};
 ghost use Rattle.packet_rules.specs.Steps.{reading_of, Carries};
 ghost use Rattle.interfaces.specs.Cables.{is_in, is_whole, plugged};
-ghost use Rattle.interfaces.specs.Stations.{is_active, is_active_in, is_on, fixed_of, fixed_on, new_station, IsRouterStep, after_arp, with_plug, IsWired};
+ghost use Rattle.interfaces.specs.Stations.{is_active, is_active_in, is_on, fixed_of, fixed_on, new_station, IsRouterStep, after_arp, with_complaint, with_plug, with_reply, IsWired};
+ghost use Rattle.interfaces.specs.Tallies.{may_complain, may_reply};
 
-use crate::Cable;
+use crate::{Cable, Tally};
 use addresses::{Ip, Mac};
 use arp::{ArpPacket, Cache, Neighbour};
 use nat_types::{GatewayId, Side};
@@ -24,8 +27,8 @@ use vrrp_packet::Advert;
 use vrrp_states::laws::exactly_one_line;
 use vrrp_states::{Action, Router, State};
 
-/// One interface of a gateway: its network, its cable, its virtual router, and the neighbours that it
-/// knows.
+/// One interface of a gateway: its network, its cable, its virtual router, the neighbours that it knows,
+/// and how much was said there of the gateway's own.
 /// Each moment is of one clock, in centiseconds.
 #[derive(Drop)]
 pub struct Interface {
@@ -35,6 +38,8 @@ pub struct Interface {
     interval: u16,
     router: Router,
     cache: Cache,
+    /// What was said there of the gateway's own.
+    said: Tally,
 }
 
 impl Model for Interface {
@@ -49,6 +54,7 @@ impl Model for Interface {
       interval = s.interval;
       router = s.router;
       neighbours = s.cache;
+      said = s.said;
     } };
 
     ghost invariant = { λ s. IsInterval s.interval };
@@ -105,6 +111,7 @@ impl Interface {
             interval: own.interval,
             router: Router::new(own.priority, own.interval, own.preempt, network.own_ip),
             cache,
+            said: Tally::new(),
         })
     }
 
@@ -127,6 +134,36 @@ impl Interface {
         ensures { self.new ≡ with_plug self.old up now }
     {
         self.cable = self.cable.plugged(up, now);
+    }
+
+    /// Whether one more Echo may be answered there in this second.
+    pub fn may_reply(&self, now: u64) -> bool
+        ensures { result ≡ may_reply now self.now.said }
+    {
+        self.said.may_reply(now)
+    }
+
+    /// Whether one more error may be sent there in this second.
+    pub fn may_complain(&self, now: u64) -> bool
+        ensures { result ≡ may_complain now self.now.said }
+    {
+        self.said.may_complain(now)
+    }
+
+    /// Counts an answer to an Echo that was sent there.
+    pub fn count_reply(&mut self, now: u64)
+        requires { may_reply now self.old.said ≡ true }
+        ensures { self.new ≡ with_reply self.old now }
+    {
+        self.said = self.said.replied(now);
+    }
+
+    /// Counts an error that was sent there.
+    pub fn count_complaint(&mut self, now: u64)
+        requires { may_complain now self.old.said ≡ true }
+        ensures { self.new ≡ with_complaint self.old now }
+    {
+        self.said = self.said.complained(now);
     }
 
     /// Whether its cable is in.
@@ -230,6 +267,7 @@ impl Interface {
         ensures reading { result
             ≡ reading_of side self.now.network (is_active self.now) up bytes.now }
         ensures carries { IfOk result (Carries side bytes.now) }
+        ensures over { IfErr result (λ reason. reason ≡ TtlOver → IsWhole bytes.now) }
     {
         packet_rules::read_frame(side, &self.network, self.is_active(), up, bytes)
     }

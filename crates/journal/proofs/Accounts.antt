@@ -18,8 +18,8 @@ pub opened-account : (all : List Noted) (second : ℕ)
     → ((later : ℕ) (origin : Origin) (cause : Cause) → second < later → count all later origin cause ≡ 0)
     → IsAccountOf all (opened second)
 opened-account all second none past = record {
-  whole = length-replicate {A = ℕ} 76 0;
-  counted = λ origin cause. zeros 76 (key_of origin cause) ∙ sym (ap (λ n. min n most) (none origin cause));
+  whole = length-replicate {A = ℕ} 84 0;
+  counted = λ origin cause. zeros 84 (key_of origin cause) ∙ sym (ap (λ n. min n most) (none origin cause));
   past = past;
 }
 

@@ -31,6 +31,6 @@ abbrev pub cause_number : Cause → ℕ
 cause_number (Dropped reason) = number_of reason
 cause_number NoMemory = 0
 
--- each origin with each cause has a number of its own, below 76
+-- each origin with each cause has a number of its own, below 84
 abbrev pub key_of : Origin → Cause → ℕ
-key_of origin cause = 19 * place_of origin + cause_number cause
+key_of origin cause = 21 * place_of origin + cause_number cause

@@ -41,7 +41,7 @@ pub record Account : Type 0 where
   pub counts : List ℕ
 
 abbrev pub opened : ℕ → Account
-opened second = record { second = second; counts = replicate 76 0 }
+opened second = record { second = second; counts = replicate 84 0 }
 
 abbrev pub count_at : Account → Origin → Cause → ℕ
 count_at account origin cause = get_or account.counts (key_of origin cause) 0
@@ -63,6 +63,6 @@ ended moment account = if begins moment account then Some account else None
 
 -- an account is that of these, the newest first
 pub record IsAccountOf (all : List Noted) (account : Account) : Type 0 where
-  pub whole : length account.counts ≡ 76
+  pub whole : length account.counts ≡ 84
   pub counted : (origin : Origin) → (cause : Cause) → count_at account origin cause ≡ min (count all account.second origin cause) most
   pub past : (second : ℕ) → (origin : Origin) → (cause : Cause) → account.second < second → count all second origin cause ≡ 0

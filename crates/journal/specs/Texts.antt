@@ -2,7 +2,7 @@
 use Rattle.std.specs.Prelude.{ℕ, List, ◌++◌, codes, decimal}
 use Rattle.packet_rules.specs.Reasons.{number_of}
 use Rattle.packet_rules.specs.declared.reasons.Reason.{Reason}
-use Rattle.packet_rules.specs.declared.reasons.Reason.TheVariants.{ShortFrame, NotMine, BadHeader, BadLength, BadHeaderSum, Fragment, TtlOver, NotUdpTcp, BadTransport, BadArp, BadAdvert, NotUp, NoBinding, NoPort, CannotWait, BadDatagram, OldWord, HostLimit}
+use Rattle.packet_rules.specs.declared.reasons.Reason.TheVariants.{ShortFrame, NotMine, BadHeader, BadLength, BadHeaderSum, Fragment, TtlOver, NotUdpTcp, BadTransport, BadArp, BadAdvert, NotUp, NoBinding, NoPort, CannotWait, BadDatagram, OldWord, HostLimit, TooLong, TooMany}
 use Rattle.journal.specs.declared.causes.Cause.{Cause}
 use Rattle.journal.specs.declared.causes.Cause.TheVariants as cause
 use Rattle.journal.specs.declared.entries.Role.{Role}
@@ -29,6 +29,8 @@ reason_name CannotWait = codes "CannotWait"
 reason_name BadDatagram = codes "BadDatagram"
 reason_name OldWord = codes "OldWord"
 reason_name HostLimit = codes "HostLimit"
+reason_name TooLong = codes "TooLong"
+reason_name TooMany = codes "TooMany"
 
 abbrev pub role_name : Role → List ℕ
 role_name role.Initialize = codes "Initialize"

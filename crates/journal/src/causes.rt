@@ -16,7 +16,7 @@ pub enum Cause {
 }
 
 /// All of them, in the order of their records.
-pub(crate) const CAUSES: [Cause; 19] = [
+pub(crate) const CAUSES: [Cause; 21] = [
     Cause::NoMemory,
     Cause::Dropped(Reason::ShortFrame),
     Cause::Dropped(Reason::NotMine),
@@ -36,13 +36,15 @@ pub(crate) const CAUSES: [Cause; 19] = [
     Cause::Dropped(Reason::BadDatagram),
     Cause::Dropped(Reason::OldWord),
     Cause::Dropped(Reason::HostLimit),
+    Cause::Dropped(Reason::TooLong),
+    Cause::Dropped(Reason::TooMany),
 ];
 
 impl Cause {
     /// A reason's number, or 0.
     pub fn number(self) -> u8
         ensures value { result ≡ cause_number self }
-        ensures small { result ≤ 18 }
+        ensures small { result ≤ 20 }
     {
         match self {
             Cause::Dropped(reason) => reason.number(),

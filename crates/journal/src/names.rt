@@ -29,6 +29,8 @@ pub(crate) fn reason_name(reason: &Reason) -> &str
         Reason::BadDatagram => "BadDatagram",
         Reason::OldWord => "OldWord",
         Reason::HostLimit => "HostLimit",
+        Reason::TooLong => "TooLong",
+        Reason::TooMany => "TooMany",
     }
 }
 

@@ -8,7 +8,7 @@ use std::marker::Model;
 use std::mem;
 
 /// How many there are of origins with causes.
-const KEYS: usize = 76;
+const KEYS: usize = 84;
 
 /// How many events were dropped, or left out, in a second: by where they came from, and why.
 #[derive(Drop)]
@@ -69,7 +69,7 @@ impl Tally {
 
 fn key_of(origin: Origin, cause: Cause) -> usize
     ensures value { result ≡ key_of origin cause }
-    ensures small { result < 76 }
+    ensures small { result < 84 }
 {
-    19 * origin.place() + usize::from(cause.number())
+    21 * origin.place() + usize::from(cause.number())
 }

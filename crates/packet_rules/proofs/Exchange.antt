@@ -14,8 +14,9 @@ use Rattle.packet_rules.specs.declared.readings.Reading.TheVariants.{Advert}
 use Rattle.packet_rules.specs.declared.reasons.Reason.{Reason}
 use Rattle.packet_rules.specs.declared.reasons.Reason.TheVariants.{BadAdvert}
 use Rattle.packet_rules.specs.Adverts.{own_advert, advert_header, advert_packet, advert_frame}
+use Rattle.packet_rules.specs.Asked.{is_asked, is_echo, is_to_box}
 use Rattle.packet_rules.specs.Networks.{vrrp_mac, is_addressed, is_virtual}
-use Rattle.packet_rules.specs.Steps.{reason_of, size_refusal, up_refusal, destination_refusal, header_refusal, is_vrrp, is_from_peer, advert_reading, ipv4_reading, body_reading, reading_of, unless}
+use Rattle.packet_rules.specs.Steps.{reason_of, size_refusal, up_refusal, destination_refusal, header_refusal, is_vrrp, is_from_peer, advert_reading, ipv4_reading, other_reading, body_reading, reading_of, unless}
 use Rattle.nat_types.specs.declared.gateways.Side.{Side}
 
 -- the codecs' laws, as far as they speak of an advertisement's packet
@@ -87,15 +88,34 @@ packet-read c network peer priority interval writable fits router other =
     let foreign = other-number _ _ (λ e. other (sym e ∙ source)) in
     ok-reading _ _ own _ network.own_ip (two-true _ _ none (two-true _ _ named foreign)) read.1 source
 
-body-read : (c : Codecs) (side : Side) (network peer : Network) (priority interval : ℕ) → IsWritable (own_advert network priority interval) → network.own_ip.0 < 2 ^ 32
+-- it is no Echo
+no-echo : (network peer : Network) (active : Bool) (priority interval : ℕ) → is_echo (frame_of (advert_frame network priority interval)).body ≡ false
+unfolding is_echo
+no-echo network peer active priority interval = refl
+
+not-all : (a b d : Bool) → d ≡ false → (a && (b && d)) ≡ false
+not-all true true d none = none
+not-all true false d none = refl
+not-all false b d none = refl
+
+not-asked : (network peer : Network) (active : Bool) (priority interval : ℕ) → is_asked peer active (frame_of (advert_frame network priority interval)) ≡ false
+unfolding is_asked
+not-asked network peer active priority interval = not-all peer.icmp.echo (is_to_box peer active (frame_of (advert_frame network priority interval))) _ (no-echo network peer active priority interval)
+
+otherwise : (b : Bool) (x y r : Result Reading Reason) → b ≡ false → y ≡ r → cond b x y ≡ r
+otherwise false x y r other is = is
+otherwise true x y r other is = cc
+
+body-read : (c : Codecs) (side : Side) (network peer : Network) (active : Bool) (priority interval : ℕ) → IsWritable (own_advert network priority interval) → network.own_ip.0 < 2 ^ 32
     → peer.interface.virtual_router ≡ network.interface.virtual_router → peer.own_ip.0 ≢ network.own_ip.0
-    → body_reading side peer (frame_of (advert_frame network priority interval)) ≡ Ok (Advert (own_advert network priority interval) network.own_ip)
-unfolding body_reading ipv4_reading header_refusal is_vrrp
-body-read c side network peer priority interval writable fits router other =
+    → body_reading side peer active (frame_of (advert_frame network priority interval)) ≡ Ok (Advert (own_advert network priority interval) network.own_ip)
+unfolding body_reading ipv4_reading header_refusal other_reading is_vrrp
+body-read c side network peer active priority interval writable fits router other =
     let packet = advert_packet network.own_ip.0 (own_advert network priority interval) in
     passes (option_map reason_of (ipv4_refusal packet)) _ _
     (ap (option_map reason_of) (c.ipv4 packet (packet-ipv4 _ _)))
-    (packet-read c network peer priority interval writable fits router other)
+    (otherwise (is_asked peer active (frame_of (advert_frame network priority interval))) _ _ _ (not-asked network peer active priority interval)
+    (packet-read c network peer priority interval writable fits router other))
 
 pub advert-read : (c : Codecs) (side : Side) (network peer : Network) (active : Bool) (priority interval : ℕ) → IsWritable (own_advert network priority interval) → network.own_ip.0 < 2 ^ 32
     → peer.interface.virtual_router ≡ network.interface.virtual_router → peer.own_ip.0 ≢ network.own_ip.0
@@ -106,4 +126,4 @@ advert-read c side network peer active priority interval writable fits router ot
     passes (size_refusal (advert_frame network priority interval)) _ _ refl
     (passes (up_refusal true) _ _ refl
     (passes (destination_refusal peer active frame) _ _ (no-refusal _ _ (two-true _ _ (addressed peer active) refl))
-    (body-read c side network peer priority interval writable fits router other)))
+    (body-read c side network peer active priority interval writable fits router other)))

@@ -127,7 +127,7 @@ own-six networks (Inward pair) wired = wired.inside_mac
 own-six networks (Hairpin own other) wired = wired.inside_mac
 
 -- a translation keeps the byte of the protocol
-translation-nine : (networks : Networks) (t : Translation) (packet : List ℕ) (total : ℕ) → 9 < total → 20 ≤ length packet → 20 ≤ (header_of packet).header_length → slice_index (take total (translated_by networks t packet)) 9 ≡ slice_index packet 9
+pub translation-nine : (networks : Networks) (t : Translation) (packet : List ℕ) (total : ℕ) → 9 < total → 20 ≤ length packet → 20 ≤ (header_of packet).header_length → slice_index (take total (translated_by networks t packet)) 9 ≡ slice_index packet 9
 unfolding translated_by
 translation-nine networks t packet total far long holds = translated-nine _ packet total far long holds
 
@@ -186,7 +186,7 @@ any-query : (packet : List ℕ) → IsQueryPacket Echo packet ⊎ IsQueryPacket 
 any-query packet (inl q) = record { protocol = q.protocol; long = q.query.long }
 any-query packet (inr q) = record { protocol = q.protocol; long = q.query.long }
 
-of-flow : (bytes : List ℕ) → (header_of (frame_of bytes).body).protocol ≡ 1 → (flow_in bytes).protocol ≡ Icmp
+pub of-flow : (bytes : List ℕ) → (header_of (frame_of bytes).body).protocol ≡ 1 → (flow_in bytes).protocol ≡ Icmp
 unfolding flow_in
 of-flow bytes protocol = ap (λ (number : ℕ). if number == 1 then Icmp else if number == 6 then Tcp else Udp) protocol
 

@@ -1,9 +1,11 @@
 pub mod Adverts
 pub mod Arping
+pub mod Asked
 pub mod Errors
 pub mod Flows
 pub mod Frames
 pub mod Networks
+pub mod Own
 pub mod Queries
 pub mod Reasons
 pub mod Steps

@@ -1,7 +1,7 @@
 -- The two networks: who is addressed, where an address lies, which way a packet goes, and to whom.
-use Rattle.std.specs.Prelude.{◌≡◌, ℕ, ◌-◌, ◌/◌, ◌^◌, Bool, not, ◌==◌, ◌&&◌, ◌||◌, Result, Ok, Err, List, [], ◌∷◌, length, if◌then◌else◌}
+use Rattle.std.specs.Prelude.{◌≡◌, ◌≢◌, ◌<◌, ℕ, ◌+◌, ◌-◌, ◌/◌, ◌%◌, ◌^◌, Bool, true, false, not, ◌==◌, ◌&&◌, ◌||◌, Result, Ok, Err, List, [], ◌∷◌, length, if◌then◌else◌}
 use Rattle.std.specs.Str.{bytes_eq}
-use Rattle.addresses.specs.Address.{virtual_mac}
+use Rattle.addresses.specs.Address.{IsIn, virtual_mac}
 use Rattle.addresses.specs.Transport.{same_protocol}
 use Rattle.addresses.specs.declared.transport.Protocol.{Protocol}
 use Rattle.addresses.specs.declared.transport.Protocol.TheVariants.{Icmp}
@@ -36,11 +36,15 @@ networks_of settings id = record {
     interface = settings.inside;
     own_mac = (gateway_of settings id).inside_mac;
     own_ip = (gateway_of settings id).inside_ip;
+    outside_ip = settings.outside.virtual_ip;
+    icmp = settings.icmp;
   };
   outside = record {
     interface = settings.outside;
     own_mac = (gateway_of settings id).outside_mac;
     own_ip = (gateway_of settings id).outside_ip;
+    outside_ip = settings.outside.virtual_ip;
+    icmp = settings.icmp;
   };
   router = settings.router;
 }
@@ -119,3 +123,50 @@ direction_of networks Outside protocol source destination =
 unfoldable pub outside_hop : Networks → ℕ → ℕ
 outside_hop networks destination =
     (if lies_in destination networks.outside.interface then destination else networks.router.0)
+
+-- the broadcast address of a network: it lies in it, and all bits of the host are set (RFC 919)
+unfoldable pub is_broadcast : ℕ → InterfaceSettings → Bool
+is_broadcast address interface =
+    let hosts = 2 ^ (32 - interface.prefix_length) in
+    lies_in address interface && (address % hosts + 1 == hosts)
+
+-- a source to which the box may send something of its own, by its prefixes and virtual addresses
+unfoldable pub may_come : Networks → Side → ℕ → Bool
+may_come networks Inside source =
+    lies_in source networks.inside.interface
+    && not (source == networks.inside.interface.virtual_ip.0)
+may_come networks Outside source =
+    not (lies_in source networks.inside.interface)
+    && not (source == networks.outside.interface.virtual_ip.0)
+
+-- such a source, neither martian nor the broadcast address of the side's network
+unfoldable pub may_answer : Networks → Side → ℕ → Bool
+may_answer networks side source =
+    may_come networks side source
+    && (not (is_martian source) && not (is_broadcast source (network_of networks side).interface))
+
+-- the next hop of what the box says to a source: the source itself, at the outside as `outside_hop` has it
+abbrev pub back_hop : Networks → Side → ℕ → ℕ
+back_hop networks Inside source = source
+back_hop networks Outside source = outside_hop networks source
+
+-- the bytes of the longest packet that is sent at a side
+abbrev pub mtu_of : Networks → Side → ℕ
+mtu_of networks side = (network_of networks side).interface.mtu
+
+-- The box's addresses are placed so that its own frames can be told from all others: both own addresses lie in
+-- their networks and differ from the virtual ones, and no address lies in both networks; both sides know the outside
+-- virtual address; and all four have 32 bits.
+pub record IsPlaced (networks : Networks) : Type 0 where
+  pub inside_own : lies_in networks.inside.own_ip.0 networks.inside.interface ≡ true
+  pub outside_own : lies_in networks.outside.own_ip.0 networks.outside.interface ≡ true
+  pub apart : (address : ℕ) → lies_in address networks.outside.interface ≡ true
+      → lies_in address networks.inside.interface ≡ false
+  pub inside_other : networks.inside.own_ip.0 ≢ networks.inside.interface.virtual_ip.0
+  pub outside_other : networks.outside.own_ip.0 ≢ networks.outside.interface.virtual_ip.0
+  pub inside_knows : networks.inside.outside_ip ≡ networks.outside.interface.virtual_ip
+  pub outside_knows : networks.outside.outside_ip ≡ networks.outside.interface.virtual_ip
+  pub inside_number : networks.inside.own_ip.0 < 2 ^ 32
+  pub outside_number : networks.outside.own_ip.0 < 2 ^ 32
+  pub inside_virtual : networks.inside.interface.virtual_ip.0 < 2 ^ 32
+  pub outside_virtual : networks.outside.interface.virtual_ip.0 < 2 ^ 32

@@ -1,7 +1,7 @@
 -- Reasons by their numbers.
 use Rattle.std.specs.Prelude.{ℕ}
 use Rattle.packet_rules.specs.declared.reasons.Reason.{Reason}
-use Rattle.packet_rules.specs.declared.reasons.Reason.TheVariants.{ShortFrame, NotMine, BadHeader, BadLength, BadHeaderSum, Fragment, TtlOver, NotUdpTcp, BadTransport, BadArp, BadAdvert, NotUp, NoBinding, NoPort, CannotWait, BadDatagram, OldWord, HostLimit}
+use Rattle.packet_rules.specs.declared.reasons.Reason.TheVariants.{ShortFrame, NotMine, BadHeader, BadLength, BadHeaderSum, Fragment, TtlOver, NotUdpTcp, BadTransport, BadArp, BadAdvert, NotUp, NoBinding, NoPort, CannotWait, BadDatagram, OldWord, HostLimit, TooLong, TooMany}
 
 -- the number of a reason
 abbrev pub number_of : Reason → ℕ
@@ -23,3 +23,5 @@ number_of CannotWait = 15
 number_of BadDatagram = 16
 number_of OldWord = 17
 number_of HostLimit = 18
+number_of TooLong = 19
+number_of TooMany = 20

@@ -8,7 +8,7 @@ use Rattle.ipv4.specs.Carried.{transport_refusal as carried_refusal}
 use Rattle.ipv4.specs.Flow.{packet_of as packet_read}
 use Rattle.icmp.specs.declared.errors.TheConstants.{PROTOCOL}
 use Rattle.icmp.specs.declared.faults.IcmpFault.{IcmpFault}
-use Rattle.icmp.specs.declared.faults.IcmpFault.TheVariants.{NotError, BadError, NotQuery, BadQuery}
+use Rattle.icmp.specs.declared.faults.IcmpFault.TheVariants.{NotError, BadError, NotQuery, BadQuery, NotAsked}
 use Rattle.icmp.specs.Error.{has_error_kind}
 use Rattle.icmp.specs.Packet.{IsErrorPacket, error_packet_of, is_about, packet_refusal}
 use Rattle.icmp.specs.Query.{IsTranslatable, kind_number, query_packet_refusal}
@@ -19,9 +19,10 @@ use Rattle.vrrp_packet.specs.Message.{advert_refusal, advert_of}
 use Rattle.packet_rules.specs.declared.reasons.Reason.{Reason}
 use Rattle.packet_rules.specs.declared.reasons.Reason.TheVariants.{ShortFrame, NotMine, BadHeader, BadLength, BadHeaderSum, Fragment, TtlOver, NotUdpTcp, BadTransport, BadArp, BadAdvert, NotUp, NoBinding}
 use Rattle.packet_rules.specs.declared.readings.Reading.{Reading}
-use Rattle.packet_rules.specs.declared.readings.Reading.TheVariants.{Arp, Advert, Packet, Error}
+use Rattle.packet_rules.specs.declared.readings.Reading.TheVariants.{Arp, Advert, Packet, Error, Asked}
 use Rattle.packet_rules.specs.declared.networks.Network.{Network}
 use Rattle.frames.specs.declared.ethernet.TheConstants.{LONGEST}
+use Rattle.packet_rules.specs.Asked.{IsAskable, asked_of, is_asked}
 use Rattle.packet_rules.specs.Flows.{error_in, packet_in}
 use Rattle.packet_rules.specs.Networks.{is_addressed, is_virtual}
 use Rattle.packet_rules.specs.Queries.{kind_entering, kind_leaving}
@@ -37,12 +38,13 @@ reason_of fault.TheVariants.Fragment = Fragment
 reason_of fault.TheVariants.NotUdpTcp = NotUdpTcp
 reason_of fault.TheVariants.BadTransport = BadTransport
 
--- the reason for a fault of an ICMP message
+-- the reason for a fault of an ICMP message; that a message asks nothing drops no packet, since such a one goes on as before
 abbrev pub reason_of_icmp : IcmpFault → Reason
 reason_of_icmp NotError = NotUdpTcp
 reason_of_icmp BadError = BadTransport
 reason_of_icmp NotQuery = NotUdpTcp
 reason_of_icmp BadQuery = BadTransport
+reason_of_icmp NotAsked = NotUdpTcp
 
 -- 1. a frame has 14 to 1,514 bytes
 unfoldable pub size_refusal : List ℕ → Option Reason
@@ -159,17 +161,24 @@ packet_reading side network frame =
     (if (header_of frame.body).protocol == PROTOCOL then icmp_reading side frame.body
     else transport_reading frame.body))
 
--- 4 to 6. an IPv4 packet
-unfoldable pub ipv4_reading : Side → Network → Frame → Result Reading Reason
-ipv4_reading side network frame =
-    unless (header_refusal frame.body) (
+-- 5, 6. a packet that is no Echo to the box
+unfoldable pub other_reading : Side → Network → Frame → Result Reading Reason
+other_reading side network frame =
     (if is_vrrp frame.body then advert_reading network frame.body
-    else packet_reading side network frame))
+    else packet_reading side network frame)
+
+-- 4 to 6. an IPv4 packet; an Echo to the box is taken before step 5
+unfoldable pub ipv4_reading : Side → Network → Bool → Frame → Result Reading Reason
+ipv4_reading side network active frame =
+    unless (header_refusal frame.body) (
+    (if is_asked network active frame then Ok (Asked (asked_of frame.body))
+    else other_reading side network frame))
 
 -- 3 to 6. what the frame carries
-unfoldable pub body_reading : Side → Network → Frame → Result Reading Reason
-body_reading side network frame =
-    (if frame.ethertype == 2054 then arp_reading frame.body else ipv4_reading side network frame)
+unfoldable pub body_reading : Side → Network → Bool → Frame → Result Reading Reason
+body_reading side network active frame =
+    (if frame.ethertype == 2054 then arp_reading frame.body
+    else ipv4_reading side network active frame)
 
 -- what a frame is read as that came in at this side, by a gateway that is up or not, at an interface
 -- that is Active or not; or the reason of the first step that refuses it
@@ -179,7 +188,7 @@ reading_of side network active up bytes =
     unless (size_refusal bytes) (
     unless (up_refusal up) (
     unless (destination_refusal network active frame) (
-    body_reading side network frame)))
+    body_reading side network active frame)))
 
 -- the packet of a frame that came in at this side, where it is a query, is of the side's kind
 abbrev pub IsOfSide : Side → List ℕ → Type 0
@@ -212,3 +221,4 @@ Carries side bytes (Advert advert from) = (1 ≤ advert.interval) × (advert.int
 Carries side bytes (Packet packet) =
     IsForwardable bytes × ((packet ≡ packet_in bytes) × IsOfSide side bytes)
 Carries side bytes (Error packet) = IsPassable bytes × (packet ≡ error_in bytes)
+Carries side bytes (Asked asked) = IsAskable bytes × (asked ≡ asked_of (frame_of bytes).body)

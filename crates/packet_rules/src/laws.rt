@@ -1,5 +1,5 @@
 //! What follows of the definitions, and the numbers that they take from the code.
-ghost use Rattle.std.specs.Prelude.{◌≡◌, ◌≢◌, ◌<◌, ◌^◌, ℕ, Bool, true, false, Ok, List, length};
+ghost use Rattle.std.specs.Prelude.{◌≡◌, ◌≢◌, ◌<◌, ◌^◌, ℕ, Bool, true, false, Ok, Err, List, length};
 ghost use Rattle.addresses.specs.declared.ethernet.Mac.{Mac as MacValue};
 ghost use Rattle.addresses.specs.declared.internet.Ip.{Ip as IpValue};
 ghost use Rattle.arp.specs.declared.packets.ArpPacket.{ArpPacket as ArpValue};
@@ -9,7 +9,11 @@ ghost use Rattle.packet_rules.specs.declared.readings.Reading.{Reading as Readin
 ghost use Rattle.packet_rules.specs.declared.translations.Translation.{Translation as TranslationValue};
 ghost use Rattle.frames.specs.declared.ethernet.TheConstants.{LONGEST};
 ghost use Rattle.vrrp_packet.specs.Message.{IsWritable};
-ghost use Rattle.packet_rules.specs.declared.readings.Reading.TheVariants.{Advert};
+ghost use Rattle.packet_rules.specs.declared.readings.Reading.TheVariants.{Advert, Asked};
+ghost use Rattle.packet_rules.specs.declared.readings.Asked.{Asked as AskedValue};
+ghost use Rattle.packet_rules.specs.declared.reasons.Reason.TheVariants.{TtlOver};
+ghost use Rattle.frames.specs.Frame.{frame_of};
+ghost use Rattle.packet_rules.specs.Asked.{IsWhole, is_asked};
 ghost use Rattle.packet_rules.specs.Adverts.{own_advert, advert_frame};
 ghost use Rattle.packet_rules.specs.Arping.{answer_frame, request_frame, gratuitous_frame};
 ghost use Rattle.packet_rules.specs.Errors.{is_error_frame, passed_frame};
@@ -20,7 +24,7 @@ ghost use Rattle.packet_rules.specs.Networks.{IsWired, direction_of, exit_of};
 ghost use Rattle.packet_rules.specs.Steps.{reading_of, IsForwardable, IsOfSide, IsPassable, Carries};
 
 use arp::arp_grammar;
-use icmp::{error_packet_grammar, query_packet_grammar};
+use icmp::{ask_grammar, error_packet_grammar, query_packet_grammar};
 use ipv4::{ipv4_grammar, transport_grammar};
 use vrrp_packet::{advert_grammar, written_is_read};
 
@@ -29,13 +33,19 @@ pub fn limits_law()
     ensures longest_frame { LONGEST ≡ 1514 }
 {}
 
-/// What is known of a frame by what it is read as.
+/// What is known of a frame by what it is read as; and that it has a whole packet where its time to live is over.
 pub fn readings_law()
-    ensures { (side : SideValue) (network : NetworkValue) (active up : Bool) (bytes : List ℕ)
-        (reading : ReadingValue)
+    ensures carries { (side : SideValue) (network : NetworkValue) (active up : Bool)
+        (bytes : List ℕ) (reading : ReadingValue)
         → reading_of side network active up bytes ≡ Ok reading → Carries side bytes reading }
+    ensures over { (side : SideValue) (network : NetworkValue) (active up : Bool) (bytes : List ℕ)
+        → reading_of side network active up bytes ≡ Err TtlOver → IsWhole bytes }
+    ensures asked { (side : SideValue) (network : NetworkValue) (active up : Bool) (bytes : List ℕ)
+        (asked : AskedValue) → reading_of side network active up bytes ≡ Ok (Asked asked)
+        → is_asked network active (frame_of bytes) ≡ true }
 {
     arp_grammar();
+    ask_grammar();
     ipv4_grammar();
     transport_grammar();
     error_packet_grammar();

@@ -1,11 +1,12 @@
 //! The two networks: whom a frame addresses, which way its packet goes, and to whom next.
-ghost use Rattle.std.specs.Prelude.{◌≡◌, length};
-ghost use Rattle.packet_rules.specs.Networks.{network_of, networks_of, IsWired, is_virtual, is_addressed, lies_in, is_martian, hairpin_direction, inside_direction, outside_direction, direction_of, outside_hop, exit_of};
+ghost use Rattle.std.specs.Prelude.{◌≡◌, ◌<◌, ◌^◌, length};
+ghost use Rattle.settings.specs.Parts.{gateway_of};
+ghost use Rattle.packet_rules.specs.Networks.{network_of, networks_of, IsPlaced, IsWired, is_virtual, is_addressed, lies_in, is_martian, hairpin_direction, inside_direction, outside_direction, direction_of, outside_hop, exit_of};
 
 use crate::Reason;
 use addresses::{Ip, Mac, Protocol};
 use nat_types::{GatewayId, Side};
-use settings::{InterfaceSettings, Settings};
+use settings::{IcmpSettings, InterfaceSettings, Settings};
 
 /// One of a gateway's two networks.
 #[derive(Clone, Copy, Debug, PartialEq, Eq)]
@@ -15,6 +16,10 @@ pub struct Network {
     pub own_mac: Mac,
     /// The gateway's own (primary) address there.
     pub own_ip: Ip,
+    /// The outside virtual address, which is asked at both sides.
+    pub outside_ip: Ip,
+    /// What the gateway says itself by ICMP.
+    pub icmp: IcmpSettings,
 }
 
 impl Network {
@@ -61,22 +66,11 @@ impl Direction {
 impl Networks {
     /// The networks as a gateway of these settings stands in them.
     pub fn of_gateway(settings: &Settings, id: GatewayId) -> Networks
-        ensures { result ≡ networks_of settings.now id }
+        ensures networks { result ≡ networks_of settings.now id }
+        ensures placed { IsPlaced result }
     {
-        let own = settings.gateway(id);
-        Networks {
-            inside: Network {
-                interface: settings.inside,
-                own_mac: own.inside_mac,
-                own_ip: own.inside_ip,
-            },
-            outside: Network {
-                interface: settings.outside,
-                own_mac: own.outside_mac,
-                own_ip: own.outside_ip,
-            },
-            router: settings.router,
-        }
+        recall_numbers(settings, id);
+        networks_at(settings, id)
     }
 
     pub fn of(&self, side: Side) -> Network
@@ -96,6 +90,51 @@ impl Networks {
         self.inside.recall();
         self.outside.recall();
     }
+}
+
+/// A gateway's networks.
+fn networks_at(settings: &Settings, id: GatewayId) -> Networks
+    ensures { result ≡ networks_of settings.now id }
+{
+    let own = settings.gateway(id);
+    Networks {
+        inside: Network {
+            interface: settings.inside,
+            own_mac: own.inside_mac,
+            own_ip: own.inside_ip,
+            outside_ip: settings.outside.virtual_ip,
+            icmp: settings.icmp,
+        },
+        outside: Network {
+            interface: settings.outside,
+            own_mac: own.outside_mac,
+            own_ip: own.outside_ip,
+            outside_ip: settings.outside.virtual_ip,
+            icmp: settings.icmp,
+        },
+        router: settings.router,
+    }
+}
+
+/// Reminds the prover that a gateway's addresses have 32 bits; it does nothing when it runs.
+fn recall_numbers(settings: &Settings, id: GatewayId)
+    ensures inside { (gateway_of settings.now id).inside_ip.0 < 2 ^ 32 }
+    ensures outside { (gateway_of settings.now id).outside_ip.0 < 2 ^ 32 }
+    ensures inside_virtual { settings.now.inside.virtual_ip.0 < 2 ^ 32 }
+    ensures outside_virtual { settings.now.outside.virtual_ip.0 < 2 ^ 32 }
+{
+    let own = settings.gateway(id);
+    recall_number(own.inside_ip);
+    recall_number(own.outside_ip);
+    recall_number(settings.inside.virtual_ip);
+    recall_number(settings.outside.virtual_ip);
+}
+
+/// Reminds the prover that an address has 32 bits; it does nothing when it runs.
+fn recall_number(address: Ip)
+    ensures { address.0 < 2 ^ 32 }
+{
+    let _address = address;
 }
 
 /// The six bytes, of which a proof knows that they are six.
@@ -128,7 +167,7 @@ pub(crate) fn is_for_gateway(network: &Network, active: bool, mac: Mac) -> bool
 }
 
 #[tactic(auto, unfolding(crate::specs::Networks::lies_in))]
-fn contains(interface: &InterfaceSettings, address: Ip) -> bool
+pub(crate) fn contains(interface: &InterfaceSettings, address: Ip) -> bool
     ensures { result ≡ lies_in address.0 interface.now }
 {
     interface.network().contains(address)
@@ -136,7 +175,7 @@ fn contains(interface: &InterfaceSettings, address: Ip) -> bool
 
 /// Whether no host has an address (RFC 1812, section 5.3.7).
 #[tactic(auto, unfolding(crate::specs::Networks::is_martian))]
-fn is_martian(address: Ip) -> bool
+pub(crate) fn is_martian(address: Ip) -> bool
     ensures { result ≡ is_martian address.0 }
 {
     let first = address.0 >> 24;

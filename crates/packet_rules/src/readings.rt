@@ -17,4 +17,17 @@ pub enum Reading {
     Packet(Packet),
     /// An ICMP error about such a packet, by what was read of it (RFC 792).
     Error(ErrorPacket),
+    /// An Echo to the box itself, by what was read of it (RFC 792).
+    Asked(Asked),
+}
+
+/// An Echo to the box itself.
+#[derive(Clone, Copy, Debug, PartialEq, Eq)]
+pub struct Asked {
+    /// Who asks.
+    pub source: Ip,
+    /// The address that is asked.
+    pub destination: Ip,
+    /// The bytes of the packet that answers it.
+    pub length: usize,
 }

@@ -43,10 +43,14 @@ pub enum Reason {
     OldWord,
     #[error("the host has all the pairs that it may have")]
     HostLimit,
+    #[error("the packet is too long for its side")]
+    TooLong,
+    #[error("too many answers in this second")]
+    TooMany,
 }
 
 impl Reason {
-    /// The reason's number, from 1 to 18.
+    /// The reason's number, from 1 to 20.
     pub fn number(self) -> u8
         ensures { result ≡ number_of self }
     {

@@ -1,13 +1,16 @@
 //! The first steps of the packet path: which frames are taken, and what they are read as.
-ghost use Rattle.std.specs.Prelude.{◌≡◌, ◌≤◌, IfOk, OnOk, length};
+ghost use Rattle.std.specs.Prelude.{◌≡◌, ◌≤◌, IfOk, IfErr, OnOk, length};
 ghost use Rattle.std.specs.Result.{result_err};
 ghost use Rattle.frames.specs.Frame.{frame_of};
 ghost use Rattle.frames.specs.declared.ethernet.TheConstants.{LONGEST};
 ghost use Rattle.ipv4.specs.Header.{IsIpv4, header_of};
 ghost use Rattle.ipv4.specs.Flow.{packet_of};
 ghost use Rattle.icmp.specs.Packet.{IsErrorPacket, error_packet_of};
-ghost use Rattle.packet_rules.specs.Steps.{reason_of, reason_of_icmp, size_refusal, destination_refusal, header_refusal, virtual_refusal, transport_refusal, query_refusal, error_refusal, about_refusal, ttl_refusal, is_vrrp, is_from_peer, arp_reading, advert_reading, transport_reading, query_reading, error_reading, icmp_reading, packet_reading, ipv4_reading, body_reading, reading_of, Carries};
+ghost use Rattle.packet_rules.specs.Asked.{IsWhole};
+ghost use Rattle.packet_rules.specs.declared.reasons.Reason.TheVariants.{TtlOver};
+ghost use Rattle.packet_rules.specs.Steps.{reason_of, reason_of_icmp, size_refusal, destination_refusal, header_refusal, virtual_refusal, transport_refusal, query_refusal, error_refusal, about_refusal, ttl_refusal, is_vrrp, is_from_peer, arp_reading, advert_reading, transport_reading, query_reading, error_reading, icmp_reading, packet_reading, other_reading, ipv4_reading, body_reading, reading_of, Carries};
 
+use crate::asking::{asked, is_asked};
 use crate::laws::readings_law;
 use crate::networks::{Network, is_for_gateway, is_to_virtual};
 use crate::queries::{kind_entering, kind_leaving};
@@ -40,6 +43,7 @@ fn reason_for_icmp(fault: IcmpFault) -> Reason
         IcmpFault::BadError => Reason::BadTransport,
         IcmpFault::NotQuery => Reason::NotUdpTcp,
         IcmpFault::BadQuery => Reason::BadTransport,
+        IcmpFault::NotAsked => Reason::NotUdpTcp,
     }
 }
 
@@ -252,15 +256,38 @@ fn read_packet(
     }
 }
 
+/// A packet that is no Echo to the gateway.
+#[tactic(auto, unfolding(crate::specs::Steps::other_reading))]
+fn read_other(
+    side: Side,
+    network: &Network,
+    frame: &EthView<'_>,
+    view: &Ipv4View<'_>,
+) -> Result<Reading, Reason>
+    requires { view.now.bytes.now ≡ (frame_of frame.now.bytes.now).body }
+    ensures { result ≡ other_reading side network.now (frame_of frame.now.bytes.now) }
+{
+    if is_for_vrrp(view) {
+        read_advert(network, view)
+    } else {
+        read_packet(side, network, frame, view)
+    }
+}
+
 #[tactic(auto, unfolding(crate::specs::Steps::ipv4_reading))]
-fn read_ipv4(side: Side, network: &Network, frame: &EthView<'_>) -> Result<Reading, Reason>
-    ensures { result ≡ ipv4_reading side network.now (frame_of frame.now.bytes.now) }
+fn read_ipv4(
+    side: Side,
+    network: &Network,
+    active: bool,
+    frame: &EthView<'_>,
+) -> Result<Reading, Reason>
+    ensures { result ≡ ipv4_reading side network.now active (frame_of frame.now.bytes.now) }
 {
     let packet = view_packet(frame.body())?;
-    if is_for_vrrp(&packet) {
-        read_advert(network, &packet)
+    if is_asked(network, active, frame, &packet) {
+        Ok(Reading::Asked(asked(&packet)))
     } else {
-        read_packet(side, network, frame, &packet)
+        read_other(side, network, frame, &packet)
     }
 }
 
@@ -275,6 +302,7 @@ pub fn read_frame(
 ) -> Result<Reading, Reason>
     ensures reading { result ≡ reading_of side network.now active up bytes.now }
     ensures carries { IfOk result (Carries side bytes.now) }
+    ensures over { IfErr result (λ reason. reason ≡ TtlOver → IsWhole bytes.now) }
 {
     readings_law();
     take_steps(side, network, active, up, bytes)
@@ -298,6 +326,6 @@ fn take_steps(
     if frame.ethertype() == EtherType::ARP {
         read_arp(frame.body())
     } else {
-        read_ipv4(side, network, &frame)
+        read_ipv4(side, network, active, &frame)
     }
 }

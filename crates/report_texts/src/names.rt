@@ -14,7 +14,7 @@ pub(crate) const ORIGINS: [Origin; 4] = [
 ];
 
 /// All reasons, in the order of their numbers.
-pub(crate) const REASONS: [Reason; 18] = [
+pub(crate) const REASONS: [Reason; 20] = [
     Reason::ShortFrame,
     Reason::NotMine,
     Reason::BadHeader,
@@ -33,6 +33,8 @@ pub(crate) const REASONS: [Reason; 18] = [
     Reason::BadDatagram,
     Reason::OldWord,
     Reason::HostLimit,
+    Reason::TooLong,
+    Reason::TooMany,
 ];
 
 pub(crate) fn origin_name(origin: Origin) -> &'static str {

@@ -3,7 +3,8 @@ use Rattle.std.proofs.Common.{◌≡◌, ℕ, ◌+◌, ◌<◌, ◌==◌, Bool, 
 use Rattle.std.proofs.lemmas.Bool.{eqb-true, eqb-false}
 use Rattle.std.proofs.lemmas.List.{get_or-set_same, get_or-set_other}
 use Rattle.std.proofs.lemmas.Option.{same_Some, slice_get_within}
-use Rattle.packet_rules.specs.declared.reasons.Reason.TheVariants.{ShortFrame, NotMine, BadHeader, BadLength, BadHeaderSum, Fragment, TtlOver, NotUdpTcp, BadTransport, BadArp, BadAdvert, NotUp, NoBinding, NoPort, CannotWait, BadDatagram, OldWord, HostLimit}
+use Rattle.packet_rules.specs.declared.reasons.Reason.TheVariants as reason
+use Rattle.packet_rules.specs.declared.reasons.Reason.TheVariants.{ShortFrame, NotMine, BadHeader, BadLength, BadHeaderSum, Fragment, TtlOver, NotUdpTcp, BadTransport, BadArp, BadAdvert, NotUp, NoBinding, NoPort, CannotWait, BadDatagram, OldWord, HostLimit, TooMany}
 use Rattle.journal.specs.Origins.{place_of}
 use Rattle.journal.specs.declared.origins.Origin.{Origin}
 use Rattle.journal.specs.declared.origins.Origin.TheVariants.{Inside, Outside, Link, Own}
@@ -31,7 +32,7 @@ more-at counts place other more within = by (other == place) refl
 -- ---- the places of a box's counts
 
 abbrev all_counts : List Count
-all_counts = Received ∷ Sent ∷ SendFailed ∷ TooLong ∷ Lost NoMemory ∷ Lost (Dropped ShortFrame) ∷ Lost (Dropped NotMine) ∷ Lost (Dropped BadHeader) ∷ Lost (Dropped BadLength) ∷ Lost (Dropped BadHeaderSum) ∷ Lost (Dropped Fragment) ∷ Lost (Dropped TtlOver) ∷ Lost (Dropped NotUdpTcp) ∷ Lost (Dropped BadTransport) ∷ Lost (Dropped BadArp) ∷ Lost (Dropped BadAdvert) ∷ Lost (Dropped NotUp) ∷ Lost (Dropped NoBinding) ∷ Lost (Dropped NoPort) ∷ Lost (Dropped CannotWait) ∷ Lost (Dropped BadDatagram) ∷ Lost (Dropped OldWord) ∷ Lost (Dropped HostLimit) ∷ []
+all_counts = Received ∷ Sent ∷ SendFailed ∷ TooLong ∷ Lost NoMemory ∷ Lost (Dropped ShortFrame) ∷ Lost (Dropped NotMine) ∷ Lost (Dropped BadHeader) ∷ Lost (Dropped BadLength) ∷ Lost (Dropped BadHeaderSum) ∷ Lost (Dropped Fragment) ∷ Lost (Dropped TtlOver) ∷ Lost (Dropped NotUdpTcp) ∷ Lost (Dropped BadTransport) ∷ Lost (Dropped BadArp) ∷ Lost (Dropped BadAdvert) ∷ Lost (Dropped NotUp) ∷ Lost (Dropped NoBinding) ∷ Lost (Dropped NoPort) ∷ Lost (Dropped CannotWait) ∷ Lost (Dropped BadDatagram) ∷ Lost (Dropped OldWord) ∷ Lost (Dropped HostLimit) ∷ Lost (Dropped reason.TooLong) ∷ Lost (Dropped TooMany) ∷ []
 
 at-place : (what : Count) → slice_get all_counts (number_of what) ≡ Some what
 at-place Received = refl
@@ -57,6 +58,8 @@ at-place (Lost (Dropped CannotWait)) = refl
 at-place (Lost (Dropped BadDatagram)) = refl
 at-place (Lost (Dropped OldWord)) = refl
 at-place (Lost (Dropped HostLimit)) = refl
+at-place (Lost (Dropped reason.TooLong)) = refl
+at-place (Lost (Dropped TooMany)) = refl
 
 small : (what : Count) → number_of what < 25
 small what = (let within = slice_get_within all_counts (number_of what) what (at-place what) in omega (arith, within))

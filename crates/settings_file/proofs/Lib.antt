@@ -1,3 +1,4 @@
 mod Agree
+mod Apart
 mod Good
 mod Lists

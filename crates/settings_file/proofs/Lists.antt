@@ -2,7 +2,7 @@
 use Rattle.std.proofs.Common.{◌≡◌, ◌&&◌, Bool, true, false, cond, List, [], ◌∷◌, map, Option, Some, option_map, refl, ap}
 use Rattle.std.specs.List.{list_all, find}
 use Rattle.toml.specs.declared.value.Value.{Value}
-use Rattle.settings_file.specs.Neighbours.{is_table}
+use Rattle.settings_file.specs.Document.{is_table}
 use Rattle.settings_file.specs.Missing.{is_incomplete}
 use Rattle.toml.specs.Data.{Data}
 use Rattle.toml.specs.View.{view, items_of}

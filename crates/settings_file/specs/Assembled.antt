@@ -33,6 +33,7 @@ pub record IsAssembled (v : Values) (s : Settings) : Type 0 where
   pub inside : s.inside ≡ v.inside
   pub outside : s.outside ≡ v.outside
   pub router : s.router ≡ v.router
+  pub icmp : s.icmp ≡ v.icmp
   pub zero : s.zero ≡ v.zero
   pub one : s.one ≡ v.one
   pub neighbours : s.neighbours ≡ v.neighbours

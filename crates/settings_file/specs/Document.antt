@@ -1,5 +1,6 @@
 -- The values at the keys of a document, each read as its type and within its limits.
-use Rattle.std.specs.Prelude.{ℕ, pos, ◌-◌, ◌/◌, ◌^◌, ◌==◌, ◌&&◌, nat_le, min, not, Bool, false, true, if◌then◌else◌, List, [], ◌∷◌, Option, Some, None, option_map, option_and_then}
+use Rattle.std.specs.Prelude.{ℕ, pos, ◌-◌, ◌/◌, ◌^◌, ◌==◌, ◌&&◌, nat_le, min, not, Bool, false, true, if◌then◌else◌, List, [], ◌∷◌, Option, Some, None, is_some, option_map, option_and_then}
+use Rattle.addresses.specs.Address.{IsIn}
 use Rattle.addresses.specs.declared.internet.Prefix.{Prefix}
 use Rattle.toml.specs.Data.{Data, integer, Items, no_items, item, Members, get_member, as_str, as_bool, as_table, as_array}
 use Rattle.settings_file.specs.declared.keys.Section.{Section}
@@ -11,6 +12,17 @@ use Rattle.settings_file.specs.Texts.{address_of, mac_of}
 unfoldable pub value_of : Members → Section → Name → Option Data
 value_of t section name =
     option_and_then (get_member (name_text name)) (option_and_then as_table (get_member (section_text section) t))
+
+abbrev pub is_table : Data → Bool
+is_table d = is_some (as_table d)
+
+abbrev pub is_table_or_left_out : Option Data → Bool
+is_table_or_left_out None = true
+is_table_or_left_out (Some d) = is_table d
+
+-- a section that may be left out is a table where it is there
+unfoldable pub is_section : Members → Section → Bool
+is_section t section = is_table_or_left_out (get_member (section_text section) t)
 
 -- a whole number in limits
 abbrev pub number_in : ℕ → ℕ → Data → Option ℕ
@@ -99,3 +111,7 @@ is_apart network address None = false
 is_apart None address (Some length) = true
 is_apart (Some network) None (Some length) = true
 is_apart (Some network) (Some address) (Some length) = not (is_in address network.0 (min network.1 length))
+
+-- no address lies both in the network and in that of an address and a prefix's length
+abbrev pub IsApart : Prefix → ℕ → ℕ → Type 0
+IsApart network address length = (both : ℕ) → IsIn both address length → IsIn both network.address.0 network.length → ⊥

@@ -1,9 +1,9 @@
 -- The keys of the settings, in the order of their text.
-use Rattle.std.specs.Prelude.{ℕ, List, codes, Some}
+use Rattle.std.specs.Prelude.{ℕ, List, codes, Some, None}
 use Rattle.settings_file.specs.declared.keys.Section.{Section}
-use Rattle.settings_file.specs.declared.keys.Section.TheVariants.{Ports, Inside, Outside, GatewayZero, GatewayOne, Neighbour}
+use Rattle.settings_file.specs.declared.keys.Section.TheVariants.{Ports, Inside, Outside, Icmp, GatewayZero, GatewayOne, Neighbour}
 use Rattle.settings_file.specs.declared.keys.Name.{Name}
-use Rattle.settings_file.specs.declared.keys.Name.TheVariants.{Zero, One, HostLimit, Virtual, Prefix, Vrid, Wire, Router}
+use Rattle.settings_file.specs.declared.keys.Name.TheVariants.{Zero, One, HostLimit, Virtual, Prefix, Vrid, Wire, Router, Mtu, Echo, Errors}
 use Rattle.settings_file.specs.declared.keys.Name.TheVariants.{InsideIp, InsideMac, OutsideIp, OutsideMac, Priority, Interval, Preempt, BootFile, Link, InsidePort, OutsidePort}
 use Rattle.settings_file.specs.declared.keys.Name.TheVariants.{Side, Ip, Mac}
 use Rattle.settings_file.specs.declared.keys.Key.{Key}
@@ -13,6 +13,7 @@ abbrev pub section_text : Section → List ℕ
 section_text Ports = codes "ports"
 section_text Inside = codes "inside"
 section_text Outside = codes "outside"
+section_text Icmp = codes "icmp"
 section_text GatewayZero = codes "gateway_0"
 section_text GatewayOne = codes "gateway_1"
 section_text Neighbour = codes "neighbour"
@@ -27,6 +28,9 @@ name_text Prefix = codes "prefix"
 name_text Vrid = codes "vrid"
 name_text Wire = codes "wire"
 name_text Router = codes "router"
+name_text Mtu = codes "mtu"
+name_text Echo = codes "echo"
+name_text Errors = codes "errors"
 name_text InsideIp = codes "inside_ip"
 name_text InsideMac = codes "inside_mac"
 name_text OutsideIp = codes "outside_ip"
@@ -45,3 +49,7 @@ name_text Mac = codes "mac"
 -- a key in a section
 abbrev pub key : Section → Name → Key
 key section name = record { section = section; name = Some name }
+
+-- the key of a whole section, of the list of neighbours too
+abbrev pub whole : Section → Key
+whole section = record { section = section; name = None }

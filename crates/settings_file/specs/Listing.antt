@@ -7,7 +7,7 @@ use Rattle.settings_file.specs.declared.keys.Key.{Key}
 use Rattle.settings_file.specs.declared.looks.Look.{Look}
 use Rattle.settings_file.specs.declared.looks.Look.TheVariants as looks
 use Rattle.settings_file.specs.Faults.{all_bad}
-use Rattle.settings_file.specs.Rows.{port_rows, inside_rows, outside_rows, router_rows, network_at, all_bad_of_gateway}
+use Rattle.settings_file.specs.Rows.{port_rows, inside_rows, outside_rows, icmp_rows, network_at, all_bad_of_gateway}
 use Rattle.settings_file.specs.Neighbours.{neighbours_of, all_bad_in}
 use Rattle.settings_file.specs.Missing.{all_missing}
 use Rattle.settings_file.specs.Unknown.{unknown_of}
@@ -21,8 +21,8 @@ all_bad_values t =
     let outside = network_at t Outside in
     all_bad (port_rows t)
     ++ (all_bad (inside_rows t)
-    ++ (all_bad (outside_rows inside t)
-    ++ (all_bad (router_rows outside t)
+    ++ (all_bad (outside_rows inside outside t)
+    ++ (all_bad (icmp_rows t)
     ++ (all_bad_of_gateway inside outside t GatewayZero
     ++ (all_bad_of_gateway inside outside t GatewayOne
     ++ all_bad_in inside outside (neighbours_of t))))))

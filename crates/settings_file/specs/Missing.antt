@@ -11,7 +11,7 @@ use Rattle.settings_file.specs.Document.{value_of}
 use Rattle.settings_file.specs.Faults.{earlier}
 use Rattle.settings_file.specs.Neighbours.{missing_in, all_missing_from, neighbours_of}
 
--- the keys of the sections that can't be left out, in the order of their text: all but host_limit, priority, interval and preempt
+-- the keys of the sections that can't be left out, in the order of their text: all but host_limit, mtu, echo, errors, priority, interval and preempt
 abbrev pub required : List Key
 required =
     key Ports Zero ∷ key Ports One

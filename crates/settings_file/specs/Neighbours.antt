@@ -1,5 +1,5 @@
 -- The list of static neighbours.
-use Rattle.std.specs.Prelude.{ℕ, nat_le, Bool, if◌then◌else◌, List, [], ◌∷◌, ◌++◌, length, codes, Option, Some, None, is_some, option_and_then}
+use Rattle.std.specs.Prelude.{ℕ, nat_le, Bool, if◌then◌else◌, List, [], ◌∷◌, length, codes, Option, Some, None, is_some, option_and_then}
 use Rattle.std.specs.List.{list_all, flat_map}
 use Rattle.std.specs.Str.{bytes_eq}
 use Rattle.toml.specs.Data.{Data, Members, get_member, as_str, as_table}
@@ -10,13 +10,10 @@ use Rattle.settings_file.specs.declared.keys.Section.TheVariants.{Neighbour}
 use Rattle.settings_file.specs.declared.keys.Name.{Name}
 use Rattle.settings_file.specs.declared.keys.Name.TheVariants.{Side as SideKey, Ip, Mac}
 use Rattle.settings_file.specs.declared.keys.Key.{Key}
-use Rattle.settings_file.specs.Keys.{key, name_text, section_text}
+use Rattle.settings_file.specs.Keys.{key, whole, name_text, section_text}
 use Rattle.settings_file.specs.Texts.{address_of, mac_of}
-use Rattle.settings_file.specs.Document.{Network, list_in, is_host}
+use Rattle.settings_file.specs.Document.{Network, is_table, list_in, is_host}
 use Rattle.settings_file.specs.Faults.{first_bad, all_bad, earlier}
-
-abbrev pub is_table : Data → Bool
-is_table d = is_some (as_table d)
 
 abbrev pub only_tables : List Data → Option (List Data)
 only_tables ds = if list_all is_table ds then Some ds else None
@@ -84,13 +81,9 @@ abbrev pub bad_in : Option Network → Option Network → List Data → Option K
 bad_in inside outside [] = None
 bad_in inside outside (d ∷ rest) = earlier (bad_neighbour inside outside d) (bad_in inside outside rest)
 
--- the key of the whole list
-abbrev pub whole : Key
-whole = record { section = Neighbour; name = None }
-
 abbrev pub bad_list : Option Network → Option Network → Option (List Data) → Option Key
-bad_list inside outside None = Some whole
-bad_list inside outside (Some ds) = if nat_le (length ds) 64 then bad_in inside outside ds else Some whole
+bad_list inside outside None = Some (whole Neighbour)
+bad_list inside outside (Some ds) = if nat_le (length ds) 64 then bad_in inside outside ds else Some (whole Neighbour)
 
 -- [[neighbour]]: a list of at most 64 tables
 unfoldable pub bad_neighbours : Option Network → Option Network → Members → Option Key
@@ -101,9 +94,9 @@ all_bad_of_neighbour inside outside d = all_bad (neighbour_value_rows inside out
 
 -- all bad keys of the neighbours
 abbrev pub all_bad_in : Option Network → Option Network → Option (List Data) → List Key
-all_bad_in inside outside None = whole ∷ []
+all_bad_in inside outside None = whole Neighbour ∷ []
 all_bad_in inside outside (Some ds) =
-    if nat_le (length ds) 64 then flat_map (all_bad_of_neighbour inside outside) ds else whole ∷ []
+    if nat_le (length ds) 64 then flat_map (all_bad_of_neighbour inside outside) ds else whole Neighbour ∷ []
 
 abbrev pub neighbour_with : Option Side → Option ℕ → Option (List ℕ) → Option NeighbourValue
 neighbour_with (Some side) (Some ip) (Some mac) =

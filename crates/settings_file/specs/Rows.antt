@@ -1,14 +1,14 @@
 -- The values of the settings, row by row in the order of their text, and the first that is bad.
-use Rattle.std.specs.Prelude.{Bool, true, List, [], ◌∷◌, ◌++◌, Option, is_some}
+use Rattle.std.specs.Prelude.{Bool, true, false, List, [], ◌∷◌, ◌++◌, Option, is_some}
 use Rattle.toml.specs.Data.{Members}
 use Rattle.settings_file.specs.declared.keys.Section.{Section}
-use Rattle.settings_file.specs.declared.keys.Section.TheVariants.{Ports, Inside, Outside}
-use Rattle.settings_file.specs.declared.keys.Name.TheVariants.{Zero, One, HostLimit, Virtual, Prefix, Vrid, Wire, Router}
+use Rattle.settings_file.specs.declared.keys.Section.TheVariants.{Ports, Inside, Outside, Icmp}
+use Rattle.settings_file.specs.declared.keys.Name.TheVariants.{Zero, One, HostLimit, Virtual, Prefix, Vrid, Wire, Router, Mtu, Echo, Errors}
 use Rattle.settings_file.specs.declared.keys.Name.TheVariants.{InsideIp, InsideMac, OutsideIp, OutsideMac, Priority, Interval, Preempt, BootFile, Link, InsidePort, OutsidePort}
 use Rattle.settings_file.specs.declared.keys.Key.{Key}
-use Rattle.settings_file.specs.Keys.{key}
+use Rattle.settings_file.specs.Keys.{key, whole}
 use Rattle.settings_file.specs.Faults.{first_bad, all_bad, earlier}
-use Rattle.settings_file.specs.Document.{Network, network_with, number_at, number_or, optional_at, flag_or, text_at, address_at, mac_at, range_at, is_host, is_apart}
+use Rattle.settings_file.specs.Document.{Network, network_with, number_at, number_or, optional_at, flag_or, text_at, address_at, mac_at, range_at, is_host, is_apart, is_section}
 
 -- [ports]
 abbrev pub port_rows : Members → List (Key × Bool)
@@ -28,29 +28,36 @@ inside_rows t =
     ∷ (key Inside Prefix, is_some (number_at 8 30 t Inside Prefix))
     ∷ (key Inside Vrid, is_some (number_at 1 255 t Inside Vrid))
     ∷ (key Inside Wire, is_some (number_at 1 65535 t Inside Wire))
+    ∷ (key Inside Mtu, is_some (number_or 1500 576 1500 t Inside Mtu))
     ∷ []
 
 unfoldable pub bad_inside : Members → Option Key
 bad_inside t = first_bad (inside_rows t)
 
--- [outside], beside the inside network: the two share no address
-abbrev pub outside_rows : Option Network → Members → List (Key × Bool)
-outside_rows inside t =
+-- [outside]: its network shares no address with the inside one, and the router lies in it
+abbrev pub outside_rows : Option Network → Option Network → Members → List (Key × Bool)
+outside_rows inside outside t =
     (key Outside Virtual, is_some (address_at t Outside Virtual))
     ∷ (key Outside Prefix, is_apart inside (address_at t Outside Virtual) (number_at 8 30 t Outside Prefix))
     ∷ (key Outside Vrid, is_some (number_at 1 255 t Outside Vrid))
     ∷ (key Outside Wire, is_some (number_at 1 65535 t Outside Wire))
+    ∷ (key Outside Router, is_host outside (address_at t Outside Router))
+    ∷ (key Outside Mtu, is_some (number_or 1500 576 1500 t Outside Mtu))
     ∷ []
 
-unfoldable pub bad_outside : Option Network → Members → Option Key
-bad_outside inside t = first_bad (outside_rows inside t)
+unfoldable pub bad_outside : Option Network → Option Network → Members → Option Key
+bad_outside inside outside t = first_bad (outside_rows inside outside t)
 
-abbrev pub router_rows : Option Network → Members → List (Key × Bool)
-router_rows outside t =
-    (key Outside Router, is_host outside (address_at t Outside Router)) ∷ []
+-- [icmp], which may be left out
+abbrev pub icmp_rows : Members → List (Key × Bool)
+icmp_rows t =
+    (whole Icmp, is_section t Icmp)
+    ∷ (key Icmp Echo, is_some (flag_or false t Icmp Echo))
+    ∷ (key Icmp Errors, is_some (flag_or false t Icmp Errors))
+    ∷ []
 
-unfoldable pub bad_router : Option Network → Members → Option Key
-bad_router outside t = first_bad (router_rows outside t)
+unfoldable pub bad_icmp : Members → Option Key
+bad_icmp t = first_bad (icmp_rows t)
 
 -- [gateway_0] and [gateway_1], whose addresses lie in the two networks
 abbrev pub address_rows : Option Network → Option Network → Members → Section → List (Key × Bool)

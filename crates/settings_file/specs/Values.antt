@@ -1,13 +1,14 @@
 -- Settings that stand at the keys of a document.
-use Rattle.std.specs.Prelude.{◌≡◌, ℕ, true, Option, Some, string_bytes}
+use Rattle.std.specs.Prelude.{◌≡◌, ℕ, true, false, Option, Some, string_bytes}
 use Rattle.toml.specs.Data.{Members}
 use Rattle.settings.specs.declared.ranges.PortRange.{PortRange}
+use Rattle.settings.specs.declared.icmp_settings.IcmpSettings.{IcmpSettings}
 use Rattle.settings.specs.declared.interfaces.InterfaceSettings.{InterfaceSettings}
 use Rattle.settings.specs.declared.gateway_settings.GatewaySettings.{GatewaySettings}
 use Rattle.settings_file.specs.declared.keys.Section.{Section}
 use Rattle.settings_file.specs.declared.keys.Name.{Name}
-use Rattle.settings_file.specs.declared.keys.Section.TheVariants.{Ports}
-use Rattle.settings_file.specs.declared.keys.Name.TheVariants.{HostLimit, Virtual, Prefix, Vrid, Wire}
+use Rattle.settings_file.specs.declared.keys.Section.TheVariants.{Ports, Icmp}
+use Rattle.settings_file.specs.declared.keys.Name.TheVariants.{HostLimit, Virtual, Prefix, Vrid, Wire, Mtu, Echo, Errors}
 use Rattle.settings_file.specs.declared.keys.Name.TheVariants.{InsideIp, InsideMac, OutsideIp, OutsideMac, Priority, Interval, Preempt, BootFile, Link, InsidePort, OutsidePort}
 use Rattle.settings_file.specs.Document.{number_at, number_or, optional_at, flag_or, text_at, address_at, mac_at, range_at}
 
@@ -19,12 +20,18 @@ IsRange t name range = range_at t Ports name ≡ Some (range.lowest.0, range.hig
 abbrev pub IsLimit : Members → Option ℕ → Type 0
 IsLimit t limit = optional_at 1 65535 t Ports HostLimit ≡ Some limit
 
--- a network
+-- a network: 1,500 bytes are sent at most where that is left out
 pub record IsInterface (t : Members) (s : Section) (interface : InterfaceSettings) : Type 0 where
   pub virtual_is : address_at t s Virtual ≡ Some interface.virtual_ip.0
   pub prefix_is : number_at 8 30 t s Prefix ≡ Some interface.prefix_length
   pub vrid_is : number_at 1 255 t s Vrid ≡ Some interface.virtual_router
   pub wire_is : number_at 1 65535 t s Wire ≡ Some interface.wire
+  pub mtu_is : number_or 1500 576 1500 t s Mtu ≡ Some interface.mtu
+
+-- what the gateways say by ICMP: nothing where it is left out
+pub record IsIcmp (t : Members) (icmp : IcmpSettings) : Type 0 where
+  pub echo_is : flag_or false t Icmp Echo ≡ Some icmp.echo
+  pub errors_is : flag_or false t Icmp Errors ≡ Some icmp.errors
 
 -- a gateway: priority and interval are 100 and preempt true where they are left out
 pub record IsGateway (t : Members) (s : Section) (gateway : GatewaySettings) : Type 0 where

@@ -1,8 +1,9 @@
 //! The values at the keys of a document.
-ghost use Rattle.std.specs.Prelude.{◌≡◌, ◌≤◌, ◌∷◌, [], true, is_some, Some, map, option_map, option_and_then, IfOk, IfErr, IfSome, OnOk, string_bytes};
+ghost use Rattle.std.specs.Prelude.{◌≡◌, ◌↔◌, IsTrue, ◌≤◌, ◌∷◌, [], true, is_some, Some, map, option_map, option_and_then, IfOk, IfErr, IfSome, OnOk, string_bytes};
 ghost use Rattle.std.specs.Option.{ForSome};
 ghost use Rattle.toml.specs.Data.{get_member, as_table, as_str, as_bool};
 ghost use Rattle.toml.specs.View.{table_view, view};
+ghost use Rattle.addresses.specs.Address.{IsIn};
 ghost use Rattle.settings_file.specs.Keys.{section_text, key};
 ghost use Rattle.settings_file.specs.Document.{value_of, number_in, number_at, number_or, optional_at, flag_or, text_at, address_at, mac_at};
 ghost use Rattle.settings_file.specs.Document.{network_of_prefix, range_of, range_items, range_at, list_in, is_in, is_host};
@@ -251,7 +252,8 @@ pub(crate) fn string(
 
 #[tactic(auto, unfolding(crate::specs::Document::is_in))]
 pub(crate) fn is_in(address: Ip, network: Prefix) -> bool
-    ensures { result ≡ is_in address.0 network.address.0 network.length }
+    ensures test { result ≡ is_in address.0 network.address.0 network.length }
+    ensures lies { IsTrue result ↔ IsIn address.0 network.address.0 network.length }
 {
     network.contains(address)
 }
@@ -278,6 +280,7 @@ pub(crate) fn host(
 ) -> Result<Ip, ValueFault>
     ensures ok { IfOk result
         (λ ip. address_at (table_view document.now) section name ≡ Some ip.0) }
+    ensures lies { IfOk result (λ ip. IsIn ip.0 network.address.0 network.length) }
     ensures inside { OnOk result (is_host (Some (network.address.0, network.length))
         (address_at (table_view document.now) section name) ≡ true) }
     ensures err { IfErr result (TellsFirst (first_bad ((

@@ -1,6 +1,7 @@
 //! What a document sets up one gateway with.
 ghost use Rattle.std.specs.Prelude.{◌≡◌, ◌<◌, ◌≤◌, true, Some, None, string_bytes, IfOk, IfErr, OnOk};
 ghost use Rattle.toml.specs.View.{table_view};
+ghost use Rattle.addresses.specs.Address.{IsIn};
 ghost use Rattle.settings_file.specs.declared.keys.Name.TheVariants.{InsideIp, InsideMac, OutsideIp, OutsideMac, Priority, Interval, Preempt, BootFile, Link, InsidePort, OutsidePort};
 ghost use Rattle.settings_file.specs.Document.{address_at, mac_at, number_at, number_or, flag_or, text_at};
 ghost use Rattle.settings_file.specs.Faults.{TellsFirst};
@@ -39,6 +40,10 @@ fn read_addresses(
         (λ a. address_at (table_view document.now) section OutsideIp ≡ Some a.outside_ip.0) }
     ensures outside_mac { IfOk result
         (λ a. mac_at (table_view document.now) section OutsideMac ≡ Some a.outside_mac.0) }
+    ensures inside_lies { IfOk result
+        (λ a. IsIn a.inside_ip.0 inside.address.0 inside.length) }
+    ensures outside_lies { IfOk result
+        (λ a. IsIn a.outside_ip.0 outside.address.0 outside.length) }
     ensures good { OnOk result (bad_addresses (Some (inside.address.0, inside.length))
         (Some (outside.address.0, outside.length)) (table_view document.now) section ≡ None) }
     ensures err { IfErr result (TellsFirst (bad_addresses (Some (inside.address.0, inside.length))
@@ -136,6 +141,10 @@ pub(crate) fn gateway(
     outside: Prefix,
 ) -> Result<GatewaySettings, ValueFault>
     ensures ok { IfOk result (IsGateway (table_view document.now) section) }
+    ensures inside_lies { IfOk result
+        (λ g. IsIn g.inside_ip.0 inside.address.0 inside.length) }
+    ensures outside_lies { IfOk result
+        (λ g. IsIn g.outside_ip.0 outside.address.0 outside.length) }
     ensures good { OnOk result (bad_gateway (Some (inside.address.0, inside.length))
         (Some (outside.address.0, outside.length)) (table_view document.now) section ≡ None) }
     ensures err { IfErr result (TellsFirst (bad_gateway (Some (inside.address.0, inside.length))

@@ -1,6 +1,6 @@
 //! The keys that settings have, and their texts.
 ghost use Rattle.std.specs.Prelude.{◌≡◌};
-ghost use Rattle.settings_file.specs.Keys.{section_text, name_text, key};
+ghost use Rattle.settings_file.specs.Keys.{section_text, name_text, key, whole};
 
 use std::fmt;
 
@@ -10,6 +10,7 @@ pub enum Section {
     Ports,
     Inside,
     Outside,
+    Icmp,
     GatewayZero,
     GatewayOne,
     Neighbour,
@@ -24,6 +25,7 @@ impl Section {
             Section::Ports => "ports",
             Section::Inside => "inside",
             Section::Outside => "outside",
+            Section::Icmp => "icmp",
             Section::GatewayZero => "gateway_0",
             Section::GatewayOne => "gateway_1",
             Section::Neighbour => "neighbour",
@@ -42,6 +44,9 @@ pub enum Name {
     Vrid,
     Wire,
     Router,
+    Mtu,
+    Echo,
+    Errors,
     InsideIp,
     InsideMac,
     OutsideIp,
@@ -72,6 +77,9 @@ impl Name {
             Name::Vrid => "vrid",
             Name::Wire => "wire",
             Name::Router => "router",
+            Name::Mtu => "mtu",
+            Name::Echo => "echo",
+            Name::Errors => "errors",
             Name::InsideIp => "inside_ip",
             Name::InsideMac => "inside_mac",
             Name::OutsideIp => "outside_ip",
@@ -90,7 +98,7 @@ impl Name {
     }
 }
 
-/// A key of the settings; without a name, the list of neighbours as a whole.
+/// A key of the settings; without a name, a section as a whole.
 #[derive(Clone, Copy, Debug, PartialEq, Eq)]
 pub struct Key {
     pub section: Section,
@@ -105,6 +113,16 @@ impl Key {
         Key {
             section,
             name: Some(name),
+        }
+    }
+
+    /// The key of a whole section, of the list of neighbours too.
+    pub fn whole(section: Section) -> Key
+        ensures { result ≡ whole section }
+    {
+        Key {
+            section,
+            name: None,
         }
     }
 }

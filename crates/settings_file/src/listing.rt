@@ -6,7 +6,7 @@ ghost use Rattle.settings_file.specs.declared.keys.Section.TheVariants.{Ports};
 ghost use Rattle.settings_file.specs.declared.keys.Name.TheVariants.{HostLimit};
 ghost use Rattle.settings_file.specs.declared.keys.Name.TheVariants as names;
 ghost use Rattle.settings_file.specs.Document.{network_of_prefix, number_at, number_or, optional_at, flag_or, text_at, address_at, mac_at, range_at, is_apart};
-ghost use Rattle.settings_file.specs.Rows.{port_rows, inside_rows, outside_rows, router_rows, address_rows, role_rows, socket_rows, network_at, all_bad_of_gateway};
+ghost use Rattle.settings_file.specs.Rows.{port_rows, inside_rows, outside_rows, icmp_rows, address_rows, role_rows, socket_rows, network_at, all_bad_of_gateway};
 ghost use Rattle.settings_file.specs.Listing.{all_bad_values};
 
 use crate::rows::add_bad;
@@ -118,10 +118,20 @@ fn has_number_or(document: &Table, section: Section, name: Name, high: u16) -> b
     }
 }
 
-fn has_flag(document: &Table, section: Section, name: Name) -> bool
-    ensures { result ≡ is_some (flag_or true (table_view document.now) section name) }
+fn has_mtu(document: &Table, section: Section) -> bool
+    ensures { result
+        ≡ is_some (number_or 1500 576 1500 (table_view document.now) section names.Mtu) }
 {
-    match fields::flag_or(document, section, name, true) {
+    match fields::number_or(document, section, Name::Mtu, 1500, 576, 1500) {
+        Ok(_) => true,
+        Err(_) => false,
+    }
+}
+
+fn has_flag(document: &Table, section: Section, name: Name, default: bool) -> bool
+    ensures { result ≡ is_some (flag_or default (table_view document.now) section name) }
+{
+    match fields::flag_or(document, section, name, default) {
         Ok(_) => true,
         Err(_) => false,
     }
@@ -147,7 +157,7 @@ fn port_rows(document: &Table) -> [(Key, bool); 3]
     ]
 }
 
-fn inside_rows(alloc: Global, document: &Table) -> Result<[(Key, bool); 4], AllocError>
+fn inside_rows(alloc: Global, document: &Table) -> Result<[(Key, bool); 5], AllocError>
     ensures { IfOk result (λ rows. rows ≡ inside_rows (table_view document.now)) }
 {
     let section = Section::Inside;
@@ -160,6 +170,7 @@ fn inside_rows(alloc: Global, document: &Table) -> Result<[(Key, bool); 4], Allo
         (Key::new(section, Name::Prefix), has_prefix),
         (Key::new(section, Name::Vrid), has_vrid),
         (Key::new(section, Name::Wire), has_wire),
+        (Key::new(section, Name::Mtu), has_mtu(document, section)),
     ])
 }
 
@@ -167,12 +178,14 @@ fn outside_rows(
     alloc: Global,
     document: &Table,
     inside: Option<Prefix>,
-) -> Result<[(Key, bool); 4], AllocError>
-    ensures { IfOk result (λ rows. rows
-        ≡ outside_rows (option_map network_of_prefix inside) (table_view document.now)) }
+    outside: Option<Prefix>,
+) -> Result<[(Key, bool); 6], AllocError>
+    ensures { IfOk result (λ rows. rows ≡ outside_rows (option_map network_of_prefix inside)
+        (option_map network_of_prefix outside) (table_view document.now)) }
 {
     let section = Section::Outside;
     let address = fields::address_found(alloc, document, section, Name::Virtual)?;
+    let router = fields::address_found(alloc, document, section, Name::Router)?;
     let has_prefix = is_apart(inside, address, prefix_length(document, section));
     let has_vrid = has_number(document, section, Name::Vrid, 1, 255);
     let has_wire = has_number(document, section, Name::Wire, 1, 65535);
@@ -181,23 +194,25 @@ fn outside_rows(
         (Key::new(section, Name::Prefix), has_prefix),
         (Key::new(section, Name::Vrid), has_vrid),
         (Key::new(section, Name::Wire), has_wire),
+        (
+            Key::new(section, Name::Router),
+            fields::is_host(outside, router),
+        ),
+        (Key::new(section, Name::Mtu), has_mtu(document, section)),
     ])
 }
 
-fn router_rows(
-    alloc: Global,
-    document: &Table,
-    outside: Option<Prefix>,
-) -> Result<[(Key, bool); 1], AllocError>
-    ensures { IfOk result (λ rows. rows
-        ≡ router_rows (option_map network_of_prefix outside) (table_view document.now)) }
+fn icmp_rows(document: &Table) -> [(Key, bool); 3]
+    ensures { result ≡ icmp_rows (table_view document.now) }
 {
-    let section = Section::Outside;
-    let address = fields::address_found(alloc, document, section, Name::Router)?;
-    Ok([(
-        Key::new(section, Name::Router),
-        fields::is_host(outside, address),
-    )])
+    let section = Section::Icmp;
+    let has_echo = has_flag(document, section, Name::Echo, false);
+    let has_errors = has_flag(document, section, Name::Errors, false);
+    [
+        (Key::whole(section), sections::is_section(document, section)),
+        (Key::new(section, Name::Echo), has_echo),
+        (Key::new(section, Name::Errors), has_errors),
+    ]
 }
 
 fn address_rows(
@@ -233,7 +248,7 @@ fn role_rows(document: &Table, section: Section) -> [(Key, bool); 4]
 {
     let has_priority = has_number_or(document, section, Name::Priority, 254);
     let has_interval = has_number_or(document, section, Name::Interval, 4095);
-    let has_preempt = has_flag(document, section, Name::Preempt);
+    let has_preempt = has_flag(document, section, Name::Preempt, true);
     let has_file = has_text(document, section, Name::BootFile);
     [
         (Key::new(section, Name::Priority), has_priority),
@@ -286,10 +301,9 @@ pub(crate) fn all_bad_values(alloc: Global, document: &Table) -> Result<Vec<Key>
     add_bad(&port_rows(document), &mut found)?;
     let rows = inside_rows(alloc, document)?;
     add_bad(&rows, &mut found)?;
-    let rows = outside_rows(alloc, document, inside)?;
+    let rows = outside_rows(alloc, document, inside, outside)?;
     add_bad(&rows, &mut found)?;
-    let rows = router_rows(alloc, document, outside)?;
-    add_bad(&rows, &mut found)?;
+    add_bad(&icmp_rows(document), &mut found)?;
     add_bad_of_gateway(
         alloc,
         document,

@@ -7,8 +7,8 @@ ghost use Rattle.settings_file.specs.Faults.{TellsFirst};
 ghost use Rattle.std.specs.List.{flat_map};
 ghost use Rattle.settings_file.specs.declared.keys.Section.TheVariants as sections;
 ghost use Rattle.settings_file.specs.Keys.{key};
-ghost use Rattle.settings_file.specs.Document.{network_of_prefix};
-ghost use Rattle.settings_file.specs.Neighbours.{all_bad_of_neighbour, all_bad_in, is_table, tables_in, neighbours_of, field_of, present_rows, missing_in, neighbour_value_rows, side_named, side_of, ip_of, mac_at_of, bad_neighbour, bad_in, bad_neighbours, neighbour_in};
+ghost use Rattle.settings_file.specs.Document.{network_of_prefix, is_table};
+ghost use Rattle.settings_file.specs.Neighbours.{all_bad_of_neighbour, all_bad_in, tables_in, neighbours_of, field_of, present_rows, missing_in, neighbour_value_rows, side_named, side_of, ip_of, mac_at_of, bad_neighbour, bad_in, bad_neighbours, neighbour_in};
 
 use crate::faults::ValueFault;
 use crate::rows::{add_bad, first_bad};
@@ -207,10 +207,7 @@ pub(crate) fn add_bad_neighbours(
             add_bad_in(alloc, tables, inside, outside, found)
         }
         _ => {
-            found.push(Key {
-                section: Section::Neighbour,
-                name: None,
-            })?;
+            found.push(Key::whole(Section::Neighbour))?;
             Ok(())
         }
     }
@@ -286,10 +283,7 @@ pub(crate) fn neighbours(
     ensures err { IfErr result (TellsFirst (bad_neighbours (Some (inside.address.0, inside.length))
         (Some (outside.address.0, outside.length)) (table_view document.now))) }
 {
-    let whole = Key {
-        section: Section::Neighbour,
-        name: None,
-    };
+    let whole = Key::whole(Section::Neighbour);
     let Some(tables) = tables(document) else {
         return Err(ValueFault::BadValue(whole));
     };

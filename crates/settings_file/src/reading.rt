@@ -56,6 +56,7 @@ fn assemble(values: Values) -> Result<Settings, SettingFault>
         inside: values.inside,
         outside: values.outside,
         router: values.router,
+        icmp: values.icmp,
         zero: values.zero,
         one: values.one,
         neighbours: values.neighbours,

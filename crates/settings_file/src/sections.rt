@@ -1,18 +1,18 @@
-//! The sections of a document: ports, the two networks and the router.
-ghost use Rattle.std.specs.Prelude.{◌≡◌, ◌<◌, ◌≤◌, Some, None, IfOk, IfErr, OnOk};
+//! The sections of a document: ports, the two networks and the router, and what is said by ICMP.
+ghost use Rattle.std.specs.Prelude.{◌≡◌, IsTrue, ◌<◌, ◌≤◌, Some, None, IfOk, IfErr, OnOk};
 ghost use Rattle.std.specs.Option.{ForSome};
 ghost use Rattle.toml.specs.View.{table_view};
 ghost use Rattle.settings_file.specs.declared.keys.Section.TheVariants.{Inside, Outside};
 ghost use Rattle.settings_file.specs.declared.keys.Name.TheVariants.{Zero, One, Router};
-ghost use Rattle.settings_file.specs.Document.{address_at, is_in, is_apart};
+ghost use Rattle.settings_file.specs.Document.{address_at, is_apart, is_section, IsApart};
 ghost use Rattle.settings_file.specs.Faults.{TellsFirst};
-ghost use Rattle.settings_file.specs.Rows.{bad_ports, bad_inside, bad_outside, bad_router};
-ghost use Rattle.settings_file.specs.Values.{IsRange, IsLimit, IsInterface};
+ghost use Rattle.settings_file.specs.Rows.{bad_ports, bad_inside, bad_outside, bad_icmp, network_at};
+ghost use Rattle.settings_file.specs.Values.{IsRange, IsLimit, IsInterface, IsIcmp};
 
 use crate::faults::ValueFault;
 use crate::{Key, Name, Section, fields};
 use addresses::{Ip, Prefix};
-use settings::{InterfaceSettings, PortRange};
+use settings::{IcmpSettings, InterfaceSettings, PortRange};
 use std::alloc::Global;
 use toml::Table;
 
@@ -43,36 +43,43 @@ pub(crate) fn inside(alloc: Global, document: &Table) -> Result<InterfaceSetting
     let prefix_length = fields::number(document, Section::Inside, Name::Prefix, 8, 30)? as u8;
     let virtual_router = fields::number(document, Section::Inside, Name::Vrid, 1, 255)? as u8;
     let wire = fields::number(document, Section::Inside, Name::Wire, 1, 65535)?;
+    let mtu = fields::number_or(document, Section::Inside, Name::Mtu, 1500, 576, 1500)?;
     Ok(InterfaceSettings {
         virtual_ip,
         prefix_length,
         virtual_router,
         wire,
+        mtu,
     })
 }
 
 /// Whether a network with this address and prefix shares no address with another.
 pub(crate) fn is_apart(network: Prefix, address: Ip, length: u8) -> bool
     requires { length ≤ 30 }
-    ensures { result ≡ is_apart (Some (network.address.0, network.length)) (Some address.0)
+    ensures test { result ≡ is_apart (Some (network.address.0, network.length)) (Some address.0)
         (Some length) }
+    ensures apart { IsTrue result → IsApart network address.0 length }
 {
     let shorter = network.length.min(length);
     !fields::is_in(address, Prefix::new(network.address, shorter))
 }
 
-/// The outside network, which shares no address with the inside one.
-#[tactic(auto, unfolding(crate::specs::Rows::bad_outside))]
+/// The outside network, which shares no address with the inside one, and the router, which lies in it.
+#[tactic(auto, unfolding(crate::specs::Rows::bad_outside, crate::specs::Rows::network_at))]
 pub(crate) fn outside(
     alloc: Global,
     document: &Table,
     inside: Prefix,
-) -> Result<InterfaceSettings, ValueFault>
-    ensures ok { IfOk result (IsInterface (table_view document.now) Outside) }
-    ensures good { OnOk result
-        (bad_outside (Some (inside.address.0, inside.length)) (table_view document.now) ≡ None) }
-    ensures err { IfErr result
-        (TellsFirst (bad_outside (Some (inside.address.0, inside.length)) (table_view document.now))) }
+) -> Result<(InterfaceSettings, Ip), ValueFault>
+    ensures ok { IfOk result (λ r. IsInterface (table_view document.now) Outside r.0) }
+    ensures apart { IfOk result
+        (λ r. IsApart inside r.0.virtual_ip.0 r.0.prefix_length) }
+    ensures router { IfOk result
+        (λ r. address_at (table_view document.now) Outside Router ≡ Some r.1.0) }
+    ensures good { OnOk result (bad_outside (Some (inside.address.0, inside.length))
+        (network_at (table_view document.now) Outside) (table_view document.now) ≡ None) }
+    ensures err { IfErr result (TellsFirst (bad_outside (Some (inside.address.0, inside.length))
+        (network_at (table_view document.now) Outside) (table_view document.now))) }
 {
     let virtual_ip = fields::address(alloc, document, Section::Outside, Name::Virtual)?;
     let prefix_length = fields::number(document, Section::Outside, Name::Prefix, 8, 30)? as u8;
@@ -81,23 +88,41 @@ pub(crate) fn outside(
     }
     let virtual_router = fields::number(document, Section::Outside, Name::Vrid, 1, 255)? as u8;
     let wire = fields::number(document, Section::Outside, Name::Wire, 1, 65535)?;
-    Ok(InterfaceSettings {
+    let network = Prefix::new(virtual_ip, prefix_length);
+    let router = fields::host(alloc, document, Section::Outside, Name::Router, network)?;
+    let mtu = fields::number_or(document, Section::Outside, Name::Mtu, 1500, 576, 1500)?;
+    let outside = InterfaceSettings {
         virtual_ip,
         prefix_length,
         virtual_router,
         wire,
-    })
+        mtu,
+    };
+    Ok((outside, router))
 }
 
-/// The router, which lies in the outside network.
-#[tactic(auto, unfolding(crate::specs::Rows::bad_router))]
-pub(crate) fn router(alloc: Global, document: &Table, outside: Prefix) -> Result<Ip, ValueFault>
-    ensures ok { IfOk result
-        (λ ip. address_at (table_view document.now) Outside Router ≡ Some ip.0) }
-    ensures good { OnOk result
-        (bad_router (Some (outside.address.0, outside.length)) (table_view document.now) ≡ None) }
-    ensures err { IfErr result
-        (TellsFirst (bad_router (Some (outside.address.0, outside.length)) (table_view document.now))) }
+/// Whether a section is a table, where it isn't left out.
+#[tactic(auto, unfolding(crate::specs::Document::is_section))]
+pub(crate) fn is_section(document: &Table, section: Section) -> bool
+    ensures { result ≡ is_section (table_view document.now) section }
 {
-    fields::host(alloc, document, Section::Outside, Name::Router, outside)
+    match fields::entry(document, section.as_str()) {
+        Some(value) => value.is_table(),
+        None => true,
+    }
+}
+
+/// What the gateways say by ICMP.
+#[tactic(auto, unfolding(crate::specs::Rows::bad_icmp))]
+pub(crate) fn icmp(document: &Table) -> Result<IcmpSettings, ValueFault>
+    ensures ok { IfOk result (IsIcmp (table_view document.now)) }
+    ensures good { OnOk result (bad_icmp (table_view document.now) ≡ None) }
+    ensures err { IfErr result (TellsFirst (bad_icmp (table_view document.now))) }
+{
+    if !is_section(document, Section::Icmp) {
+        return Err(ValueFault::BadValue(Key::whole(Section::Icmp)));
+    }
+    let echo = fields::flag_or(document, Section::Icmp, Name::Echo, false)?;
+    let errors = fields::flag_or(document, Section::Icmp, Name::Errors, false)?;
+    Ok(IcmpSettings { echo, errors })
 }

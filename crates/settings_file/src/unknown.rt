@@ -13,15 +13,24 @@ use toml::{Table, Value};
 
 const PORTS: [Name; 3] = [Name::Zero, Name::One, Name::HostLimit];
 
-const INSIDE: [Name; 4] = [Name::Virtual, Name::Prefix, Name::Vrid, Name::Wire];
+const INSIDE: [Name; 5] = [
+    Name::Virtual,
+    Name::Prefix,
+    Name::Vrid,
+    Name::Wire,
+    Name::Mtu,
+];
 
-const OUTSIDE: [Name; 5] = [
+const OUTSIDE: [Name; 6] = [
     Name::Virtual,
     Name::Prefix,
     Name::Vrid,
     Name::Wire,
     Name::Router,
+    Name::Mtu,
 ];
+
+const ICMP: [Name; 2] = [Name::Echo, Name::Errors];
 
 const GATEWAY: [Name; 11] = [
     Name::InsideIp,
@@ -39,10 +48,11 @@ const GATEWAY: [Name; 11] = [
 
 const NEIGHBOUR: [Name; 3] = [Name::Side, Name::Ip, Name::Mac];
 
-const SECTIONS: [Section; 6] = [
+const SECTIONS: [Section; 7] = [
     Section::Ports,
     Section::Inside,
     Section::Outside,
+    Section::Icmp,
     Section::GatewayZero,
     Section::GatewayOne,
     Section::Neighbour,
@@ -68,6 +78,7 @@ fn is_known(section: Section, text: &str) -> bool
         Section::Ports => any_has_text(&PORTS, text),
         Section::Inside => any_has_text(&INSIDE, text),
         Section::Outside => any_has_text(&OUTSIDE, text),
+        Section::Icmp => any_has_text(&ICMP, text),
         Section::GatewayZero | Section::GatewayOne => any_has_text(&GATEWAY, text),
         Section::Neighbour => any_has_text(&NEIGHBOUR, text),
     }

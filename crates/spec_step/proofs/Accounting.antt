@@ -29,7 +29,7 @@ use Rattle.spec_binding.proofs.Offered.{alone-keeps, fed-keeps, idle-keeps, rest
 use Rattle.waiting.specs.declared.waits.Ended.TheVariants.{AllPairs, One}
 use Rattle.waiting.specs.declared.waits.WaitsFor.TheVariants as wait
 use Rattle.packet_rules.specs.declared.readings.Reading.{Reading}
-use Rattle.packet_rules.specs.declared.readings.Reading.TheVariants.{Arp, Advert, Packet, Error}
+use Rattle.packet_rules.specs.declared.readings.Reading.TheVariants.{Arp, Advert, Packet, Error, Asked}
 use Rattle.packet_rules.specs.declared.reasons.Reason.{Reason}
 use Rattle.packet_rules.specs.declared.reasons.Reason.TheVariants.{NotUp, OldWord}
 use Rattle.packet_rules.specs.Arping.{answer_to, is_learnable}
@@ -52,7 +52,7 @@ use Rattle.spec_step.proofs.Turning.{back_as, turn-by}
 use Rattle.spec_step.proofs.Idle.{idle-at-once}
 use Rattle.spec_step.proofs.Packets.{Reads, kept-filter, read-formed}
 use Rattle.spec_step.proofs.Passing.{IsSound}
-use Rattle.spec_step.proofs.Resting.{Rested, Resting, by-join, flow-rests, framed-rests, noted-own, released-rests, resting-noted, resting-nothing, resting-then, resting-unseen, error-rests}
+use Rattle.spec_step.proofs.Resting.{Rested, Resting, by-join, flow-rests, framed-rests, noted-own, released-rests, resting-noted, resting-nothing, resting-then, resting-unseen, echo-rests, error-rests, refused-rests}
 use Rattle.spec_step.proofs.Stepping.{begun_on}
 
 -- ---- interfaces
@@ -98,7 +98,8 @@ frame-rests reads s side bytes (Ok (Arp p)) s2 read are does = subst (λ (x : Ga
 frame-rests reads s side bytes (Ok (Advert a from)) s2 read are does = router-rests s side _ s2 does
 frame-rests reads s side bytes (Ok (Packet packet)) s2 read are does = subst (λ (x : GatewayAndOutput). Resting s x) (sym does) (flow-rests s side bytes packet.flow are (read-formed [] [] reads s.shown side bytes packet are read))
 frame-rests reads s side bytes (Ok (Error packet)) s2 read are does = subst (λ (x : GatewayAndOutput). Resting s x) (sym does) (error-rests s side bytes packet.flow are)
-frame-rests reads s side bytes (Err reason) s2 read are does = subst (λ (x : GatewayAndOutput). Resting s x) (sym does) (resting-nothing s)
+frame-rests reads s side bytes (Ok (Asked echo)) s2 read are does = subst (λ (x : GatewayAndOutput). Resting s x) (sym does) (echo-rests s side bytes echo are)
+frame-rests reads s side bytes (Err reason) s2 read are does = subst (λ (x : GatewayAndOutput). Resting s x) (sym does) (refused-rests s side side bytes reason)
 
 -- ---- records
 

@@ -1,6 +1,6 @@
 -- What a plan says of a packet that waits for a pair, whose, and that it has a place; of one that asks for its next hop, its
 -- way, its pairs, and that no hardware address is known for that host; and of one that waits for it, that it has a place.
-use Rattle.std.proofs.Common.{◌≡◌, Bool, true, false, cond, Option, Some, None, Result, Ok, Err, refl}
+use Rattle.std.proofs.Common.{◌≡◌, ℕ, Bool, true, false, cond, Option, Some, None, Result, Ok, Err, refl}
 use Rattle.addresses.specs.declared.ethernet.Mac.{Mac}
 use Rattle.addresses.specs.declared.internet.Ip.{Ip}
 use Rattle.addresses.specs.declared.transport.Port.{Port}
@@ -20,12 +20,13 @@ use Rattle.packet_rules.specs.declared.translations.Translation.{Translation}
 use Rattle.packet_rules.specs.declared.translations.Translation.TheVariants.{Outward, Inward, Hairpin}
 use Rattle.packet_rules.specs.Flows.{source_of}
 use Rattle.packet_rules.specs.Frames.{way_of}
-use Rattle.packet_rules.specs.Networks.{direction_of}
+use Rattle.packet_rules.specs.Networks.{direction_of, exit_of}
 use Rattle.packet_rules.specs.Steps.{and_then}
 use Rattle.spec_step.specs.declared.plans.Plan.{Plan}
 use Rattle.spec_step.specs.declared.plans.Plan.TheVariants.{Send, Ask, AskAgain, Wait as WaitFor}
 use Rattle.spec_step.specs.Shown.{Shown}
-use Rattle.spec_step.specs.Verdict.{exit_by, hop_by, look_for, next_by, plan_by, plan_from, plan_of, plan_on, plan_to, target_pair}
+use Rattle.spec_step.specs.Verdict.{exit_by, hop_by, look_for, next_by, plan_by, plan_from, plan_of, plan_on, plan_to, target_pair, fits_at, if_fits}
+use Rattle.spec_step.proofs.Fitting.{fitted}
 use Rattle.spec_step.proofs.Sends.{AreFound}
 
 pub record IsAsked (g : Shown) (side : Side) (flow : Flow) (by : Translation) (hop : Ip) : Type 0 where
@@ -77,9 +78,10 @@ module _ (g : Shown) (side : Side) (flow : Flow) where
       at (Ok p) target = from-says (λ own. Hairpin own p) (look_for g flow) refl (λ port is. (there, ((port, (is, refl)), target)))
       at (Err reason) target = tt
 
-  pub plan-says : PlanSays g side flow (plan_of g side flow)
-  plan-says = at (direction_of g.networks side flow.protocol flow.source.0 flow.destination.0) refl
+  pub plan-says : (length : ℕ) → PlanSays g side flow (plan_of g side flow length)
+  plan-says length = at (direction_of g.networks side flow.protocol flow.source.0 flow.destination.0) refl
     where
-      at : (r : Result Direction Reason) → direction_of g.networks side flow.protocol flow.source.0 flow.destination.0 ≡ r → PlanSays g side flow (and_then r (plan_on g flow))
-      at (Ok w) there = on-says w there
+      at : (r : Result Direction Reason) → direction_of g.networks side flow.protocol flow.source.0 flow.destination.0 ≡ r
+          → PlanSays g side flow (and_then r (λ way. and_then (plan_on g flow way) (if_fits (fits_at g (exit_of way) length))))
+      at (Ok w) there = fitted (PlanSays g side flow) tt (fits_at g (exit_of w) length) (plan_on g flow w) (on-says w there)
       at (Err reason) there = tt

@@ -1,5 +1,5 @@
 -- The other frames of parts of a step: requests for next hops.
-use Rattle.std.proofs.Common.{◌≡◌, ℕ, Bool, true, false, cond, not, ◌||◌, List, [], ◌∷◌, ◌++◌, filter, refl, sym, ap, subst, ◌∙◌, append_assoc, ◌≤◌, map, IsPermutation, arith}
+use Rattle.std.proofs.Common.{◌≡◌, ℕ, Bool, true, false, cond, not, ◌||◌, List, [], ◌∷◌, ◌++◌, filter, refl, sym, ap, subst, ◌∙◌, append_assoc, ◌≤◌, map, IsPermutation, arith, inl, inr}
 use Rattle.std.specs.List.{AllByRecursion}
 use Rattle.std.proofs.lemmas.List.{append-nil, map-append}
 use Rattle.std.proofs.lemmas.List.Elements.{filter-append}
@@ -25,10 +25,11 @@ use Rattle.packet_rules.specs.declared.translations.Translation.TheVariants.{Out
 use Rattle.packet_rules.specs.Arping.{request_frame}
 use Rattle.packet_rules.specs.Flows.{source_of}
 use Rattle.output.specs.Output.{Sent}
-use Rattle.spec_step.specs.Others.{Asking, Cause, Drops, IsCause, IsDue, IsItsWait, IsNew, IsNextHop, MayGoBy, Sends, Waits, all_noted, firsts, has_come, hops_of, other_frames, packets_asked, request_of, requests, targets, waiting_by, within_limit, is_other}
-use Rattle.spec_step.specs.Parts.{by_row, waiting, wanted_by, wanted_for}
+use Rattle.spec_step.specs.Others.{Asking, Cause, Drops, IsCause, IsDue, IsHost, IsItsWait, IsNew, IsNextHop, IsOnward, MayGoBy, Sends, Waits, all_noted, firsts, has_come, hops_of, other_frames, packets_asked, request_of, requests, targets, waiting_by, within_limit, is_other}
+use Rattle.spec_step.specs.Machine.{AreBytes, KeepsBytes}
+use Rattle.spec_step.specs.Parts.{by_row, wanted_by, wanted_for}
 use Rattle.spec_step.specs.Shown.{GatewayAndOutput, Shown, id_of, station_on}
-use Rattle.spec_step.specs.Truly.{AreWired, AtHand, Known, known_of, packets_of}
+use Rattle.spec_step.specs.Truly.{IsSetUp, AtHand, Known, known_of, packets_of}
 use Rattle.spec_step.proofs.Freeing.{Comes-of, comes-then, filter-all, filter-left, filter-none}
 use Rattle.spec_step.proofs.Limits.{IsByWait, KeepsHops, TakesNone, asks-before, count-noted, hops-stay, limit-count, limit-same, noted-taken, noted-then}
 use Rattle.spec_step.proofs.Rooting.{RowRoots, has-more, has-then, same-rooted, wish-roots}
@@ -77,7 +78,7 @@ pub record Asks (hand : List AtHand) (over : HeldPacket → Bool) (s s2 : Gatewa
   pub roots : (p : Pair) → IsTranslated s2.shown.ledger.book.entries p → MayGoBy s.shown notes p
   pub askings : List Asking
   pub due : AllByRecursion (IsDue s.shown (known_of s2.shown) (MayGoBy s.shown notes)) askings
-  pub others : other_frames frames ≡ requests s.shown askings
+  pub others : other_frames s2.shown.networks frames ≡ requests s.shown askings
   pub came : List HeldPacket
   pub new : AllByRecursion (IsNew (known_of s2.shown) (MayGoBy s.shown notes)) came
   pub waiting : Waiting s.shown.moment over askings came s.shown.kept s2.shown.kept
@@ -86,7 +87,8 @@ pub record Asks (hand : List AtHand) (over : HeldPacket → Bool) (s s2 : Gatewa
   pub known : known_of s2.shown ≡ known_of s.shown
   pub near : NearStays s.shown.moment s.shown s2.shown
   pub nets : NetsStay s.shown s2.shown
-  pub wired : AreWired s2.shown
+  pub wired : IsSetUp s2.shown
+  pub bytes : KeepsBytes s2.shown
 
 -- and no wait for a next hop is over, nor does the test look at when a packet's hop was asked for
 pub record IsAsking (hand : List AtHand) (over : HeldPacket → Bool) (s s2 : GatewayAndOutput) : Type 0 where
@@ -94,9 +96,12 @@ pub record IsAsking (hand : List AtHand) (over : HeldPacket → Bool) (s s2 : Ga
   pub hops : TakesNone over
   pub waits : IsByWait over
 
--- where at most 64 wait for next hops
+-- where at most 64 wait for next hops, and all that is kept is bytes
 abbrev pub IsFit : Shown → Type 0
-IsFit g = AreWired g × (hop_count g.kept ≤ 64)
+IsFit g = IsSetUp g × ((hop_count g.kept ≤ 64) × KeepsBytes g)
+
+pub kept-bytes : (g g2 : Shown) → g2.kept ≡ g.kept → KeepsBytes g → KeepsBytes g2
+kept-bytes g g2 same all = subst (λ (ws : List HeldPacket). AllByRecursion (λ (w : HeldPacket). AreBytes w.bytes) ws) (sym same) all
 
 abbrev pub Ask-on : List AtHand → (HeldPacket → Bool) → GatewayAndOutput → GatewayAndOutput → Type 0
 Ask-on hand over s s2 = IsFit s.shown → IsAsking hand over s s2
@@ -105,7 +110,7 @@ pub asks-fit : (hand : List AtHand) (over : HeldPacket → Bool) (s s2 : Gateway
 asks-fit hand over s s2 x =
     let all = filter (λ (w : HeldPacket). not (over w)) s.shown.kept ++ x.came in
     let same = ap (λ (ws : List HeldPacket). hop_count ws) x.waiting.kept_are ∙ count-noted s.shown.moment x.askings (within_limit all) in
-    (x.wired, omega (arith, same, limit-count all))
+    (x.wired, (omega (arith, same, limit-count all), x.bytes))
 
 -- ---- lists of requests
 
@@ -133,12 +138,22 @@ module _ (k : Known) (P Q : Pair → Type 0) (more : (p : Pair) → P p → Q p)
   targets-more (Inward p) all = (more p all.0, tt)
   targets-more (Hairpin own other) all = (more other all.0, tt)
 
-  hop-more : (packet : AtHand) (by : Translation) (exit : Side) (host : Ip) → IsNextHop k P packet by exit host → IsNextHop k Q packet by exit host
-  hop-more packet by exit host a = record { goes = a.goes; target = targets-more by a.target; exit_is = a.exit_is; hop = a.hop }
+  onward-more : (packet : AtHand) (by : Translation) (exit : Side) (host : Ip) → IsOnward k P packet by exit host → IsOnward k Q packet by exit host
+  onward-more packet by exit host a = record { goes = a.goes; target = targets-more by a.target; exit_is = a.exit_is; hop = a.hop }
+
+  hop-more : (packet : AtHand) (exit : Side) (host : Ip) → IsNextHop k P packet exit host → IsNextHop k Q packet exit host
+  hop-more packet exit host (inl a) = inl (a.0, onward-more packet a.0 exit host a.1)
+  hop-more packet exit host (inr b) = inr b
 
   wait-more : (packet : AtHand) (w : WaitsFor) → IsItsWait k P packet w → IsItsWait k Q packet w
   wait-more packet (wait.Pair e) is = is
-  wait-more packet (wait.Hop exit host) is = (is.0, (hop-more packet is.0 exit host is.1.0, is.1.1))
+  wait-more packet (wait.Hop exit host) is = (hop-more packet exit host is.0, is.1)
+
+  host-more : (packet : AtHand) (exit : Side) (host : Ip) (c : Cause) → IsHost k P packet exit host c → IsHost k Q packet exit host c
+  host-more packet exit host Waits is = hop-more packet exit host is
+  host-more packet exit host Sends (inl is) = inl (hop-more packet exit host is)
+  host-more packet exit host Sends (inr told) = inr told
+  host-more packet exit host Drops is = hop-more packet exit host is
 
   pub new-more : (ws : List HeldPacket) → AllByRecursion (IsNew k P) ws → AllByRecursion (IsNew k Q) ws
   new-more [] all = tt
@@ -149,7 +164,7 @@ module _ (k : Known) (P Q : Pair → Type 0) (more : (p : Pair) → P p → Q p)
       → (qs : List Asking) → AllByRecursion (IsDue g2 k P) qs → AllByRecursion (IsDue g k Q) qs
   due-more g g2 near again [] all = tt
   due-more g g2 near again (a ∷ qs) all =
-      (record { hop = hop-more a.packet a.by a.exit a.host all.0.hop; cause = at a.exit a.host a.cause all.0.cause }, due-more g g2 near again qs all.1)
+      (record { hop = host-more a.packet a.exit a.host a.cause all.0.hop; cause = at a.exit a.host a.cause all.0.cause }, due-more g g2 near again qs all.1)
     where
       at : (exit : Side) (host : Ip) (c : Cause) → IsCause g2 k exit host c → IsCause g k exit host c
       at exit host Waits is = is
@@ -221,8 +236,9 @@ asks-then h h2 f g a b c x y =
       due = due-append a.shown (known_of c.shown) has x.askings z.askings
           (due-more (known_of c.shown) (MayGoBy a.shown x.notes) has more a.shown a.shown (λ side host t. t) (λ side host t. t) x.askings due1)
           (due-more (known_of c.shown) (MayGoBy b.shown z.notes) has then_has a.shown b.shown near_end again_end z.askings z.due);
-      others = filter-append (λ (f : Sent). is_other f.side f.bytes) x.frames z.frames
-          ∙ ap (λ (fs : List Sent). fs ++ other_frames z.frames) x.others
+      others = filter-append (λ (f : Sent). is_other c.shown.networks f.side f.bytes) x.frames z.frames
+          ∙ ap (λ (k : Known). other_frames k.networks x.frames ++ other_frames c.shown.networks z.frames) z.known
+          ∙ ap (λ (fs : List Sent). fs ++ other_frames c.shown.networks z.frames) x.others
           ∙ ap (λ (fs : List Sent). requests a.shown x.askings ++ fs) (z.others ∙ requests-same a.shown b.shown x.nets z.askings)
           ∙ sym (map-append (request_of a.shown) x.askings z.askings);
       came = left ++ z.came;
@@ -237,6 +253,7 @@ asks-then h h2 f g a b c x y =
       near = λ side host t. x.near side host (near2 side host t);
       nets = (z.nets.0 ∙ x.nets.0, z.nets.1 ∙ x.nets.1);
       wired = z.wired;
+      bytes = z.bytes;
     }
   where
     due-append : (g : Shown) (k : Known) (P : Pair → Type 0) (qs bs : List Asking) → AllByRecursion (IsDue g k P) qs → AllByRecursion (IsDue g k P) bs → AllByRecursion (IsDue g k P) (qs ++ bs)
@@ -260,10 +277,10 @@ asking-then h h2 f g a b c x y = λ w.
 -- a part at which no wait is over
 pub asks-by : (hand : List AtHand) (s s2 : GatewayAndOutput) (frames : List Sent) (notes : List Note) (askings : List Asking) (came : List HeldPacket) (gone : List AtHand)
     → s2.told.frames ≡ s.told.frames ++ frames → s2.told.notes ≡ s.told.notes ++ notes → ((p : Pair) → IsTranslated s2.shown.ledger.book.entries p → MayGoBy s.shown notes p)
-    → AllByRecursion (IsDue s.shown (known_of s.shown) (MayGoBy s.shown notes)) askings → other_frames frames ≡ requests s.shown askings → AllByRecursion (IsNew (known_of s.shown) (MayGoBy s.shown notes)) came
+    → AllByRecursion (IsDue s.shown (known_of s.shown) (MayGoBy s.shown notes)) askings → other_frames s.shown.networks frames ≡ requests s.shown askings → AllByRecursion (IsNew (known_of s.shown) (MayGoBy s.shown notes)) came
     → hops_of came ≡ map (waiting_by s.shown.moment) (firsts askings) → s2.shown.kept ≡ all_noted s.shown.moment askings (within_limit (s.shown.kept ++ came))
-    → IsPermutation hand (packets_of came ++ (packets_asked askings ++ gone)) → known_of s2.shown ≡ known_of s.shown → NearStays s.shown.moment s.shown s2.shown → NetsStay s.shown s2.shown → AreWired s2.shown → IsAsking hand nobody s s2
-asks-by hand s s2 frames notes askings came gone frames_are notes_are roots due others new hops kept of_hand known near nets wired =
+    → IsPermutation hand (packets_of came ++ (packets_asked askings ++ gone)) → known_of s2.shown ≡ known_of s.shown → NearStays s.shown.moment s.shown s2.shown → NetsStay s.shown s2.shown → IsSetUp s2.shown → KeepsBytes s2.shown → IsAsking hand nobody s s2
+asks-by hand s s2 frames notes askings came gone frames_are notes_are roots due others new hops kept of_hand known near nets wired bytes =
     let none : packets_of (filter nobody s.shown.kept) ≡ [] = ap packets_of (filter-none s.shown.kept) in
     let end = packets_of came ++ (packets_asked askings ++ gone) in
     record {
@@ -275,7 +292,7 @@ asks-by hand s s2 frames notes askings came gone frames_are notes_are roots due 
         roots = roots;
         askings = askings;
         due = subst (λ (k : Known). AllByRecursion (IsDue s.shown k (MayGoBy s.shown notes)) askings) (sym known) due;
-        others = others;
+        others = subst (λ (k : Known). other_frames k.networks frames ≡ requests s.shown askings) (sym known) others;
         came = came;
         new = subst (λ (k : Known). AllByRecursion (IsNew k (MayGoBy s.shown notes)) came) (sym known) new;
         waiting = record {
@@ -288,6 +305,7 @@ asks-by hand s s2 frames notes askings came gone frames_are notes_are roots due 
         near = near;
         nets = nets;
         wired = wired;
+        bytes = bytes;
       };
       hops = λ x hop. refl;
       waits = λ x n. refl;
@@ -320,17 +338,17 @@ pub record IsQuiet (s s2 : GatewayAndOutput) : Type 0 where
   pub kept : s2.shown.kept ≡ s.shown.kept
   pub known : known_of s2.shown ≡ known_of s.shown
   pub stations : SameStations s.shown s2.shown
-  pub wired : AreWired s.shown → AreWired s2.shown
+  pub wired : IsSetUp s.shown → IsSetUp s2.shown
 
 -- those at hand are gone
 pub quiet-asks : (hand : List AtHand) (s s2 : GatewayAndOutput) → IsQuiet s s2 → Ask-on hand nobody s s2
 quiet-asks hand s s2 q = λ w.
-    asks-by hand s s2 [] q.notes [] [] hand (q.frames ∙ sym (append-nil s.told.frames)) q.notes_are q.roots tt refl tt refl (q.kept ∙ kept-here s.shown.kept w.1)
-    (IsPermutation-refl hand) q.known (same-near s.shown.moment s.shown s2.shown q.stations) (same-nets s.shown s2.shown q.stations) (q.wired w.0)
+    asks-by hand s s2 [] q.notes [] [] hand (q.frames ∙ sym (append-nil s.told.frames)) q.notes_are q.roots tt refl tt refl (q.kept ∙ kept-here s.shown.kept w.1.0)
+    (IsPermutation-refl hand) q.known (same-near s.shown.moment s.shown s2.shown q.stations) (same-nets s.shown s2.shown q.stations) (q.wired w.0) (kept-bytes s.shown s2.shown q.kept w.1.1)
 
 -- and that notes nothing and leaves the table
 pub quiet-by : (s s2 : GatewayAndOutput) → s2.told.frames ≡ s.told.frames → s2.told.notes ≡ s.told.notes → s2.shown.ledger.book.entries ≡ s.shown.ledger.book.entries → s2.shown.kept ≡ s.shown.kept → known_of s2.shown ≡ known_of s.shown
-    → SameStations s.shown s2.shown → (AreWired s.shown → AreWired s2.shown) → IsQuiet s s2
+    → SameStations s.shown s2.shown → (IsSetUp s.shown → IsSetUp s2.shown) → IsQuiet s s2
 quiet-by s s2 frames notes entries kept known stations wired = record {
   frames = frames;
   notes = [];

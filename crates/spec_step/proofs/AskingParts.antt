@@ -1,5 +1,5 @@
 -- Each part of a step that may ask for a next hop does it as it should: a packet taken, an error, what a wait that ended lets go.
-use Rattle.std.proofs.Common.{◌≡◌, ℕ, Bool, true, false, cond, not, inl, inr, List, [], ◌∷◌, ◌++◌, Result, Ok, Err, refl, sym, ap, subst, ◌∙◌, append_assoc, map, IsPermutation, arith}
+use Rattle.std.proofs.Common.{◌≡◌, ℕ, Bool, true, false, cond, not, inl, inr, Some, None, List, [], ◌∷◌, ◌++◌, Result, Ok, Err, refl, sym, ap, subst, ◌∙◌, append_assoc, map, IsPermutation, arith}
 use Rattle.std.specs.List.{AllByRecursion}
 use Rattle.std.proofs.lemmas.List.{append-nil}
 use Rattle.std.proofs.lemmas.List.Sorted.{IsPermutation-refl}
@@ -16,6 +16,7 @@ use Rattle.ipv4.specs.declared.flows.Flow.{Flow}
 use Rattle.ipv4.specs.declared.packets.Packet.{Packet as PacketRead}
 use Rattle.bindings.specs.declared.entries.Entry.{Entry}
 use Rattle.spec_binding.specs.Books.{Book, is_synced}
+use Rattle.spec_binding.specs.Ledgers.{Ledger}
 use Rattle.spec_binding.specs.Uses.{IsTranslated}
 use Rattle.waiting.specs.declared.waits.Ended.{Ended}
 use Rattle.waiting.specs.declared.waits.Ended.TheVariants.{AllPairs, One}
@@ -23,9 +24,13 @@ use Rattle.waiting.specs.declared.waits.WaitsFor.{WaitsFor}
 use Rattle.waiting.specs.declared.waits.WaitsFor.TheVariants as wait
 use Rattle.waiting.specs.Packets.{HeldPacket, asks_again, ended_by, left_by, with_asked, with_room}
 use Rattle.waiting.specs.Waits.{ends, is_for_pair}
+use Rattle.waiting.proofs.Offered.{all-asked, all-room}
+use Rattle.packet_rules.specs.declared.complaints.Complaint.{Complaint}
 use Rattle.packet_rules.specs.declared.networks.Network.{Network}
+use Rattle.packet_rules.specs.declared.networks.Networks.{Networks}
+use Rattle.packet_rules.specs.declared.readings.Asked.{Asked as Echo}
 use Rattle.packet_rules.specs.declared.readings.Reading.{Reading}
-use Rattle.packet_rules.specs.declared.readings.Reading.TheVariants.{Arp, Advert, Packet, Error}
+use Rattle.packet_rules.specs.declared.readings.Reading.TheVariants.{Arp, Advert, Packet, Error, Asked}
 use Rattle.packet_rules.specs.declared.reasons.Reason.{Reason}
 use Rattle.packet_rules.specs.declared.translations.Translation.{Translation}
 use Rattle.packet_rules.specs.declared.translations.Translation.TheVariants.{Outward, Inward, Hairpin}
@@ -33,47 +38,52 @@ use Rattle.packet_rules.specs.Arping.{request_frame}
 use Rattle.packet_rules.specs.Flows.{flow_in, source_of, error_flow_in}
 use Rattle.packet_rules.specs.Frames.{hop_of, sent_frame, way_of}
 use Rattle.packet_rules.specs.Steps.{IsForwardable, IsOfSide, IsPassable}
-use Rattle.packet_rules.specs.Networks.{direction_of}
+use Rattle.packet_rules.specs.Networks.{back_hop, direction_of, may_answer, network_of}
+use Rattle.packet_rules.specs.Own.{answer_frame as own_answer, complaint_frame, complaint_of, is_own_frame}
 use Rattle.packet_rules.specs.Errors.{passed_frame, AreErrorPairs, error_direction}
+use Rattle.interfaces.specs.declared.tallies.Tally.{Tally}
 use Rattle.interfaces.specs.Stations.{is_active}
+use Rattle.interfaces.specs.Tallies.{complained as tally_complained, replied}
 use Rattle.output.specs.Output.{Sent}
 use Rattle.spec_step.specs.declared.plans.Plan.{Plan}
 use Rattle.spec_step.specs.declared.plans.Plan.TheVariants.{Send, Ask, AskAgain, Wait as WaitFor}
-use Rattle.spec_step.specs.Others.{Asking, Cause, Drops, IsDue, IsNew, IsNextHop, IsUnknown, MayGoBy, Sends, Waits, all_noted, firsts, hops_of, other_frames, packets_asked, requests, targets, waiting_by, within_limit, is_other}
-use Rattle.spec_step.specs.Parts.{all_taken, asked_again, by_plan, by_verdict, carried_all, flags_in, flow_taken, framed, neighbour_asked, released, renewed_behind, request_by, retaken_by, taken_again, waiting, wanted_by, wanted_for, by_error_plan, by_error_verdict, error_taken}
+use Rattle.spec_step.specs.Others.{Asking, Cause, Drops, IsBack, IsDue, IsEcho, IsHost, IsNew, IsNextHop, IsUnknown, MayGoBy, Sends, Waits, all_noted, firsts, hops_of, other_frames, packets_asked, requests, targets, waiting_by, within_limit, is_other}
+use Rattle.spec_step.specs.Machine.{AreBytes}
+use Rattle.spec_step.specs.Parts.{all_taken, asked_again, by_plan, by_verdict, carried_all, flags_in, flow_taken, framed, neighbour_asked, released, renewed_behind, request_by, retaken_by, taken_again, waiting, wanted_by, wanted_for, by_error_plan, by_error_verdict, error_taken, echo_taken, keeping, length_in, refused, sender_in}
 use Rattle.spec_step.specs.Shown.{GatewayAndOutput, Shown, is_up, scene, station_on}
-use Rattle.spec_step.specs.Truly.{AreItsPairs, AreWired, AtHand, Known, known_of, near_on, packets_of}
-use Rattle.spec_step.specs.Verdict.{exit_by, hop_by, plan_of, reading_on, target_pair, error_hop, error_plan}
+use Rattle.spec_step.specs.Truly.{AreItsPairs, IsSetUp, AtHand, Known, known_of, near_on, packets_of}
+use Rattle.spec_step.specs.Verdict.{exit_by, hop_by, plan_of, reading_on, target_pair, error_hop, error_plan, hop_back, next_back}
 use Rattle.spec_step.proofs.Asked.{IsAsked, PlanSays, plan-says}
 use Rattle.spec_step.proofs.Freeing.{comes-off, filter-all}
-use Rattle.spec_step.proofs.FrameKinds.{error-no_other, sent-no_other}
+use Rattle.spec_step.proofs.FrameKinds.{error-no_other, own-no_other, sent-no_other}
 use Rattle.spec_step.proofs.Limits.{asks-left, count-left, limit-more}
 use Rattle.spec_step.proofs.Near.{asks-asked}
-use Rattle.spec_step.proofs.Packets.{refusal-leaves}
+use Rattle.spec_step.proofs.Own.{complaint_scene, echo-leaves, exit_in, refusal-leaves, refused-leaves, said-beside, said_scene, told-answers}
+use Rattle.spec_step.proofs.Packets.{kept-filter, kept-more}
 use Rattle.spec_step.proofs.Rooting.{has-more}
 use Rattle.spec_step.proofs.Saying.{reading-synced, addressed}
-use Rattle.spec_step.proofs.Sending.{Frames, all_notes, carried-leaves, near-mac, next-six, own-six, request-other}
+use Rattle.spec_step.proofs.Sending.{Frames, all_notes, answer-own, asked-is, asker, carried-leaves, complaint-own, near-mac, next-six, own-six, request-other}
 use Rattle.spec_step.proofs.Sends.{AreFound, plan-sends}
 use Rattle.spec_step.proofs.Telling.{at_hand}
 use Rattle.spec_step.proofs.Translating.{target-translates}
 use Rattle.spec_step.proofs.Erring.{ErrorSays, IsErrorAsked, IsErrorGoing, error-pairs, error-says, error-targets}
 use Rattle.icmp.specs.declared.packets.ErrorFlow.{ErrorFlow}
 use Rattle.icmp.specs.declared.packets.ErrorPacket.{ErrorPacket}
-use Rattle.spec_step.proofs.Asking.{NetsStay, net-stays, NearStays, nobody, Asks, IsAsking, IsFit, Ask-on, requests-same, asking-then, asks-by, kept-here, SameStations, same-near, IsQuiet, quiet-asks, nothing-quiet, nothing-asks, wanted-quiet, wanted-for-quiet, due-more}
+use Rattle.spec_step.proofs.Asking.{NetsStay, net-stays, NearStays, nobody, Asks, IsAsking, IsFit, Ask-on, requests-same, asking-then, asks-by, kept-here, SameStations, same-near, kept-bytes, IsQuiet, quiet-asks, nothing-quiet, nothing-asks, wanted-quiet, wanted-for-quiet, due-more}
 
 -- behind such a part a packet is kept, and its next hop may be asked for
 keeping-asks : (s one s2 : GatewayAndOutput) (side : Side) (bytes : List ℕ) (what : WaitsFor) (frames : List Sent) (askings : List Asking) → (q : IsQuiet s one)
     → s2.told.frames ≡ one.told.frames ++ frames → s2.told.notes ≡ one.told.notes → s2.shown.ledger.book.entries ≡ one.shown.ledger.book.entries
     → s2.shown.kept ≡ with_room what one.shown.kept ++ waiting side bytes one.shown.moment what ∷ [] → AllByRecursion (IsDue s.shown (known_of s.shown) (MayGoBy s.shown q.notes)) askings
-    → other_frames frames ≡ requests s.shown askings → IsNew (known_of s.shown) (MayGoBy s.shown q.notes) (waiting side bytes s.shown.moment what)
+    → other_frames s.shown.networks frames ≡ requests s.shown askings → IsNew (known_of s.shown) (MayGoBy s.shown q.notes) (waiting side bytes s.shown.moment what)
     → hops_of (waiting side bytes s.shown.moment what ∷ []) ≡ map (waiting_by s.shown.moment) (firsts askings) → ((ws : List HeldPacket) → all_noted s.shown.moment askings ws ≡ ws) → packets_asked askings ≡ []
-    → known_of s2.shown ≡ known_of one.shown → SameStations one.shown s2.shown → (AreWired one.shown → AreWired s2.shown) → Ask-on (at_hand side bytes ∷ []) nobody s s2
-keeping-asks s one s2 side bytes what frames askings q frames_are notes entries kept due others new hops unnoted all_come known stations wired = λ w.
+    → known_of s2.shown ≡ known_of one.shown → SameStations one.shown s2.shown → (IsSetUp one.shown → IsSetUp s2.shown) → AreBytes bytes → Ask-on (at_hand side bytes ∷ []) nobody s s2
+keeping-asks s one s2 side bytes what frames askings q frames_are notes entries kept due others new hops unnoted all_come known stations wired are = λ w.
     let now = s.shown.moment in
     let moment : one.shown.moment ≡ now = ap (λ (k : Known). k.moment) q.known in
     let packet = waiting side bytes now what in
     let hand = at_hand side bytes ∷ [] in
-    let more = limit-more what s.shown.kept side bytes now w.1 in
+    let more = limit-more what s.shown.kept side bytes now w.1.0 in
     asks-by hand s s2 frames q.notes askings (packet ∷ []) []
     (frames_are ∙ ap (λ (fs : List Sent). fs ++ frames) q.frames) (notes ∙ q.notes_are) (λ p t. q.roots p (subst (λ (es : List Entry). IsTranslated es p) entries t))
     due others (new, tt) hops
@@ -87,6 +97,8 @@ keeping-asks s one s2 side bytes what frames askings q frames_are notes entries 
     (λ exit host t. same-near now s.shown one.shown q.stations exit host (same-near now one.shown s2.shown stations exit host t))
     (stations.0.0 ∙ q.stations.0.0, stations.0.1 ∙ q.stations.0.1)
     (wired (q.wired w.0))
+    (subst (λ (ws : List HeldPacket). AllByRecursion (λ (x : HeldPacket). AreBytes x.bytes) ws) (sym kept)
+    (kept-more _ _ (all-room (λ (x : HeldPacket). AreBytes x.bytes) what one.shown.kept (kept-bytes s.shown one.shown q.kept w.1.1)) are))
 
 -- ---- one packet
 
@@ -98,6 +110,7 @@ its-pairs g flow (Hairpin own other) synced found = (ap (λ (q : Pair). q.endpoi
 
 -- what a packet is read with
 record IsRead (g : Shown) (side : Side) (bytes : List ℕ) (flow : Flow) : Type 0 where
+  are : AreBytes bytes
   synced : is_synced g.ledger.book.stage ≡ true
   passes : IsForwardable bytes
   of_side : IsOfSide side bytes
@@ -115,44 +128,46 @@ targets-there g flow (Hairpin own other) notes synced found = (target-there g fl
 
 -- what the plan says of a packet's next hop
 next-hop : (g : Shown) (side : Side) (bytes : List ℕ) (flow : Flow) (by : Translation) (hop : Ip) (notes : List Note) → IsRead g side bytes flow
-    → direction_of g.networks side flow.protocol flow.source.0 flow.destination.0 ≡ Ok (way_of by) → AreFound g flow by → hop ≡ hop_by g by flow → IsNextHop (known_of g) (MayGoBy g notes) (at_hand side bytes) by (exit_by by) hop
-next-hop g side bytes flow by hop notes read way found hop_is =
-    record {
-      goes = inl (record {
-        passes = read.passes;
-        way = subst (λ (f : Flow). direction_of g.networks side f.protocol f.source.0 f.destination.0 ≡ Ok (way_of by)) read.flow_is way;
-        pairs = subst (λ (f : Flow). AreItsPairs f by) read.flow_is (its-pairs g flow by read.synced found);
-      });
-      target = targets-there g flow by notes read.synced found;
-      exit_is = refl;
-      hop = ap (λ (h : Ip). h.0) (hop_is ∙ ap (hop_by g by) read.flow_is);
-    }
+    → direction_of g.networks side flow.protocol flow.source.0 flow.destination.0 ≡ Ok (way_of by) → AreFound g flow by → hop ≡ hop_by g by flow → IsNextHop (known_of g) (MayGoBy g notes) (at_hand side bytes) (exit_by by) hop
+next-hop g side bytes flow by hop notes read way found hop_is = inl (
+  by,
+  record {
+    goes = inl (record {
+      passes = read.passes;
+      way = subst (λ (f : Flow). direction_of g.networks side f.protocol f.source.0 f.destination.0 ≡ Ok (way_of by)) read.flow_is way;
+      pairs = subst (λ (f : Flow). AreItsPairs f by) read.flow_is (its-pairs g flow by read.synced found);
+    });
+    target = targets-there g flow by notes read.synced found;
+    exit_is = refl;
+    hop = ap (λ (h : Ip). h.0) (hop_is ∙ ap (hop_by g by) read.flow_is);
+  },
+)
 
 asked-by : (g : Shown) (side : Side) (bytes : List ℕ) (flow : Flow) (by : Translation) (hop : Ip) (notes : List Note) → IsRead g side bytes flow → IsAsked g side flow by hop
-    → IsNextHop (known_of g) (MayGoBy g notes) (at_hand side bytes) by (exit_by by) hop × IsUnknown (known_of g) (exit_by by) hop
+    → IsNextHop (known_of g) (MayGoBy g notes) (at_hand side bytes) (exit_by by) hop × IsUnknown (known_of g) (exit_by by) hop
 asked-by g side bytes flow by hop notes read a = (
   next-hop g side bytes flow by hop notes read a.way a.pairs a.hop_is,
   ap (λ (h : Ip). mac_at h.0 g.moment (near_on (known_of g) (exit_by by))) a.hop_is ∙ near-mac g (exit_by by) (hop_by g by flow).0 ∙ a.unknown,
 )
 
 -- a packet is sent on, and behind it its next hop may be asked for
-abbrev asking_for : Side → List ℕ → Translation → Ip → Cause → Asking
-asking_for side bytes by hop cause = record { packet = at_hand side bytes; by = by; exit = exit_by by; host = hop; cause = cause }
+abbrev asking_for : Side → List ℕ → Side → Ip → Cause → Asking
+asking_for side bytes exit hop cause = record { packet = at_hand side bytes; exit = exit; host = hop; cause = cause }
 
-one-other : (x : Sent) → is_other x.side x.bytes ≡ true → other_frames (x ∷ []) ≡ x ∷ []
-one-other x is = rw is refl
+one-other : (networks : Networks) (x : Sent) → is_other networks x.side x.bytes ≡ true → other_frames networks (x ∷ []) ≡ x ∷ []
+one-other networks x is = rw is refl
 
-behind-other : (x y : Sent) → is_other x.side x.bytes ≡ false → is_other y.side y.bytes ≡ true → other_frames (x ∷ y ∷ []) ≡ y ∷ []
-behind-other x y is none = rw (is, none) refl
+behind-other : (networks : Networks) (x y : Sent) → is_other networks x.side x.bytes ≡ false → is_other networks y.side y.bytes ≡ true → other_frames networks (x ∷ y ∷ []) ≡ y ∷ []
+behind-other networks x y is none = rw (is, none) refl
 
-module _ (frames : Frames) (s two : GatewayAndOutput) (side : Side) (bytes : List ℕ) (by : Translation) (hop : Ip) (x : Sent) (notes : List Note) where
+module _ (frames : Frames) (s two : GatewayAndOutput) (side : Side) (bytes : List ℕ) (exit : Side) (hop : Ip) (x : Sent) (notes : List Note) where
   abbrev IsSentFrom : Type 0
-  IsSentFrom = (two.told.frames ≡ s.told.frames ++ x ∷ []) × ((is_other x.side x.bytes ≡ false) × ((two.told.notes ≡ s.told.notes ++ notes)
+  IsSentFrom = (two.told.frames ≡ s.told.frames ++ x ∷ []) × ((is_other s.shown.networks x.side x.bytes ≡ false) × ((two.told.notes ≡ s.told.notes ++ notes)
       × (((p : Pair) → IsTranslated two.shown.ledger.book.entries p → MayGoBy s.shown notes p) × ((two.shown.kept ≡ s.shown.kept) × ((known_of two.shown ≡ known_of s.shown)
-      × (SameStations s.shown two.shown × ((AreWired s.shown → AreWired two.shown) × IsNextHop (known_of s.shown) (MayGoBy s.shown notes) (at_hand side bytes) by (exit_by by) hop)))))))
+      × (SameStations s.shown two.shown × ((IsSetUp s.shown → IsSetUp two.shown) × IsHost (known_of s.shown) (MayGoBy s.shown notes) (at_hand side bytes) exit hop Sends)))))))
 
-  renewed-asks : IsSentFrom → Ask-on (at_hand side bytes ∷ []) nobody s (renewed_behind two (exit_by by) hop)
-  renewed-asks (frames_are, (is, (notes_are, (roots, (kept, (known, (stations, (wired, next)))))))) = λ w. at w (exit_by by) refl (asks_at hop.0 two.shown.moment (station_on two.shown (exit_by by)).neighbours) refl
+  renewed-asks : IsSentFrom → Ask-on (at_hand side bytes ∷ []) nobody s (renewed_behind two exit hop)
+  renewed-asks (frames_are, (is, (notes_are, (roots, (kept, (known, (stations, (wired, next)))))))) = λ w. at w (asks_at hop.0 two.shown.moment (station_on two.shown exit).neighbours) refl
     where
       hand : List AtHand
       hand = at_hand side bytes ∷ []
@@ -161,7 +176,7 @@ module _ (frames : Frames) (s two : GatewayAndOutput) (side : Side) (bytes : Lis
       now = ap (λ (k : Known). k.moment) known
 
       ask : Asking
-      ask = asking_for side bytes by hop Sends
+      ask = asking_for side bytes exit hop Sends
 
       near-here : (exit : Side) → asks_at hop.0 two.shown.moment (station_on two.shown exit).neighbours ≡ true → asks_at hop.0 s.shown.moment (station_on s.shown exit).neighbours ≡ true
       near-here exit t = same-near s.shown.moment s.shown two.shown stations exit hop.0 (subst (λ (n : ℕ). asks_at hop.0 n (station_on two.shown exit).neighbours ≡ true) now t)
@@ -183,7 +198,7 @@ module _ (frames : Frames) (s two : GatewayAndOutput) (side : Side) (bytes : Lis
       nets-asked Inside = (refl, refl)
       nets-asked Outside = (refl, refl)
 
-      wired-asked : (exit : Side) → AreWired two.shown → AreWired (neighbour_asked two.shown exit hop)
+      wired-asked : (exit : Side) → IsSetUp two.shown → IsSetUp (neighbour_asked two.shown exit hop)
       wired-asked Inside v = (v.0, (record { own = v.1.0.own; known = asked-six hop.0 two.shown.moment two.shown.inside.neighbours v.1.0.known }, v.1.1))
       wired-asked Outside v = (v.0, (v.1.0, record { own = v.1.1.own; known = asked-six hop.0 two.shown.moment two.shown.outside.neighbours v.1.1.known }))
 
@@ -195,37 +210,34 @@ module _ (frames : Frames) (s two : GatewayAndOutput) (side : Side) (bytes : Lis
       entries-asked Inside = refl
       entries-asked Outside = refl
 
-      at : IsFit s.shown → (exit : Side) → exit_by by ≡ exit → (b : Bool) → asks_at hop.0 two.shown.moment (station_on two.shown (exit_by by)).neighbours ≡ b
-          → IsAsking hand nobody s (let y : GatewayAndOutput = cond b (framed (scene (neighbour_asked two.shown (exit_by by) hop) two.told) (exit_by by) (request_by two.shown (exit_by by) hop)) two in y)
-      at w exit is_exit true asks =
-          let e = exit_by by in
+      at : IsFit s.shown → (b : Bool) → asks_at hop.0 two.shown.moment (station_on two.shown exit).neighbours ≡ b
+          → IsAsking hand nobody s (let y : GatewayAndOutput = cond b (framed (scene (neighbour_asked two.shown exit hop) two.told) exit (request_by two.shown exit hop)) two in y)
+      at w true asks =
+          let e = exit in
           let y : Sent = record { side = e; bytes = request_by two.shown e hop } in
-          let other = request-other frames e (station_on two.shown e).network hop (own-six two.shown (wired w.0) e) in
+          let other = request-other frames s.shown.networks e (station_on two.shown e).network hop (own-six two.shown (wired w.0) e) in
           let g2 = neighbour_asked two.shown e hop in
           let net = net-stays s.shown two.shown stations.0 e in
           asks-by hand s (framed (scene g2 two.told) e (request_by two.shown e hop)) (x ∷ y ∷ []) notes (ask ∷ []) [] []
           (ap (λ (fs : List Sent). fs ++ y ∷ []) frames_are ∙ append_assoc s.told.frames (x ∷ []) (y ∷ [])) notes_are
           (λ p t. roots p (subst (λ (es : List Entry). IsTranslated es p) (entries-asked e) t))
           (record { hop = next; cause = near-here e asks }, tt)
-          (behind-other x y is other ∙ ap (λ (n : Network). let z : Sent = record { side = e; bytes = request_frame n hop } in z ∷ []) net)
-          tt refl (kept-asked e ∙ kept ∙ kept-here s.shown.kept w.1) (IsPermutation-refl hand) (known-asked e ∙ known)
+          (behind-other s.shown.networks x y is other ∙ ap (λ (n : Network). let z : Sent = record { side = e; bytes = request_frame n hop } in z ∷ []) net)
+          tt refl (kept-asked e ∙ kept ∙ kept-here s.shown.kept w.1.0) (IsPermutation-refl hand) (known-asked e ∙ known)
           (λ t host a. same-near s.shown.moment s.shown two.shown stations t host (near-asked e t host a))
-          (let n = nets-asked e in (n.0 ∙ stations.0.0, n.1 ∙ stations.0.1)) (wired-asked e (wired w.0))
-      at w exit is_exit false asks =
-          asks-by hand s two (x ∷ []) notes [] [] hand frames_are notes_are roots tt (rw is refl) tt refl (kept ∙ kept-here s.shown.kept w.1) (IsPermutation-refl hand) known
-          (same-near s.shown.moment s.shown two.shown stations) stations.0 (wired w.0)
+          (let n = nets-asked e in (n.0 ∙ stations.0.0, n.1 ∙ stations.0.1)) (wired-asked e (wired w.0)) (kept-bytes s.shown g2 (kept-asked e ∙ kept) w.1.1)
+      at w false asks =
+          asks-by hand s two (x ∷ []) notes [] [] hand frames_are notes_are roots tt (rw is refl) tt refl (kept ∙ kept-here s.shown.kept w.1.0) (IsPermutation-refl hand) known
+          (same-near s.shown.moment s.shown two.shown stations) stations.0 (wired w.0) (kept-bytes s.shown two.shown kept w.1.1)
 
 -- a packet is dropped, and the next hop may be asked for again
-again-asks : Frames → (s : GatewayAndOutput) (side : Side) (bytes : List ℕ) (by : Translation) (hop : Ip)
-    → IsNextHop (known_of s.shown) (MayGoBy s.shown []) (at_hand side bytes) by (exit_by by) hop × IsUnknown (known_of s.shown) (exit_by by) hop
-    → Ask-on (at_hand side bytes ∷ []) nobody s (asked_again s (exit_by by) hop)
-again-asks frames s side bytes by hop says = λ w. at w (asks_again s.shown.moment (wait.Hop (exit_by by) hop) s.shown.kept) refl
+again-asks : Frames → (s : GatewayAndOutput) (side : Side) (bytes : List ℕ) (exit : Side) (hop : Ip)
+    → IsNextHop (known_of s.shown) (MayGoBy s.shown []) (at_hand side bytes) exit hop × IsUnknown (known_of s.shown) exit hop
+    → Ask-on (at_hand side bytes ∷ []) nobody s (asked_again s exit hop)
+again-asks frames s side bytes exit hop says = λ w. at w (asks_again s.shown.moment (wait.Hop exit hop) s.shown.kept) refl
   where
     hand : List AtHand
     hand = at_hand side bytes ∷ []
-
-    exit : Side
-    exit = exit_by by
 
     kept : List HeldPacket
     kept = with_asked s.shown.moment (wait.Hop exit hop) s.shown.kept
@@ -237,11 +249,12 @@ again-asks frames s side bytes by hop says = λ w. at w (asks_again s.shown.mome
         → IsAsking hand nobody s (let y : GatewayAndOutput = cond b (framed (scene (record s.shown { kept = kept }) s.told) exit (request_by s.shown exit hop)) s in y)
     at w true asks =
         let y : Sent = record { side = exit; bytes = request_by s.shown exit hop } in
-        let other = request-other frames exit (station_on s.shown exit).network hop (own-six s.shown w.0 exit) in
-        let ask = asking_for side bytes by hop Drops in
+        let other = request-other frames s.shown.networks exit (station_on s.shown exit).network hop (own-six s.shown w.0 exit) in
+        let ask = asking_for side bytes exit hop Drops in
         asks-by hand s (framed (scene (record s.shown { kept = kept }) s.told) exit (request_by s.shown exit hop)) (y ∷ []) [] (ask ∷ []) [] []
-        refl (sym (append-nil s.told.notes)) roots (record { hop = says.0; cause = (says.1, asks) }, tt) (one-other y other) tt refl
-        (ap (with_asked s.shown.moment (wait.Hop exit hop)) (kept-here s.shown.kept w.1)) (IsPermutation-refl hand) refl (λ t host a. sides t host a) (refl, refl) w.0
+        refl (sym (append-nil s.told.notes)) roots (record { hop = says.0; cause = (says.1, asks) }, tt) (one-other s.shown.networks y other) tt refl
+        (ap (with_asked s.shown.moment (wait.Hop exit hop)) (kept-here s.shown.kept w.1.0)) (IsPermutation-refl hand) refl (λ t host a. sides t host a) (refl, refl) w.0
+        (all-asked (λ (v : HeldPacket). AreBytes v.bytes) (λ v n is. is) s.shown.moment (wait.Hop exit hop) s.shown.kept w.1.1)
       where
         sides : NearStays s.shown.moment s.shown (record s.shown { kept = kept })
         sides Inside host t = t
@@ -257,7 +270,7 @@ sent-stations s bytes flow (Outward p) next = ((refl, refl), (refl, refl))
 sent-stations s bytes flow (Inward p) next = ((refl, refl), (refl, refl))
 sent-stations s bytes flow (Hairpin own other) next = ((refl, refl), (refl, refl))
 
-plan-asks : Frames → (s : GatewayAndOutput) (side : Side) (bytes : List ℕ) (flow : Flow) (plan : Plan) → IsRead s.shown side bytes flow → plan_of s.shown side flow ≡ Ok plan → PlanSays s.shown side flow (Ok plan)
+plan-asks : Frames → (s : GatewayAndOutput) (side : Side) (bytes : List ℕ) (flow : Flow) (plan : Plan) → IsRead s.shown side bytes flow → plan_of s.shown side flow (length_in bytes) ≡ Ok plan → PlanSays s.shown side flow (Ok plan)
     → Ask-on (at_hand side bytes ∷ []) nobody s (by_plan s side bytes flow plan)
 plan-asks frames s side bytes flow (Send by next) read plan says = λ w.
     let one = wanted_for s flow by in
@@ -268,10 +281,12 @@ plan-asks frames s side bytes flow (Send by next) read plan says = λ w.
     let x : Sent = record { side = exit_by by; bytes = frame } in
     let c = carried-leaves mid flow (flags_in bytes) by in
     let notes = q.notes ++ all_notes mid.shown by in
-    let planned = plan-sends s.shown side flow by next plan in
+    let planned = plan-sends s.shown side flow (length_in bytes) by next plan in
     let way = subst (λ (f : Flow). direction_of s.shown.networks side f.protocol f.source.0 f.destination.0 ≡ Ok (way_of by)) read.flow_is planned.way in
-    let is = sent-no_other (exit_by by) frame (frames.sent s.shown.networks side by next bytes w.0.0 (next-six s.shown flow by next w.0 planned.next_is) read.passes read.of_side way) in
-    renewed-asks frames s two side bytes by (hop_by s.shown by flow) x notes (
+    let six = next-six s.shown flow by next w.0 planned.next_is in
+    let is = sent-no_other s.shown.networks (exit_by by) frame (frames.own.sent s.shown.networks side by next bytes w.0.0.0 w.0.0.1.placed six read.passes read.of_side read.are way)
+    (frames.sent s.shown.networks side by next bytes w.0.0.0 six read.passes read.of_side way) in
+    renewed-asks frames s two side bytes (exit_by by) (hop_by s.shown by flow) x notes (
       c.frames ∙ ap (λ (fs : List Sent). fs ++ x ∷ []) q.frames,
       (
         is,
@@ -283,7 +298,7 @@ plan-asks frames s side bytes flow (Send by next) read plan says = λ w.
               c.kept ∙ q.kept,
               (
                 c.known ∙ q.known,
-                (sent-stations s bytes flow by next, (λ v. c.wired (q.wired v), next-hop s.shown side bytes flow by (hop_by s.shown by flow) notes read planned.way planned.pairs refl)),
+                (sent-stations s bytes flow by next, (λ v. c.wired (q.wired v), inl (next-hop s.shown side bytes flow by (hop_by s.shown by flow) notes read planned.way planned.pairs refl))),
               ),
             ),
           ),
@@ -295,30 +310,69 @@ plan-asks frames s side bytes flow (Ask by hop) read plan says = λ w.
     let q = wanted-for-quiet s flow by in
     let exit = exit_by by in
     let x : Sent = record { side = exit; bytes = request_by s.shown exit hop } in
-    let ask = asking_for side bytes by hop Waits in
+    let ask = asking_for side bytes exit hop Waits in
     let asked = asked-by s.shown side bytes flow by hop q.notes read says.0 in
-    let new : IsNew (known_of s.shown) (MayGoBy s.shown q.notes) (waiting side bytes s.shown.moment (wait.Hop exit hop)) = record { since = refl; asked = refl; wait = (by, asked) } in
+    let new : IsNew (known_of s.shown) (MayGoBy s.shown q.notes) (waiting side bytes s.shown.moment (wait.Hop exit hop)) = record { since = refl; asked = refl; wait = asked } in
     keeping-asks s one (by_plan s side bytes flow (Ask by hop)) side bytes (wait.Hop exit hop) (x ∷ []) (ask ∷ []) q refl refl refl refl (record { hop = asked.0; cause = asked.1 }, tt)
-    (one-other x (request-other frames exit (station_on s.shown exit).network hop (own-six s.shown w.0 exit))) new refl (λ ws. refl) refl refl ((refl, refl), (refl, refl)) (λ v. v) w
-plan-asks frames s side bytes flow (AskAgain by hop) read plan says = again-asks frames s side bytes by hop (asked-by s.shown side bytes flow by hop [] read says)
+    (one-other s.shown.networks x (request-other frames s.shown.networks exit (station_on s.shown exit).network hop (own-six s.shown w.0 exit))) new refl (λ ws. refl) refl refl ((refl, refl), (refl, refl)) (λ v. v) read.are w
+plan-asks frames s side bytes flow (AskAgain by hop) read plan says = again-asks frames s side bytes (exit_by by) hop (asked-by s.shown side bytes flow by hop [] read says)
 plan-asks frames s side bytes flow (WaitFor e) read plan says =
     let one = wanted_by s e in
     let q = wanted-quiet s e in
     let new : IsNew (known_of s.shown) (MayGoBy s.shown q.notes) (waiting side bytes s.shown.moment (wait.Pair e)) = record { since = refl; asked = refl; wait = says.0 ∙ ap source_of read.flow_is } in
-    keeping-asks s one (by_plan s side bytes flow (WaitFor e)) side bytes (wait.Pair e) [] [] q (sym (append-nil one.told.frames)) refl refl refl tt refl new refl (λ ws. refl) refl refl ((refl, refl), (refl, refl)) (λ v. v)
+    keeping-asks s one (by_plan s side bytes flow (WaitFor e)) side bytes (wait.Pair e) [] [] q (sym (append-nil one.told.frames)) refl refl refl tt refl new refl (λ ws. refl) refl refl ((refl, refl), (refl, refl)) (λ v. v) read.are
+
+-- ---- what the gateway says itself
+
+-- its next hop is that of the packet's source
+own-asks : Frames → (s : GatewayAndOutput) (side : Side) (bytes frame : List ℕ) (tally : Tally) (hop : Ip) → (IsSetUp s.shown → is_own_frame s.shown.networks side frame ≡ true)
+    → (IsSetUp s.shown → IsHost (known_of s.shown) (MayGoBy s.shown []) (at_hand side bytes) side hop Sends)
+    → Ask-on (at_hand side bytes ∷ []) nobody s (renewed_behind (said_scene s side frame tally) side hop)
+own-asks frames s side bytes frame tally hop own host = λ w.
+    let two = said_scene s side frame tally in
+    let beside = said-beside s side frame tally in
+    let x : Sent = record { side = side; bytes = frame } in
+    renewed-asks frames s two side bytes side hop x [] (
+      refl,
+      (
+        own-no_other s.shown.networks side frame (own w.0),
+        (
+          sym (append-nil s.told.notes),
+          (
+            λ p t. inl (subst (λ (l : Ledger). IsTranslated l.book.entries p) beside.ledger t),
+            (beside.kept, (beside.known, ((beside.nets, beside.near), (beside.set_up, host w.0)))),
+          ),
+        ),
+      ),
+    ) w
+
+complaint-asks : Frames → (s : GatewayAndOutput) (side exit : Side) (bytes : List ℕ) (reason : Reason) (complaint : Complaint) (next : Mac) → AreBytes bytes → complaint_of s.shown.networks side exit reason bytes ≡ Some complaint
+    → next_back s.shown side (sender_in bytes) ≡ Some next → Ask-on (at_hand side bytes ∷ []) nobody s (renewed_behind (complaint_scene s side bytes complaint next) side (hop_back s.shown side (sender_in bytes)))
+complaint-asks frames s side exit bytes reason complaint next are is there =
+    own-asks frames s side bytes (complaint_frame (network_of s.shown.networks side) complaint next bytes) (tally_complained s.shown.moment (station_on s.shown side).said) (hop_back s.shown side (sender_in bytes))
+    (λ w. complaint-own frames s.shown side bytes complaint next are w there)
+    (λ w. inr ((reason, (exit, (complaint, is))), record { source = told-answers s.shown.networks side exit reason bytes complaint is; exit_is = refl; hop = refl }))
+
+pub refused-asks : Frames → (s : GatewayAndOutput) (side exit : Side) (bytes : List ℕ) (reason : Reason) → AreBytes bytes → Ask-on (at_hand side bytes ∷ []) nobody s (refused s side exit bytes reason)
+refused-asks frames s side exit bytes reason are =
+    refused-leaves (λ x. Ask-on (at_hand side bytes ∷ []) nobody s x) s side exit bytes (nothing-asks (at_hand side bytes ∷ []) s)
+    (λ r complaint next is there free. complaint-asks frames s side exit bytes r complaint next are is there) reason
 
 flow-asks : Frames → (s : GatewayAndOutput) (side : Side) (bytes : List ℕ) (flow : Flow) → IsRead s.shown side bytes flow → Ask-on (at_hand side bytes ∷ []) nobody s (flow_taken s side bytes flow)
-flow-asks frames s side bytes flow read = at (plan_of s.shown side flow) refl (plan-says s.shown side flow)
+flow-asks frames s side bytes flow read = at (plan_of s.shown side flow (length_in bytes)) refl (plan-says s.shown side flow (length_in bytes))
   where
-    at : (r : Result Plan Reason) → plan_of s.shown side flow ≡ r → PlanSays s.shown side flow r → Ask-on (at_hand side bytes ∷ []) nobody s (by_verdict s side bytes flow r)
+    at : (r : Result Plan Reason) → plan_of s.shown side flow (length_in bytes) ≡ r → PlanSays s.shown side flow r → Ask-on (at_hand side bytes ∷ []) nobody s (by_verdict s side bytes flow r)
     at (Ok plan) is says = plan-asks frames s side bytes flow plan read is says
-    at (Err reason) is says = refusal-leaves (λ x. Ask-on (at_hand side bytes ∷ []) nobody s x) s flow reason (nothing-asks (at_hand side bytes ∷ []) s) (quiet-asks (at_hand side bytes ∷ []) s (wanted_by s (source_of flow)) (wanted-quiet s (source_of flow)))
+    at (Err reason) is says =
+        refusal-leaves (λ x. Ask-on (at_hand side bytes ∷ []) nobody s x) s side bytes flow (nothing-asks (at_hand side bytes ∷ []) s)
+        (quiet-asks (at_hand side bytes ∷ []) s (wanted_by s (source_of flow)) (wanted-quiet s (source_of flow)))
+        (λ r complaint next said there free. complaint-asks frames s side (exit_in s side flow) bytes r complaint next read.are said there) reason
 
-pub packet-asks : Frames → (s : GatewayAndOutput) (side : Side) (bytes : List ℕ) (packet : PacketRead) → reading_on s.shown side bytes ≡ Ok (Packet packet) → Ask-on (at_hand side bytes ∷ []) nobody s (flow_taken s side bytes packet.flow)
-packet-asks frames s side bytes packet is =
+pub packet-asks : Frames → (s : GatewayAndOutput) (side : Side) (bytes : List ℕ) (packet : PacketRead) → reading_on s.shown side bytes ≡ Ok (Packet packet) → AreBytes bytes → Ask-on (at_hand side bytes ∷ []) nobody s (flow_taken s side bytes packet.flow)
+packet-asks frames s side bytes packet is are =
     let at = station_on s.shown side in
     let carries = frames.reads side at.network (is_active at) (is_up s.shown) bytes (Packet packet) is in
-    flow-asks frames s side bytes packet.flow (record { synced = reading-synced s.shown side bytes (Packet packet) is; passes = carries.0; of_side = carries.1.1; flow_is = ap (λ (p : PacketRead). p.flow) carries.1.0 })
+    flow-asks frames s side bytes packet.flow (record { are = are; synced = reading-synced s.shown side bytes (Packet packet) is; passes = carries.0; of_side = carries.1.1; flow_is = ap (λ (p : PacketRead). p.flow) carries.1.0 })
 
 -- ---- an error
 
@@ -328,27 +382,30 @@ same-destination bytes = refl
 
 -- what an error is read with
 record IsErrorRead (g : Shown) (bytes : List ℕ) (flow : ErrorFlow) : Type 0 where
+  are : AreBytes bytes
   synced : is_synced g.ledger.book.stage ≡ true
   passes : IsPassable bytes
   flow_is : flow ≡ error_flow_in bytes
 
 -- what the plan says of an error's next hop
 error-next : (g : Shown) (side : Side) (bytes : List ℕ) (flow : ErrorFlow) (by : Translation) (hop : Ip) (notes : List Note) → IsErrorRead g bytes flow
-    → IsErrorGoing g side flow by → hop ≡ error_hop g by flow → IsNextHop (known_of g) (MayGoBy g notes) (at_hand side bytes) by (exit_by by) hop
-error-next g side bytes flow by hop notes read goes hop_is =
-    record {
-      goes = inr (record {
-        passes = read.passes;
-        way = subst (λ (f : ErrorFlow). error_direction g.networks side f ≡ Ok (way_of by)) read.flow_is goes.way;
-        pairs = subst (λ (f : ErrorFlow). AreErrorPairs f by) read.flow_is (error-pairs g flow by read.synced goes.pairs);
-      });
-      target = error-targets g flow by notes read.synced goes.pairs;
-      exit_is = refl;
-      hop = ap (λ (h : Ip). h.0) (hop_is ∙ ap (error_hop g by) read.flow_is) ∙ ap (hop_of g.networks by) (same-destination bytes);
-    }
+    → IsErrorGoing g side flow by → hop ≡ error_hop g by flow → IsNextHop (known_of g) (MayGoBy g notes) (at_hand side bytes) (exit_by by) hop
+error-next g side bytes flow by hop notes read goes hop_is = inl (
+  by,
+  record {
+    goes = inr (record {
+      passes = read.passes;
+      way = subst (λ (f : ErrorFlow). error_direction g.networks side f ≡ Ok (way_of by)) read.flow_is goes.way;
+      pairs = subst (λ (f : ErrorFlow). AreErrorPairs f by) read.flow_is (error-pairs g flow by read.synced goes.pairs);
+    });
+    target = error-targets g flow by notes read.synced goes.pairs;
+    exit_is = refl;
+    hop = ap (λ (h : Ip). h.0) (hop_is ∙ ap (error_hop g by) read.flow_is) ∙ ap (hop_of g.networks by) (same-destination bytes);
+  },
+)
 
 error-asked : (g : Shown) (side : Side) (bytes : List ℕ) (flow : ErrorFlow) (by : Translation) (hop : Ip) (notes : List Note) → IsErrorRead g bytes flow → IsErrorAsked g side flow by hop
-    → IsNextHop (known_of g) (MayGoBy g notes) (at_hand side bytes) by (exit_by by) hop × IsUnknown (known_of g) (exit_by by) hop
+    → IsNextHop (known_of g) (MayGoBy g notes) (at_hand side bytes) (exit_by by) hop × IsUnknown (known_of g) (exit_by by) hop
 error-asked g side bytes flow by hop notes read a = (
   error-next g side bytes flow by hop notes read a.goes a.hop_is,
   ap (λ (h : Ip). mac_at h.0 g.moment (near_on (known_of g) (exit_by by))) a.hop_is ∙ near-mac g (exit_by by) (error_hop g by flow).0 ∙ a.unknown,
@@ -361,8 +418,10 @@ error-plan-asks frames s side bytes flow (Send by next) read says = λ w.
     let two = framed s (exit_by by) frame in
     let x : Sent = record { side = exit_by by; bytes = frame } in
     let six = next-six s.shown (addressed flow) by next w.0 says.1 in
-    let is = error-no_other (exit_by by) frame (frames.passed_apart s.shown.networks (exit_by by) by next bytes w.0.0 six read.passes) (frames.passed s.shown.networks by next bytes w.0.0 six read.passes) in
-    renewed-asks frames s two side bytes by (error_hop s.shown by flow) x [] (
+    let way = subst (λ (f : ErrorFlow). error_direction s.shown.networks side f ≡ Ok (way_of by)) read.flow_is says.0.way in
+    let own = frames.own.passed s.shown.networks side by next bytes w.0.0.0 w.0.0.1.placed six read.passes read.are way in
+    let is = error-no_other s.shown.networks (exit_by by) frame own (frames.passed_apart s.shown.networks (exit_by by) by next bytes w.0.0.0 six read.passes) (frames.passed s.shown.networks by next bytes w.0.0.0 six read.passes) in
+    renewed-asks frames s two side bytes (exit_by by) (error_hop s.shown by flow) x [] (
       refl,
       (
         is,
@@ -370,7 +429,7 @@ error-plan-asks frames s side bytes flow (Send by next) read says = λ w.
           sym (append-nil s.told.notes),
           (
             λ p t. inl t,
-            (refl, (refl, (((refl, refl), (refl, refl)), (λ v. v, error-next s.shown side bytes flow by (error_hop s.shown by flow) [] read says.0 refl)))),
+            (refl, (refl, (((refl, refl), (refl, refl)), (λ v. v, inl (error-next s.shown side bytes flow by (error_hop s.shown by flow) [] read says.0 refl))))),
           ),
         ),
       ),
@@ -379,41 +438,83 @@ error-plan-asks frames s side bytes flow (Ask by hop) read says = λ w.
     let q = nothing-quiet s in
     let exit = exit_by by in
     let x : Sent = record { side = exit; bytes = request_by s.shown exit hop } in
-    let ask = asking_for side bytes by hop Waits in
+    let ask = asking_for side bytes exit hop Waits in
     let asked = error-asked s.shown side bytes flow by hop q.notes read says.0 in
-    let new : IsNew (known_of s.shown) (MayGoBy s.shown q.notes) (waiting side bytes s.shown.moment (wait.Hop exit hop)) = record { since = refl; asked = refl; wait = (by, asked) } in
+    let new : IsNew (known_of s.shown) (MayGoBy s.shown q.notes) (waiting side bytes s.shown.moment (wait.Hop exit hop)) = record { since = refl; asked = refl; wait = asked } in
     keeping-asks s s (by_error_plan s side bytes flow (Ask by hop)) side bytes (wait.Hop exit hop) (x ∷ []) (ask ∷ []) q refl refl refl refl (record { hop = asked.0; cause = asked.1 }, tt)
-    (one-other x (request-other frames exit (station_on s.shown exit).network hop (own-six s.shown w.0 exit))) new refl (λ ws. refl) refl refl ((refl, refl), (refl, refl)) (λ v. v) w
-error-plan-asks frames s side bytes flow (AskAgain by hop) read says = again-asks frames s side bytes by hop (error-asked s.shown side bytes flow by hop [] read says)
+    (one-other s.shown.networks x (request-other frames s.shown.networks exit (station_on s.shown exit).network hop (own-six s.shown w.0 exit))) new refl (λ ws. refl) refl refl ((refl, refl), (refl, refl)) (λ v. v) read.are w
+error-plan-asks frames s side bytes flow (AskAgain by hop) read says = again-asks frames s side bytes (exit_by by) hop (error-asked s.shown side bytes flow by hop [] read says)
 error-plan-asks frames s side bytes flow (WaitFor e) read says = absurd says
 
-pub error-asks : Frames → (s : GatewayAndOutput) (side : Side) (bytes : List ℕ) (packet : ErrorPacket) → reading_on s.shown side bytes ≡ Ok (Error packet)
+pub error-asks : Frames → (s : GatewayAndOutput) (side : Side) (bytes : List ℕ) (packet : ErrorPacket) → reading_on s.shown side bytes ≡ Ok (Error packet) → AreBytes bytes
     → Ask-on (at_hand side bytes ∷ []) nobody s (error_taken s side bytes packet.flow)
-error-asks frames s side bytes packet is = by (error_plan s.shown side packet.flow) (error-says s.shown side packet.flow)
+error-asks frames s side bytes packet is are = by (error_plan s.shown side packet.flow (length_in bytes)) (error-says s.shown side packet.flow (length_in bytes))
   where
     read : IsErrorRead s.shown bytes packet.flow
     read = let at = station_on s.shown side in
         let carries = frames.reads side at.network (is_active at) (is_up s.shown) bytes (Error packet) is in
-        record { synced = reading-synced s.shown side bytes (Error packet) is; passes = carries.0; flow_is = ap (λ (p : ErrorPacket). p.flow) carries.1 }
+        record { are = are; synced = reading-synced s.shown side bytes (Error packet) is; passes = carries.0; flow_is = ap (λ (p : ErrorPacket). p.flow) carries.1 }
 
     by : (r : Result Plan Reason) → ErrorSays s.shown side packet.flow r → Ask-on (at_hand side bytes ∷ []) nobody s (by_error_verdict s side bytes packet.flow r)
     by (Ok plan) says = error-plan-asks frames s side bytes packet.flow plan read says
     by (Err reason) says = nothing-asks (at_hand side bytes ∷ []) s
 
+-- ---- an Echo to the gateway
+
+pub echo-asks : Frames → (s : GatewayAndOutput) (side : Side) (bytes : List ℕ) (echo : Echo) → reading_on s.shown side bytes ≡ Ok (Asked echo) → AreBytes bytes → Ask-on (at_hand side bytes ∷ []) nobody s (echo_taken s side bytes echo)
+echo-asks frames s side bytes echo read are =
+    echo-leaves (λ x. Ask-on (at_hand side bytes ∷ []) nobody s x) s side bytes echo
+    (λ next may there free.
+    own-asks frames s side bytes (own_answer (network_of s.shown.networks side) next bytes) (replied s.shown.moment (station_on s.shown side).said) hop (λ w. answer-own frames s.shown side bytes echo next read are w there) (λ w. inl (inr (echoed w, back may))))
+    (λ may there place. waits may there)
+    (λ may there w. again-asks frames s side bytes side hop (inr (echoed w.0, back may), unknown there) w)
+    (λ reason. refused-asks frames s side side bytes reason are)
+  where
+    hop : Ip
+    hop = hop_back s.shown side echo.source
+
+    source : echo.source ≡ sender_in bytes
+    source = asker frames s.shown side bytes echo read
+
+    echoed : IsSetUp s.shown → IsEcho (known_of s.shown) (at_hand side bytes)
+    echoed w = asked-is frames s.shown side bytes echo read w
+
+    back : may_answer s.shown.networks side echo.source.0 ≡ true → IsBack (known_of s.shown) (at_hand side bytes) side hop
+    back may = record {
+      source = subst (λ (i : Ip). may_answer s.shown.networks side i.0 ≡ true) source may;
+      exit_is = refl;
+      hop = ap (λ (i : Ip). back_hop s.shown.networks side i.0) source;
+    }
+
+    unknown : next_back s.shown side echo.source ≡ None → IsUnknown (known_of s.shown) side hop
+    unknown there = near-mac s.shown side hop.0 ∙ there
+
+    waits : may_answer s.shown.networks side echo.source.0 ≡ true → next_back s.shown side echo.source ≡ None
+        → Ask-on (at_hand side bytes ∷ []) nobody s (framed (keeping s side bytes (wait.Hop side hop)) side (request_by s.shown side hop))
+    waits may there = λ w.
+        let q = nothing-quiet s in
+        let x : Sent = record { side = side; bytes = request_by s.shown side hop } in
+        let ask = asking_for side bytes side hop Waits in
+        let new : IsNew (known_of s.shown) (MayGoBy s.shown q.notes) (waiting side bytes s.shown.moment (wait.Hop side hop)) = record { since = refl; asked = refl; wait = (inr (echoed w.0, back may), unknown there) } in
+        keeping-asks s s (framed (keeping s side bytes (wait.Hop side hop)) side (request_by s.shown side hop)) side bytes (wait.Hop side hop) (x ∷ []) (ask ∷ []) q refl refl refl refl
+        (record { hop = inr (echoed w.0, back may); cause = unknown there }, tt)
+        (one-other s.shown.networks x (request-other frames s.shown.networks side (station_on s.shown side).network hop (own-six s.shown w.0 side))) new refl (λ ws. refl) refl refl ((refl, refl), (refl, refl)) (λ v. v) are w
+
 -- ---- those whose wait is over
 
-retaken-asks : Frames → (s : GatewayAndOutput) (side : Side) (bytes : List ℕ) (r : Result Reading Reason) → reading_on s.shown side bytes ≡ r → Ask-on (at_hand side bytes ∷ []) nobody s (retaken_by s side bytes r)
-retaken-asks frames s side bytes (Ok (Packet packet)) is = packet-asks frames s side bytes packet is
-retaken-asks frames s side bytes (Ok (Error packet)) is = error-asks frames s side bytes packet is
-retaken-asks frames s side bytes (Ok (Arp p)) is = nothing-asks (at_hand side bytes ∷ []) s
-retaken-asks frames s side bytes (Ok (Advert a from)) is = nothing-asks (at_hand side bytes ∷ []) s
-retaken-asks frames s side bytes (Err reason) is = nothing-asks (at_hand side bytes ∷ []) s
+retaken-asks : Frames → (s : GatewayAndOutput) (side : Side) (bytes : List ℕ) (r : Result Reading Reason) → reading_on s.shown side bytes ≡ r → AreBytes bytes → Ask-on (at_hand side bytes ∷ []) nobody s (retaken_by s side bytes r)
+retaken-asks frames s side bytes (Ok (Packet packet)) is are = packet-asks frames s side bytes packet is are
+retaken-asks frames s side bytes (Ok (Error packet)) is are = error-asks frames s side bytes packet is are
+retaken-asks frames s side bytes (Ok (Asked echo)) is are = echo-asks frames s side bytes echo is are
+retaken-asks frames s side bytes (Ok (Arp p)) is are = nothing-asks (at_hand side bytes ∷ []) s
+retaken-asks frames s side bytes (Ok (Advert a from)) is are = nothing-asks (at_hand side bytes ∷ []) s
+retaken-asks frames s side bytes (Err reason) is are = refused-asks frames s side side bytes reason are
 
-all-ask : Frames → (s : GatewayAndOutput) (ws : List HeldPacket) → Ask-on (packets_of ws) nobody s (all_taken s ws)
-all-ask frames s [] = nothing-asks [] s
-all-ask frames s (w ∷ ws) =
+all-ask : Frames → (s : GatewayAndOutput) (ws : List HeldPacket) → AllByRecursion (λ (w : HeldPacket). AreBytes w.bytes) ws → Ask-on (packets_of ws) nobody s (all_taken s ws)
+all-ask frames s [] all = nothing-asks [] s
+all-ask frames s (w ∷ ws) all =
     asking-then (at_hand w.side w.bytes ∷ []) (packets_of ws) nobody nobody s (taken_again s w) (all_taken s (w ∷ ws))
-    (retaken-asks frames s w.side w.bytes (reading_on s.shown w.side w.bytes) refl) (all-ask frames (taken_again s w) ws)
+    (retaken-asks frames s w.side w.bytes (reading_on s.shown w.side w.bytes) refl all.0) (all-ask frames (taken_again s w) ws all.1)
 
 -- packets go off the list, and are at hand then
 pub released-asks : Frames → (s : GatewayAndOutput) (ended : Ended) → IsFit s.shown → Asks [] (λ w. ends ended w.wait) s (released s ended)
@@ -422,7 +523,7 @@ released-asks frames s ended w =
     let freed = ended_by ended s.shown.kept in
     let left = left_by ended s.shown.kept in
     let few = count-left (λ (v : HeldPacket). not (ends ended v.wait)) s.shown.kept in
-    let x = (all-ask frames start freed (w.0, omega (arith, few, w.1))).asks in
+    let x = (all-ask frames start freed (kept-filter _ s.shown.kept w.1.1) (w.0, (omega (arith, few, w.1.0), kept-filter _ s.shown.kept w.1.1))).asks in
     let back : (side : Side) (host : Ip) → asks_again (known_of (released s ended).shown).moment (wait.Hop side host) left ≡ true → asks_again (known_of (released s ended).shown).moment (wait.Hop side host) s.shown.kept ≡ true =
     λ side host t. asks-left (known_of (released s ended).shown).moment (wait.Hop side host) (λ (v : HeldPacket). not (ends ended v.wait)) s.shown.kept t in
     record {
@@ -446,6 +547,7 @@ released-asks frames s ended w =
       near = λ side host t. sides s.shown.moment side host (x.near side host t);
       nets = x.nets;
       wired = x.wired;
+      bytes = x.bytes;
     }
   where
     sides : (now : ℕ) (side : Side) (host : ℕ) → asks_at host now (station_on (record s.shown { kept = left_by ended s.shown.kept }) side).neighbours ≡ true → asks_at host now (station_on s.shown side).neighbours ≡ true

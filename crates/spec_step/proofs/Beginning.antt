@@ -2,9 +2,12 @@
 use Rattle.std.proofs.Common.{◌≡◌, ℕ, [], inl, refl, arith}
 use Rattle.nat_types.specs.declared.gateways.GatewayId.{GatewayId}
 use Rattle.settings.specs.declared.whole.Settings.{Settings}
+use Rattle.interfaces.specs.Stations.{new_station}
 use Rattle.spec_binding.proofs.Offered.{empty-keeps, founded-keeps}
 use Rattle.spec_step.specs.Founding.{HasRanges, begun, bounds_of, founded, link_places}
 use Rattle.spec_step.specs.Machine.{IsStanding}
+use Rattle.spec_step.specs.OwnAnswers.{AreWithin}
+use Rattle.spec_step.proofs.InSeconds.{none-within}
 
 pub begun-stands : (settings : Settings) (id : GatewayId) (boot : ℕ) → HasRanges settings → IsStanding (begun settings id boot) []
 unfolding begun
@@ -31,3 +34,12 @@ founded-stands settings boot has = record {
 pub founded-room : (settings : Settings) (boot : ℕ) → (founded settings boot).link.capacity ≡ link_places (bounds_of settings.ports.zero) (bounds_of settings.ports.one)
 unfolding founded begun
 founded-room settings boot = refl
+
+-- nothing was said yet
+pub begun-within : (settings : Settings) (id : GatewayId) (boot : ℕ) → AreWithin (begun settings id boot)
+unfolding begun new_station
+begun-within settings id boot = (none-within 0, none-within 0)
+
+pub founded-within : (settings : Settings) (boot : ℕ) → AreWithin (founded settings boot)
+unfolding founded begun new_station
+founded-within settings boot = (none-within 0, none-within 0)

@@ -41,8 +41,9 @@ use Rattle.waiting.specs.declared.waits.WaitsFor.TheVariants as wait
 use Rattle.waiting.specs.Packets.{HeldPacket, asks_again, ended_by, hop_count, is_young, left_by, with_asked, with_room, without_first_hop}
 use Rattle.waiting.specs.Waits.{ends, is_for_pair}
 use Rattle.waiting.proofs.Offered.{length-asked}
+use Rattle.packet_rules.specs.declared.readings.Asked.{Asked as Echo}
 use Rattle.packet_rules.specs.declared.readings.Reading.{Reading}
-use Rattle.packet_rules.specs.declared.readings.Reading.TheVariants.{Arp, Advert, Packet, Error}
+use Rattle.packet_rules.specs.declared.readings.Reading.TheVariants.{Arp, Advert, Packet, Error, Asked}
 use Rattle.packet_rules.specs.declared.reasons.Reason.{Reason}
 use Rattle.packet_rules.specs.declared.translations.Translation.{Translation}
 use Rattle.packet_rules.specs.declared.translations.Translation.TheVariants.{Outward, Inward, Hairpin}
@@ -59,7 +60,7 @@ use Rattle.spec_step.specs.declared.events.Event.TheVariants.{Frame, Datagram as
 use Rattle.spec_step.specs.declared.plans.Plan.{Plan}
 use Rattle.spec_step.specs.declared.plans.Plan.TheVariants.{Send, Ask, AskAgain, Wait as WaitFor}
 use Rattle.spec_step.specs.Machine.{AreBytes, HasBytes}
-use Rattle.spec_step.specs.Parts.{all_framed, all_idle_done, all_taken, answered_by, arp_taken, asked_again, by_plan, by_row, by_verdict, carried_all, carried_by, datagram_in, datagram_read, flags_in, flow_taken, framed, frames_of, handed_in, has_synced, heard_by, heard_unless, idle_done, idle_taken, keeping, link_answered, link_ticked, neighbour_asked, old_dropped, record_done, record_shown, record_told, records_done, released, renewed_behind, request_by, reset, retaken_by, started, taken_again, wait_ended, waiting, wanted_by, wanted_for, with_link, word_taken, by_error_plan, by_error_verdict, error_taken}
+use Rattle.spec_step.specs.Parts.{all_framed, all_idle_done, all_taken, answered_by, arp_taken, asked_again, by_plan, by_row, by_verdict, carried_all, carried_by, datagram_in, datagram_read, flags_in, flow_taken, framed, frames_of, handed_in, has_synced, heard_by, heard_unless, idle_done, idle_taken, keeping, link_answered, link_ticked, neighbour_asked, old_dropped, record_done, record_shown, record_told, records_done, released, renewed_behind, request_by, reset, retaken_by, started, taken_again, wait_ended, waiting, wanted_by, wanted_for, with_link, word_taken, by_error_plan, by_error_verdict, error_taken, echo_taken, length_in, refused}
 use Rattle.spec_step.specs.Rests.{most_notes}
 use Rattle.spec_step.specs.Shown.{GatewayAndOutput, Shown, id_of, is_running, scene, station_on, with_notes, with_station}
 use Rattle.spec_step.specs.Routers.{BothAct, RouterActs}
@@ -67,7 +68,7 @@ use Rattle.spec_step.specs.GivingWay.{GivingWay, left, turn_of}
 use Rattle.spec_step.specs.Steps.{Does, FrameDoes, IsStepOn, ended_on, ticked, word_by, word_refusal}
 use Rattle.spec_step.specs.Verdict.{exit_by, hop_by, plan_of, reading_on, error_hop, error_plan}
 use Rattle.spec_step.proofs.Turning.{back_as, turn-by}
-use Rattle.spec_step.proofs.Packets.{refusal-leaves}
+use Rattle.spec_step.proofs.Own.{Said, echo-by, refusal-by, refused-by, said_scene}
 use Rattle.icmp.specs.declared.packets.ErrorFlow.{ErrorFlow}
 
 -- from one scene to another at most n notes more, and at most k packets more are kept
@@ -182,16 +183,37 @@ plan-adds s side bytes flow (WaitFor e) =
     adds-fewer 1 1 3 1 s _ (omega arith) (omega arith)
     (adds-then 1 0 0 1 s one _ (wanted-adds s e) (keeping-adds one side bytes (wait.Pair e)))
 
+nothing-adds : (s : GatewayAndOutput) → Adds 3 1 s s
+nothing-adds s = adds-fewer 0 0 3 1 s s (omega arith) (omega arith) (adds-none s s refl refl)
+
+-- what a gateway says itself
+said-adds : (s : GatewayAndOutput) (side : Side) → Said (λ x. Adds 3 1 s x) s side
+said-adds s Inside = λ frame tally hop.
+    let one = said_scene s Inside frame tally in
+    adds-fewer 0 0 3 1 s _ (omega arith) (omega arith) (adds-then 0 0 0 0 s one _ (adds-none s one refl refl) (renewed-adds one Inside hop))
+said-adds s Outside = λ frame tally hop.
+    let one = said_scene s Outside frame tally in
+    adds-fewer 0 0 3 1 s _ (omega arith) (omega arith) (adds-then 0 0 0 0 s one _ (adds-none s one refl refl) (renewed-adds one Outside hop))
+
+refused-adds : (s : GatewayAndOutput) (side exit : Side) (bytes : List ℕ) (reason : Reason) → Adds 3 1 s (refused s side exit bytes reason)
+refused-adds s side exit bytes reason = refused-by (λ x. Adds 3 1 s x) s side exit bytes (nothing-adds s) (said-adds s side) reason
+
+-- an Echo to the gateway notes nothing, and at most it itself is kept
+echo-adds : (s : GatewayAndOutput) (side : Side) (bytes : List ℕ) (echo : Echo) → Adds 3 1 s (echo_taken s side bytes echo)
+echo-adds s side bytes echo =
+    echo-by (λ x. Adds 3 1 s x) s side bytes echo (nothing-adds s) (said-adds s side)
+    (λ hop place. adds-fewer 0 1 3 1 s _ (omega arith) (omega arith) (adds-then 0 1 0 0 s _ _ (keeping-adds s side bytes (wait.Hop side hop)) (framed-adds _ _ _)))
+    (λ hop. adds-fewer 0 0 3 1 s _ (omega arith) (omega arith) (again-adds s side hop))
+
 -- a packet makes at most three notes, and at most it itself is kept
 verdict-adds : (s : GatewayAndOutput) (side : Side) (bytes : List ℕ) (flow : Flow) (plan : Result Plan Reason) → Adds 3 1 s (by_verdict s side bytes flow plan)
 verdict-adds s side bytes flow (Ok plan) = plan-adds s side bytes flow plan
 verdict-adds s side bytes flow (Err reason) =
-    refusal-leaves (λ x. Adds 3 1 s x) s flow reason
-    (adds-fewer 0 0 3 1 s s (omega arith) (omega arith) (adds-none s s refl refl))
-    (adds-fewer 1 0 3 1 s _ (omega arith) (omega arith) (wanted-adds s (source_of flow)))
+    refusal-by (λ x. Adds 3 1 s x) s side bytes flow (nothing-adds s)
+    (adds-fewer 1 0 3 1 s _ (omega arith) (omega arith) (wanted-adds s (source_of flow))) (said-adds s side) reason
 
 flow-adds : (s : GatewayAndOutput) (side : Side) (bytes : List ℕ) (flow : Flow) → Adds 3 1 s (flow_taken s side bytes flow)
-flow-adds s side bytes flow = verdict-adds s side bytes flow (plan_of s.shown side flow)
+flow-adds s side bytes flow = verdict-adds s side bytes flow (plan_of s.shown side flow (length_in bytes))
 
 -- ---- an error
 
@@ -208,7 +230,7 @@ error-plan-adds s side bytes flow (WaitFor e) = adds-fewer 0 0 3 1 s s (omega ar
 
 -- an error notes nothing, and at most it itself is kept
 error-adds : (s : GatewayAndOutput) (side : Side) (bytes : List ℕ) (flow : ErrorFlow) → Adds 3 1 s (error_taken s side bytes flow)
-error-adds s side bytes flow = at (error_plan s.shown side flow)
+error-adds s side bytes flow = at (error_plan s.shown side flow (length_in bytes))
   where
     at : (r : Result Plan Reason) → Adds 3 1 s (by_error_verdict s side bytes flow r)
     at (Ok plan) = error-plan-adds s side bytes flow plan
@@ -221,7 +243,8 @@ retaken-adds s side bytes (Ok (Packet packet)) = flow-adds s side bytes packet.f
 retaken-adds s side bytes (Ok (Error packet)) = error-adds s side bytes packet.flow
 retaken-adds s side bytes (Ok (Arp p)) = adds-fewer 0 0 3 1 s s (omega arith) (omega arith) (adds-none s s refl refl)
 retaken-adds s side bytes (Ok (Advert a from)) = adds-fewer 0 0 3 1 s s (omega arith) (omega arith) (adds-none s s refl refl)
-retaken-adds s side bytes (Err reason) = adds-fewer 0 0 3 1 s s (omega arith) (omega arith) (adds-none s s refl refl)
+retaken-adds s side bytes (Ok (Asked echo)) = echo-adds s side bytes echo
+retaken-adds s side bytes (Err reason) = refused-adds s side side bytes reason
 
 all-add : (s : GatewayAndOutput) (ws : List HeldPacket) → Adds (3 * length ws) (length ws) s (all_taken s ws)
 all-add s [] = adds-none s s refl refl
@@ -506,7 +529,8 @@ does-few s (Frame side bytes) done does has = at (reading_on s.shown side bytes.
     at (Ok (Advert a from)) is = omega (arith, (router-adds s side _ done is).notes)
     at (Ok (Packet packet)) is = omega (arith, (flow-adds s side bytes.now packet.flow).notes, ap (λ (z : GatewayAndOutput). length z.told.notes) is)
     at (Ok (Error packet)) is = omega (arith, (error-adds s side bytes.now packet.flow).notes, ap (λ (z : GatewayAndOutput). length z.told.notes) is)
-    at (Err reason) is = omega (arith, ap (λ (z : GatewayAndOutput). length z.told.notes) is)
+    at (Ok (Asked echo)) is = omega (arith, (echo-adds s side bytes.now echo).notes, ap (λ (z : GatewayAndOutput). length z.told.notes) is)
+    at (Err reason) is = omega (arith, (refused-adds s side side bytes.now reason).notes, ap (λ (z : GatewayAndOutput). length z.told.notes) is)
 does-few s (Comes bytes) done does has =
     let x = datagram-within (length s.shown.kept) s bytes.now (reading bytes.now) refl has in
     bounded s _ done x does

@@ -1,7 +1,7 @@
 -- What a plan says of an error: of one that is sent its way, its pairs, and that its next hop is known; of one that asks for its
 -- next hop the same, and that no hardware address is known for that host; of one that waits for it, that it has a place. No
 -- error waits for a pair.
-use Rattle.std.proofs.Common.{◌≡◌, ◌≢◌, Bool, true, false, cond, Option, Some, None, Result, Ok, Err, List, [], refl, sym, ap, ◌∙◌, inl}
+use Rattle.std.proofs.Common.{◌≡◌, ◌≢◌, ℕ, Bool, true, false, cond, Option, Some, None, Result, Ok, Err, List, [], refl, sym, ap, ◌∙◌, inl}
 use Rattle.std.specs.List.{AllByRecursion}
 use Rattle.addresses.specs.declared.ethernet.Mac.{Mac}
 use Rattle.addresses.specs.declared.internet.Ip.{Ip}
@@ -27,12 +27,14 @@ use Rattle.packet_rules.specs.declared.translations.Translation.{Translation}
 use Rattle.packet_rules.specs.declared.translations.Translation.TheVariants.{Outward, Inward, Hairpin}
 use Rattle.packet_rules.specs.Errors.{AreErrorPairs, endpoint_about, error_direction}
 use Rattle.packet_rules.specs.Frames.{pairs_of, way_of}
+use Rattle.packet_rules.specs.Networks.{exit_of}
 use Rattle.packet_rules.specs.Steps.{and_then}
 use Rattle.spec_step.specs.declared.plans.Plan.{Plan}
 use Rattle.spec_step.specs.declared.plans.Plan.TheVariants.{Send, Ask, AskAgain, Wait as WaitFor}
 use Rattle.spec_step.specs.Others.{MayGoBy, targets}
 use Rattle.spec_step.specs.Shown.{Shown}
-use Rattle.spec_step.specs.Verdict.{error_by, error_hop, error_on, error_plan, exit_by, next_to, pair_at, pair_in, pair_in_of, pair_out, plan_to}
+use Rattle.spec_step.specs.Verdict.{error_by, error_hop, error_on, error_plan, exit_by, next_to, pair_at, pair_in, pair_in_of, pair_out, plan_to, fits_at, if_fits}
+use Rattle.spec_step.proofs.Fitting.{fitted}
 use Rattle.spec_step.proofs.Translating.{IsThere, target-translates}
 
 -- the pairs that were found for an error
@@ -88,11 +90,11 @@ module _ (g : Shown) (side : Side) (flow : ErrorFlow) where
       first (Ok other) out = second other out (pair_in_of g flow) refl
       first (Err reason) out = tt
 
-  pub error-says : ErrorSays g side flow (error_plan g side flow)
-  error-says = at (error_direction g.networks side flow) refl
+  pub error-says : (length : ℕ) → ErrorSays g side flow (error_plan g side flow length)
+  error-says length = at (error_direction g.networks side flow) refl
     where
-      at : (r : Result Direction Reason) → error_direction g.networks side flow ≡ r → ErrorSays g side flow (and_then r (error_on g flow))
-      at (Ok w) there = on-says w there
+      at : (r : Result Direction Reason) → error_direction g.networks side flow ≡ r → ErrorSays g side flow (and_then r (λ way. and_then (error_on g flow way) (if_fits (fits_at g (exit_of way) length))))
+      at (Ok w) there = fitted (ErrorSays g side flow) tt (fits_at g (exit_of w) length) (error_on g flow w) (on-says w there)
       at (Err reason) there = tt
 
 -- a plan that was told isn't one to wait for a pair
@@ -103,8 +105,8 @@ told-waits g side flow (Ok (AskAgain by hop)) says e is = absurd (cc)
 told-waits g side flow (Ok (WaitFor other)) says e is = says
 told-waits g side flow (Err reason) says e is = absurd (cc)
 
-pub no-error-waits : (g : Shown) (side : Side) (flow : ErrorFlow) (e : Endpoint) → error_plan g side flow ≢ Ok (WaitFor e)
-no-error-waits g side flow e = told-waits g side flow (error_plan g side flow) (error-says g side flow) e
+pub no-error-waits : (g : Shown) (side : Side) (flow : ErrorFlow) (length : ℕ) (e : Endpoint) → error_plan g side flow length ≢ Ok (WaitFor e)
+no-error-waits g side flow length e = told-waits g side flow (error_plan g side flow length) (error-says g side flow length) e
 
 -- ---- the pairs that were found are those that the rules name
 

@@ -1,4 +1,4 @@
--- Frames by their kind: of a translation, of an error that was passed on, or of neither.
+-- Frames by their kind: the gateway's own, of a translation, of an error that was passed on, or of none of these.
 use Rattle.std.proofs.Common.{◌≡◌, ℕ, Bool, true, false, not, ◌&&◌, ◌||◌, ◌==◌, List, slice_index, refl, arith}
 use Rattle.std.proofs.lemmas.Bool.Decides.{nat_tests}
 use Rattle.frames.specs.Frame.{frame_of}
@@ -7,8 +7,10 @@ use Rattle.icmp.specs.Query.{kind_number}
 use Rattle.ipv4.specs.Header.{header_of, payload_of}
 use Rattle.nat_types.specs.declared.gateways.Side.{Side}
 use Rattle.nat_types.specs.declared.gateways.Side.TheVariants.{Inside, Outside}
+use Rattle.packet_rules.specs.declared.networks.Networks.{Networks}
 use Rattle.packet_rules.specs.Errors.{is_error_frame}
 use Rattle.packet_rules.specs.Frames.{is_translation}
+use Rattle.packet_rules.specs.Own.{is_own_frame}
 use Rattle.packet_rules.specs.Queries.{kind_leaving}
 use Rattle.spec_step.specs.Others.{is_other}
 
@@ -22,24 +24,29 @@ pub sent-no_error : (exit : Side) (bytes : List ℕ) → is_translation exit byt
 unfolding is_translation is_error_frame
 sent-no_error exit bytes is = apart exit (frame_of bytes).ethertype (header_of (frame_of bytes).body).protocol (slice_index (payload_of (frame_of bytes).body) 0) is
 
-pub other-by : (exit : Side) (bytes : List ℕ) → is_translation exit bytes ≡ false → is_error_frame bytes ≡ false → is_other exit bytes ≡ true
+pub other-by : (networks : Networks) (exit : Side) (bytes : List ℕ) → is_own_frame networks exit bytes ≡ false → is_translation exit bytes ≡ false → is_error_frame bytes ≡ false → is_other networks exit bytes ≡ true
 unfolding is_other
-other-by exit bytes a b = rw (a, b) refl
+other-by networks exit bytes o a b = rw (o, a, b) refl
 
-neither : (a b : Bool) → (not a && not b) ≡ true → (a ≡ false) × (b ≡ false)
-neither true b is = absurd (cc)
-neither false true is = absurd (cc)
-neither false false is = (refl, refl)
+neither : (a b c : Bool) → (not a && (not b && not c)) ≡ true → (a ≡ false) × ((b ≡ false) × (c ≡ false))
+neither true b c is = absurd (cc)
+neither false true c is = absurd (cc)
+neither false false true is = absurd (cc)
+neither false false false is = (refl, (refl, refl))
 
--- a frame of another kind is of neither
-pub other-none : (exit : Side) (bytes : List ℕ) → is_other exit bytes ≡ true → (is_translation exit bytes ≡ false) × (is_error_frame bytes ≡ false)
+-- a frame of another kind is of none of these
+pub other-none : (networks : Networks) (exit : Side) (bytes : List ℕ) → is_other networks exit bytes ≡ true → (is_own_frame networks exit bytes ≡ false) × ((is_translation exit bytes ≡ false) × (is_error_frame bytes ≡ false))
 unfolding is_other
-other-none exit bytes is = neither (is_translation exit bytes) (is_error_frame bytes) is
+other-none networks exit bytes is = neither (is_own_frame networks exit bytes) (is_translation exit bytes) (is_error_frame bytes) is
 
-pub sent-no_other : (exit : Side) (bytes : List ℕ) → is_translation exit bytes ≡ true → is_other exit bytes ≡ false
+pub own-no_other : (networks : Networks) (exit : Side) (bytes : List ℕ) → is_own_frame networks exit bytes ≡ true → is_other networks exit bytes ≡ false
 unfolding is_other
-sent-no_other exit bytes is = rw is refl
+own-no_other networks exit bytes is = rw is refl
 
-pub error-no_other : (exit : Side) (bytes : List ℕ) → is_translation exit bytes ≡ false → is_error_frame bytes ≡ true → is_other exit bytes ≡ false
+pub sent-no_other : (networks : Networks) (exit : Side) (bytes : List ℕ) → is_own_frame networks exit bytes ≡ false → is_translation exit bytes ≡ true → is_other networks exit bytes ≡ false
 unfolding is_other
-error-no_other exit bytes a b = rw (a, b) refl
+sent-no_other networks exit bytes o is = rw (o, is) refl
+
+pub error-no_other : (networks : Networks) (exit : Side) (bytes : List ℕ) → is_own_frame networks exit bytes ≡ false → is_translation exit bytes ≡ false → is_error_frame bytes ≡ true → is_other networks exit bytes ≡ false
+unfolding is_other
+error-no_other networks exit bytes o a b = rw (o, a, b) refl

@@ -1,5 +1,6 @@
--- What an error sent outward hides: the frame by which it is passed on shows of the inside nothing.
-use Rattle.std.proofs.Common.{◌≡◌, ◌⊎◌, inl, inr, ℕ, ◌-◌, ◌≤◌, ◌<◌, ◌^◌, List, [], ◌∷◌, ◌++◌, map, length, take, drop, refl, sym, ap, subst, ◌∙◌, arith, length-append, length-drop, take-append-drop}
+-- What is sent outward hides: the frame by which an error is passed on shows of the inside nothing, nor does what the gateway
+-- says itself.
+use Rattle.std.proofs.Common.{◌≡◌, ◌⊎◌, inl, inr, ℕ, ◌-◌, ◌≤◌, ◌<◌, ◌^◌, Bool, true, false, cond, Option, Some, None, List, [], ◌∷◌, ◌++◌, map, length, take, drop, refl, sym, ap, subst, ◌∙◌, arith, length-append, length-drop, take-append-drop}
 use Rattle.std.specs.List.{AllByRecursion}
 use Rattle.std.proofs.lemmas.List.{append_cancel_left, drop-append-le, length-take-le, take-append-le, take_all}
 use Rattle.std.proofs.lemmas.Bool.{cases_lt}
@@ -7,7 +8,8 @@ use Rattle.std.proofs.Math.Seq.{drop-append_seam}
 use Rattle.addresses.specs.declared.ethernet.Mac.{Mac}
 use Rattle.addresses.specs.declared.internet.Ip.{Ip}
 use Rattle.addresses.specs.declared.transport.Port.{Port}
-use Rattle.nat_types.specs.declared.gateways.Side.TheVariants.{Outside}
+use Rattle.nat_types.specs.declared.gateways.Side.{Side}
+use Rattle.nat_types.specs.declared.gateways.Side.TheVariants.{Inside, Outside}
 use Rattle.nat_types.specs.declared.pairs.Pair.{Pair}
 use Rattle.frames.specs.Frame.{frame_of}
 use Rattle.icmp.specs.declared.packets.ErrorFlow.{ErrorFlow}
@@ -23,14 +25,25 @@ use Rattle.packet_rules.specs.declared.translations.Translation.TheVariants.{Out
 use Rattle.packet_rules.specs.Errors.{HidesInside, passed_by, passed_frame}
 use Rattle.packet_rules.specs.Flows.{error_flow_in}
 use Rattle.packet_rules.specs.Frames.{exit_mac, hop_of}
-use Rattle.packet_rules.specs.Networks.{IsWired}
+use Rattle.packet_rules.specs.declared.complaints.Complaint.{Complaint}
+use Rattle.packet_rules.specs.declared.complaints.Complaint.TheVariants.{TooBig}
+use Rattle.packet_rules.specs.declared.reasons.Reason.{Reason}
+use Rattle.packet_rules.specs.declared.reasons.Reason.TheVariants.{ShortFrame, NotMine, BadHeader, BadLength, BadHeaderSum, Fragment, TtlOver, NotUdpTcp, BadTransport, BadArp, BadAdvert, NotUp, NoBinding, NoPort, CannotWait, BadDatagram, OldWord, HostLimit, TooLong, TooMany}
+use Rattle.packet_rules.specs.Asked.{IsAskable, is_asked}
+use Rattle.packet_rules.specs.Networks.{IsPlaced, IsWired, may_answer, mtu_of}
+use Rattle.packet_rules.specs.Own.{HidesHosts, answer_frame, complaint_about, complaint_frame, complaint_of, is_told, is_unbroken}
 use Rattle.packet_rules.specs.Steps.{IsPassable}
 use Rattle.output.specs.Output.{Sent}
+use Rattle.spec_step.specs.Machine.{AreBytes}
+use Rattle.spec_step.specs.OwnAnswers.{Answers, Complains, IsOwnOf, IsSaid, OwnFrame, Purpose, ShowsNothing}
+use Rattle.spec_step.specs.Parts.{sender_in}
 use Rattle.spec_step.specs.PassedOn.{ArePassedOn, HidesAllInside, IsPassedOn, TellsAll}
 use Rattle.spec_step.specs.Shown.{GatewayAndOutput, Shown}
-use Rattle.spec_step.specs.Truly.{AreWired, AtHand, Sending, known_of}
-use Rattle.spec_step.specs.Verdict.{exit_by}
-use Rattle.spec_step.proofs.Sending.{near-mac, next-six}
+use Rattle.spec_step.specs.Truly.{IsSetUp, AtHand, Sending, known_of}
+use Rattle.spec_step.specs.Verdict.{exit_by, hop_back}
+use Rattle.spec_step.proofs.Own.{told-is}
+use Rattle.spec_step.proofs.Sending.{back-six, near-mac, next-six}
+use Rattle.spec_step.proofs.Telling.{at_hand}
 
 -- what is known of an error passed on outward
 pub record Hides : Type 0 where
@@ -139,13 +152,13 @@ outward-hides hides networks p next bytes wired six passes fits =
 
 -- ---- the errors of a step
 
-module _ (hides : Hides) (g : Shown) (wired : AreWired g) (fits : g.networks.outside.interface.virtual_ip.0 < 2 ^ 32) (may : Pair → Type 0) where
+module _ (hides : Hides) (g : Shown) (wired : IsSetUp g) (fits : g.networks.outside.interface.virtual_ip.0 < 2 ^ 32) (may : Pair → Type 0) where
   one-hides : (packet : AtHand) (by : Translation) (sent : Sent) → IsPassedOn (known_of g) may packet by sent → sent.side ≡ Outside → HidesInside g.networks.outside.interface.virtual_ip.0 sent.bytes
   one-hides packet (Outward p) sent x is =
       let flow = error_flow_in packet.bytes in
       let six = next-six g (own_flow flow) (Outward p) x.next wired (sym (near-mac g (exit_by (Outward p)) (hop_of g.networks (Outward p) flow.destination.0)) ∙ x.hop) in
       subst (λ (xs : List ℕ). HidesInside g.networks.outside.interface.virtual_ip.0 xs) (sym x.bytes_are)
-      (outward-hides hides g.networks p x.next packet.bytes wired.0 six x.goes.passes fits)
+      (outward-hides hides g.networks p x.next packet.bytes wired.0.0 six x.goes.passes fits)
   one-hides packet (Inward p) sent x is = let clash = sym x.side ∙ is in absurd (cc)
   one-hides packet (Hairpin own other) sent x is = let clash = sym x.side ∙ is in absurd (cc)
 
@@ -153,11 +166,84 @@ module _ (hides : Hides) (g : Shown) (wired : AreWired g) (fits : g.networks.out
   all-hide [] all = tt
   all-hide (d ∷ ds) all = (one-hides d.packet d.by d.sent all.0, all-hide ds all.1)
 
-pub step-hides : Hides → (hand : List AtHand) (s s2 : GatewayAndOutput) (frames : List Sent) → TellsAll hand s s2 → AreWired s2.shown → s2.shown.networks.outside.interface.virtual_ip.0 < 2 ^ 32
-    → s2.told.frames ≡ s.told.frames ++ frames → HidesAllInside s2.shown.networks.outside.interface.virtual_ip.0 frames
+pub step-hides : Hides → (hand : List AtHand) (s s2 : GatewayAndOutput) (frames : List Sent) → TellsAll hand s s2 → IsSetUp s2.shown → s2.shown.networks.outside.interface.virtual_ip.0 < 2 ^ 32
+    → s2.told.frames ≡ s.told.frames ++ frames → HidesAllInside s2.shown.networks frames
 step-hides hides hand s s2 frames x wired fits are =
     let outside = s2.shown.networks.outside.interface.virtual_ip.0 in
     let same = append_cancel_left s.told.frames x.frames frames (sym x.frames_are ∙ are) in
-    subst (λ (fs : List Sent). HidesAllInside outside fs) same
+    subst (λ (fs : List Sent). HidesAllInside s2.shown.networks fs) same
     (subst (λ (fs : List Sent). AllByRecursion (λ (f : Sent). f.side ≡ Outside → HidesInside outside f.bytes) fs) (sym x.errors)
     (all-hide hides s2.shown wired fits _ x.passed x.each_error))
+
+-- ---- what the gateway says itself
+
+-- what is known of its own frames at the outside
+pub record HidesOwn : Type 0 where
+  pub answer : (networks : Networks) (active : Bool) (next : Mac) (bytes : List ℕ) → IsWired networks → IsPlaced networks → length next.0 ≡ 6 → AreBytes bytes → IsAskable bytes
+      → is_asked networks.outside active (frame_of bytes) ≡ true → may_answer networks Outside (header_of (frame_of bytes).body).source ≡ true → HidesHosts networks (answer_frame networks.outside next bytes)
+  pub complaint : (networks : Networks) (complaint : Complaint) (next : Mac) (bytes : List ℕ) → IsWired networks → IsPlaced networks → length next.0 ≡ 6 → AreBytes bytes
+      → is_told networks Outside (frame_of bytes).body ≡ true → HidesHosts networks (complaint_frame networks.outside complaint next bytes)
+
+module _ (hides : HidesOwn) (g : Shown) (w : IsSetUp g) where
+  said-hides : (side : Side) (bytes : List ℕ) (purpose : Purpose) (next : Mac) (frame : List ℕ) → side ≡ Outside → AreBytes bytes → may_answer g.networks side (sender_in bytes).0 ≡ true → length next.0 ≡ 6
+      → IsSaid g.networks (at_hand side bytes) purpose next frame → HidesHosts g.networks frame
+  said-hides Outside bytes Answers next frame out are may six said =
+      subst (λ (f : List ℕ). HidesHosts g.networks f) (sym said.1.1) (hides.answer g.networks said.1.0.0 next bytes w.0.0 w.0.1.placed six are said.0 said.1.0.1 may)
+  said-hides Outside bytes (Complains reason exit) next frame out are may six said =
+      subst (λ (f : List ℕ). HidesHosts g.networks f) (sym said.1.1)
+      (hides.complaint g.networks said.0 next bytes w.0.0 w.0.1.placed six are (told-is g.networks Outside exit reason bytes said.0 said.1.0))
+  said-hides Inside bytes purpose next frame out are may six said = absurd (cc)
+
+  own-hides : (o : OwnFrame) → IsOwnOf (known_of g) o → o.sent.side ≡ Outside → HidesHosts g.networks o.sent.bytes
+  own-hides o is out =
+      let side = o.packet.side in
+      let host = hop_back g side (sender_in o.packet.bytes) in
+      let known = sym (near-mac g side host.0) ∙ is.hop in
+      said-hides side o.packet.bytes o.purpose is.next o.sent.bytes (sym is.side ∙ out) is.bytes is.sender (back-six g side (sender_in o.packet.bytes) is.next w known) is.says
+
+  all-own-hide : (os : List OwnFrame) → AllByRecursion (IsOwnOf (known_of g)) os → AllByRecursion (λ (f : Sent). f.side ≡ Outside → HidesHosts g.networks f.bytes) (map (λ (o : OwnFrame). o.sent) os)
+  all-own-hide [] all = tt
+  all-own-hide (o ∷ os) all = (own-hides o all.0, all-own-hide os all.1)
+
+pub step-shows-nothing : HidesOwn → (hand : List AtHand) (s s2 : GatewayAndOutput) (frames : List Sent) → TellsAll hand s s2 → IsSetUp s2.shown → s2.told.frames ≡ s.told.frames ++ frames → ShowsNothing s2.shown.networks frames
+step-shows-nothing hides hand s s2 frames x w are =
+    let networks = s2.shown.networks in
+    let same = append_cancel_left s.told.frames x.frames frames (sym x.frames_are ∙ are) in
+    subst (λ (fs : List Sent). ShowsNothing networks fs) same
+    (subst (λ (fs : List Sent). AllByRecursion (λ (f : Sent). f.side ≡ Outside → HidesHosts networks f.bytes) fs) (sym x.own_are) (all-own-hide hides s2.shown w x.own x.each_own))
+
+-- the length that it names is that of the side at which the packet would have left
+about-mtu : (most : ℕ) (reason : Reason) (packet : List ℕ) (mtu : ℕ) → complaint_about most reason packet ≡ Some (TooBig mtu) → mtu ≡ most
+unfolding complaint_about
+about-mtu most TtlOver packet mtu is = absurd (cc)
+about-mtu most TooLong packet mtu is = at (is_unbroken packet) is
+  where
+    at : (b : Bool) → (let o : Option Complaint = cond b (Some (TooBig most)) None in o) ≡ Some (TooBig mtu) → mtu ≡ most
+    at true same = cc
+    at false same = absurd (cc)
+about-mtu most ShortFrame packet mtu is = absurd (cc)
+about-mtu most NotMine packet mtu is = absurd (cc)
+about-mtu most BadHeader packet mtu is = absurd (cc)
+about-mtu most BadLength packet mtu is = absurd (cc)
+about-mtu most BadHeaderSum packet mtu is = absurd (cc)
+about-mtu most Fragment packet mtu is = absurd (cc)
+about-mtu most NotUdpTcp packet mtu is = absurd (cc)
+about-mtu most BadTransport packet mtu is = absurd (cc)
+about-mtu most BadArp packet mtu is = absurd (cc)
+about-mtu most BadAdvert packet mtu is = absurd (cc)
+about-mtu most NotUp packet mtu is = absurd (cc)
+about-mtu most NoBinding packet mtu is = absurd (cc)
+about-mtu most NoPort packet mtu is = absurd (cc)
+about-mtu most CannotWait packet mtu is = absurd (cc)
+about-mtu most BadDatagram packet mtu is = absurd (cc)
+about-mtu most OldWord packet mtu is = absurd (cc)
+about-mtu most HostLimit packet mtu is = absurd (cc)
+about-mtu most TooMany packet mtu is = absurd (cc)
+
+pub named-mtu : (networks : Networks) (side exit : Side) (reason : Reason) (bytes : List ℕ) (mtu : ℕ) → complaint_of networks side exit reason bytes ≡ Some (TooBig mtu) → mtu ≡ mtu_of networks exit
+unfolding complaint_of
+named-mtu networks side exit reason bytes mtu is = at (is_told networks side (frame_of bytes).body) is
+  where
+    at : (b : Bool) → (let o : Option Complaint = cond b (complaint_about (mtu_of networks exit) reason (frame_of bytes).body) None in o) ≡ Some (TooBig mtu) → mtu ≡ mtu_of networks exit
+    at true some = about-mtu (mtu_of networks exit) reason (frame_of bytes).body mtu some
+    at false some = absurd (cc)

@@ -32,8 +32,10 @@ use Rattle.waiting.specs.Packets.{HeldPacket, asks_again, is_young}
 use Rattle.waiting.specs.Waits.{ends}
 use Rattle.packet_rules.specs.declared.networks.Network.{Network}
 use Rattle.packet_rules.specs.declared.readings.Reading.{Reading}
-use Rattle.packet_rules.specs.declared.readings.Reading.TheVariants.{Arp, Advert, Packet, Error}
+use Rattle.packet_rules.specs.declared.readings.Reading.TheVariants.{Arp, Advert, Packet, Error, Asked}
+use Rattle.packet_rules.specs.declared.networks.Networks.{Networks}
 use Rattle.packet_rules.specs.declared.reasons.Reason.{Reason}
+use Rattle.packet_rules.specs.declared.reasons.Reason.TheVariants.{ShortFrame, NotMine, BadHeader, BadLength, BadHeaderSum, Fragment, TtlOver, NotUdpTcp, BadTransport, BadArp, BadAdvert, NotUp, NoBinding, NoPort, CannotWait, BadDatagram, OldWord, HostLimit, TooLong, TooMany}
 use Rattle.packet_rules.specs.Arping.{answer_frame, answer_to, is_learnable}
 use Rattle.interfaces.specs.Stations.{IsRouterStep, IsWired, Interface, after_arp, is_active, with_neighbour}
 use Rattle.output.specs.Output.{Sent, Output, with_datagram}
@@ -47,7 +49,8 @@ use Rattle.spec_step.specs.declared.turns.Turn.{Turn}
 use Rattle.spec_step.specs.declared.turns.Turn.TheVariants.{Leaves, Returns, Stays}
 use Rattle.spec_step.specs.GivingWay.{GivingWay, TakesTurn, left, turn_of}
 use Rattle.spec_step.specs.Others.{AreOfBoth, TurnOwes, AreOthers, Asking, FrameOwes, IsDue, IsNew, MayGoBy, Owes, all_noted, answers_by, firsts, free_by, frees_as, frees_for, frees_heard, frees_read, frees_unless, hops_of, is_freed, is_old, other_frames, packet_as, packet_in, packets_asked, requests, retaken_pairs, sent_on, waiting_by, within_limit, is_other}
-use Rattle.spec_step.specs.Parts.{acted, all_framed, all_idle_done, answered_by, arp_taken, datagram_in, datagram_read, datagram_taken, flow_taken, framed, frames_of, handed_in, has_synced, heard_by, heard_unless, idle_done, idle_taken, link_answered, link_ticked, old_dropped, record_done, record_shown, record_told, records_done, released, reset, side_plugged, started, wait_ended, with_link, word_taken, error_taken}
+use Rattle.spec_step.specs.Machine.{AreBytes, HasBytes}
+use Rattle.spec_step.specs.Parts.{acted, all_framed, all_idle_done, answered_by, arp_taken, datagram_in, datagram_read, datagram_taken, flow_taken, framed, frames_of, handed_in, has_synced, heard_by, heard_unless, idle_done, idle_taken, link_answered, link_ticked, old_dropped, record_done, record_shown, record_told, records_done, released, reset, side_plugged, started, wait_ended, with_link, word_taken, error_taken, echo_taken, refused}
 use Rattle.spec_step.specs.Shown.{GatewayAndOutput, Shown, id_of, is_running, is_up, scene, station_on, with_notes, with_station}
 use Rattle.spec_step.specs.Routers.{BothAct, RouterActs}
 use Rattle.spec_step.specs.Settled.{AreIdle}
@@ -55,7 +58,7 @@ use Rattle.spec_step.specs.Steps.{Does, FrameDoes, IsStepOn, clock_after, ended_
 use Rattle.spec_step.specs.Truly.{AtHand, Known, known_of, packets_of}
 use Rattle.spec_step.specs.Verdict.{reading_on}
 use Rattle.spec_step.proofs.Asking.{Ask-on, Asks, IsFit, IsQuiet, NearStays, NetsStay, Waiting, asking-then, due-more, kept-here, net-stays, new-more, nobody, nothing-asks, quiet-asks, quiet-by, requests-same}
-use Rattle.spec_step.proofs.AskingParts.{all-apart, error-asks, one-apart, packet-asks, pairs-ask, released-asks}
+use Rattle.spec_step.proofs.AskingParts.{all-apart, echo-asks, error-asks, one-apart, packet-asks, pairs-ask, refused-asks, released-asks}
 use Rattle.spec_step.proofs.Freeing.{Comes-of, filter-same}
 use Rattle.spec_step.proofs.Limits.{count-left}
 use Rattle.spec_step.proofs.Lines.{acts-shown, both-stopped, line-quiet}
@@ -64,7 +67,7 @@ use Rattle.spec_step.proofs.Rooting.{Rooted, alone-rooted, restart-rooted, taken
 use Rattle.spec_step.proofs.Sending.{Frames, own-six, answer-other}
 use Rattle.spec_step.proofs.Telling.{at_hand}
 use Rattle.spec_step.proofs.Turning.{back_as}
-use Rattle.spec_step.proofs.Truths.{AllOther, action-frames, after-wired, routed-wired, wired-on}
+use Rattle.spec_step.proofs.Truths.{AllOther, action-frames, after-net, after-wired, routed-wired, set-up-inside, set-up-outside, wired-on}
 
 -- From a scene to a later one: these frames were sent, none of which is a translation, nothing was noted, and nobody came to
 -- wait.
@@ -72,7 +75,7 @@ pub record Gives (own : List Sent) (s s2 : GatewayAndOutput) : Type 0 where
   pub frames_are : s2.told.frames ≡ s.told.frames ++ own
   pub notes : s2.told.notes ≡ s.told.notes
   pub entries : s2.shown.ledger.book.entries ≡ s.shown.ledger.book.entries
-  pub apart : other_frames own ≡ own
+  pub apart : (networks : Networks) → other_frames networks own ≡ own
   pub kept : s2.shown.kept ≡ s.shown.kept
   pub moment : s2.shown.moment ≡ s.shown.moment
   pub near : NearStays s.shown.moment s.shown s2.shown
@@ -82,7 +85,7 @@ pub record Gives (own : List Sent) (s s2 : GatewayAndOutput) : Type 0 where
 gives-then : (f h : List Sent) (a b c : GatewayAndOutput) → Gives f a b → Gives h b c → Gives (f ++ h) a c
 gives-then f h a b c x y = record {
   frames_are = y.frames_are ∙ ap (λ (fs : List Sent). fs ++ h) x.frames_are ∙ append_assoc a.told.frames f h;
-  apart = filter-append (λ (z : Sent). is_other z.side z.bytes) f h ∙ ap (λ (fs : List Sent). fs ++ other_frames h) x.apart ∙ ap (λ (fs : List Sent). f ++ fs) y.apart;
+  apart = λ n. filter-append (λ (z : Sent). is_other n z.side z.bytes) f h ∙ ap (λ (fs : List Sent). fs ++ other_frames n h) (x.apart n) ∙ ap (λ (fs : List Sent). f ++ fs) (y.apart n);
   notes = y.notes ∙ x.notes;
   entries = y.entries ∙ x.entries;
   kept = y.kept ∙ x.kept;
@@ -97,7 +100,7 @@ gives-nothing s s2 told ledger kept moment near nets fit = record {
   frames_are = ap (λ (x : Output). x.frames) told ∙ sym (append-nil s.told.frames);
   notes = ap (λ (x : Output). x.notes) told;
   entries = ap (λ (l : Ledger). l.book.entries) ledger;
-  apart = refl;
+  apart = λ n. refl;
   kept = kept;
   moment = moment;
   near = near;
@@ -105,8 +108,8 @@ gives-nothing s s2 told ledger kept moment near nets fit = record {
   fit = fit;
 }
 
-gives-one : (s : GatewayAndOutput) (side : Side) (bytes : List ℕ) → is_other side bytes ≡ true → IsFit s.shown → Gives (let x : Sent = record { side = side; bytes = bytes } in x ∷ []) s (framed s side bytes)
-gives-one s side bytes none w = record { frames_are = refl; notes = refl; entries = refl; apart = rw none refl; kept = refl; moment = refl; near = λ t host a. sides t host a; nets = (refl, refl); fit = w }
+gives-one : (s : GatewayAndOutput) (side : Side) (bytes : List ℕ) → ((networks : Networks) → is_other networks side bytes ≡ true) → IsFit s.shown → Gives (let x : Sent = record { side = side; bytes = bytes } in x ∷ []) s (framed s side bytes)
+gives-one s side bytes none w = record { frames_are = refl; notes = refl; entries = refl; apart = λ n. rw (none n) refl; kept = refl; moment = refl; near = λ t host a. sides t host a; nets = (refl, refl); fit = w }
   where
     sides : NearStays s.shown.moment s.shown (framed s side bytes).shown
     sides Inside host t = t
@@ -126,7 +129,7 @@ pub record Sends-others (owes : List Sent → Type 0) (hand : List AtHand) (over
   pub owed : owes own
   pub askings : List Asking
   pub due : AllByRecursion (IsDue s.shown (known_of s2.shown) (MayGoBy s.shown notes)) askings
-  pub others : other_frames frames ≡ own ++ requests s.shown askings
+  pub others : other_frames s2.shown.networks frames ≡ own ++ requests s.shown askings
   pub came : List HeldPacket
   pub new : AllByRecursion (IsNew (known_of s2.shown) (MayGoBy s.shown notes)) came
   pub waiting : Waiting s2.shown.moment over askings came s.shown.kept s2.shown.kept
@@ -143,8 +146,8 @@ others-then owes hand over own a b c owed x y = record {
   owed = owed;
   askings = y.askings;
   due = due-more (known_of c.shown) (MayGoBy b.shown y.notes) (MayGoBy a.shown y.notes) may a.shown b.shown near (λ side host t. subst (λ (ws : List HeldPacket). asks_again (known_of c.shown).moment (wait.Hop side host) ws ≡ true) x.kept t) y.askings y.due;
-  others = filter-append (λ (z : Sent). is_other z.side z.bytes) own y.frames
-      ∙ ap (λ (fs : List Sent). fs ++ other_frames y.frames) x.apart
+  others = filter-append (λ (z : Sent). is_other c.shown.networks z.side z.bytes) own y.frames
+      ∙ ap (λ (fs : List Sent). fs ++ other_frames c.shown.networks y.frames) (x.apart c.shown.networks)
       ∙ ap (λ (fs : List Sent). own ++ fs) (y.others ∙ requests-same a.shown b.shown x.nets y.askings);
   came = y.came;
   new = new-more (known_of c.shown) (MayGoBy b.shown y.notes) (MayGoBy a.shown y.notes) may y.came y.new;
@@ -162,14 +165,6 @@ others-then owes hand over own a b c owed x y = record {
 
 -- ---- ARP
 
-after-net : (station : Interface) (p : ArpPacket) (now : ℕ) → (after_arp station p now).network ≡ station.network
-unfolding after_arp
-after-net station p now = at (is_learnable station.network p)
-  where
-    at : (b : Bool) → (let x : Interface = cond b (with_neighbour station p now) station in x.network) ≡ station.network
-    at true = refl
-    at false = refl
-
 -- what is to be asked for by an interface was so by another
 abbrev IsNearer : ℕ → Interface → Interface → Type 0
 IsNearer now old new = (host : ℕ) → asks_at host now new.neighbours ≡ true → asks_at host now old.neighbours ≡ true
@@ -177,13 +172,13 @@ IsNearer now old new = (host : ℕ) → asks_at host now new.neighbours ≡ true
 station-gives : (s : GatewayAndOutput) (side : Side) (station : Interface) → station.network ≡ (station_on s.shown side).network → IsNearer s.shown.moment (station_on s.shown side) station → IsWired station → IsFit s.shown
     → Gives [] s (scene (with_station s.shown side station) s.told)
 station-gives s Inside station same nearer wired w =
-    gives-nothing s (scene (with_station s.shown Inside station) s.told) refl refl refl refl (λ t host a. sides t host a) (same, refl) ((w.0.0, (wired, w.0.1.1)), w.1)
+    gives-nothing s (scene (with_station s.shown Inside station) s.told) refl refl refl refl (λ t host a. sides t host a) (same, refl) (set-up-inside s.shown station same w.0 wired, w.1)
   where
     sides : NearStays s.shown.moment s.shown (with_station s.shown Inside station)
     sides Inside host t = nearer host t
     sides Outside host t = t
 station-gives s Outside station same nearer wired w =
-    gives-nothing s (scene (with_station s.shown Outside station) s.told) refl refl refl refl (λ t host a. sides t host a) (refl, same) ((w.0.0, (w.0.1.0, wired)), w.1)
+    gives-nothing s (scene (with_station s.shown Outside station) s.told) refl refl refl refl (λ t host a. sides t host a) (refl, same) (set-up-outside s.shown station same w.0 wired, w.1)
   where
     sides : NearStays s.shown.moment s.shown (with_station s.shown Outside station)
     sides Inside host t = t
@@ -201,7 +196,7 @@ answered-gives : Frames → (s : GatewayAndOutput) (station : Interface) (side :
     → Gives (sent_on side (answers_by station p o)) s (answered_by s side p o)
 answered-gives frames s station side p (Some mac) six same w =
     subst (λ (n : Network). Gives (sent_on side (answer_frame n p mac ∷ [])) s (answered_by s side p (Some mac))) same
-    (gives-one s side (answer_frame (station_on s.shown side).network p mac) (answer-other frames side (station_on s.shown side).network p mac (own-six s.shown w.0 side) six) w)
+    (gives-one s side (answer_frame (station_on s.shown side).network p mac) (λ n. answer-other frames n side (station_on s.shown side).network p mac (own-six s.shown w.0 side) six) w)
 answered-gives frames s station side p None six same w = gives-here s w
 
 arp-others : Frames → (s : GatewayAndOutput) (side : Side) (p : ArpPacket) → length p.sender_mac.0 ≡ 6 → IsFit s.shown
@@ -357,30 +352,63 @@ plugged-asks s Outside up = quiet-asks [] s (side_plugged s Outside up)
 
 -- ---- a frame
 
-frame-others : Frames → (s : GatewayAndOutput) (side : Side) (bytes : List ℕ) (r : Result Reading Reason) (s2 : GatewayAndOutput) → reading_on s.shown side bytes ≡ r → IsFit s.shown → FrameDoes s side bytes r s2
+-- one that is refused as it is read
+refused-others : Frames → (s : GatewayAndOutput) (side : Side) (bytes : List ℕ) (reason : Reason) → AreBytes bytes → IsFit s.shown
+    → Sends-others (FrameOwes s.shown side (Err reason)) (packet_as side bytes (Err reason)) (frees_as s.shown side (Err reason)) s (refused s side side bytes reason)
+refused-others frames s side bytes reason are w = at reason
+  where
+    quiet : Sends-others (λ own. own ≡ []) [] nobody s s
+    quiet = others-then (λ own. own ≡ []) [] nobody [] s s s refl (gives-here s w) (nothing-asks [] s w).asks
+
+    at : (r : Reason) → Sends-others (FrameOwes s.shown side (Err r)) (packet_as side bytes (Err r)) (frees_as s.shown side (Err r)) s (refused s side side bytes r)
+    at TtlOver = others-then (λ own. own ≡ []) (at_hand side bytes ∷ []) nobody [] s s (refused s side side bytes TtlOver) refl (gives-here s w) (refused-asks frames s side side bytes TtlOver are w).asks
+    at TooLong = others-then (λ own. own ≡ []) (at_hand side bytes ∷ []) nobody [] s s (refused s side side bytes TooLong) refl (gives-here s w) (refused-asks frames s side side bytes TooLong are w).asks
+    at ShortFrame = quiet
+    at NotMine = quiet
+    at BadHeader = quiet
+    at BadLength = quiet
+    at BadHeaderSum = quiet
+    at Fragment = quiet
+    at NotUdpTcp = quiet
+    at BadTransport = quiet
+    at BadArp = quiet
+    at BadAdvert = quiet
+    at NotUp = quiet
+    at NoBinding = quiet
+    at NoPort = quiet
+    at CannotWait = quiet
+    at BadDatagram = quiet
+    at OldWord = quiet
+    at HostLimit = quiet
+    at TooMany = quiet
+
+frame-others : Frames → (s : GatewayAndOutput) (side : Side) (bytes : List ℕ) (r : Result Reading Reason) (s2 : GatewayAndOutput) → reading_on s.shown side bytes ≡ r → AreBytes bytes → IsFit s.shown → FrameDoes s side bytes r s2
     → Sends-others (FrameOwes s.shown side r) (packet_as side bytes r) (frees_as s.shown side r) s s2
-frame-others frames s side bytes (Ok (Arp p)) s2 read w does =
+frame-others frames s side bytes (Ok (Arp p)) s2 read are w does =
     let at = station_on s.shown side in
     let six = frames.reads side at.network (is_active at) _ bytes (Arp p) read in
     subst (λ (x : GatewayAndOutput). Sends-others (FrameOwes s.shown side (Ok (Arp p))) [] (frees_as s.shown side (Ok (Arp p))) s x) (sym does)
     (arp-others frames s side p six w)
-frame-others frames s side bytes (Ok (Advert a from)) s2 read w does =
+frame-others frames s side bytes (Ok (Advert a from)) s2 read are w does =
     let own = sent_on side (frames_of does.station does.action) in
     let gives = router-gives frames s side (table.Heard a.priority a.interval from.0) s2 does w in
     others-then (FrameOwes s.shown side (Ok (Advert a from))) [] (frees_as s.shown side (Ok (Advert a from))) own s s2 s2
     (record { station = does.station; action = does.action; step = does.step; are = refl }) gives (nothing-asks [] s2 gives.fit).asks
-frame-others frames s side bytes (Ok (Packet packet)) s2 read w does =
+frame-others frames s side bytes (Ok (Packet packet)) s2 read are w does =
     subst (λ (x : GatewayAndOutput). Sends-others (FrameOwes s.shown side (Ok (Packet packet))) (at_hand side bytes ∷ []) (frees_as s.shown side (Ok (Packet packet))) s x) (sym does)
     (others-then (FrameOwes s.shown side (Ok (Packet packet))) (at_hand side bytes ∷ []) (frees_as s.shown side (Ok (Packet packet))) [] s s (flow_taken s side bytes packet.flow) refl
-    (gives-here s w) (packet-asks frames s side bytes packet read w).asks)
-frame-others frames s side bytes (Ok (Error packet)) s2 read w does =
+    (gives-here s w) (packet-asks frames s side bytes packet read are w).asks)
+frame-others frames s side bytes (Ok (Error packet)) s2 read are w does =
     subst (λ (x : GatewayAndOutput). Sends-others (FrameOwes s.shown side (Ok (Error packet))) (at_hand side bytes ∷ []) (frees_as s.shown side (Ok (Error packet))) s x) (sym does)
     (others-then (FrameOwes s.shown side (Ok (Error packet))) (at_hand side bytes ∷ []) (frees_as s.shown side (Ok (Error packet))) [] s s (error_taken s side bytes packet.flow) refl
-    (gives-here s w) (error-asks frames s side bytes packet read w).asks)
-frame-others frames s side bytes (Err reason) s2 read w does =
-    subst (λ (x : GatewayAndOutput). Sends-others (FrameOwes s.shown side (Err reason)) [] (frees_as s.shown side (Err reason)) s x) (sym does)
-    (others-then (FrameOwes s.shown side (Err reason)) [] (frees_as s.shown side (Err reason)) [] s s s refl
-    (gives-here s w) (nothing-asks [] s w).asks)
+    (gives-here s w) (error-asks frames s side bytes packet read are w).asks)
+frame-others frames s side bytes (Ok (Asked echo)) s2 read are w does =
+    subst (λ (x : GatewayAndOutput). Sends-others (FrameOwes s.shown side (Ok (Asked echo))) (at_hand side bytes ∷ []) (frees_as s.shown side (Ok (Asked echo))) s x) (sym does)
+    (others-then (FrameOwes s.shown side (Ok (Asked echo))) (at_hand side bytes ∷ []) (frees_as s.shown side (Ok (Asked echo))) [] s s (echo_taken s side bytes echo) refl
+    (gives-here s w) (echo-asks frames s side bytes echo read are w).asks)
+frame-others frames s side bytes (Err reason) s2 read are w does =
+    subst (λ (x : GatewayAndOutput). Sends-others (FrameOwes s.shown side (Err reason)) (packet_as side bytes (Err reason)) (frees_as s.shown side (Err reason)) s x) (sym does)
+    (refused-others frames s side bytes reason are w)
 
 -- ---- records
 
@@ -508,11 +536,11 @@ tick-others frames s now turned middle takes acts w =
       owed = both.owed;
       askings = [];
       due = tt;
-      others = x.apart ∙ sym (append-nil both.own);
+      others = x.apart (idle_taken young).shown.networks ∙ sym (append-nil both.own);
       came = [];
       new = tt;
       hops = refl;
-      kept_are = idle.kept ∙ keeps ∙ kept-here left (omega (arith, count-left (λ w. not (is_old s.shown (Tick now) w || false)) s.shown.kept, w.1));
+      kept_are = idle.kept ∙ keeps ∙ kept-here left (omega (arith, count-left (λ w. not (is_old s.shown (Tick now) w || false)) s.shown.kept, w.1.0));
       gone = packets_of (filter (is_freed s (Tick now)) s.shown.kept);
       of_hand = IsPermutation-refl (packets_of (filter (is_freed s (Tick now)) s.shown.kept));
     }
@@ -549,23 +577,23 @@ others-at s event done young x = record {
 asks-alone : (s : GatewayAndOutput) (event : Event) (done : GatewayAndOutput) → Owes s.shown event [] → IsFit s.shown → Asks (packet_in s.shown event) (is_freed s event) s done → Sends-others (Owes s.shown event) (packet_in s.shown event) (is_freed s event) s done
 asks-alone s event done owed w asks = others-then (Owes s.shown event) (packet_in s.shown event) (is_freed s event) [] s s done owed (gives-here s w) asks
 
-does-others : Frames → (s : GatewayAndOutput) (event : Event) (done : GatewayAndOutput) → Does s event done → IsBook s.shown.ledger.book → IsFit s.shown → AreOthers s event done
-does-others frames s (Frame side bytes) done does is w =
-    others-at s (Frame side bytes) done (λ p. refl) (frame-others frames s side bytes.now (reading_on s.shown side bytes.now) done refl w does)
-does-others frames s (Comes bytes) done does is w =
+does-others : Frames → (s : GatewayAndOutput) (event : Event) (done : GatewayAndOutput) → Does s event done → HasBytes event → IsBook s.shown.ledger.book → IsFit s.shown → AreOthers s event done
+does-others frames s (Frame side bytes) done does has is w =
+    others-at s (Frame side bytes) done (λ p. refl) (frame-others frames s side bytes.now (reading_on s.shown side bytes.now) done refl has w does)
+does-others frames s (Comes bytes) done does has is w =
     subst (λ (x : GatewayAndOutput). AreOthers s (Comes bytes) x) (sym does)
     (others-at s (Comes bytes) (datagram_taken s bytes.now) (λ p. refl) (asks-alone s (Comes bytes) (datagram_taken s bytes.now) refl w (datagram-asks frames s (reading bytes.now) is w).asks))
-does-others frames s (Tick now) done does is w = subst (λ (x : GatewayAndOutput). AreOthers s (Tick now) x) (sym does.4) (tick-others frames s now does.0 does.1 does.2 does.3 w)
-does-others frames s Stop done does is w =
+does-others frames s (Tick now) done does has is w = subst (λ (x : GatewayAndOutput). AreOthers s (Tick now) x) (sym does.4) (tick-others frames s now does.0 does.1 does.2 does.3 w)
+does-others frames s Stop done does has is w =
     let middle = does.0 in
     let both = both-give frames s table.Stop middle does.1 w in
     let asks = (quiet-asks [] middle (stopped middle) (quiet-by middle (stopped middle) refl refl refl refl refl ((refl, refl), (refl, refl)) (λ v. v)) both.gives.fit).asks in
     subst (λ (x : GatewayAndOutput). AreOthers s Stop x) (sym does.2)
     (others-at s Stop (stopped middle) (λ p. refl) (others-then (Owes s.shown Stop) [] nobody both.own s middle (stopped middle) both.owed both.gives asks))
-does-others frames s (PeerOff n) done does is w =
+does-others frames s (PeerOff n) done does has is w =
     subst (λ (x : GatewayAndOutput). AreOthers s (PeerOff n) x) (sym does)
     (others-at s (PeerOff n) (word_by s n (word_refusal s.shown n)) (λ p. refl) (asks-alone s (PeerOff n) (word_by s n (word_refusal s.shown n)) refl w (word-asks frames s n (word_refusal s.shown n) is w).asks))
-does-others frames s (SideIs side up) done does is w =
+does-others frames s (SideIs side up) done does has is w =
     subst (λ (x : GatewayAndOutput). AreOthers s (SideIs side up) x) (sym does)
     (others-at s (SideIs side up) (side_plugged s side up) (λ p. refl) (asks-alone s (SideIs side up) (side_plugged s side up) refl w (plugged-asks s side up w).asks))
 
@@ -588,7 +616,7 @@ others-end s event done end e x = record {
   owed = x.owed;
   askings = x.askings;
   due = subst (λ (k : Known). AllByRecursion (IsDue s.shown k (MayGoBy s.shown x.notes)) x.askings) (sym e.known) x.due;
-  others = x.others;
+  others = subst (λ (k : Known). other_frames k.networks x.frames ≡ x.own ++ requests s.shown x.askings) (sym e.known) x.others;
   came = x.came;
   new = subst (λ (k : Known). AllByRecursion (IsNew k (MayGoBy s.shown x.notes)) x.came) (sym e.known) x.new;
   hops = subst (λ (n : ℕ). hops_of x.came ≡ map (waiting_by n) (firsts x.askings)) (sym now) x.hops;
@@ -624,6 +652,6 @@ end-others s (PeerOff n) done x = others-end s (PeerOff n) done (link_answered d
 end-others s (SideIs side up) done x = x
 
 -- a whole step
-pub step-others : Frames → (s : GatewayAndOutput) (event : Event) (s2 : GatewayAndOutput) → IsStepOn s event s2 → IsBook s.shown.ledger.book → IsFit s.shown → AreOthers s event s2
-step-others frames s event s2 step is w =
-    subst (λ (x : GatewayAndOutput). AreOthers s event x) (sym step.sends) (end-others s event step.done (does-others frames s event step.done step.does is w))
+pub step-others : Frames → (s : GatewayAndOutput) (event : Event) (s2 : GatewayAndOutput) → IsStepOn s event s2 → HasBytes event → IsBook s.shown.ledger.book → IsFit s.shown → AreOthers s event s2
+step-others frames s event s2 step has is w =
+    subst (λ (x : GatewayAndOutput). AreOthers s event x) (sym step.sends) (end-others s event step.done (does-others frames s event step.done step.does has is w))

@@ -42,23 +42,26 @@ use Rattle.waiting.proofs.Offered.{all-asked, all-room}
 use Rattle.packet_rules.specs.declared.networks.Direction.{Direction}
 use Rattle.packet_rules.specs.declared.networks.Direction.TheVariants as way
 use Rattle.packet_rules.specs.declared.networks.Network.{Network}
+use Rattle.packet_rules.specs.declared.readings.Asked.{Asked as Echo}
 use Rattle.packet_rules.specs.declared.readings.Reading.{Reading}
-use Rattle.packet_rules.specs.declared.readings.Reading.TheVariants.{Arp, Advert, Packet, Error}
+use Rattle.packet_rules.specs.declared.readings.Reading.TheVariants.{Arp, Advert, Packet, Error, Asked}
 use Rattle.packet_rules.specs.declared.reasons.Reason.{Reason}
-use Rattle.packet_rules.specs.declared.reasons.Reason.TheVariants.{ShortFrame, NotMine, BadHeader, BadLength, BadHeaderSum, Fragment, TtlOver, NotUdpTcp, BadTransport, BadArp, BadAdvert, NotUp, NoBinding, NoPort, CannotWait, BadDatagram, OldWord, HostLimit}
+use Rattle.packet_rules.specs.declared.reasons.Reason.TheVariants.{CannotWait}
 use Rattle.packet_rules.specs.declared.translations.Translation.{Translation}
 use Rattle.packet_rules.specs.declared.translations.Translation.TheVariants.{Outward, Inward, Hairpin}
 use Rattle.packet_rules.specs.Flows.{flow_in, source_of}
-use Rattle.packet_rules.specs.Networks.{direction_of}
+use Rattle.packet_rules.specs.Networks.{direction_of, exit_of}
 use Rattle.packet_rules.specs.Steps.{Carries, IsForwardable, reading_of, and_then}
 use Rattle.packet_rules.specs.Errors.{passed_frame}
 use Rattle.interfaces.specs.Stations.{is_active}
 use Rattle.spec_step.specs.declared.plans.Plan.{Plan}
 use Rattle.spec_step.specs.declared.plans.Plan.TheVariants.{Send, Ask, AskAgain, Wait as WaitFor}
 use Rattle.spec_step.specs.Machine.{AreBytes}
-use Rattle.spec_step.specs.Parts.{all_taken, asked_again, by_plan, by_refusal, by_verdict, carried, carried_all, carried_by, flags_in, flow_taken, framed, keeping, neighbour_asked, released, remote, renewed_behind, request_by, retaken_by, taken_again, wanted_by, wanted_for, by_error_plan, by_error_verdict, error_taken}
+use Rattle.spec_step.specs.Parts.{all_taken, asked_again, by_plan, by_refusal, by_verdict, carried, carried_all, carried_by, flags_in, flow_taken, framed, keeping, neighbour_asked, released, remote, renewed_behind, request_by, retaken_by, taken_again, wanted_by, wanted_for, by_error_plan, by_error_verdict, error_taken, echo_taken, length_in, refused}
 use Rattle.spec_step.specs.Shown.{GatewayAndOutput, Shown, is_up, scene, station_on}
-use Rattle.spec_step.specs.Verdict.{exit_by, hop_by, look_for, plan_by, plan_from, plan_of, plan_on, plan_to, reading_on, target_pair, error_hop, error_plan}
+use Rattle.spec_step.specs.Verdict.{exit_by, hop_by, look_for, plan_by, plan_from, plan_of, plan_on, plan_to, reading_on, target_pair, error_hop, error_plan, fits_at, if_fits}
+use Rattle.spec_step.proofs.Fitting.{fitted}
+use Rattle.spec_step.proofs.Own.{Said, echo-by, refusal-by, refused-by, said_scene}
 use Rattle.spec_step.proofs.Passing.{Going, given, going-then, going-unseen, nothing, row-goes}
 use Rattle.icmp.specs.declared.packets.ErrorFlow.{ErrorFlow}
 
@@ -125,11 +128,11 @@ on-fits g flow way.Hairpin formed = at (target_pair g flow)
     at (Ok p) = from-fits g flow (λ own. Hairpin own p) (look_for g flow) formed
     at (Err reason) = tt
 
-pub plan-fits : (g : Shown) (side : Side) (flow : Flow) → IsWellFormedEndpoint (source_of flow) → PlanFits (plan_of g side flow)
-plan-fits g side flow formed = at (direction_of g.networks side flow.protocol flow.source.0 flow.destination.0)
+pub plan-fits : (g : Shown) (side : Side) (flow : Flow) (length : ℕ) → IsWellFormedEndpoint (source_of flow) → PlanFits (plan_of g side flow length)
+plan-fits g side flow length formed = at (direction_of g.networks side flow.protocol flow.source.0 flow.destination.0)
   where
-    at : (r : Result Direction Reason) → PlanFits (and_then r (plan_on g flow))
-    at (Ok w) = on-fits g flow w formed
+    at : (r : Result Direction Reason) → PlanFits (and_then r (λ way. and_then (plan_on g flow way) (if_fits (fits_at g (exit_of way) length))))
+    at (Ok w) = fitted PlanFits tt (fits_at g (exit_of w) length) (plan_on g flow w) (on-fits g flow w formed)
     at (Err reason) = tt
 
 -- ---- a packet that a pair carries
@@ -165,27 +168,6 @@ kept-filter p (w ∷ ws) all = at (p w) (kept-filter p ws all.1)
 pub kept-more : (ws : List HeldPacket) (x : HeldPacket) → AllByRecursion (λ (w : HeldPacket). AreBytes w.bytes) ws → AreBytes x.bytes → AllByRecursion (λ (w : HeldPacket). AreBytes w.bytes) (ws ++ x ∷ [])
 kept-more [] x all one = (one, tt)
 kept-more (w ∷ ws) x all one = (all.0, kept-more ws x all.1 one)
-
--- a packet that is refused leaves the scene, or wants a port
-pub refusal-leaves : (P : GatewayAndOutput → Type 0) (s : GatewayAndOutput) (flow : Flow) (reason : Reason) → P s → P (wanted_by s (source_of flow)) → P (by_refusal s flow reason)
-refusal-leaves P s flow NoPort same wanted = wanted
-refusal-leaves P s flow ShortFrame same wanted = same
-refusal-leaves P s flow NotMine same wanted = same
-refusal-leaves P s flow BadHeader same wanted = same
-refusal-leaves P s flow BadLength same wanted = same
-refusal-leaves P s flow BadHeaderSum same wanted = same
-refusal-leaves P s flow Fragment same wanted = same
-refusal-leaves P s flow TtlOver same wanted = same
-refusal-leaves P s flow NotUdpTcp same wanted = same
-refusal-leaves P s flow BadTransport same wanted = same
-refusal-leaves P s flow BadArp same wanted = same
-refusal-leaves P s flow BadAdvert same wanted = same
-refusal-leaves P s flow NotUp same wanted = same
-refusal-leaves P s flow NoBinding same wanted = same
-refusal-leaves P s flow CannotWait same wanted = same
-refusal-leaves P s flow BadDatagram same wanted = same
-refusal-leaves P s flow OldWord same wanted = same
-refusal-leaves P s flow HostLimit same wanted = same
 
 -- what is known of a frame by what it is read as
 abbrev pub Reads : Type 0
@@ -277,15 +259,35 @@ module _ (letters : List Letter) (words : List ℕ) where
       let one = wanted_by s e in
       going-then letters words s one _ (wanted-goes s e fits) (keeping-goes one side bytes (wait.Pair e) are)
 
-  refusal-goes : (s : GatewayAndOutput) (flow : Flow) (reason : Reason) → IsWellFormedEndpoint (source_of flow) → Going letters words s (by_refusal s flow reason)
-  refusal-goes s flow reason formed = refusal-leaves (λ x. Going letters words s x) s flow reason (here s) (wanted-goes s (source_of flow) formed)
+  -- the gateway says something itself
+  said-goes : (s : GatewayAndOutput) (side : Side) → Said (λ x. Going letters words s x) s side
+  said-goes s Inside = λ frame tally hop.
+      let one = said_scene s Inside frame tally in
+      going-then letters words s one _ (going-unseen letters words s one refl refl refl refl refl (λ k. k)) (renewed-goes one Inside hop)
+  said-goes s Outside = λ frame tally hop.
+      let one = said_scene s Outside frame tally in
+      going-then letters words s one _ (going-unseen letters words s one refl refl refl refl refl (λ k. k)) (renewed-goes one Outside hop)
+
+  pub refused-goes : (s : GatewayAndOutput) (side exit : Side) (bytes : List ℕ) (reason : Reason) → Going letters words s (refused s side exit bytes reason)
+  refused-goes s side exit bytes reason = refused-by (λ x. Going letters words s x) s side exit bytes (here s) (said-goes s side) reason
+
+  pub echo-goes : (s : GatewayAndOutput) (side : Side) (bytes : List ℕ) (echo : Echo) → AreBytes bytes → Going letters words s (echo_taken s side bytes echo)
+  echo-goes s side bytes echo are =
+      echo-by (λ x. Going letters words s x) s side bytes echo (here s) (said-goes s side)
+      (λ hop place.
+      let one = keeping s side bytes (wait.Hop side hop) in
+      going-then letters words s one _ (keeping-goes s side bytes (wait.Hop side hop) are) (framed-goes one _ _))
+      (λ hop. again-goes s side hop)
+
+  refusal-goes : (s : GatewayAndOutput) (side : Side) (bytes : List ℕ) (flow : Flow) (reason : Reason) → IsWellFormedEndpoint (source_of flow) → Going letters words s (by_refusal s side bytes flow reason)
+  refusal-goes s side bytes flow reason formed = refusal-by (λ x. Going letters words s x) s side bytes flow (here s) (wanted-goes s (source_of flow) formed) (said-goes s side) reason
 
   verdict-goes : (s : GatewayAndOutput) (side : Side) (bytes : List ℕ) (flow : Flow) (plan : Result Plan Reason) → AreBytes bytes → IsWellFormedEndpoint (source_of flow) → PlanFits plan → Going letters words s (by_verdict s side bytes flow plan)
   verdict-goes s side bytes flow (Ok plan) are formed fits = plan-goes s side bytes flow plan are formed fits
-  verdict-goes s side bytes flow (Err reason) are formed fits = refusal-goes s flow reason formed
+  verdict-goes s side bytes flow (Err reason) are formed fits = refusal-goes s side bytes flow reason formed
 
   pub flow-goes : (s : GatewayAndOutput) (side : Side) (bytes : List ℕ) (flow : Flow) → AreBytes bytes → IsWellFormedEndpoint (source_of flow) → Going letters words s (flow_taken s side bytes flow)
-  flow-goes s side bytes flow are formed = verdict-goes s side bytes flow (plan_of s.shown side flow) are formed (plan-fits s.shown side flow formed)
+  flow-goes s side bytes flow are formed = verdict-goes s side bytes flow (plan_of s.shown side flow (length_in bytes)) are formed (plan-fits s.shown side flow (length_in bytes) formed)
 
   -- ---- an error
 
@@ -301,7 +303,7 @@ module _ (letters : List Letter) (words : List ℕ) where
   error-plan-goes s side bytes flow (WaitFor e) are = here s
 
   pub error-goes : (s : GatewayAndOutput) (side : Side) (bytes : List ℕ) (flow : ErrorFlow) → AreBytes bytes → Going letters words s (error_taken s side bytes flow)
-  error-goes s side bytes flow are = at (error_plan s.shown side flow)
+  error-goes s side bytes flow are = at (error_plan s.shown side flow (length_in bytes))
     where
       at : (r : Result Plan Reason) → Going letters words s (by_error_verdict s side bytes flow r)
       at (Ok plan) = error-plan-goes s side bytes flow plan are
@@ -320,7 +322,8 @@ module _ (letters : List Letter) (words : List ℕ) where
   retaken-goes reads s side bytes (Ok (Error packet)) read are = error-goes s side bytes packet.flow are
   retaken-goes reads s side bytes (Ok (Arp p)) read are = here s
   retaken-goes reads s side bytes (Ok (Advert a from)) read are = here s
-  retaken-goes reads s side bytes (Err reason) read are = here s
+  retaken-goes reads s side bytes (Ok (Asked echo)) read are = echo-goes s side bytes echo are
+  retaken-goes reads s side bytes (Err reason) read are = refused-goes s side side bytes reason
 
   all-goes : Reads → (s : GatewayAndOutput) (ws : List HeldPacket) → AllByRecursion (λ (w : HeldPacket). AreBytes w.bytes) ws → Going letters words s (all_taken s ws)
   all-goes reads s [] all = here s

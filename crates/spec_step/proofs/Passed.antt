@@ -1,5 +1,5 @@
 -- An error that is passed on is told of.
-use Rattle.std.proofs.Common.{◌≡◌, inl, ℕ, true, false, Some, List, [], ◌∷◌, refl, sym, ◌∙◌}
+use Rattle.std.proofs.Common.{◌≡◌, inl, ℕ, true, false, Some, List, [], ◌∷◌, refl, sym, ◌∙◌, arith}
 use Rattle.std.proofs.lemmas.List.{append-nil}
 use Rattle.std.proofs.lemmas.List.Sorted.{IsPermutation-refl}
 use Rattle.addresses.specs.declared.ethernet.Mac.{Mac}
@@ -9,6 +9,7 @@ use Rattle.packet_rules.specs.declared.translations.Translation.{Translation}
 use Rattle.packet_rules.specs.Errors.{is_error_frame, passed_frame}
 use Rattle.packet_rules.specs.Flows.{error_flow_in}
 use Rattle.packet_rules.specs.Frames.{hop_of, is_translation}
+use Rattle.packet_rules.specs.Own.{is_own_frame}
 use Rattle.packet_rules.specs.Steps.{IsPassable}
 use Rattle.output.specs.Output.{Sent}
 use Rattle.spec_step.specs.Others.{MayGoBy}
@@ -39,9 +40,9 @@ is-passed g side bytes by next passes book synced going next_is =
     }
 
 pub passed-tells : (s : GatewayAndOutput) (side : Side) (bytes : List ℕ) (by : Translation) (next : Mac) → IsPassedOn (known_of s.shown) (MayGoBy s.shown []) (at_hand side bytes) by (passing s.shown bytes by next)
-    → is_translation (exit_by by) (passed_frame s.shown.networks by next bytes) ≡ false → is_error_frame (passed_frame s.shown.networks by next bytes) ≡ true
+    → is_own_frame s.shown.networks (exit_by by) (passed_frame s.shown.networks by next bytes) ≡ false → is_translation (exit_by by) (passed_frame s.shown.networks by next bytes) ≡ false → is_error_frame (passed_frame s.shown.networks by next bytes) ≡ true
     → Told (at_hand side bytes ∷ []) s (framed s (exit_by by) (passed_frame s.shown.networks by next bytes))
-passed-tells s side bytes by next passed apart is =
+passed-tells s side bytes by next passed own apart is =
     let d : Sending = record { packet = at_hand side bytes; by = by; sent = passing s.shown bytes by next } in
     record {
       all = record {
@@ -50,14 +51,21 @@ passed-tells s side bytes by next passed apart is =
         notes = [];
         notes_are = sym (append-nil s.told.notes);
         done = [];
-        translated = rw apart refl;
+        translated = rw (own, apart) refl;
         used = refl;
         each = tt;
         passed = d ∷ [];
-        errors = rw is refl;
+        errors = rw (own, is) refl;
         each_error = (passed, tt);
+        own = [];
+        own_are = rw own refl;
+        each_own = tt;
+        counted_inside = refl;
+        counted_outside = refl;
         dropped = [];
         once = IsPermutation-refl (at_hand side bytes ∷ packets_of s.shown.kept);
       };
       roots = λ p t. inl t;
+      within = λ h. h;
+      later = omega arith;
     }

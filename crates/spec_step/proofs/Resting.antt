@@ -28,8 +28,9 @@ use Rattle.waiting.specs.declared.waits.WaitsFor.{WaitsFor}
 use Rattle.waiting.specs.declared.waits.WaitsFor.TheVariants as wait
 use Rattle.waiting.specs.Packets.{HeldPacket, asks_again, ended_by, left_by, with_asked}
 use Rattle.waiting.proofs.Offered.{all-asked, all-room}
+use Rattle.packet_rules.specs.declared.readings.Asked.{Asked as Echo}
 use Rattle.packet_rules.specs.declared.readings.Reading.{Reading}
-use Rattle.packet_rules.specs.declared.readings.Reading.TheVariants.{Arp, Advert, Packet, Error}
+use Rattle.packet_rules.specs.declared.readings.Reading.TheVariants.{Arp, Advert, Packet, Error, Asked}
 use Rattle.packet_rules.specs.declared.reasons.Reason.{Reason}
 use Rattle.packet_rules.specs.declared.translations.Translation.{Translation}
 use Rattle.packet_rules.specs.declared.translations.Translation.TheVariants.{Outward, Inward, Hairpin}
@@ -39,11 +40,12 @@ use Rattle.arp.specs.Neighbours.{asks_at}
 use Rattle.spec_step.specs.declared.plans.Plan.{Plan}
 use Rattle.spec_step.specs.declared.plans.Plan.TheVariants.{Send, Ask, AskAgain, Wait as WaitFor}
 use Rattle.spec_step.specs.Machine.{AreBytes, KeepsBytes}
-use Rattle.spec_step.specs.Parts.{all_taken, asked_again, by_plan, by_verdict, carried, carried_all, carried_by, flags_in, flow_taken, framed, keeping, neighbour_asked, released, remote, renewed_behind, request_by, retaken_by, taken_again, wanted_by, wanted_for, by_error_plan, by_error_verdict, error_taken}
+use Rattle.spec_step.specs.Parts.{all_taken, asked_again, by_plan, by_verdict, carried, carried_all, carried_by, flags_in, flow_taken, framed, keeping, neighbour_asked, released, remote, renewed_behind, request_by, retaken_by, taken_again, wanted_by, wanted_for, by_error_plan, by_error_verdict, error_taken, echo_taken, length_in, refused}
 use Rattle.spec_step.specs.Rests.{AreBy}
 use Rattle.spec_step.specs.Shown.{GatewayAndOutput, id_of, scene, station_on, with_notes}
 use Rattle.spec_step.specs.Verdict.{exit_by, hop_by, plan_of, reading_on, error_hop, error_plan}
-use Rattle.spec_step.proofs.Packets.{PlanFits, Reads, kept-filter, kept-more, plan-fits, read-formed, refusal-leaves}
+use Rattle.spec_step.proofs.Packets.{PlanFits, Reads, kept-filter, kept-more, plan-fits, read-formed}
+use Rattle.spec_step.proofs.Own.{Said, echo-by, refusal-by, refused-by, said_scene}
 use Rattle.spec_step.proofs.Passing.{IsSound}
 use Rattle.icmp.specs.declared.packets.ErrorFlow.{ErrorFlow}
 
@@ -192,13 +194,33 @@ plan-rests s side bytes flow (WaitFor e) are formed fits =
     let one = wanted_by s e in
     resting-then s one _ (wanted-rests s e fits) (keeping-rests one side bytes (wait.Pair e) are)
 
+-- what a gateway says itself
+said-rests : (s : GatewayAndOutput) (side : Side) → Said (λ x. Resting s x) s side
+said-rests s Inside = λ frame tally hop.
+    let one = said_scene s Inside frame tally in
+    resting-then s one _ (resting-unseen s one refl refl refl (λ k. k)) (renewed-rests one Inside hop)
+said-rests s Outside = λ frame tally hop.
+    let one = said_scene s Outside frame tally in
+    resting-then s one _ (resting-unseen s one refl refl refl (λ k. k)) (renewed-rests one Outside hop)
+
+pub refused-rests : (s : GatewayAndOutput) (side exit : Side) (bytes : List ℕ) (reason : Reason) → Resting s (refused s side exit bytes reason)
+refused-rests s side exit bytes reason = refused-by (λ x. Resting s x) s side exit bytes (resting-nothing s) (said-rests s side) reason
+
+pub echo-rests : (s : GatewayAndOutput) (side : Side) (bytes : List ℕ) (echo : Echo) → AreBytes bytes → Resting s (echo_taken s side bytes echo)
+echo-rests s side bytes echo are =
+    echo-by (λ x. Resting s x) s side bytes echo (resting-nothing s) (said-rests s side)
+    (λ hop place.
+    let one = keeping s side bytes (wait.Hop side hop) in
+    resting-then s one _ (keeping-rests s side bytes (wait.Hop side hop) are) (framed-rests one _ _))
+    (λ hop. again-rests s side hop)
+
 verdict-rests : (s : GatewayAndOutput) (side : Side) (bytes : List ℕ) (flow : Flow) (plan : Result Plan Reason) → AreBytes bytes → IsWellFormedEndpoint (source_of flow) → PlanFits plan → Resting s (by_verdict s side bytes flow plan)
 verdict-rests s side bytes flow (Ok plan) are formed fits = plan-rests s side bytes flow plan are formed fits
 verdict-rests s side bytes flow (Err reason) are formed fits =
-    refusal-leaves (λ x. Resting s x) s flow reason (resting-nothing s) (wanted-rests s (source_of flow) formed)
+    refusal-by (λ x. Resting s x) s side bytes flow (resting-nothing s) (wanted-rests s (source_of flow) formed) (said-rests s side) reason
 
 pub flow-rests : (s : GatewayAndOutput) (side : Side) (bytes : List ℕ) (flow : Flow) → AreBytes bytes → IsWellFormedEndpoint (source_of flow) → Resting s (flow_taken s side bytes flow)
-flow-rests s side bytes flow are formed = verdict-rests s side bytes flow (plan_of s.shown side flow) are formed (plan-fits s.shown side flow formed)
+flow-rests s side bytes flow are formed = verdict-rests s side bytes flow (plan_of s.shown side flow (length_in bytes)) are formed (plan-fits s.shown side flow (length_in bytes) formed)
 
 -- ---- an error
 
@@ -214,7 +236,7 @@ error-plan-rests s side bytes flow (AskAgain by hop) are = again-rests s (exit_b
 error-plan-rests s side bytes flow (WaitFor e) are = resting-nothing s
 
 pub error-rests : (s : GatewayAndOutput) (side : Side) (bytes : List ℕ) (flow : ErrorFlow) → AreBytes bytes → Resting s (error_taken s side bytes flow)
-error-rests s side bytes flow are = at (error_plan s.shown side flow)
+error-rests s side bytes flow are = at (error_plan s.shown side flow (length_in bytes))
   where
     at : (r : Result Plan Reason) → Resting s (by_error_verdict s side bytes flow r)
     at (Ok plan) = error-plan-rests s side bytes flow plan are
@@ -227,7 +249,8 @@ retaken-rests reads s side bytes (Ok (Packet packet)) read are = flow-rests s si
 retaken-rests reads s side bytes (Ok (Error packet)) read are = error-rests s side bytes packet.flow are
 retaken-rests reads s side bytes (Ok (Arp p)) read are = resting-nothing s
 retaken-rests reads s side bytes (Ok (Advert a from)) read are = resting-nothing s
-retaken-rests reads s side bytes (Err reason) read are = resting-nothing s
+retaken-rests reads s side bytes (Ok (Asked echo)) read are = echo-rests s side bytes echo are
+retaken-rests reads s side bytes (Err reason) read are = refused-rests s side side bytes reason
 
 all-rest : Reads → (s : GatewayAndOutput) (ws : List HeldPacket) → AllByRecursion (λ (w : HeldPacket). AreBytes w.bytes) ws → Resting s (all_taken s ws)
 all-rest reads s [] all = resting-nothing s

@@ -1,5 +1,5 @@
 -- One packet or error, and those whose wait is over: what is told of them is true, and what that rests on holds again.
-use Rattle.std.proofs.Common.{◌≡◌, ℕ, Bool, true, false, not, ◌&&◌, List, [], ◌∷◌, ◌++◌, Option, Some, None, Result, Ok, Err, refl, sym, ap, subst, ◌∙◌, cond, IsPermutation, length, inl}
+use Rattle.std.proofs.Common.{◌≡◌, ℕ, Bool, true, false, not, ◌&&◌, List, [], ◌∷◌, ◌++◌, Option, Some, None, Result, Ok, Err, refl, sym, ap, subst, ◌∙◌, cond, IsPermutation, length, inl, arith}
 use Rattle.std.specs.List.{AllByRecursion}
 use Rattle.addresses.specs.declared.ethernet.Mac.{Mac}
 use Rattle.addresses.specs.declared.internet.Ip.{Ip}
@@ -10,6 +10,7 @@ use Rattle.ipv4.specs.declared.flows.Flow.{Flow}
 use Rattle.ipv4.specs.declared.packets.Packet.{Packet as PacketRead}
 use Rattle.spec_binding.specs.declared.changes.Transition.{Transition}
 use Rattle.spec_binding.specs.Books.{IsBook, is_synced}
+use Rattle.spec_binding.specs.Ledgers.{Ledger}
 use Rattle.spec_binding.specs.WellFormed.{IsWellFormedEndpoint}
 use Rattle.spec_binding.specs.Rows.{after, is_full, noted_by, wish_of}
 use Rattle.spec_binding.proofs.Offered.{wish-keeps}
@@ -18,8 +19,9 @@ use Rattle.waiting.specs.declared.waits.WaitsFor.{WaitsFor}
 use Rattle.waiting.specs.declared.waits.WaitsFor.TheVariants as wait
 use Rattle.waiting.specs.Packets.{HeldPacket, asks_again, ended_by, left_by, with_asked}
 use Rattle.waiting.proofs.Offered.{all-asked, all-room, map-asked}
+use Rattle.packet_rules.specs.declared.readings.Asked.{Asked as Echo}
 use Rattle.packet_rules.specs.declared.readings.Reading.{Reading}
-use Rattle.packet_rules.specs.declared.readings.Reading.TheVariants.{Arp, Advert, Packet, Error}
+use Rattle.packet_rules.specs.declared.readings.Reading.TheVariants.{Arp, Advert, Packet, Error, Asked}
 use Rattle.packet_rules.specs.declared.reasons.Reason.{Reason}
 use Rattle.packet_rules.specs.declared.translations.Translation.{Translation}
 use Rattle.packet_rules.specs.declared.translations.Translation.TheVariants.{Outward, Inward, Hairpin}
@@ -28,6 +30,10 @@ use Rattle.packet_rules.specs.Flows.{error_flow_in, flow_in, source_of}
 use Rattle.packet_rules.specs.Frames.{sent_frame}
 use Rattle.packet_rules.specs.Steps.{IsForwardable, IsOfSide, unless, up_refusal, IsPassable}
 use Rattle.packet_rules.specs.Errors.{passed_frame}
+use Rattle.packet_rules.specs.Networks.{network_of}
+use Rattle.packet_rules.specs.Own.{answer_frame as own_answer, complaint_frame, complaint_of, is_own_frame}
+use Rattle.packet_rules.specs.declared.complaints.Complaint.{Complaint}
+use Rattle.interfaces.specs.Tallies.{IsWithin, may_complain}
 use Rattle.interfaces.specs.Stations.{is_active}
 use Rattle.output.specs.Output.{Sent}
 use Rattle.arp.specs.Neighbours.{Neighbours, asks_at}
@@ -36,16 +42,18 @@ use Rattle.spec_step.specs.declared.plans.Plan.{Plan}
 use Rattle.spec_step.specs.declared.plans.Plan.TheVariants.{Send, Ask, AskAgain, Wait as WaitFor}
 use Rattle.spec_step.specs.Machine.{AreBytes}
 use Rattle.spec_step.specs.Others.{is_other}
-use Rattle.spec_step.specs.Parts.{all_taken, asked_again, by_plan, by_refusal, by_row, by_verdict, carried_all, flags_in, flow_taken, framed, keeping, neighbour_asked, released, renewed_behind, request_by, retaken_by, taken_again, wanted_by, wanted_for, by_error_plan, by_error_verdict, error_taken}
+use Rattle.spec_step.specs.OwnAnswers.{Answers, Complains, IsOwnOf, OwnFrame, Purpose, counted_for}
+use Rattle.spec_step.specs.Parts.{all_taken, asked_again, by_plan, by_refusal, by_row, by_verdict, carried_all, flags_in, flow_taken, framed, keeping, neighbour_asked, released, renewed_behind, request_by, retaken_by, taken_again, wanted_by, wanted_for, by_error_plan, by_error_verdict, error_taken, echo_taken, length_in, refused, sender_in}
 use Rattle.spec_step.specs.Shown.{GatewayAndOutput, Shown, id_of, is_up, scene, station_on}
-use Rattle.spec_step.specs.Truly.{AreWired, AtHand, IsSentBy, Known, known_of, packets_of}
-use Rattle.spec_step.specs.Verdict.{error_hop, error_plan, exit_by, hop_by, next_to, plan_of, reading_on}
-use Rattle.spec_step.proofs.Packets.{PlanFits, kept-filter, kept-more, plan-fits, refusal-leaves, source-formed}
+use Rattle.spec_step.specs.Truly.{IsSetUp, AtHand, IsSentBy, Known, known_of, packets_of}
+use Rattle.spec_step.specs.Verdict.{error_hop, error_plan, exit_by, hop_back, hop_by, next_back, next_to, plan_of, reading_on}
+use Rattle.spec_step.proofs.Packets.{PlanFits, kept-filter, kept-more, plan-fits, source-formed}
+use Rattle.spec_step.proofs.Own.{complaint_scene, echo-leaves, exit_in, refusal-leaves, refused-leaves, said-beside, said_scene}
 use Rattle.spec_step.proofs.Passing.{IsSound}
-use Rattle.spec_step.proofs.Sending.{AllTranslate, Frames, carried-leaves, found-translate, is-sent, next-six, own-six, request-other, sending-tells}
+use Rattle.spec_step.proofs.Sending.{AllTranslate, Frames, answer-is, answer-own, carried-leaves, complaint-is, complaint-own, found-translate, is-sent, next-six, own-six, request-other, sending-tells}
 use Rattle.spec_step.proofs.Sends.{plan-sends}
 use Rattle.spec_step.proofs.Takings.{IsUseless, keeping-tells, wanted-for-known, wish-useless}
-use Rattle.spec_step.proofs.Telling.{Told, at_hand, framed-tells, split-kept, tells-nothing, tells-quietly, tells-then, tells-unseen}
+use Rattle.spec_step.proofs.Telling.{Told, at_hand, framed-tells, own-tells, split-kept, tells-nothing, tells-quietly, tells-then, tells-unseen}
 use Rattle.spec_step.proofs.Erring.{ErrorSays, IsErrorGoing, error-says}
 use Rattle.spec_step.proofs.Passed.{is-passed, passed-tells}
 use Rattle.spec_step.proofs.Rooting.{RowRoots, wish-roots}
@@ -58,14 +66,14 @@ use Rattle.icmp.specs.declared.packets.ErrorPacket.{ErrorPacket}
 pub record Says (hand : List AtHand) (s s2 : GatewayAndOutput) : Type 0 where
   pub tells : Told hand s s2
   pub sound : IsSound s2.shown
-  pub wired : AreWired s2.shown
+  pub wired : IsSetUp s2.shown
 
 abbrev pub Speaks : List AtHand → GatewayAndOutput → GatewayAndOutput → Type 0
-Speaks hand s s2 = IsSound s.shown → AreWired s.shown → Says hand s s2
+Speaks hand s s2 = IsSound s.shown → IsSetUp s.shown → Says hand s s2
 
 -- a part that leaves what decides where packets go
 abbrev pub Saying : List AtHand → GatewayAndOutput → GatewayAndOutput → Type 0
-Saying hand s s2 = IsSound s.shown → AreWired s.shown → Says hand s s2 × (known_of s2.shown ≡ known_of s.shown)
+Saying hand s s2 = IsSound s.shown → IsSetUp s.shown → Says hand s s2 × (known_of s2.shown ≡ known_of s.shown)
 
 -- one part behind the other
 pub speaks-then : (h h2 : List AtHand) (a b c : GatewayAndOutput) → Speaks h a b → Saying h2 b c → Speaks (h ++ h2) a c
@@ -90,7 +98,7 @@ saying-nothing s hand = λ is w. (record { tells = tells-nothing s hand; sound =
 pub row-says : (s : GatewayAndOutput) (row : Transition) → IsUseless row → RowRoots s.shown.ledger.book row → (IsBook s.shown.ledger.book → IsBook (after s.shown.ledger.book row)) → Saying [] s (by_row s row)
 row-says s row useless roots keeps = λ is w. (
   record {
-    tells = tells-quietly s (by_row s row) (noted_by (id_of s.shown) s.shown.moment row.what) refl refl (useless (id_of s.shown) s.shown.moment) refl (roots (id_of s.shown) s.shown.moment);
+    tells = tells-quietly s (by_row s row) (noted_by (id_of s.shown) s.shown.moment row.what) refl refl (useless (id_of s.shown) s.shown.moment) refl (roots (id_of s.shown) s.shown.moment) (refl, (refl, omega arith));
     sound = record { book = keeps is.book; kept = is.kept };
     wired = w;
   },
@@ -109,7 +117,7 @@ wanted-for-says s flow (Inward p) formed = saying-nothing s []
 wanted-for-says s flow (Hairpin own other) formed = wanted-says s (source_of flow) formed
 
 -- a frame of another kind
-pub framed-says : (s : GatewayAndOutput) (side : Side) (bytes : List ℕ) → (AreWired s.shown → is_other side bytes ≡ true) → Saying [] s (framed s side bytes)
+pub framed-says : (s : GatewayAndOutput) (side : Side) (bytes : List ℕ) → (IsSetUp s.shown → is_other s.shown.networks side bytes ≡ true) → Saying [] s (framed s side bytes)
 framed-says s side bytes none = λ is w. (
   record { tells = framed-tells s side bytes (none w); sound = record { book = is.book; kept = is.kept }; wired = w },
   refl,
@@ -142,7 +150,7 @@ read-from s side bytes flow read = subst (λ (f : Flow). IsWellFormedEndpoint (s
 renewed-says : Frames → (s : GatewayAndOutput) (exit : Side) (hop : Ip) → Saying [] s (renewed_behind s exit hop)
 renewed-says frames s exit hop = at exit (asks_at hop.0 s.shown.moment (station_on s.shown exit).neighbours)
   where
-    wired : (side : Side) → AreWired s.shown → AreWired (neighbour_asked s.shown side hop)
+    wired : (side : Side) → IsSetUp s.shown → IsSetUp (neighbour_asked s.shown side hop)
     wired Inside w = (w.0, (record { own = w.1.0.own; known = asked-six hop.0 s.shown.moment s.shown.inside.neighbours w.1.0.known }, w.1.1))
     wired Outside w = (w.0, (w.1.0, record { own = w.1.1.own; known = asked-six hop.0 s.shown.moment s.shown.outside.neighbours w.1.1.known }))
 
@@ -153,11 +161,11 @@ renewed-says frames s exit hop = at exit (asks_at hop.0 s.shown.moment (station_
     -- the neighbours alone are others
     asked : (side : Side) → Saying [] s (scene (neighbour_asked s.shown side hop) s.told)
     asked Inside = λ is w. (
-      record { tells = tells-unseen s _ refl refl refl refl; sound = record { book = is.book; kept = is.kept }; wired = wired Inside w },
+      record { tells = tells-unseen s _ refl refl refl refl (refl, (refl, omega arith)); sound = record { book = is.book; kept = is.kept }; wired = wired Inside w },
       known Inside,
     )
     asked Outside = λ is w. (
-      record { tells = tells-unseen s _ refl refl refl refl; sound = record { book = is.book; kept = is.kept }; wired = wired Outside w },
+      record { tells = tells-unseen s _ refl refl refl refl (refl, (refl, omega arith)); sound = record { book = is.book; kept = is.kept }; wired = wired Outside w },
       known Outside,
     )
 
@@ -165,7 +173,7 @@ renewed-says frames s exit hop = at exit (asks_at hop.0 s.shown.moment (station_
     at side true =
         let mid = scene (neighbour_asked s.shown side hop) s.told in
         λ is w. saying-then [] [] s mid (framed mid side (request_by s.shown side hop)) (asked side)
-        (framed-says mid side (request_by s.shown side hop) (λ x. request-other frames side (station_on s.shown side).network hop (own-six s.shown w side))) is w
+        (framed-says mid side (request_by s.shown side hop) (λ x. request-other frames mid.shown.networks side (station_on s.shown side).network hop (own-six s.shown w side))) is w
     at side false = saying-nothing s []
 
 again-says : Frames → (s : GatewayAndOutput) (exit : Side) (hop : Ip) → Saying [] s (asked_again s exit hop)
@@ -196,10 +204,17 @@ again-says frames s exit hop = at (asks_again s.shown.moment (wait.Hop exit hop)
             passed = [];
             errors = refl;
             each_error = tt;
+            own = [];
+            own_are = refl;
+            each_own = tt;
+            counted_inside = refl;
+            counted_outside = refl;
             dropped = [];
             once = subst (λ (ps : List AtHand). IsPermutation (packets_of s.shown.kept) ps) (sym same) (IsPermutation-refl (packets_of s.shown.kept));
           };
           roots = λ p t. inl t;
+          within = λ h. h;
+          later = omega arith;
         };
         sound = record { book = is.book; kept = all-asked (λ (x : HeldPacket). AreBytes x.bytes) (λ x n are. are) s.shown.moment (wait.Hop exit hop) s.shown.kept is.kept };
         wired = w;
@@ -209,18 +224,18 @@ again-says frames s exit hop = at (asks_again s.shown.moment (wait.Hop exit hop)
 
     at : (b : Bool) → Saying [] s (let x : GatewayAndOutput = cond b (framed mid exit (request_by s.shown exit hop)) s in x)
     at true = λ is w. saying-then [] [] s mid (framed mid exit (request_by s.shown exit hop)) asked
-        (framed-says mid exit (request_by s.shown exit hop) (λ x. request-other frames exit (station_on s.shown exit).network hop (own-six s.shown w exit))) is w
+        (framed-says mid exit (request_by s.shown exit hop) (λ x. request-other frames mid.shown.networks exit (station_on s.shown exit).network hop (own-six s.shown w exit))) is w
     at false = saying-nothing s []
 
 -- ---- a packet that is sent on
 
 -- from the scene at which its pairs are there
-sending-says : Frames → (s one : GatewayAndOutput) (side : Side) (bytes : List ℕ) (by : Translation) (next : Mac) → IsRead s side bytes (flow_in bytes) → plan_of s.shown side (flow_in bytes) ≡ Ok (Send by next)
-    → one ≡ wanted_for s (flow_in bytes) by → IsBook s.shown.ledger.book → AreWired s.shown
+sending-says : Frames → (s one : GatewayAndOutput) (side : Side) (bytes : List ℕ) (by : Translation) (next : Mac) → IsRead s side bytes (flow_in bytes) → plan_of s.shown side (flow_in bytes) (length_in bytes) ≡ Ok (Send by next)
+    → one ≡ wanted_for s (flow_in bytes) by → IsBook s.shown.ledger.book → IsSetUp s.shown
     → Saying (at_hand side bytes ∷ []) one (carried_all (framed one (exit_by by) (sent_frame s.shown.networks by next bytes)) (flow_in bytes) (flags_in bytes) by)
 sending-says frames s one side bytes by next read plan at book wired = λ is w.
     let flow = flow_in bytes in
-    let planned = plan-sends s.shown side flow by next plan in
+    let planned = plan-sends s.shown side flow (length_in bytes) by next plan in
     let found = found-translate s flow by book read.synced planned.pairs in
     let frame = sent_frame s.shown.networks by next bytes in
     let same : known_of one.shown ≡ known_of s.shown = ap (λ (x : GatewayAndOutput). known_of x.shown) at ∙ wanted-for-known s flow by in
@@ -229,7 +244,9 @@ sending-says frames s one side bytes by next read plan at book wired = λ is w.
       record {
         tells = sending-tells one side bytes flow (flags_in bytes) by frame
             (subst (λ (k : Known). IsSentBy k (at_hand side bytes) by (let x : Sent = record { side = exit_by by; bytes = frame } in x)) (sym same) sent)
-            (frames.sent s.shown.networks side by next bytes wired.0 (next-six s.shown flow by next wired planned.next_is) read.passes read.of_side planned.way)
+            (subst (λ (k : Known). is_own_frame k.networks (exit_by by) frame ≡ false) (sym same)
+            (frames.own.sent s.shown.networks side by next bytes wired.0.0 wired.0.1.placed (next-six s.shown flow by next wired planned.next_is) read.passes read.of_side read.are planned.way))
+            (frames.sent s.shown.networks side by next bytes wired.0.0 (next-six s.shown flow by next wired planned.next_is) read.passes read.of_side planned.way)
             (subst (λ (x : GatewayAndOutput). AllTranslate x.shown.ledger.book by) (sym at) found.0);
         sound = record {
           book = subst IsBook (sym c.book) is.book;
@@ -240,7 +257,7 @@ sending-says frames s one side bytes by next read plan at book wired = λ is w.
       c.known,
     )
 
-sent-says : Frames → (s : GatewayAndOutput) (side : Side) (bytes : List ℕ) (by : Translation) (next : Mac) → IsRead s side bytes (flow_in bytes) → plan_of s.shown side (flow_in bytes) ≡ Ok (Send by next)
+sent-says : Frames → (s : GatewayAndOutput) (side : Side) (bytes : List ℕ) (by : Translation) (next : Mac) → IsRead s side bytes (flow_in bytes) → plan_of s.shown side (flow_in bytes) (length_in bytes) ≡ Ok (Send by next)
     → Saying (at_hand side bytes ∷ []) s (by_plan s side bytes (flow_in bytes) (Send by next))
 sent-says frames s side bytes by next read plan =
     let flow = flow_in bytes in
@@ -258,13 +275,13 @@ addressed flow = record flow.inside { source = flow.source; destination = flow.d
 
 -- ---- any plan, and none
 
-plan-says : Frames → (s : GatewayAndOutput) (side : Side) (bytes : List ℕ) (flow : Flow) (plan : Plan) → IsRead s side bytes flow → plan_of s.shown side flow ≡ Ok plan → PlanFits (Ok plan)
+plan-says : Frames → (s : GatewayAndOutput) (side : Side) (bytes : List ℕ) (flow : Flow) (plan : Plan) → IsRead s side bytes flow → plan_of s.shown side flow (length_in bytes) ≡ Ok plan → PlanFits (Ok plan)
     → Saying (at_hand side bytes ∷ []) s (by_plan s side bytes flow plan)
 plan-says frames s side bytes flow (Send by next) read plan fits =
     let same = read.flow_is in
     let read2 : IsRead s side bytes (flow_in bytes) = record { are = read.are; synced = read.synced; passes = read.passes; of_side = read.of_side; flow_is = refl } in
     subst (λ (f : Flow). Saying (at_hand side bytes ∷ []) s (by_plan s side bytes f (Send by next))) (sym same)
-    (sent-says frames s side bytes by next read2 (ap (plan_of s.shown side) (sym same) ∙ plan))
+    (sent-says frames s side bytes by next read2 (ap (λ (f : Flow). plan_of s.shown side f (length_in bytes)) (sym same) ∙ plan))
 plan-says frames s side bytes flow (Ask by hop) read plan fits =
     let hand = at_hand side bytes ∷ [] in
     let one = wanted_for s flow by in
@@ -272,23 +289,62 @@ plan-says frames s side bytes flow (Ask by hop) read plan fits =
     let network = (station_on s.shown (exit_by by)).network in
     let first = saying-then [] hand s one two (wanted-for-says s flow by (read-from s side bytes flow read)) (keeping-says one side bytes (wait.Hop (exit_by by) hop) read.are) in
     λ is w. saying-then hand [] s two (framed two (exit_by by) (request_frame network hop)) first
-    (framed-says two (exit_by by) (request_frame network hop) (λ x. request-other frames (exit_by by) network hop (own-six s.shown w (exit_by by)))) is w
+    (framed-says two (exit_by by) (request_frame network hop) (λ x. request-other frames two.shown.networks (exit_by by) network hop (own-six s.shown w (exit_by by)))) is w
 plan-says frames s side bytes flow (AskAgain by hop) read plan fits =
     let hand = at_hand side bytes ∷ [] in
     saying-then hand [] s s (asked_again s (exit_by by) hop) (saying-nothing s hand) (again-says frames s (exit_by by) hop)
 plan-says frames s side bytes flow (WaitFor e) read plan fits =
     saying-then [] (at_hand side bytes ∷ []) s (wanted_by s e) (by_plan s side bytes flow (WaitFor e)) (wanted-says s e fits) (keeping-says (wanted_by s e) side bytes (wait.Pair e) read.are)
 
-refusal-says : (s : GatewayAndOutput) (flow : Flow) (reason : Reason) → IsWellFormedEndpoint (source_of flow) → Saying [] s (by_refusal s flow reason)
-refusal-says s flow reason formed = refusal-leaves (λ x. Saying [] s x) s flow reason (saying-nothing s []) (wanted-says s (source_of flow) formed)
+-- the gateway says something itself, of the packet in hand
+own-says : Frames → (s : GatewayAndOutput) (side : Side) (bytes : List ℕ) (purpose : Purpose) (frame : List ℕ) (hop : Ip) → (IsSetUp s.shown → is_own_frame s.shown.networks side frame ≡ true)
+    → (let x : Sent = record { side = side; bytes = frame } in let o : OwnFrame = record { packet = at_hand side bytes; purpose = purpose; sent = x } in IsSetUp s.shown → IsOwnOf (known_of s.shown) o)
+    → (IsWithin (station_on s.shown side).said → IsWithin (counted_for purpose s.shown.moment (station_on s.shown side).said))
+    → Saying (at_hand side bytes ∷ []) s (renewed_behind (said_scene s side frame (counted_for purpose s.shown.moment (station_on s.shown side).said)) side hop)
+own-says frames s side bytes purpose frame hop own is_of within =
+    let hand = at_hand side bytes ∷ [] in
+    let tally = counted_for purpose s.shown.moment (station_on s.shown side).said in
+    let two = said_scene s side frame tally in
+    let beside = said-beside s side frame tally in
+    let said : Saying hand s two = λ is w. (
+      record {
+        tells = own-tells s side bytes purpose frame (own w) (is_of w) within;
+        sound = record {
+          book = subst (λ (l : Ledger). IsBook l.book) (sym beside.ledger) is.book;
+          kept = subst (λ (ws : List HeldPacket). AllByRecursion (λ (v : HeldPacket). AreBytes v.bytes) ws) (sym beside.kept) is.kept;
+        };
+        wired = beside.set_up w;
+      },
+      beside.known,
+    ) in
+    saying-then hand [] s two (renewed_behind two side hop) said (renewed-says frames two side hop)
+
+complaint-says : Frames → (s : GatewayAndOutput) (side exit : Side) (bytes : List ℕ) (reason : Reason) (complaint : Complaint) (next : Mac) → AreBytes bytes → complaint_of s.shown.networks side exit reason bytes ≡ Some complaint
+    → next_back s.shown side (sender_in bytes) ≡ Some next → may_complain s.shown.moment (station_on s.shown side).said ≡ true
+    → Saying (at_hand side bytes ∷ []) s (renewed_behind (complaint_scene s side bytes complaint next) side (hop_back s.shown side (sender_in bytes)))
+complaint-says frames s side exit bytes reason complaint next are is there free =
+    own-says frames s side bytes (Complains reason exit) (complaint_frame (network_of s.shown.networks side) complaint next bytes) (hop_back s.shown side (sender_in bytes))
+    (λ w. complaint-own frames s.shown side bytes complaint next are w there) (λ w. complaint-is s.shown side exit bytes reason complaint next are is there)
+    (λ h. frames.tallies.complained s.shown.moment (station_on s.shown side).said h free)
+
+pub refused-says : Frames → (s : GatewayAndOutput) (side exit : Side) (bytes : List ℕ) (reason : Reason) → AreBytes bytes → Saying (at_hand side bytes ∷ []) s (refused s side exit bytes reason)
+refused-says frames s side exit bytes reason are =
+    let hand = at_hand side bytes ∷ [] in
+    refused-leaves (λ x. Saying hand s x) s side exit bytes (saying-nothing s hand) (λ r complaint next is there free. complaint-says frames s side exit bytes r complaint next are is there free) reason
+
+refusal-says : Frames → (s : GatewayAndOutput) (side : Side) (bytes : List ℕ) (flow : Flow) (reason : Reason) → AreBytes bytes → IsWellFormedEndpoint (source_of flow) → Saying (at_hand side bytes ∷ []) s (by_refusal s side bytes flow reason)
+refusal-says frames s side bytes flow reason are formed =
+    let hand = at_hand side bytes ∷ [] in
+    refusal-leaves (λ x. Saying hand s x) s side bytes flow (saying-nothing s hand)
+    (saying-then hand [] s s (wanted_by s (source_of flow)) (saying-nothing s hand) (wanted-says s (source_of flow) formed))
+    (λ r complaint next is there free. complaint-says frames s side (exit_in s side flow) bytes r complaint next are is there free) reason
 
 flow-says : Frames → (s : GatewayAndOutput) (side : Side) (bytes : List ℕ) (flow : Flow) → IsRead s side bytes flow → Saying (at_hand side bytes ∷ []) s (flow_taken s side bytes flow)
-flow-says frames s side bytes flow read = at (plan_of s.shown side flow) refl (plan-fits s.shown side flow (read-from s side bytes flow read))
+flow-says frames s side bytes flow read = at (plan_of s.shown side flow (length_in bytes)) refl (plan-fits s.shown side flow (length_in bytes) (read-from s side bytes flow read))
   where
-    at : (r : Result Plan Reason) → plan_of s.shown side flow ≡ r → PlanFits r → Saying (at_hand side bytes ∷ []) s (by_verdict s side bytes flow r)
+    at : (r : Result Plan Reason) → plan_of s.shown side flow (length_in bytes) ≡ r → PlanFits r → Saying (at_hand side bytes ∷ []) s (by_verdict s side bytes flow r)
     at (Ok plan) is fits = plan-says frames s side bytes flow plan read is fits
-    at (Err reason) is fits =
-        saying-then (at_hand side bytes ∷ []) [] s s (by_refusal s flow reason) (saying-nothing s (at_hand side bytes ∷ [])) (refusal-says s flow reason (read-from s side bytes flow read))
+    at (Err reason) is fits = refusal-says frames s side bytes flow reason read.are (read-from s side bytes flow read)
 
 -- ---- frames as they are read
 
@@ -335,15 +391,16 @@ passed-says frames s side bytes by next read goes next_is = λ is w. (
   record {
     tells = passed-tells s side bytes by next
         (is-passed s.shown side bytes by next read.passes is.book read.synced goes next_is)
-        (frames.passed_apart s.shown.networks (exit_by by) by next bytes w.0 (six w) read.passes)
-        (frames.passed s.shown.networks by next bytes w.0 (six w) read.passes);
+        (frames.own.passed s.shown.networks side by next bytes w.0.0 w.0.1.placed (six w) read.passes read.are goes.way)
+        (frames.passed_apart s.shown.networks (exit_by by) by next bytes w.0.0 (six w) read.passes)
+        (frames.passed s.shown.networks by next bytes w.0.0 (six w) read.passes);
     sound = record { book = is.book; kept = is.kept };
     wired = w;
   },
   refl,
 )
   where
-    six : AreWired s.shown → length next.0 ≡ 6
+    six : IsSetUp s.shown → length next.0 ≡ 6
     six w = next-six s.shown (addressed (error_flow_in bytes)) by next w next_is
 
 error-plan-says : Frames → (s : GatewayAndOutput) (side : Side) (bytes : List ℕ) (plan : Plan) → IsErrorRead s bytes (error_flow_in bytes) → ErrorSays s.shown side (error_flow_in bytes) (Ok plan)
@@ -359,7 +416,7 @@ error-plan-says frames s side bytes (Ask by hop) read says =
     let one = keeping s side bytes what in
     let network = (station_on s.shown (exit_by by)).network in
     λ is w. saying-then hand [] s one (framed one (exit_by by) (request_frame network hop)) (keeping-says s side bytes what read.are)
-    (framed-says one (exit_by by) (request_frame network hop) (λ x. request-other frames (exit_by by) network hop (own-six s.shown w (exit_by by)))) is w
+    (framed-says one (exit_by by) (request_frame network hop) (λ x. request-other frames one.shown.networks (exit_by by) network hop (own-six s.shown w (exit_by by)))) is w
 error-plan-says frames s side bytes (AskAgain by hop) read says =
     let hand = at_hand side bytes ∷ [] in
     saying-then hand [] s s (asked_again s (exit_by by) hop) (saying-nothing s hand) (again-says frames s (exit_by by) hop)
@@ -368,7 +425,7 @@ error-plan-says frames s side bytes (WaitFor e) read says = absurd says
 error-says-of : Frames → (s : GatewayAndOutput) (side : Side) (bytes : List ℕ) (flow : ErrorFlow) → IsErrorRead s bytes flow → Saying (at_hand side bytes ∷ []) s (error_taken s side bytes flow)
 error-says-of frames s side bytes flow read =
     subst (λ (f : ErrorFlow). Saying (at_hand side bytes ∷ []) s (error_taken s side bytes f)) (sym read.flow_is)
-    (at (error_plan s.shown side (error_flow_in bytes)) (error-says s.shown side (error_flow_in bytes)))
+    (at (error_plan s.shown side (error_flow_in bytes) (length_in bytes)) (error-says s.shown side (error_flow_in bytes) (length_in bytes)))
   where
     at : (r : Result Plan Reason) → ErrorSays s.shown side (error_flow_in bytes) r → Saying (at_hand side bytes ∷ []) s (by_error_verdict s side bytes (error_flow_in bytes) r)
     at (Ok plan) says = error-plan-says frames s side bytes plan (record { are = read.are; synced = read.synced; passes = read.passes; flow_is = refl }) says
@@ -381,14 +438,33 @@ error-packet-says frames s side bytes packet is are =
     let carries = frames.reads side at.network (is_active at) (is_up s.shown) bytes (Error packet) is in
     error-says-of frames s side bytes packet.flow (record { are = are; synced = reading-synced s.shown side bytes (Error packet) is; passes = carries.0; flow_is = ap (λ (p : ErrorPacket). p.flow) carries.1 })
 
+-- ---- an Echo to the gateway
+
+pub echo-says : Frames → (s : GatewayAndOutput) (side : Side) (bytes : List ℕ) (echo : Echo) → reading_on s.shown side bytes ≡ Ok (Asked echo) → AreBytes bytes → Saying (at_hand side bytes ∷ []) s (echo_taken s side bytes echo)
+echo-says frames s side bytes echo read are =
+    let hand = at_hand side bytes ∷ [] in
+    let hop = hop_back s.shown side echo.source in
+    let network = (station_on s.shown side).network in
+    let one = keeping s side bytes (wait.Hop side hop) in
+    echo-leaves (λ x. Saying hand s x) s side bytes echo
+    (λ next may there free.
+    own-says frames s side bytes Answers (own_answer (network_of s.shown.networks side) next bytes) hop
+    (λ w. answer-own frames s.shown side bytes echo next read are w there) (λ w. answer-is frames s.shown side bytes echo next read are w may there)
+    (λ h. frames.tallies.replied s.shown.moment (station_on s.shown side).said h free))
+    (λ may there place is w. saying-then hand [] s one (framed one side (request_frame network hop)) (keeping-says s side bytes (wait.Hop side hop) are)
+    (framed-says one side (request_frame network hop) (λ x. request-other frames one.shown.networks side network hop (own-six s.shown w side))) is w)
+    (λ may there. saying-then hand [] s s (asked_again s side hop) (saying-nothing s hand) (again-says frames s side hop))
+    (λ reason. refused-says frames s side side bytes reason are)
+
 -- ---- a frame that is read again
 
-retaken-says : Frames → (s : GatewayAndOutput) (side : Side) (bytes : List ℕ) (r : Result Reading Reason) → reading_on s.shown side bytes ≡ r → AreBytes bytes → Saying (at_hand side bytes ∷ []) s (retaken_by s side bytes r)
+pub retaken-says : Frames → (s : GatewayAndOutput) (side : Side) (bytes : List ℕ) (r : Result Reading Reason) → reading_on s.shown side bytes ≡ r → AreBytes bytes → Saying (at_hand side bytes ∷ []) s (retaken_by s side bytes r)
 retaken-says frames s side bytes (Ok (Packet packet)) is are = packet-says frames s side bytes packet is are
 retaken-says frames s side bytes (Ok (Error packet)) is are = error-packet-says frames s side bytes packet is are
 retaken-says frames s side bytes (Ok (Arp p)) is are = saying-nothing s (at_hand side bytes ∷ [])
 retaken-says frames s side bytes (Ok (Advert a from)) is are = saying-nothing s (at_hand side bytes ∷ [])
-retaken-says frames s side bytes (Err reason) is are = saying-nothing s (at_hand side bytes ∷ [])
+retaken-says frames s side bytes (Ok (Asked echo)) is are = echo-says frames s side bytes echo is are
+retaken-says frames s side bytes (Err reason) is are = refused-says frames s side side bytes reason are
 
 -- ---- those whose wait is over
 
@@ -417,10 +493,17 @@ module _ (frames : Frames) (s : GatewayAndOutput) (ended : Ended) where
       passed = x.all.passed;
       errors = x.all.errors;
       each_error = x.all.each_error;
+      own = x.all.own;
+      own_are = x.all.own_are;
+      each_own = x.all.each_own;
+      counted_inside = x.all.counted_inside;
+      counted_outside = x.all.counted_outside;
       dropped = x.all.dropped;
       once = IsPermutation-trans _ _ _ (IsPermutation-sym _ _ (split-kept ended s.shown.kept)) x.all.once;
     };
     roots = x.roots;
+    within = x.within;
+    later = x.later;
   }
 
   released-by : AllByRecursion (λ (w : HeldPacket). AreBytes w.bytes) s.shown.kept → Saying (packets_of (ended_by ended s.shown.kept)) start (released s ended)

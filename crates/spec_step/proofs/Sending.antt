@@ -1,5 +1,5 @@
 -- A packet that is sent on is told of truly.
-use Rattle.std.proofs.Common.{◌≡◌, ℕ, true, false, Some, Ok, List, [], ◌∷◌, ◌++◌, length, IsPermutation, refl, sym, ap, subst, ◌∙◌, append_assoc}
+use Rattle.std.proofs.Common.{◌≡◌, ℕ, Bool, true, false, Some, Ok, List, [], ◌∷◌, ◌++◌, length, IsPermutation, refl, sym, ap, subst, ◌∙◌, append_assoc, arith}
 use Rattle.std.proofs.lemmas.List.{append-nil}
 use Rattle.std.proofs.lemmas.Grind.{flat_map-append}
 use Rattle.std.proofs.lemmas.List.Sorted.{IsPermutation-refl}
@@ -14,37 +14,74 @@ use Rattle.arp.specs.declared.packets.ArpPacket.{ArpPacket}
 use Rattle.arp.specs.Macs.{KnowsMacs}
 use Rattle.arp.specs.Neighbours.{mac_at}
 use Rattle.arp.proofs.Offered.{mac-forgetful, near-six}
+use Rattle.frames.specs.Frame.{frame_of}
 use Rattle.ipv4.specs.declared.flows.Flow.{Flow}
 use Rattle.spec_binding.specs.Books.{Book, IsBook, is_synced}
 use Rattle.spec_binding.specs.Rows.{carry_row, is_full, noted_by}
 use Rattle.waiting.specs.Packets.{HeldPacket}
+use Rattle.packet_rules.specs.declared.complaints.Complaint.{Complaint}
 use Rattle.packet_rules.specs.declared.networks.Network.{Network}
 use Rattle.packet_rules.specs.declared.networks.Networks.{Networks}
+use Rattle.packet_rules.specs.declared.readings.Asked.{Asked as Echo}
+use Rattle.packet_rules.specs.declared.readings.Reading.TheVariants.{Asked}
+use Rattle.packet_rules.specs.declared.reasons.Reason.{Reason}
 use Rattle.packet_rules.specs.declared.translations.Translation.{Translation}
 use Rattle.packet_rules.specs.declared.translations.Translation.TheVariants.{Outward, Inward, Hairpin}
 use Rattle.packet_rules.specs.Adverts.{advert_frame}
+use Rattle.packet_rules.specs.Asked.{IsAskable, is_asked}
 use Rattle.packet_rules.specs.Arping.{answer_frame, gratuitous_frame, request_frame}
-use Rattle.packet_rules.specs.Flows.{flow_in, source_of}
+use Rattle.packet_rules.specs.Flows.{error_flow_in, flow_in, source_of}
 use Rattle.packet_rules.specs.Frames.{hop_of, is_translation, pairs_of, sent_frame, way_of}
-use Rattle.packet_rules.specs.Networks.{IsWired, direction_of, exit_of}
-use Rattle.packet_rules.specs.Steps.{IsForwardable, IsOfSide, IsPassable}
-use Rattle.packet_rules.specs.Errors.{is_error_frame, passed_frame}
+use Rattle.packet_rules.specs.Networks.{IsPlaced, IsWired, direction_of, exit_of, may_answer, network_of}
+use Rattle.packet_rules.specs.Own.{answer_frame as own_answer, complaint_frame, complaint_of, is_own_frame}
+use Rattle.packet_rules.specs.Steps.{IsForwardable, IsOfSide, IsPassable, reading_of}
+use Rattle.packet_rules.specs.Errors.{error_direction, is_error_frame, passed_frame}
+use Rattle.interfaces.specs.declared.tallies.Tally.{Tally}
+use Rattle.interfaces.specs.Stations.{is_active}
+use Rattle.interfaces.specs.Tallies.{IsWithin, complained, may_complain, may_reply, replied}
 use Rattle.output.specs.Output.{Sent}
-use Rattle.spec_step.specs.Others.{is_other, retaken_pairs}
-use Rattle.spec_step.specs.Parts.{carried_all, framed, wanted_for}
-use Rattle.spec_step.specs.Shown.{GatewayAndOutput, Shown, id_of, station_on}
-use Rattle.spec_step.specs.Truly.{AreItsPairs, AreWired, IsSentBy, Known, Sending, known_of, near_on, packets_of, unasked, used_in, used_pairs}
-use Rattle.spec_step.specs.Verdict.{exit_by, hop_by, next_by}
+use Rattle.spec_step.specs.Others.{IsEcho, is_other, retaken_pairs}
+use Rattle.spec_step.specs.Machine.{AreBytes}
+use Rattle.spec_step.specs.Parts.{carried_all, framed, sender_in, wanted_for}
+use Rattle.spec_step.specs.OwnAnswers.{Answers, Complains, IsOwnOf, OwnFrame, own_frames}
+use Rattle.spec_step.specs.PassedOn.{error_frames}
+use Rattle.spec_step.specs.Shown.{GatewayAndOutput, Shown, id_of, is_up, station_on}
+use Rattle.spec_step.specs.Truly.{AreItsPairs, IsSetUp, IsSentBy, Known, Sending, known_of, near_on, packets_of, translated_frames, unasked, used_in, used_pairs}
+use Rattle.spec_step.specs.Verdict.{exit_by, hop_back, hop_by, next_back, next_by, reading_on}
+use Rattle.spec_step.proofs.Own.{told-answers}
 use Rattle.spec_step.proofs.FrameKinds.{other-by, sent-no_error}
 use Rattle.spec_step.proofs.Packets.{Reads}
 use Rattle.spec_step.proofs.Rooting.{same-rooted}
 use Rattle.spec_step.proofs.Sends.{AreFound, IsOwn, IsPlanned}
-use Rattle.spec_step.proofs.Telling.{Told, at_hand}
+use Rattle.spec_step.proofs.Telling.{SameSaid, Told, at_hand, within-by}
 use Rattle.spec_step.proofs.Translating.{Translates, carry-note, target-translates, wish-owns, wish-still}
+
+-- a tally stays within its limits
+pub record Limited : Type 0 where
+  pub replied : (now : ℕ) (tally : Tally) → IsWithin tally → may_reply now tally ≡ true → IsWithin (replied now tally)
+  pub complained : (now : ℕ) (tally : Tally) → IsWithin tally → may_complain now tally ≡ true → IsWithin (complained now tally)
+
+-- which frames are the gateway's own
+pub record OwnFrames : Type 0 where
+  pub answer : (networks : Networks) (side : Side) (active : Bool) (next : Mac) (bytes : List ℕ) → IsWired networks → IsPlaced networks → length next.0 ≡ 6 → AreBytes bytes → IsAskable bytes
+      → is_asked (network_of networks side) active (frame_of bytes) ≡ true → is_own_frame networks side (own_answer (network_of networks side) next bytes) ≡ true
+  pub complaint : (networks : Networks) (side : Side) (complaint : Complaint) (next : Mac) (bytes : List ℕ) → IsWired networks → IsPlaced networks → length next.0 ≡ 6 → AreBytes bytes
+      → is_own_frame networks side (complaint_frame (network_of networks side) complaint next bytes) ≡ true
+  pub sent : (networks : Networks) (side : Side) (t : Translation) (next : Mac) (bytes : List ℕ) → IsWired networks → IsPlaced networks → length next.0 ≡ 6 → IsForwardable bytes → IsOfSide side bytes → AreBytes bytes
+      → (let flow = flow_in bytes in direction_of networks side flow.protocol flow.source.0 flow.destination.0 ≡ Ok (way_of t)) → is_own_frame networks (exit_of (way_of t)) (sent_frame networks t next bytes) ≡ false
+  pub passed : (networks : Networks) (side : Side) (t : Translation) (next : Mac) (bytes : List ℕ) → IsWired networks → IsPlaced networks → length next.0 ≡ 6 → IsPassable bytes → AreBytes bytes
+      → error_direction networks side (error_flow_in bytes) ≡ Ok (way_of t) → is_own_frame networks (exit_of (way_of t)) (passed_frame networks t next bytes) ≡ false
+  pub arp : (networks : Networks) (side : Side) (network : Network) (p : ArpPacket) (mac : Mac) → length network.own_mac.0 ≡ 6 → length p.sender_mac.0 ≡ 6 → is_own_frame networks side (answer_frame network p mac) ≡ false
+  pub request : (networks : Networks) (side : Side) (network : Network) (ip : Ip) → length network.own_mac.0 ≡ 6 → is_own_frame networks side (request_frame network ip) ≡ false
+  pub gratuitous : (networks : Networks) (side : Side) (network : Network) → is_own_frame networks side (gratuitous_frame network) ≡ false
+  pub advert : (networks : Networks) (side : Side) (network : Network) (priority interval : ℕ) → is_own_frame networks side (advert_frame network priority interval) ≡ false
 
 -- what is known of frames: what they are read as, and which of those that are sent are translations
 pub record Frames : Type 0 where
   pub reads : Reads
+  pub asked : (side : Side) (network : Network) (active up : Bool) (bytes : List ℕ) (echo : Echo) → reading_of side network active up bytes ≡ Ok (Asked echo) → is_asked network active (frame_of bytes) ≡ true
+  pub own : OwnFrames
+  pub tallies : Limited
   pub sent : (networks : Networks) (side : Side) (t : Translation) (next : Mac) (bytes : List ℕ) → IsWired networks → length next.0 ≡ 6 → IsForwardable bytes → IsOfSide side bytes
       → (let flow = flow_in bytes in direction_of networks side flow.protocol flow.source.0 flow.destination.0 ≡ Ok (way_of t)) → is_translation (exit_of (way_of t)) (sent_frame networks t next bytes) ≡ true
   pub answer : (exit : Side) (network : Network) (p : ArpPacket) (mac : Mac) → length network.own_mac.0 ≡ 6 → length p.sender_mac.0 ≡ 6 → is_translation exit (answer_frame network p mac) ≡ false
@@ -60,17 +97,19 @@ pub record Frames : Type 0 where
 
 -- ---- frames of another kind
 
-pub request-other : Frames → (exit : Side) (network : Network) (ip : Ip) → length network.own_mac.0 ≡ 6 → is_other exit (request_frame network ip) ≡ true
-request-other frames exit network ip own = other-by exit _ (frames.request exit network ip own) (frames.request_no_error network ip own)
+pub request-other : Frames → (networks : Networks) (exit : Side) (network : Network) (ip : Ip) → length network.own_mac.0 ≡ 6 → is_other networks exit (request_frame network ip) ≡ true
+request-other frames networks exit network ip own = other-by networks exit _ (frames.own.request networks exit network ip own) (frames.request exit network ip own) (frames.request_no_error network ip own)
 
-pub advert-other : Frames → (exit : Side) (network : Network) (priority interval : ℕ) → is_other exit (advert_frame network priority interval) ≡ true
-advert-other frames exit network priority interval = other-by exit _ (frames.advert exit network priority interval) (frames.advert_no_error network priority interval)
+pub advert-other : Frames → (networks : Networks) (exit : Side) (network : Network) (priority interval : ℕ) → is_other networks exit (advert_frame network priority interval) ≡ true
+advert-other frames networks exit network priority interval =
+    other-by networks exit _ (frames.own.advert networks exit network priority interval) (frames.advert exit network priority interval) (frames.advert_no_error network priority interval)
 
-pub gratuitous-other : Frames → (exit : Side) (network : Network) → is_other exit (gratuitous_frame network) ≡ true
-gratuitous-other frames exit network = other-by exit _ (frames.gratuitous exit network) (frames.gratuitous_no_error network)
+pub gratuitous-other : Frames → (networks : Networks) (exit : Side) (network : Network) → is_other networks exit (gratuitous_frame network) ≡ true
+gratuitous-other frames networks exit network = other-by networks exit _ (frames.own.gratuitous networks exit network) (frames.gratuitous exit network) (frames.gratuitous_no_error network)
 
-pub answer-other : Frames → (exit : Side) (network : Network) (p : ArpPacket) (mac : Mac) → length network.own_mac.0 ≡ 6 → length p.sender_mac.0 ≡ 6 → is_other exit (answer_frame network p mac) ≡ true
-answer-other frames exit network p mac own six = other-by exit _ (frames.answer exit network p mac own six) (frames.answer_no_error network p mac own six)
+pub answer-other : Frames → (networks : Networks) (exit : Side) (network : Network) (p : ArpPacket) (mac : Mac) → length network.own_mac.0 ≡ 6 → length p.sender_mac.0 ≡ 6 → is_other networks exit (answer_frame network p mac) ≡ true
+answer-other frames networks exit network p mac own six =
+    other-by networks exit _ (frames.own.arp networks exit network p mac own six) (frames.answer exit network p mac own six) (frames.answer_no_error network p mac own six)
 
 pub near-is : (g : Shown) (side : Side) → near_on (known_of g) side ≡ unasked (station_on g side).neighbours
 near-is g Inside = refl
@@ -80,11 +119,11 @@ near-is g Outside = refl
 pub near-mac : (g : Shown) (side : Side) (host : ℕ) → mac_at host g.moment (near_on (known_of g) side) ≡ mac_at host g.moment (station_on g side).neighbours
 near-mac g side host = ap (mac_at host g.moment) (near-is g side) ∙ mac-forgetful host g.moment (station_on g side).neighbours
 
-pub known-on : (g : Shown) → AreWired g → (side : Side) → KnowsMacs (station_on g side).neighbours
+pub known-on : (g : Shown) → IsSetUp g → (side : Side) → KnowsMacs (station_on g side).neighbours
 known-on g w Inside = w.1.0.known
 known-on g w Outside = w.1.1.known
 
-pub own-six : (g : Shown) → AreWired g → (side : Side) → length (station_on g side).network.own_mac.0 ≡ 6
+pub own-six : (g : Shown) → IsSetUp g → (side : Side) → length (station_on g side).network.own_mac.0 ≡ 6
 own-six g w Inside = w.1.0.own
 own-six g w Outside = w.1.1.own
 
@@ -140,12 +179,13 @@ pub record Carries-on (s s2 : GatewayAndOutput) (by : Translation) : Type 0 wher
   pub kept : s2.shown.kept ≡ s.shown.kept
   pub known : known_of s2.shown ≡ known_of s.shown
   pub book : s2.shown.ledger.book ≡ s.shown.ledger.book
-  pub wired : AreWired s.shown → AreWired s2.shown
+  pub wired : IsSetUp s.shown → IsSetUp s2.shown
+  pub said : SameSaid s.shown s2.shown
   pub nets : (s2.shown.inside.network ≡ s.shown.inside.network) × (s2.shown.outside.network ≡ s.shown.outside.network)
 
 pub carried-leaves : (s : GatewayAndOutput) (flow : Flow) (flags : TcpFlags) (by : Translation) → Carries-on s (carried_all s flow flags by) by
-carried-leaves s flow flags (Outward p) = record { frames = refl; notes = refl; kept = refl; known = refl; book = refl; wired = λ w. w; nets = (refl, refl) }
-carried-leaves s flow flags (Inward p) = record { frames = refl; notes = refl; kept = refl; known = refl; book = refl; wired = λ w. w; nets = (refl, refl) }
+carried-leaves s flow flags (Outward p) = record { frames = refl; notes = refl; kept = refl; known = refl; book = refl; wired = λ w. w; said = (refl, (refl, omega arith)); nets = (refl, refl) }
+carried-leaves s flow flags (Inward p) = record { frames = refl; notes = refl; kept = refl; known = refl; book = refl; wired = λ w. w; said = (refl, (refl, omega arith)); nets = (refl, refl) }
 carried-leaves s flow flags (Hairpin own other) = record {
   frames = refl;
   notes = append_assoc s.told.notes (carry_notes s.shown own) (carry_notes s.shown other);
@@ -153,6 +193,7 @@ carried-leaves s flow flags (Hairpin own other) = record {
   known = refl;
   book = refl;
   wired = λ w. w;
+  said = (refl, (refl, omega arith));
   nets = (refl, refl);
 }
 
@@ -169,19 +210,98 @@ is-sent g side bytes by next plan pairs = record {
   bytes_are = refl;
 }
 
-pub next-six : (g : Shown) (flow : Flow) (by : Translation) (next : Mac) → AreWired g → next_by g by flow ≡ Some next → length next.0 ≡ 6
+pub next-six : (g : Shown) (flow : Flow) (by : Translation) (next : Mac) → IsSetUp g → next_by g by flow ≡ Some next → length next.0 ≡ 6
 next-six g flow by next wired is = near-six (hop_by g by flow).0 g.moment (station_on g (exit_by by)).neighbours next (known-on g wired (exit_by by)) is
+
+-- ---- what a gateway says itself
+
+pub back-six : (g : Shown) (side : Side) (source : Ip) (next : Mac) → IsSetUp g → next_back g side source ≡ Some next → length next.0 ≡ 6
+back-six g side source next w is = near-six (hop_back g side source).0 g.moment (station_on g side).neighbours next (known-on g w side) is
+
+house-network : (g : Shown) → IsSetUp g → (side : Side) → (station_on g side).network ≡ network_of g.networks side
+house-network g w Inside = w.0.1.inside_is
+house-network g w Outside = w.0.1.outside_is
+
+-- its answer to an Echo is an own frame
+pub answer-own : Frames → (g : Shown) (side : Side) (bytes : List ℕ) (echo : Echo) (next : Mac) → reading_on g side bytes ≡ Ok (Asked echo) → AreBytes bytes → IsSetUp g → next_back g side echo.source ≡ Some next
+    → is_own_frame g.networks side (own_answer (network_of g.networks side) next bytes) ≡ true
+answer-own frames g side bytes echo next read are w there =
+    let at = station_on g side in
+    let carries = frames.reads side at.network (is_active at) (is_up g) bytes (Asked echo) read in
+    let asked = frames.asked side at.network (is_active at) (is_up g) bytes echo read in
+    frames.own.answer g.networks side (is_active at) next bytes w.0.0 w.0.1.placed (back-six g side echo.source next w there) are carries.0
+    (subst (λ (n : Network). is_asked n (is_active at) (frame_of bytes) ≡ true) (house-network g w side) asked)
+
+abbrev pub answer_of : Shown → Side → List ℕ → Mac → OwnFrame
+answer_of g side bytes next = record {
+  packet = at_hand side bytes;
+  purpose = Answers;
+  sent = record { side = side; bytes = own_answer (network_of g.networks side) next bytes };
+}
+
+-- who asked it
+pub asker : Frames → (g : Shown) (side : Side) (bytes : List ℕ) (echo : Echo) → reading_on g side bytes ≡ Ok (Asked echo) → echo.source ≡ sender_in bytes
+asker frames g side bytes echo read =
+    let at = station_on g side in
+    ap (λ (e : Echo). e.source) (frames.reads side at.network (is_active at) (is_up g) bytes (Asked echo) read).1
+
+-- it is an Echo to the gateway
+pub asked-is : Frames → (g : Shown) (side : Side) (bytes : List ℕ) (echo : Echo) → reading_on g side bytes ≡ Ok (Asked echo) → IsSetUp g → IsEcho (known_of g) (at_hand side bytes)
+asked-is frames g side bytes echo read w =
+    let at = station_on g side in
+    let carries = frames.reads side at.network (is_active at) (is_up g) bytes (Asked echo) read in
+    let asked = frames.asked side at.network (is_active at) (is_up g) bytes echo read in
+    (carries.0, (is_active at, subst (λ (n : Network). is_asked n (is_active at) (frame_of bytes) ≡ true) (house-network g w side) asked))
+
+pub answer-is : Frames → (g : Shown) (side : Side) (bytes : List ℕ) (echo : Echo) (next : Mac) → reading_on g side bytes ≡ Ok (Asked echo) → AreBytes bytes → IsSetUp g → may_answer g.networks side echo.source.0 ≡ true
+    → next_back g side echo.source ≡ Some next → IsOwnOf (known_of g) (answer_of g side bytes next)
+answer-is frames g side bytes echo next read are w may there =
+    let is_echo = asked-is frames g side bytes echo read w in
+    let source = asker frames g side bytes echo read in
+    record {
+      bytes = are;
+      sender = subst (λ (i : Ip). may_answer g.networks side i.0 ≡ true) source may;
+      side = refl;
+      next = next;
+      hop = near-mac g side (hop_back g side (sender_in bytes)).0 ∙ subst (λ (i : Ip). next_back g side i ≡ Some next) source there;
+      says = (is_echo.0, (is_echo.1, refl));
+    }
+
+abbrev pub complaint_by : Shown → Side → Side → List ℕ → Reason → Complaint → Mac → OwnFrame
+complaint_by g side exit bytes reason complaint next = record {
+  packet = at_hand side bytes;
+  purpose = Complains reason exit;
+  sent = record { side = side; bytes = complaint_frame (network_of g.networks side) complaint next bytes };
+}
+
+pub complaint-is : (g : Shown) (side exit : Side) (bytes : List ℕ) (reason : Reason) (complaint : Complaint) (next : Mac) → AreBytes bytes → complaint_of g.networks side exit reason bytes ≡ Some complaint → next_back g side (sender_in bytes) ≡ Some next
+    → IsOwnOf (known_of g) (complaint_by g side exit bytes reason complaint next)
+complaint-is g side exit bytes reason complaint next are is there = record {
+  bytes = are;
+  sender = told-answers g.networks side exit reason bytes complaint is;
+  side = refl;
+  next = next;
+  hop = near-mac g side (hop_back g side (sender_in bytes)).0 ∙ there;
+  says = (complaint, (is, refl));
+}
+
+-- and so is what it says of a packet
+pub complaint-own : Frames → (g : Shown) (side : Side) (bytes : List ℕ) (complaint : Complaint) (next : Mac) → AreBytes bytes → IsSetUp g → next_back g side (sender_in bytes) ≡ Some next
+    → is_own_frame g.networks side (complaint_frame (network_of g.networks side) complaint next bytes) ≡ true
+complaint-own frames g side bytes complaint next are w there =
+    frames.own.complaint g.networks side complaint next bytes w.0.0 w.0.1.placed (back-six g side (sender_in bytes) next w there) are
 
 -- the frame of a packet, and the notes of its pairs
 pub sending-tells : (s : GatewayAndOutput) (side : Side) (bytes : List ℕ) (flow : Flow) (flags : TcpFlags) (by : Translation) (frame : List ℕ)
-    → IsSentBy (known_of s.shown) (at_hand side bytes) by (let x : Sent = record { side = exit_by by; bytes = frame } in x) → is_translation (exit_by by) frame ≡ true → AllTranslate s.shown.ledger.book by
+    → IsSentBy (known_of s.shown) (at_hand side bytes) by (let x : Sent = record { side = exit_by by; bytes = frame } in x) → is_own_frame s.shown.networks (exit_by by) frame ≡ false → is_translation (exit_by by) frame ≡ true → AllTranslate s.shown.ledger.book by
     → Told (at_hand side bytes ∷ []) s (carried_all (framed s (exit_by by) frame) flow flags by)
-sending-tells s side bytes flow flags by frame sent is all =
+sending-tells s side bytes flow flags by frame sent own is all =
     let two = carried_all (framed s (exit_by by) frame) flow flags by in
     let c = carried-leaves (framed s (exit_by by) frame) flow flags by in
     let x : Sent = record { side = exit_by by; bytes = frame } in
     let d : Sending = record { packet = at_hand side bytes; by = by; sent = x } in
     let none = sent-no_error (exit_by by) frame is in
+    let nets : two.shown.networks ≡ s.shown.networks = ap (λ (k : Known). k.networks) c.known in
     record {
       all = record {
         frames = x ∷ [];
@@ -189,14 +309,21 @@ sending-tells s side bytes flow flags by frame sent is all =
         notes = all_notes s.shown by;
         notes_are = c.notes;
         done = d ∷ [];
-        translated = rw is refl;
+        translated = subst (λ (n : Networks). translated_frames n (x ∷ []) ≡ x ∷ []) (sym nets) (rw (own, is) refl);
         used = all-used s.shown by all ∙ sym (append-nil (pairs_of by));
         each = (subst (λ (k : Known). IsSentBy k (at_hand side bytes) by x) (sym c.known) sent, tt);
         passed = [];
-        errors = rw none refl;
+        errors = subst (λ (n : Networks). error_frames n (x ∷ []) ≡ []) (sym nets) (rw (own, none) refl);
         each_error = tt;
+        own = [];
+        own_are = subst (λ (n : Networks). own_frames n (x ∷ []) ≡ []) (sym nets) (rw own refl);
+        each_own = tt;
+        counted_inside = c.said.0;
+        counted_outside = c.said.1.0;
         dropped = [];
         once = subst (λ (ws : List HeldPacket). IsPermutation (at_hand side bytes ∷ packets_of s.shown.kept) (at_hand side bytes ∷ packets_of ws)) (sym c.kept) (IsPermutation-refl (at_hand side bytes ∷ packets_of s.shown.kept));
       };
       roots = same-rooted s.shown.ledger.book.entries two.shown.ledger.book.entries (retaken_pairs (all_notes s.shown by)) (ap (λ (b : Book). b.entries) c.book);
+      within = within-by s.shown two.shown c.said;
+      later = c.said.1.1;
     }

@@ -1,5 +1,5 @@
 -- What a plan to send says: the packet's way, its pairs, and its next hop.
-use Rattle.std.proofs.Common.{◌≡◌, Bool, true, false, cond, Option, Some, None, Result, Ok, Err, refl, subst}
+use Rattle.std.proofs.Common.{◌≡◌, ℕ, Bool, true, false, cond, Option, Some, None, Result, Ok, Err, refl, subst}
 use Rattle.addresses.specs.declared.ethernet.Mac.{Mac}
 use Rattle.addresses.specs.declared.internet.Ip.{Ip}
 use Rattle.addresses.specs.declared.transport.Port.{Port}
@@ -19,12 +19,13 @@ use Rattle.packet_rules.specs.declared.translations.Translation.{Translation}
 use Rattle.packet_rules.specs.declared.translations.Translation.TheVariants.{Outward, Inward, Hairpin}
 use Rattle.packet_rules.specs.Flows.{source_of}
 use Rattle.packet_rules.specs.Frames.{way_of}
-use Rattle.packet_rules.specs.Networks.{direction_of}
+use Rattle.packet_rules.specs.Networks.{direction_of, exit_of}
 use Rattle.packet_rules.specs.Steps.{and_then}
 use Rattle.spec_step.specs.declared.plans.Plan.{Plan}
 use Rattle.spec_step.specs.declared.plans.Plan.TheVariants.{Send, Ask, AskAgain, Wait as WaitFor}
 use Rattle.spec_step.specs.Shown.{Shown}
-use Rattle.spec_step.specs.Verdict.{exit_by, hop_by, look_for, next_by, plan_by, plan_from, plan_of, plan_on, plan_to, target_pair}
+use Rattle.spec_step.specs.Verdict.{exit_by, hop_by, look_for, next_by, plan_by, plan_from, plan_of, plan_on, plan_to, target_pair, fits_at, if_fits}
+use Rattle.spec_step.proofs.Fitting.{fitted}
 
 -- the pair that the packet's source has, or is given
 abbrev pub IsOwn : Shown → Flow → Pair → Type 0
@@ -90,9 +91,12 @@ on-send g side flow way.Hairpin by next there is = at (target_pair g flow) refl 
     at (Err reason) target is = absurd (cc)
 
 -- a packet that is sent on is so by its way, its pairs and its next hop
-pub plan-sends : (g : Shown) (side : Side) (flow : Flow) (by : Translation) (next : Mac) → plan_of g side flow ≡ Ok (Send by next) → IsPlanned g side flow by next
-plan-sends g side flow by next is = at (direction_of g.networks side flow.protocol flow.source.0 flow.destination.0) refl is
+pub plan-sends : (g : Shown) (side : Side) (flow : Flow) (length : ℕ) (by : Translation) (next : Mac) → plan_of g side flow length ≡ Ok (Send by next) → IsPlanned g side flow by next
+plan-sends g side flow length by next is = at (direction_of g.networks side flow.protocol flow.source.0 flow.destination.0) refl is
   where
-    at : (r : Result Direction Reason) → direction_of g.networks side flow.protocol flow.source.0 flow.destination.0 ≡ r → and_then r (plan_on g flow) ≡ Ok (Send by next) → IsPlanned g side flow by next
-    at (Ok w) there is = on-send g side flow w by next there is
+    at : (r : Result Direction Reason) → direction_of g.networks side flow.protocol flow.source.0 flow.destination.0 ≡ r
+        → and_then r (λ way. and_then (plan_on g flow way) (if_fits (fits_at g (exit_of way) length))) ≡ Ok (Send by next) → IsPlanned g side flow by next
+    at (Ok w) there is =
+        fitted (λ (r : Result Plan Reason). r ≡ Ok (Send by next) → IsPlanned g side flow by next) (λ no. absurd (cc)) (fits_at g (exit_of w) length) (plan_on g flow w)
+        (λ on. on-send g side flow w by next there on) is
     at (Err reason) there is = absurd (cc)

@@ -32,8 +32,9 @@ use Rattle.waiting.specs.declared.waits.WaitsFor.{WaitsFor}
 use Rattle.waiting.specs.declared.waits.WaitsFor.TheVariants as wait
 use Rattle.waiting.specs.Packets.{IsKept, HeldPacket, ended_by, has_place, left_by, asks_again, with_asked}
 use Rattle.waiting.proofs.Offered.{kept-asked, kept-filter, kept-push}
+use Rattle.packet_rules.specs.declared.readings.Asked.{Asked as Echo}
 use Rattle.packet_rules.specs.declared.readings.Reading.{Reading}
-use Rattle.packet_rules.specs.declared.readings.Reading.TheVariants.{Arp, Advert, Packet, Error}
+use Rattle.packet_rules.specs.declared.readings.Reading.TheVariants.{Arp, Advert, Packet, Error, Asked}
 use Rattle.packet_rules.specs.declared.reasons.Reason.{Reason}
 use Rattle.packet_rules.specs.declared.reasons.Reason.TheVariants.{NotUp, OldWord}
 use Rattle.packet_rules.specs.declared.translations.Translation.{Translation}
@@ -54,14 +55,14 @@ use Rattle.spec_step.specs.declared.plans.Plan.{Plan}
 use Rattle.spec_step.specs.declared.plans.Plan.TheVariants.{Send, Ask, AskAgain, Wait as WaitFor}
 use Rattle.spec_step.specs.Founding.{begun, founded}
 use Rattle.spec_step.specs.GivingWay.{GivingWay, left, turn_of}
-use Rattle.spec_step.specs.Parts.{all_idle_done, all_taken, answered_by, arp_taken, asked_again, by_plan, by_row, by_verdict, carried_all, datagram_in, datagram_read, flags_in, flow_taken, framed, handed_in, has_synced, heard_by, heard_unless, idle_done, idle_taken, keeping, link_answered, link_ticked, neighbour_asked, old_dropped, record_done, record_shown, record_told, records_done, released, renewed_behind, request_by, reset, retaken_by, routers_started, side_plugged, taken_again, wait_ended, waiting, wanted_by, wanted_for, with_link, with_routers, by_error_plan, by_error_verdict, error_taken}
+use Rattle.spec_step.specs.Parts.{all_idle_done, all_taken, answered_by, arp_taken, asked_again, by_plan, by_row, by_verdict, carried_all, datagram_in, datagram_read, flags_in, flow_taken, framed, handed_in, has_synced, heard_by, heard_unless, idle_done, idle_taken, keeping, link_answered, link_ticked, neighbour_asked, old_dropped, record_done, record_shown, record_told, records_done, released, renewed_behind, request_by, reset, retaken_by, routers_started, side_plugged, taken_again, wait_ended, waiting, wanted_by, wanted_for, with_link, with_routers, by_error_plan, by_error_verdict, error_taken, echo_taken, length_in, refused}
 use Rattle.spec_step.specs.Settled.{AreIdle, HaveBegun, IsSettled}
 use Rattle.spec_step.specs.Shown.{GatewayAndOutput, Shown, is_running, is_up, scene, station_on, with_station}
 use Rattle.spec_step.specs.Routers.{BothAct, RouterActs}
 use Rattle.spec_step.specs.Steps.{Does, FrameDoes, IsStepOn, ended_on, stopped, ticked, word_by, word_refusal}
 use Rattle.spec_step.specs.Verdict.{exit_by, hop_by, plan_of, reading_on, error_hop, error_plan}
 use Rattle.spec_step.proofs.Lines.{acts-shown, both-shown, both-stopped, line-idles, line-stays, started-begun}
-use Rattle.spec_step.proofs.Packets.{refusal-leaves}
+use Rattle.spec_step.proofs.Own.{Said, echo-by, refusal-by, refused-by, said_scene}
 use Rattle.spec_step.proofs.Asked.{PlanSays, plan-says}
 use Rattle.spec_step.proofs.Erring.{ErrorSays, error-says}
 use Rattle.spec_step.proofs.Turning.{back_as, turn-by}
@@ -138,6 +139,24 @@ again-calms s exit hop = at (asks_again s.shown.moment (wait.Hop exit hop) s.sho
     at true = calm-by s.shown (record s.shown { kept = with_asked s.shown.moment (wait.Hop exit hop) s.shown.kept }) refl refl refl (kept-asked s.shown.moment (wait.Hop exit hop) s.shown.kept)
     at false = nothing-calms s
 
+-- what a gateway says itself
+said-calms : (s : GatewayAndOutput) (side : Side) → Said (λ x. Calming s x) s side
+said-calms s Inside = λ frame tally hop.
+    let one = said_scene s Inside frame tally in
+    calming-then s one (renewed_behind one Inside hop) (calm-by s.shown one.shown refl refl refl (λ k. k)) (renewed-calms one Inside hop)
+said-calms s Outside = λ frame tally hop.
+    let one = said_scene s Outside frame tally in
+    calming-then s one (renewed_behind one Outside hop) (calm-by s.shown one.shown refl refl refl (λ k. k)) (renewed-calms one Outside hop)
+
+refused-calms : (s : GatewayAndOutput) (side exit : Side) (bytes : List ℕ) (reason : Reason) → Calming s (refused s side exit bytes reason)
+refused-calms s side exit bytes reason = refused-by (λ x. Calming s x) s side exit bytes (nothing-calms s) (said-calms s side) reason
+
+echo-calms : (s : GatewayAndOutput) (side : Side) (bytes : List ℕ) (echo : Echo) → Calming s (echo_taken s side bytes echo)
+echo-calms s side bytes echo =
+    echo-by (λ x. Calming s x) s side bytes echo (nothing-calms s) (said-calms s side)
+    (λ hop place. keeping-calms s side bytes (wait.Hop side hop) place)
+    (λ hop. again-calms s side hop)
+
 plan-calms : (s : GatewayAndOutput) (side : Side) (bytes : List ℕ) (flow : Flow) (plan : Plan) → PlanSays s.shown side flow (Ok plan) → Calming s (by_plan s side bytes flow plan)
 plan-calms s side bytes flow (Send by next) says =
     let one = wanted_for s flow by in
@@ -156,11 +175,11 @@ plan-calms s side bytes flow (WaitFor e) says =
     calming-then s one (by_plan s side bytes flow (WaitFor e)) (wanted-calms s e) (keeping-calms one side bytes (wait.Pair e) says.1)
 
 flow-calms : (s : GatewayAndOutput) (side : Side) (bytes : List ℕ) (flow : Flow) → Calming s (flow_taken s side bytes flow)
-flow-calms s side bytes flow = at (plan_of s.shown side flow) (plan-says s.shown side flow)
+flow-calms s side bytes flow = at (plan_of s.shown side flow (length_in bytes)) (plan-says s.shown side flow (length_in bytes))
   where
     at : (r : Result Plan Reason) → PlanSays s.shown side flow r → Calming s (by_verdict s side bytes flow r)
     at (Ok plan) says = plan-calms s side bytes flow plan says
-    at (Err reason) says = refusal-leaves (λ x. Calming s x) s flow reason (nothing-calms s) (wanted-calms s (source_of flow))
+    at (Err reason) says = refusal-by (λ x. Calming s x) s side bytes flow (nothing-calms s) (wanted-calms s (source_of flow)) (said-calms s side) reason
 
 -- ---- an error
 
@@ -173,7 +192,7 @@ error-plan-calms s side bytes flow (AskAgain by hop) says = again-calms s (exit_
 error-plan-calms s side bytes flow (WaitFor e) says = nothing-calms s
 
 error-calms : (s : GatewayAndOutput) (side : Side) (bytes : List ℕ) (flow : ErrorFlow) → Calming s (error_taken s side bytes flow)
-error-calms s side bytes flow = at (error_plan s.shown side flow) (error-says s.shown side flow)
+error-calms s side bytes flow = at (error_plan s.shown side flow (length_in bytes)) (error-says s.shown side flow (length_in bytes))
   where
     at : (r : Result Plan Reason) → ErrorSays s.shown side flow r → Calming s (by_error_verdict s side bytes flow r)
     at (Ok plan) says = error-plan-calms s side bytes flow plan says
@@ -186,7 +205,8 @@ retaken-calms s side bytes (Ok (Packet packet)) = flow-calms s side bytes packet
 retaken-calms s side bytes (Ok (Error packet)) = error-calms s side bytes packet.flow
 retaken-calms s side bytes (Ok (Arp p)) = nothing-calms s
 retaken-calms s side bytes (Ok (Advert a from)) = nothing-calms s
-retaken-calms s side bytes (Err reason) = nothing-calms s
+retaken-calms s side bytes (Ok (Asked echo)) = echo-calms s side bytes echo
+retaken-calms s side bytes (Err reason) = refused-calms s side side bytes reason
 
 all-calm : (s : GatewayAndOutput) (ws : List HeldPacket) → Calming s (all_taken s ws)
 all-calm s [] = nothing-calms s
@@ -443,7 +463,8 @@ frame-calms s side bytes (Ok (Arp p)) s2 does = subst (λ (x : GatewayAndOutput)
 frame-calms s side bytes (Ok (Advert a from)) s2 does = router-calms s side (table.Heard a.priority a.interval from.0) s2 (λ no. absurd (cc)) (λ no. absurd (cc)) does
 frame-calms s side bytes (Ok (Packet packet)) s2 does = subst (λ (x : GatewayAndOutput). Calming s x) (sym does) (flow-calms s side bytes packet.flow)
 frame-calms s side bytes (Ok (Error packet)) s2 does = subst (λ (x : GatewayAndOutput). Calming s x) (sym does) (error-calms s side bytes packet.flow)
-frame-calms s side bytes (Err reason) s2 does = subst (λ (x : GatewayAndOutput). Calming s x) (sym does) (nothing-calms s)
+frame-calms s side bytes (Ok (Asked echo)) s2 does = subst (λ (x : GatewayAndOutput). Calming s x) (sym does) (echo-calms s side bytes echo)
+frame-calms s side bytes (Err reason) s2 does = subst (λ (x : GatewayAndOutput). Calming s x) (sym does) (refused-calms s side side bytes reason)
 
 does-calms : (s : GatewayAndOutput) (event : Event) (done : GatewayAndOutput) → Does s event done → Calming s done
 does-calms s (Frame side bytes) done does = frame-calms s side bytes.now (reading_on s.shown side bytes.now) done does

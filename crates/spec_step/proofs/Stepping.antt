@@ -6,7 +6,7 @@ use Rattle.link.specs.Reading.{reading}
 use Rattle.spec_binding.specs.Books.{is_lone, IsBook}
 use Rattle.bindings.specs.Lives.{idle_keys_in}
 use Rattle.packet_rules.specs.declared.readings.Reading.{Reading}
-use Rattle.packet_rules.specs.declared.readings.Reading.TheVariants.{Arp, Advert, Packet, Error}
+use Rattle.packet_rules.specs.declared.readings.Reading.TheVariants.{Arp, Advert, Packet, Error, Asked}
 use Rattle.packet_rules.specs.declared.reasons.Reason.{Reason}
 use Rattle.vrrp_states.specs.Table as table
 use Rattle.spec_step.specs.declared.events.Event.{Event}
@@ -18,7 +18,7 @@ use Rattle.spec_step.specs.Steps.{Does, FrameDoes, IsStepOn, ended_on, stopped, 
 use Rattle.spec_step.specs.Verdict.{reading_on}
 use Rattle.spec_step.proofs.Ending.{answered-goes, answered-keeps, ended-still, ticked-goes, ticked-keeps}
 use Rattle.spec_step.proofs.Hearing.{Arrives, all-idle-goes, arrives-by, datagram-arrives, word-arrives}
-use Rattle.spec_step.proofs.Packets.{Reads, flow-goes, here, read-formed, error-goes}
+use Rattle.spec_step.proofs.Packets.{Reads, echo-goes, flow-goes, read-formed, error-goes, refused-goes}
 use Rattle.spec_step.proofs.Passing.{Going, IsSound, going-then}
 use Rattle.spec_step.proofs.Sides.{arp-goes, both-go, old-goes, plugged-goes, router-goes, stopped-goes, turn-goes}
 
@@ -27,7 +27,8 @@ frame-goes reads s side bytes (Ok (Arp p)) s2 read are does = subst (λ (x : Gat
 frame-goes reads s side bytes (Ok (Advert a from)) s2 read are does = router-goes [] [] s side _ s2 does
 frame-goes reads s side bytes (Ok (Packet packet)) s2 read are does = subst (λ (x : GatewayAndOutput). Going [] [] s x) (sym does) (flow-goes [] [] s side bytes packet.flow are (read-formed [] [] reads s.shown side bytes packet are read))
 frame-goes reads s side bytes (Ok (Error packet)) s2 read are does = subst (λ (x : GatewayAndOutput). Going [] [] s x) (sym does) (error-goes [] [] s side bytes packet.flow are)
-frame-goes reads s side bytes (Err reason) s2 read are does = subst (λ (x : GatewayAndOutput). Going [] [] s x) (sym does) (here [] [] s)
+frame-goes reads s side bytes (Ok (Asked echo)) s2 read are does = subst (λ (x : GatewayAndOutput). Going [] [] s x) (sym does) (echo-goes [] [] s side bytes echo are)
+frame-goes reads s side bytes (Err reason) s2 read are does = subst (λ (x : GatewayAndOutput). Going [] [] s x) (sym does) (refused-goes [] [] s side side bytes reason)
 
 -- where the event's own parts begin: a tick moves the clock first
 abbrev pub begun_on : GatewayAndOutput → Event → GatewayAndOutput

@@ -1,5 +1,5 @@
 -- A wish for a port uses no pair, and a packet that is kept is told of.
-use Rattle.std.proofs.Common.{◌≡◌, ℕ, Bool, true, false, cond, List, [], ◌∷◌, Option, Some, None, IsPermutation, refl, sym, subst, nat_lt, ◌++◌, inl}
+use Rattle.std.proofs.Common.{◌≡◌, ℕ, Bool, true, false, cond, List, [], ◌∷◌, Option, Some, None, IsPermutation, refl, sym, subst, nat_lt, ◌++◌, inl, arith}
 use Rattle.std.proofs.lemmas.List.{append-nil, map-append}
 use Rattle.std.proofs.lemmas.List.Sorted.{IsPermutation-append_comm, IsPermutation-append_right, IsPermutation-cons, IsPermutation-refl, IsPermutation-trans}
 use Rattle.addresses.specs.declared.transport.Port.{Port}
@@ -121,6 +121,11 @@ keeping-tells s side bytes w =
         passed = [];
         errors = refl;
         each_error = tt;
+        own = [];
+        own_are = refl;
+        each_own = tt;
+        counted_inside = refl;
+        counted_outside = refl;
         dropped = packets_of made.lost;
         once = subst (λ ps. IsPermutation (at_hand side bytes ∷ packets_of s.shown.kept) (packets_of made.lost ++ ps)) (sym (map-append view (with_room w s.shown.kept) (waiting side bytes s.shown.moment w ∷ [])))
             (IsPermutation-trans _ _ _ (IsPermutation-cons (at_hand side bytes) _ _ made.are)
@@ -128,4 +133,6 @@ keeping-tells s side bytes w =
             (IsPermutation-append_right (packets_of made.lost) _ _ (IsPermutation-append_comm (at_hand side bytes ∷ []) (packets_of (with_room w s.shown.kept))))));
       };
       roots = λ p t. inl t;
+      within = λ h. h;
+      later = omega arith;
     }

@@ -1,25 +1,31 @@
 -- What is told of a part: nothing, one part behind the other, frames of another kind, and packets whose wait is over.
-use Rattle.std.proofs.Common.{◌≡◌, inl, ℕ, true, not, List, [], ◌∷◌, ◌++◌, map, filter, flat_map, IsPermutation, refl, sym, ap, ◌∙◌, subst, append_assoc}
+use Rattle.std.proofs.Common.{◌≡◌, ◌≤◌, arith, inl, ℕ, true, not, ◌&&◌, List, [], ◌∷◌, ◌++◌, map, filter, flat_map, IsPermutation, refl, sym, ap, ◌∙◌, subst, append_assoc}
 use Rattle.std.specs.List.{AllByRecursion}
 use Rattle.std.proofs.lemmas.List.{map-append, append-nil}
 use Rattle.std.proofs.lemmas.List.Elements.{filter-append}
 use Rattle.std.proofs.lemmas.Grind.{flat_map-append}
 use Rattle.std.proofs.lemmas.List.Sorted.{IsPermutation-refl, IsPermutation-sym, IsPermutation-trans, IsPermutation-append_comm, IsPermutation-append_left, IsPermutation-append_right, IsPermutation-map, IsPermutation-filter_both}
 use Rattle.nat_types.specs.declared.gateways.Side.{Side}
+use Rattle.nat_types.specs.declared.gateways.Side.TheVariants.{Inside, Outside}
 use Rattle.nat_types.specs.declared.notes.Note.{Note}
 use Rattle.nat_types.specs.declared.pairs.Pair.{Pair}
 use Rattle.spec_binding.specs.Uses.{IsTranslated}
 use Rattle.waiting.specs.declared.waits.Ended.{Ended}
 use Rattle.waiting.specs.Packets.{HeldPacket, ended_by, is_young, left_by}
 use Rattle.waiting.specs.Waits.{ends}
+use Rattle.packet_rules.specs.declared.networks.Networks.{Networks}
 use Rattle.packet_rules.specs.Errors.{is_error_frame}
 use Rattle.packet_rules.specs.Frames.{is_translation, pairs_of}
-use Rattle.output.specs.Output.{Sent}
+use Rattle.packet_rules.specs.Own.{is_own_frame}
+use Rattle.interfaces.specs.declared.tallies.Tally.{Tally}
+use Rattle.interfaces.specs.Tallies.{IsWithin}
+use Rattle.output.specs.Output.{Sent, with_frame}
 use Rattle.spec_step.specs.Others.{MayGoBy, is_other}
+use Rattle.spec_step.specs.OwnAnswers.{AreWithin, IsOwnOf, OwnFrame, Purpose, counted_for, own_frames, tallied}
 use Rattle.spec_step.specs.Parts.{framed, old_dropped}
 use Rattle.spec_step.specs.PassedOn.{ArePassedOn, IsPassedOn, TellsAll, error_frames}
-use Rattle.spec_step.specs.Shown.{GatewayAndOutput}
-use Rattle.spec_step.specs.Truly.{AreSent, AtHand, Known, Sending, Tells, known_of, packets_of, translated_frames, used_in, used_pairs}
+use Rattle.spec_step.specs.Shown.{GatewayAndOutput, Shown, scene, station_on, with_station}
+use Rattle.spec_step.specs.Truly.{AreSent, AtHand, Known, Sending, Tells, is_own, known_of, packets_of, translated_frames, used_in, used_pairs}
 use Rattle.spec_step.proofs.FrameKinds.{other-none}
 use Rattle.spec_step.proofs.Rooting.{has-more, has-then, same-rooted}
 
@@ -27,6 +33,18 @@ use Rattle.spec_step.proofs.Rooting.{has-more, has-then, same-rooted}
 pub record Told (hand : List AtHand) (s s2 : GatewayAndOutput) : Type 0 where
   pub all : TellsAll hand s s2
   pub roots : (p : Pair) → IsTranslated s2.shown.ledger.book.entries p → MayGoBy s.shown all.notes p
+  pub within : AreWithin s.shown → AreWithin s2.shown
+  pub later : s.shown.moment ≤ s2.shown.moment
+
+-- nothing was said, and the clock doesn't run back
+abbrev pub SameSaid : Shown → Shown → Type 0
+SameSaid g g2 = (g2.inside.said ≡ g.inside.said) × ((g2.outside.said ≡ g.outside.said) × (g.moment ≤ g2.moment))
+
+pub within-by : (g g2 : Shown) → SameSaid g g2 → AreWithin g → AreWithin g2
+within-by g g2 same within = (subst IsWithin (sym same.0) within.0, subst IsWithin (sym same.1.0) within.1)
+
+abbrev pub at_hand : Side → List ℕ → AtHand
+at_hand side bytes = record { side = side; bytes = bytes }
 
 -- ---- the same elements
 
@@ -56,14 +74,25 @@ joined m d kb h ka m2 d2 kc h2 one two =
     subst (λ xs. IsPermutation xs ((h ++ h2) ++ ka)) (sym start) (subst (λ ys. IsPermutation (m ++ (m2 ++ (d ++ (d2 ++ kc)))) ys) end all)
 
 -- the same, where some are passed on
-all-joined : {X : Type 0} (m e d kb h ka m2 e2 d2 kc h2 : List X) → IsPermutation (m ++ (e ++ (d ++ kb))) (h ++ ka) → IsPermutation (m2 ++ (e2 ++ (d2 ++ kc))) (h2 ++ kb)
+passed-joined : {X : Type 0} (m e d kb h ka m2 e2 d2 kc h2 : List X) → IsPermutation (m ++ (e ++ (d ++ kb))) (h ++ ka) → IsPermutation (m2 ++ (e2 ++ (d2 ++ kc))) (h2 ++ kb)
     → IsPermutation ((m ++ m2) ++ ((e ++ e2) ++ ((d ++ d2) ++ kc))) ((h ++ h2) ++ ka)
-all-joined m e d kb h ka m2 e2 d2 kc h2 one two =
+passed-joined m e d kb h ka m2 e2 d2 kc h2 one two =
     let first = subst (λ xs. IsPermutation xs (h ++ ka)) (sym (append_assoc m e (d ++ kb))) one in
     let second = subst (λ xs. IsPermutation xs (h2 ++ kb)) (sym (append_assoc m2 e2 (d2 ++ kc))) two in
     let both = joined (m ++ e) d kb h ka (m2 ++ e2) d2 kc h2 first second in
     let mixed = IsPermutation-append_left ((d ++ d2) ++ kc) _ _ (shuffled m m2 e e2) in
     subst (λ xs. IsPermutation xs ((h ++ h2) ++ ka)) (append_assoc (m ++ m2) (e ++ e2) ((d ++ d2) ++ kc)) (IsPermutation-trans _ _ _ mixed both)
+
+-- and some answered
+all-joined : {X : Type 0} (m e o d kb h ka m2 e2 o2 d2 kc h2 : List X) → IsPermutation (m ++ (e ++ (o ++ (d ++ kb)))) (h ++ ka) → IsPermutation (m2 ++ (e2 ++ (o2 ++ (d2 ++ kc)))) (h2 ++ kb)
+    → IsPermutation ((m ++ m2) ++ ((e ++ e2) ++ ((o ++ o2) ++ ((d ++ d2) ++ kc)))) ((h ++ h2) ++ ka)
+all-joined m e o d kb h ka m2 e2 o2 d2 kc h2 one two =
+    let rest = (d ++ d2) ++ kc in
+    let first = subst (λ xs. IsPermutation (m ++ xs) (h ++ ka)) (sym (append_assoc e o (d ++ kb))) one in
+    let second = subst (λ xs. IsPermutation (m2 ++ xs) (h2 ++ kb)) (sym (append_assoc e2 o2 (d2 ++ kc))) two in
+    let both = passed-joined m (e ++ o) d kb h ka m2 (e2 ++ o2) d2 kc h2 first second in
+    let mixed = IsPermutation-append_right (m ++ m2) _ _ (IsPermutation-append_left rest _ _ (shuffled e e2 o o2)) in
+    subst (λ xs. IsPermutation ((m ++ m2) ++ xs) ((h ++ h2) ++ ka)) (append_assoc (e ++ e2) (o ++ o2) rest) (IsPermutation-trans _ _ _ mixed both)
 
 -- ---- lists of what is sent
 
@@ -87,6 +116,14 @@ passed-append : (k : Known) (P : Pair → Type 0) (ds es : List Sending) → Are
 passed-append k P [] es x y = y
 passed-append k P (d ∷ ds) es x y = (x.0, passed-append k P ds es x.1 y)
 
+pub tallied-append : (now : ℕ) (side : Side) (os ps : List OwnFrame) (t : Tally) → tallied now side (os ++ ps) t ≡ tallied now side ps (tallied now side os t)
+tallied-append now side [] ps t = refl
+tallied-append now side (o ∷ os) ps t = tallied-append now side os ps _
+
+own-append : (k : Known) (os ps : List OwnFrame) → AllByRecursion (IsOwnOf k) os → AllByRecursion (IsOwnOf k) ps → AllByRecursion (IsOwnOf k) (os ++ ps)
+own-append k [] ps x y = y
+own-append k (o ∷ os) ps x y = (x.0, own-append k os ps x.1 y)
+
 -- ---- parts
 
 -- packets are dropped
@@ -104,10 +141,17 @@ tells-nothing s hand = record {
     passed = [];
     errors = refl;
     each_error = tt;
+    own = [];
+    own_are = refl;
+    each_own = tt;
+    counted_inside = refl;
+    counted_outside = refl;
     dropped = hand;
     once = IsPermutation-refl (hand ++ packets_of s.shown.kept);
   };
   roots = λ p t. inl t;
+  within = λ h. h;
+  later = omega arith;
 }
 
 -- what two parts tell
@@ -115,12 +159,24 @@ module _ (h h2 : List AtHand) (a b c : GatewayAndOutput) (same : known_of c.show
   abbrev both-notes : List Note
   both-notes = x.all.notes ++ y.all.notes
 
-  both-errors : error_frames (x.all.frames ++ y.all.frames) ≡ map (λ (t : Sending). t.sent) (x.all.passed ++ y.all.passed)
+  nets : c.shown.networks ≡ b.shown.networks
+  nets = ap (λ (k : Known). k.networks) same
+
+  both-errors : error_frames c.shown.networks (x.all.frames ++ y.all.frames) ≡ map (λ (t : Sending). t.sent) (x.all.passed ++ y.all.passed)
   both-errors =
-      filter-append (λ (f : Sent). is_error_frame f.bytes) x.all.frames y.all.frames
-      ∙ ap (λ fs. fs ++ error_frames y.all.frames) x.all.errors
+      filter-append (λ (f : Sent). not (is_own c.shown.networks f) && is_error_frame f.bytes) x.all.frames y.all.frames
+      ∙ ap (λ (n : Networks). error_frames n x.all.frames ++ error_frames c.shown.networks y.all.frames) nets
+      ∙ ap (λ fs. fs ++ error_frames c.shown.networks y.all.frames) x.all.errors
       ∙ ap (λ fs. map (λ (t : Sending). t.sent) x.all.passed ++ fs) y.all.errors
       ∙ sym (map-append (λ (t : Sending). t.sent) x.all.passed y.all.passed)
+
+  both-translated : translated_frames c.shown.networks (x.all.frames ++ y.all.frames) ≡ map (λ (t : Sending). t.sent) (x.all.done ++ y.all.done)
+  both-translated =
+      filter-append (λ (f : Sent). not (is_own c.shown.networks f) && is_translation f.side f.bytes) x.all.frames y.all.frames
+      ∙ ap (λ (n : Networks). translated_frames n x.all.frames ++ translated_frames c.shown.networks y.all.frames) nets
+      ∙ ap (λ fs. fs ++ translated_frames c.shown.networks y.all.frames) x.all.translated
+      ∙ ap (λ fs. map (λ (t : Sending). t.sent) x.all.done ++ fs) y.all.translated
+      ∙ sym (map-append (λ (t : Sending). t.sent) x.all.done y.all.done)
 
   both-passed : ArePassedOn (known_of c.shown) (MayGoBy a.shown both-notes) (x.all.passed ++ y.all.passed)
   both-passed =
@@ -131,16 +187,38 @@ module _ (h h2 : List AtHand) (a b c : GatewayAndOutput) (same : known_of c.show
       (passed-more (MayGoBy a.shown x.all.notes) may (has-more a.shown x.all.notes y.all.notes) k x.all.passed first)
       (passed-more (MayGoBy b.shown y.all.notes) may (has-then a.shown b.shown x.all.notes y.all.notes x.roots) k y.all.passed y.all.each_error)
 
+  both-own : own_frames c.shown.networks (x.all.frames ++ y.all.frames) ≡ map (λ (o : OwnFrame). o.sent) (x.all.own ++ y.all.own)
+  both-own =
+      filter-append (is_own c.shown.networks) x.all.frames y.all.frames
+      ∙ ap (λ (n : Networks). own_frames n x.all.frames ++ own_frames c.shown.networks y.all.frames) nets
+      ∙ ap (λ fs. fs ++ own_frames c.shown.networks y.all.frames) x.all.own_are
+      ∙ ap (λ fs. map (λ (o : OwnFrame). o.sent) x.all.own ++ fs) y.all.own_are
+      ∙ sym (map-append (λ (o : OwnFrame). o.sent) x.all.own y.all.own)
+
   both-once : IsPermutation ((h ++ h2) ++ packets_of a.shown.kept)
-      (map (λ (t : Sending). t.packet) (x.all.done ++ y.all.done) ++ (map (λ (t : Sending). t.packet) (x.all.passed ++ y.all.passed) ++ ((x.all.dropped ++ y.all.dropped) ++ packets_of c.shown.kept)))
+      (map (λ (t : Sending). t.packet) (x.all.done ++ y.all.done) ++ (map (λ (t : Sending). t.packet) (x.all.passed ++ y.all.passed)
+      ++ (map (λ (o : OwnFrame). o.packet) (x.all.own ++ y.all.own) ++ ((x.all.dropped ++ y.all.dropped) ++ packets_of c.shown.kept))))
   both-once =
       let view = λ (t : Sending). t.packet in
+      let about = λ (o : OwnFrame). o.packet in
       let ka = packets_of a.shown.kept in let kb = packets_of b.shown.kept in let kc = packets_of c.shown.kept in
       let rest = (x.all.dropped ++ y.all.dropped) ++ kc in
-      let all = all-joined (map view x.all.done) (map view x.all.passed) x.all.dropped kb h ka (map view y.all.done) (map view y.all.passed) y.all.dropped kc h2
+      let hands = (h ++ h2) ++ ka in
+      let all = all-joined (map view x.all.done) (map view x.all.passed) (map about x.all.own) x.all.dropped kb h ka (map view y.all.done) (map view y.all.passed) (map about y.all.own) y.all.dropped kc h2
       (IsPermutation-sym _ _ x.all.once) (IsPermutation-sym _ _ y.all.once) in
-      let sent = subst (λ ps. IsPermutation (ps ++ ((map view x.all.passed ++ map view y.all.passed) ++ rest)) ((h ++ h2) ++ ka)) (sym (map-append view x.all.done y.all.done)) all in
-      IsPermutation-sym _ _ (subst (λ ps. IsPermutation (map view (x.all.done ++ y.all.done) ++ (ps ++ rest)) ((h ++ h2) ++ ka)) (sym (map-append view x.all.passed y.all.passed)) sent)
+      let sent = subst (λ ps. IsPermutation (ps ++ ((map view x.all.passed ++ map view y.all.passed) ++ ((map about x.all.own ++ map about y.all.own) ++ rest))) hands) (sym (map-append view x.all.done y.all.done)) all in
+      let passed = subst (λ ps. IsPermutation (map view (x.all.done ++ y.all.done) ++ (ps ++ ((map about x.all.own ++ map about y.all.own) ++ rest))) hands) (sym (map-append view x.all.passed y.all.passed)) sent in
+      IsPermutation-sym _ _
+      (subst (λ ps. IsPermutation (map view (x.all.done ++ y.all.done) ++ (map view (x.all.passed ++ y.all.passed) ++ (ps ++ rest))) hands) (sym (map-append about x.all.own y.all.own)) passed)
+
+  moment : c.shown.moment ≡ b.shown.moment
+  moment = ap (λ (k : Known). k.moment) same
+
+  both-counted : (side : Side) (ta tb tc : Tally) → tb ≡ tallied b.shown.moment side x.all.own ta → tc ≡ tallied c.shown.moment side y.all.own tb → tc ≡ tallied c.shown.moment side (x.all.own ++ y.all.own) ta
+  both-counted side ta tb tc one two =
+      two
+      ∙ ap (tallied c.shown.moment side y.all.own) (one ∙ ap (λ (n : ℕ). tallied n side x.all.own ta) (sym moment))
+      ∙ sym (tallied-append c.shown.moment side x.all.own y.all.own ta)
 
   -- one behind the other
   pub tells-then : Told (h ++ h2) a c
@@ -151,22 +229,29 @@ module _ (h h2 : List AtHand) (a b c : GatewayAndOutput) (same : known_of c.show
       notes = both-notes;
       notes_are = y.all.notes_are ∙ ap (λ ns. ns ++ y.all.notes) x.all.notes_are ∙ append_assoc a.told.notes x.all.notes y.all.notes;
       done = x.all.done ++ y.all.done;
-      translated = filter-append (λ (f : Sent). is_translation f.side f.bytes) x.all.frames y.all.frames ∙ ap (λ fs. fs ++ translated_frames y.all.frames) x.all.translated ∙ ap (λ fs. map (λ (t : Sending). t.sent) x.all.done ++ fs) y.all.translated ∙ sym (map-append (λ (t : Sending). t.sent) x.all.done y.all.done);
+      translated = both-translated;
       used = flat_map-append (λ (n : Note). used_in n.what) x.all.notes y.all.notes ∙ ap (λ ps. ps ++ used_pairs y.all.notes) x.all.used ∙ ap (λ ps. flat_map (λ (t : Sending). pairs_of t.by) x.all.done ++ ps) y.all.used ∙ sym (flat_map-append (λ (t : Sending). pairs_of t.by) x.all.done y.all.done);
       each = each-append (known_of c.shown) x.all.done y.all.done (subst (λ k. AreSent k x.all.done) (sym same) x.all.each) y.all.each;
       passed = x.all.passed ++ y.all.passed;
       errors = both-errors;
       each_error = both-passed;
+      own = x.all.own ++ y.all.own;
+      own_are = both-own;
+      each_own = own-append (known_of c.shown) x.all.own y.all.own (subst (λ k. AllByRecursion (IsOwnOf k) x.all.own) (sym same) x.all.each_own) y.all.each_own;
+      counted_inside = both-counted Inside a.shown.inside.said b.shown.inside.said c.shown.inside.said x.all.counted_inside y.all.counted_inside;
+      counted_outside = both-counted Outside a.shown.outside.said b.shown.outside.said c.shown.outside.said x.all.counted_outside y.all.counted_outside;
       dropped = x.all.dropped ++ y.all.dropped;
       once = both-once;
     };
     roots = λ p t. has-then a.shown b.shown x.all.notes y.all.notes x.roots p (y.roots p t);
+    within = λ h. y.within (x.within h);
+    later = omega (arith, x.later, y.later);
   }
 
 -- a part of which nothing is told, and that leaves the packets that wait
 pub tells-quietly : (s s2 : GatewayAndOutput) (notes : List Note) → s2.told.frames ≡ s.told.frames → s2.told.notes ≡ s.told.notes ++ notes → used_pairs notes ≡ [] → s2.shown.kept ≡ s.shown.kept
-    → ((p : Pair) → IsTranslated s2.shown.ledger.book.entries p → MayGoBy s.shown notes p) → Told [] s s2
-tells-quietly s s2 notes frames noted none kept roots = record {
+    → ((p : Pair) → IsTranslated s2.shown.ledger.book.entries p → MayGoBy s.shown notes p) → SameSaid s.shown s2.shown → Told [] s s2
+tells-quietly s s2 notes frames noted none kept roots said = record {
   all = record {
     frames = [];
     frames_are = frames ∙ sym (append-nil s.told.frames);
@@ -179,21 +264,28 @@ tells-quietly s s2 notes frames noted none kept roots = record {
     passed = [];
     errors = refl;
     each_error = tt;
+    own = [];
+    own_are = refl;
+    each_own = tt;
+    counted_inside = said.0;
+    counted_outside = said.1.0;
     dropped = [];
     once = subst (λ (ws : List HeldPacket). IsPermutation (packets_of s.shown.kept) (packets_of ws)) (sym kept) (IsPermutation-refl (packets_of s.shown.kept));
   };
   roots = roots;
+  within = within-by s.shown s2.shown said;
+  later = said.1.1;
 }
 
 -- and that notes nothing and leaves the table
-pub tells-unseen : (s s2 : GatewayAndOutput) → s2.told.frames ≡ s.told.frames → s2.told.notes ≡ s.told.notes → s2.shown.ledger.book.entries ≡ s.shown.ledger.book.entries → s2.shown.kept ≡ s.shown.kept → Told [] s s2
-tells-unseen s s2 frames notes entries kept =
-    tells-quietly s s2 [] frames (notes ∙ sym (append-nil s.told.notes)) refl kept (same-rooted s.shown.ledger.book.entries s2.shown.ledger.book.entries [] entries)
+pub tells-unseen : (s s2 : GatewayAndOutput) → s2.told.frames ≡ s.told.frames → s2.told.notes ≡ s.told.notes → s2.shown.ledger.book.entries ≡ s.shown.ledger.book.entries → s2.shown.kept ≡ s.shown.kept → SameSaid s.shown s2.shown → Told [] s s2
+tells-unseen s s2 frames notes entries kept said =
+    tells-quietly s s2 [] frames (notes ∙ sym (append-nil s.told.notes)) refl kept (same-rooted s.shown.ledger.book.entries s2.shown.ledger.book.entries [] entries) said
 
 -- a frame of another kind
-pub framed-tells : (s : GatewayAndOutput) (side : Side) (bytes : List ℕ) → is_other side bytes ≡ true → Told [] s (framed s side bytes)
+pub framed-tells : (s : GatewayAndOutput) (side : Side) (bytes : List ℕ) → is_other s.shown.networks side bytes ≡ true → Told [] s (framed s side bytes)
 framed-tells s side bytes other =
-    let none = other-none side bytes other in
+    let none = other-none s.shown.networks side bytes other in
     record {
       all = record {
         frames = record { side = side; bytes = bytes } ∷ [];
@@ -201,16 +293,91 @@ framed-tells s side bytes other =
         notes = [];
         notes_are = sym (append-nil s.told.notes);
         done = [];
-        translated = rw none.0 refl;
+        translated = rw (none.0, none.1.0) refl;
         used = refl;
         each = tt;
         passed = [];
-        errors = rw none.1 refl;
+        errors = rw (none.0, none.1.1) refl;
         each_error = tt;
+        own = [];
+        own_are = rw none.0 refl;
+        each_own = tt;
+        counted_inside = refl;
+        counted_outside = refl;
         dropped = [];
         once = IsPermutation-refl (packets_of s.shown.kept);
       };
       roots = λ p t. inl t;
+      within = λ h. h;
+      later = omega arith;
+    }
+
+-- the gateway said something of the packet in hand, and has counted it
+abbrev pub own_scene : GatewayAndOutput → OwnFrame → GatewayAndOutput
+own_scene s o =
+    let side = o.packet.side in
+    let station = station_on s.shown side in
+    scene (with_station s.shown side (record station { said = counted_for o.purpose s.shown.moment station.said })) (with_frame s.told side o.sent.bytes)
+
+pub own-tells : (s : GatewayAndOutput) (side : Side) (bytes : List ℕ) (purpose : Purpose) (frame : List ℕ)
+    → (let x : Sent = record { side = side; bytes = frame } in let o : OwnFrame = record { packet = at_hand side bytes; purpose = purpose; sent = x } in
+    is_own_frame s.shown.networks side frame ≡ true → IsOwnOf (known_of s.shown) o
+    → (IsWithin (station_on s.shown side).said → IsWithin (counted_for purpose s.shown.moment (station_on s.shown side).said)) → Told (o.packet ∷ []) s (own_scene s o))
+own-tells s Inside bytes purpose frame own is within =
+    let x : Sent = record { side = Inside; bytes = frame } in
+    let o : OwnFrame = record { packet = at_hand Inside bytes; purpose = purpose; sent = x } in
+    record {
+      all = record {
+        frames = x ∷ [];
+        frames_are = refl;
+        notes = [];
+        notes_are = sym (append-nil s.told.notes);
+        done = [];
+        translated = rw own refl;
+        used = refl;
+        each = tt;
+        passed = [];
+        errors = rw own refl;
+        each_error = tt;
+        own = o ∷ [];
+        own_are = rw own refl;
+        each_own = (is, tt);
+        counted_inside = refl;
+        counted_outside = refl;
+        dropped = [];
+        once = IsPermutation-refl (o.packet ∷ packets_of s.shown.kept);
+      };
+      roots = λ p t. inl t;
+      within = λ h. (within h.0, h.1);
+      later = omega arith;
+    }
+own-tells s Outside bytes purpose frame own is within =
+    let x : Sent = record { side = Outside; bytes = frame } in
+    let o : OwnFrame = record { packet = at_hand Outside bytes; purpose = purpose; sent = x } in
+    record {
+      all = record {
+        frames = x ∷ [];
+        frames_are = refl;
+        notes = [];
+        notes_are = sym (append-nil s.told.notes);
+        done = [];
+        translated = rw own refl;
+        used = refl;
+        each = tt;
+        passed = [];
+        errors = rw own refl;
+        each_error = tt;
+        own = o ∷ [];
+        own_are = rw own refl;
+        each_own = (is, tt);
+        counted_inside = refl;
+        counted_outside = refl;
+        dropped = [];
+        once = IsPermutation-refl (o.packet ∷ packets_of s.shown.kept);
+      };
+      roots = λ p t. inl t;
+      within = λ h. (h.0, within h.1);
+      later = omega arith;
     }
 
 -- old packets are dropped
@@ -236,14 +403,18 @@ old-tells s =
         passed = [];
         errors = refl;
         each_error = tt;
+        own = [];
+        own_are = refl;
+        each_own = tt;
+        counted_inside = refl;
+        counted_outside = refl;
         dropped = packets_of old;
         once = IsPermutation-trans _ _ _ parts (IsPermutation-append_comm (packets_of young) (packets_of old));
       };
       roots = λ p t. inl t;
+      within = λ h. h;
+      later = omega arith;
     }
-
-abbrev pub at_hand : Side → List ℕ → AtHand
-at_hand side bytes = record { side = side; bytes = bytes }
 
 -- the kept packets, those whose wait ends first
 pub split-kept : (ended : Ended) (kept : List HeldPacket) → IsPermutation (packets_of (ended_by ended kept) ++ packets_of (left_by ended kept)) (packets_of kept)
@@ -253,10 +424,12 @@ split-kept ended kept =
     let both = IsPermutation-map view _ _ (IsPermutation-filter_both over (λ w. not (over w)) (λ w. refl) kept) in
     IsPermutation-sym _ _ (subst (λ ps. IsPermutation (packets_of kept) ps) (map-append view (ended_by ended kept) (left_by ended kept)) both)
 
--- what was told is true of the translated frames alone: the packets of errors are among those that were dropped
+-- what was told is true of the translated frames alone: all other packets are among those that were dropped
 pub truly-of : (hand : List AtHand) (s s2 : GatewayAndOutput) → TellsAll hand s s2 → Tells hand s s2
 truly-of hand s s2 x =
     let view = λ (t : Sending). t.packet in
+    let about = map (λ (o : OwnFrame). o.packet) x.own in
+    let kept = packets_of s2.shown.kept in
     record {
       frames = x.frames;
       frames_are = x.frames_are;
@@ -266,6 +439,7 @@ truly-of hand s s2 x =
       translated = x.translated;
       used = x.used;
       each = x.each;
-      dropped = map view x.passed ++ x.dropped;
-      once = subst (λ ps. IsPermutation (hand ++ packets_of s.shown.kept) (map view x.done ++ ps)) (sym (append_assoc (map view x.passed) x.dropped (packets_of s2.shown.kept))) x.once;
+      dropped = map view x.passed ++ (about ++ x.dropped);
+      once = subst (λ ps. IsPermutation (hand ++ packets_of s.shown.kept) (map view x.done ++ ps))
+          (ap (λ ps. map view x.passed ++ ps) (sym (append_assoc about x.dropped kept)) ∙ sym (append_assoc (map view x.passed) (about ++ x.dropped) kept)) x.once;
     }

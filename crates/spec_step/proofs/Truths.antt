@@ -1,6 +1,7 @@
 -- What each part of a step tells is true: interfaces, datagrams, the operator's word, ticks; and so what a whole step tells.
-use Rattle.std.proofs.Common.{◌≡◌, ℕ, Bool, true, false, cond, not, ◌&&◌, List, [], ◌∷◌, ◌++◌, length, Option, Some, None, Result, Ok, Err, refl, sym, ap, subst}
+use Rattle.std.proofs.Common.{◌≡◌, ℕ, Bool, true, false, cond, not, ◌&&◌, List, [], ◌∷◌, ◌++◌, length, Option, Some, None, Result, Ok, Err, refl, sym, ap, subst, ◌∙◌, arith, min}
 use Rattle.std.specs.List.{AllByRecursion}
+use Rattle.std.proofs.Math.Nat.{le-max_left}
 use Rattle.addresses.specs.declared.ethernet.Mac.{Mac}
 use Rattle.nat_types.specs.declared.gateways.Side.{Side}
 use Rattle.nat_types.specs.declared.gateways.Side.TheVariants.{Inside, Outside}
@@ -24,8 +25,9 @@ use Rattle.spec_binding.specs.Rows.{answered, idle_row, noted_by, taken_answer, 
 use Rattle.spec_binding.proofs.Offered.{alone-keeps, idle-keeps, restart-keeps, taken-keeps}
 use Rattle.waiting.specs.declared.waits.Ended.TheVariants.{AllPairs, One}
 use Rattle.waiting.specs.declared.waits.WaitsFor.TheVariants as wait
+use Rattle.packet_rules.specs.declared.networks.Networks.{Networks}
 use Rattle.packet_rules.specs.declared.readings.Reading.{Reading}
-use Rattle.packet_rules.specs.declared.readings.Reading.TheVariants.{Arp, Advert, Packet, Error}
+use Rattle.packet_rules.specs.declared.readings.Reading.TheVariants.{Arp, Advert, Packet, Error, Asked}
 use Rattle.packet_rules.specs.declared.reasons.Reason.{Reason}
 use Rattle.packet_rules.specs.declared.reasons.Reason.TheVariants.{NotUp, OldWord}
 use Rattle.packet_rules.specs.Arping.{answer_frame, answer_to, is_learnable}
@@ -38,18 +40,18 @@ use Rattle.vrrp_states.specs.Table.{Event as RouterEvent, Router}
 use Rattle.spec_step.specs.declared.events.Event.{Event}
 use Rattle.spec_step.specs.declared.events.Event.TheVariants.{Frame, Datagram as Comes, Tick, Stop, PeerOff, Side as SideIs}
 use Rattle.spec_step.specs.Machine.{AreBytes, HasBytes}
-use Rattle.spec_step.specs.Parts.{acted, all_framed, all_idle_done, answered_by, arp_taken, datagram_in, datagram_read, flow_taken, framed, frames_of, handed_in, has_synced, heard_by, heard_unless, idle_done, idle_taken, link_answered, link_ticked, old_dropped, record_done, record_shown, record_told, records_done, released, reset, started, wait_ended, with_link, word_taken, side_plugged, error_taken}
+use Rattle.spec_step.specs.Parts.{acted, all_framed, all_idle_done, answered_by, arp_taken, datagram_in, datagram_read, flow_taken, framed, frames_of, handed_in, has_synced, heard_by, heard_unless, idle_done, idle_taken, link_answered, link_ticked, old_dropped, record_done, record_shown, record_told, records_done, released, reset, started, wait_ended, with_link, word_taken, side_plugged, error_taken, echo_taken, refused}
 use Rattle.spec_step.specs.Shown.{GatewayAndOutput, Shown, id_of, is_running, scene, station_on, with_notes, with_station}
 use Rattle.spec_step.specs.Routers.{BothAct, RouterActs}
 use Rattle.spec_step.specs.GivingWay.{GivingWay, left, turn_of}
-use Rattle.spec_step.specs.Steps.{Does, FrameDoes, IsStepOn, ended_on, stopped, ticked, word_by, word_refusal}
+use Rattle.spec_step.specs.Steps.{Does, FrameDoes, IsStepOn, ended_on, last_moment, stopped, ticked, word_by, word_refusal}
 use Rattle.spec_step.specs.PassedOn.{TellsAll}
-use Rattle.spec_step.specs.Truly.{AreWired, AtHand, Known, hand_of, known_of, unasked}
+use Rattle.spec_step.specs.Truly.{IsSetUp, AtHand, Known, hand_of, known_of, unasked}
 use Rattle.spec_step.specs.Verdict.{reading_on}
 use Rattle.spec_step.proofs.Turning.{back_as, turn-by}
 use Rattle.spec_step.proofs.Packets.{kept-filter}
 use Rattle.spec_step.proofs.Passing.{IsSound}
-use Rattle.spec_step.proofs.Saying.{Saying, Speaks, framed-says, packet-says, released-says, row-says, saying-nothing, saying-then, speaks-then, error-packet-says}
+use Rattle.spec_step.proofs.Saying.{Saying, Speaks, framed-says, packet-says, released-says, row-says, saying-nothing, saying-then, speaks-then, error-packet-says, echo-says, refused-says}
 use Rattle.spec_step.proofs.Rooting.{alone-rooted, idle-roots, restart-rooted, taken-roots}
 use Rattle.spec_step.proofs.Sending.{Frames, advert-other, answer-other, gratuitous-other, own-six}
 use Rattle.spec_step.proofs.Telling.{Told, at_hand, old-tells, tells-quietly, tells-then, tells-unseen}
@@ -62,23 +64,29 @@ speaks-of h s s2 x = λ is w. (x is w).0
 
 -- ---- interfaces
 
-station-speaks : (s : GatewayAndOutput) (side : Side) (station : Interface) → (AreWired s.shown → IsWired station) → Speaks [] s (scene (with_station s.shown side station) s.told)
-station-speaks s Inside station wired = λ is w. record {
-  tells = tells-unseen s (scene (with_station s.shown Inside station) s.told) refl refl refl refl;
+pub set-up-inside : (g : Shown) (station : Interface) → station.network ≡ g.inside.network → IsSetUp g → IsWired station → IsSetUp (with_station g Inside station)
+set-up-inside g station same w wired = ((w.0.0, record { placed = w.0.1.placed; inside_is = same ∙ w.0.1.inside_is; outside_is = w.0.1.outside_is }), (wired, w.1.1))
+
+pub set-up-outside : (g : Shown) (station : Interface) → station.network ≡ g.outside.network → IsSetUp g → IsWired station → IsSetUp (with_station g Outside station)
+set-up-outside g station same w wired = ((w.0.0, record { placed = w.0.1.placed; inside_is = w.0.1.inside_is; outside_is = same ∙ w.0.1.outside_is }), (w.1.0, wired))
+
+pub station-speaks : (s : GatewayAndOutput) (side : Side) (station : Interface) → station.network ≡ (station_on s.shown side).network → station.said ≡ (station_on s.shown side).said → (IsSetUp s.shown → IsWired station) → Speaks [] s (scene (with_station s.shown side station) s.told)
+station-speaks s Inside station same said wired = λ is w. record {
+  tells = tells-unseen s (scene (with_station s.shown Inside station) s.told) refl refl refl refl (said, (refl, omega arith));
   sound = record { book = is.book; kept = is.kept };
-  wired = (w.0, (wired w, w.1.1));
+  wired = set-up-inside s.shown station same w (wired w);
 }
-station-speaks s Outside station wired = λ is w. record {
-  tells = tells-unseen s (scene (with_station s.shown Outside station) s.told) refl refl refl refl;
+station-speaks s Outside station same said wired = λ is w. record {
+  tells = tells-unseen s (scene (with_station s.shown Outside station) s.told) refl refl refl refl (refl, (said, omega arith));
   sound = record { book = is.book; kept = is.kept };
-  wired = (w.0, (w.1.0, wired w));
+  wired = set-up-outside s.shown station same w (wired w);
 }
 
 station-known : (g : Shown) (side : Side) (station : Interface) → station.neighbours ≡ (station_on g side).neighbours → known_of (with_station g side station) ≡ known_of g
 station-known g Inside station same = ap (λ (n : Neighbours). let k : Known = record (known_of g) { near_inside = unasked n } in k) same
 station-known g Outside station same = ap (λ (n : Neighbours). let k : Known = record (known_of g) { near_outside = unasked n } in k) same
 
-pub wired-on : (g : Shown) → AreWired g → (side : Side) → IsWired (station_on g side)
+pub wired-on : (g : Shown) → IsSetUp g → (side : Side) → IsWired (station_on g side)
 wired-on g w Inside = w.1.0
 wired-on g w Outside = w.1.1
 
@@ -92,9 +100,25 @@ after-wired station p now six w = at (is_learnable station.network p)
     at true = record { own = w.own; known = learn-six station.neighbours (record { address = p.sender_ip; mac = p.sender_mac; at = now; asked = now }) w.known six }
     at false = w
 
-answered-says : Frames → (s : GatewayAndOutput) (side : Side) (p : ArpPacket) (o : Option Mac) → length p.sender_mac.0 ≡ 6 → Saying [] s (answered_by s side p o)
+pub after-said : (station : Interface) (p : ArpPacket) (now : ℕ) → (after_arp station p now).said ≡ station.said
+unfolding after_arp
+after-said station p now = at (is_learnable station.network p)
+  where
+    at : (b : Bool) → (let x : Interface = cond b (with_neighbour station p now) station in x.said) ≡ station.said
+    at true = refl
+    at false = refl
+
+pub after-net : (station : Interface) (p : ArpPacket) (now : ℕ) → (after_arp station p now).network ≡ station.network
+unfolding after_arp
+after-net station p now = at (is_learnable station.network p)
+  where
+    at : (b : Bool) → (let x : Interface = cond b (with_neighbour station p now) station in x.network) ≡ station.network
+    at true = refl
+    at false = refl
+
+pub answered-says : Frames → (s : GatewayAndOutput) (side : Side) (p : ArpPacket) (o : Option Mac) → length p.sender_mac.0 ≡ 6 → Saying [] s (answered_by s side p o)
 answered-says frames s side p (Some mac) six =
-    framed-says s side (answer_frame (station_on s.shown side).network p mac) (λ w. answer-other frames side (station_on s.shown side).network p mac (own-six s.shown w side) six)
+    framed-says s side (answer_frame (station_on s.shown side).network p mac) (λ w. answer-other frames s.shown.networks side (station_on s.shown side).network p mac (own-six s.shown w side) six)
 answered-says frames s side p None six = saying-nothing s []
 
 arp-speaks : Frames → (s : GatewayAndOutput) (side : Side) (p : ArpPacket) → length p.sender_mac.0 ≡ 6 → Speaks [] s (arp_taken s side p)
@@ -104,7 +128,7 @@ arp-speaks frames s side p six =
     let told = answered_by heard side p (answer_to station.network (is_active station) p) in
     speaks-then [] [] s told (arp_taken s side p)
     (speaks-then [] [] s heard told
-    (station-speaks s side (after_arp station p s.shown.moment) (λ w. after-wired station p s.shown.moment six (wired-on s.shown w side)))
+    (station-speaks s side (after_arp station p s.shown.moment) (after-net station p s.shown.moment) (after-said station p s.shown.moment) (λ w. after-wired station p s.shown.moment six (wired-on s.shown w side)))
     (answered-says frames heard side p (answer_to station.network (is_active station) p) six))
     (at (is_learnable station.network p) told)
   where
@@ -115,17 +139,20 @@ arp-speaks frames s side p six =
 -- ---- routers
 
 abbrev pub AllOther : Side → List (List ℕ) → Type 0
-AllOther side fs = AllByRecursion (λ f. is_other side f ≡ true) fs
+AllOther side fs = AllByRecursion (λ f. (networks : Networks) → is_other networks side f ≡ true) fs
 
 all-framed-says : (s : GatewayAndOutput) (side : Side) (fs : List (List ℕ)) → AllOther side fs → Saying [] s (all_framed s side fs)
 all-framed-says s side [] all = saying-nothing s []
 all-framed-says s side (f ∷ fs) all =
-    saying-then [] [] s (framed s side f) (all_framed s side (f ∷ fs)) (framed-says s side f (λ w. all.0)) (all-framed-says (framed s side f) side fs all.1)
+    saying-then [] [] s (framed s side f) (all_framed s side (f ∷ fs)) (framed-says s side f (λ w. all.0 s.shown.networks)) (all-framed-says (framed s side f) side fs all.1)
 
 pub action-frames : Frames → (side : Side) (station : Interface) (action : Action) → AllOther side (frames_of station action)
 action-frames frames side station Nothing = tt
-action-frames frames side station (Advertise priority) = (advert-other frames side station.network priority station.interval, tt)
-action-frames frames side station (AdvertiseAndArp priority) = (advert-other frames side station.network priority station.interval, (gratuitous-other frames side station.network, tt))
+action-frames frames side station (Advertise priority) = (λ networks. advert-other frames networks side station.network priority station.interval, tt)
+action-frames frames side station (AdvertiseAndArp priority) = (
+  λ networks. advert-other frames networks side station.network priority station.interval,
+  (λ networks. gratuitous-other frames networks side station.network, tt),
+)
 
 pub routed-wired : (station : Interface) (router : Router) → IsWired station → IsWired (record station { router = router })
 routed-wired station router w = record { own = w.own; known = w.known }
@@ -133,7 +160,7 @@ routed-wired station router w = record { own = w.own; known = w.known }
 acted-says : Frames → (s : GatewayAndOutput) (side : Side) (station : Interface) (action : Action) → station ≡ record (station_on s.shown side) { router = station.router } → Saying [] s (acted s side station action)
 acted-says frames s side station action rest =
     let mid = scene (with_station s.shown side station) s.told in
-    let first : Speaks [] s mid = station-speaks s side station (λ w. subst IsWired (sym rest) (routed-wired (station_on s.shown side) station.router (wired-on s.shown w side))) in
+    let first : Speaks [] s mid = station-speaks s side station (ap (λ (x : Interface). x.network) rest) (ap (λ (x : Interface). x.said) rest) (λ w. subst IsWired (sym rest) (routed-wired (station_on s.shown side) station.router (wired-on s.shown w side))) in
     saying-then [] [] s mid (acted s side station action)
     (λ is w. (first is w, station-known s.shown side station (ap (λ (x : Interface). x.neighbours) rest)))
     (all-framed-says mid side (frames_of station action) (action-frames frames side station action))
@@ -163,16 +190,19 @@ frame-speaks frames s side bytes (Ok (Packet packet)) s2 read are does =
 frame-speaks frames s side bytes (Ok (Error packet)) s2 read are does =
     let hand = at_hand side bytes ∷ [] in
     subst (λ (x : GatewayAndOutput). Speaks hand s x) (sym does) (speaks-of hand s (error_taken s side bytes packet.flow) (error-packet-says frames s side bytes packet read are))
+frame-speaks frames s side bytes (Ok (Asked echo)) s2 read are does =
+    let hand = at_hand side bytes ∷ [] in
+    subst (λ (x : GatewayAndOutput). Speaks hand s x) (sym does) (speaks-of hand s (echo_taken s side bytes echo) (echo-says frames s side bytes echo read are))
 frame-speaks frames s side bytes (Err reason) s2 read are does =
     let hand = at_hand side bytes ∷ [] in
-    subst (λ (x : GatewayAndOutput). Speaks hand s x) (sym does) (speaks-of hand s s (saying-nothing s hand))
+    subst (λ (x : GatewayAndOutput). Speaks hand s x) (sym does) (speaks-of hand s (refused s side side bytes reason) (refused-says frames s side side bytes reason are))
 
 -- ---- records
 
 routed-says : (now : ℕ) (g : Shown) (told : Output) (b : Bool) → Saying [] (scene g told) (scene (let x : Shown = cond b (record g { inside = started g.inside now; outside = started g.outside now }) g in x) told)
 routed-says now g told true = λ is w. (
   record {
-    tells = tells-unseen (scene g told) (scene (record g { inside = started g.inside now; outside = started g.outside now }) told) refl refl refl refl;
+    tells = tells-unseen (scene g told) (scene (record g { inside = started g.inside now; outside = started g.outside now }) told) refl refl refl refl (refl, (refl, omega arith));
     sound = record { book = is.book; kept = is.kept };
     wired = (w.0, (record { own = w.1.0.own; known = w.1.0.known }, record { own = w.1.1.own; known = w.1.1.known }));
   },
@@ -184,8 +214,12 @@ ended-says : Frames → (s : GatewayAndOutput) (o : Option Endpoint) → Saying 
 ended-says frames s None = saying-nothing s []
 ended-says frames s (Some e) = released-says frames s (One (wait.Pair e))
 
-record-says : Frames → (s : GatewayAndOutput) (r : Record) → IsWellFormedRecord r → Saying [] s (record_done s r)
-record-says frames s r formed =
+-- the scene in which a record is taken, before anybody's wait is over
+abbrev pub record_scene : GatewayAndOutput → Record → GatewayAndOutput
+record_scene s r = scene (record_shown s.shown r) (record_told s.shown r s.told)
+
+pub record-first : (s : GatewayAndOutput) (r : Record) → IsWellFormedRecord r → Saying [] s (record_scene s r)
+record-first s r formed =
     let g = s.shown in let b = g.ledger.book in
     let rests = rests_for g.moment g.ledger r in
     let g2 : Shown = record g { ledger = taken_ledger g.moment g.ledger r; link = answered g.link (taken_answer b rests r) } in
@@ -194,42 +228,53 @@ record-says frames s r formed =
     let s3 = scene (record_shown g r) told in
     let first : Saying [] s s2 = λ is w. (
       record {
-        tells = tells-quietly s s2 (noted_by (id_of g) g.moment (taken_what b rests r)) refl refl (taken-useless b rests r (id_of g) g.moment) refl (taken-roots b rests r (id_of g) g.moment);
+        tells = tells-quietly s s2 (noted_by (id_of g) g.moment (taken_what b rests r)) refl refl (taken-useless b rests r (id_of g) g.moment) refl (taken-roots b rests r (id_of g) g.moment) (refl, (refl, omega arith));
         sound = record { book = taken-keeps b rests r is.book formed; kept = is.kept };
         wired = w;
       },
       refl,
     ) in
-    saying-then [] [] s s3 (record_done s r)
-    (saying-then [] [] s s2 s3 first (routed-says g2.moment g2 told (has_synced g g2 && is_running g2)))
-    (ended-says frames s3 (taken_ended b rests r))
+    saying-then [] [] s s2 s3 first (routed-says g2.moment g2 told (has_synced g g2 && is_running g2))
 
-records-say : Frames → (s : GatewayAndOutput) (rs : List Record) → AllByRecursion IsWellFormedRecord rs → Saying [] s (records_done s rs)
+pub record-says : Frames → (s : GatewayAndOutput) (r : Record) → IsWellFormedRecord r → Saying [] s (record_done s r)
+record-says frames s r formed =
+    let g = s.shown in
+    saying-then [] [] s (record_scene s r) (record_done s r) (record-first s r formed) (ended-says frames (record_scene s r) (taken_ended g.ledger.book (rests_for g.moment g.ledger r) r))
+
+pub records-say : Frames → (s : GatewayAndOutput) (rs : List Record) → AllByRecursion IsWellFormedRecord rs → Saying [] s (records_done s rs)
 records-say frames s [] all = saying-nothing s []
 records-say frames s (r ∷ rs) all = saying-then [] [] s (record_done s r) (records_done s (r ∷ rs)) (record-says frames s r all.0) (records-say frames (record_done s r) rs all.1)
 
 -- ---- datagrams, and the operator's word
 
-link-says : (s : GatewayAndOutput) (e : Link) → Saying [] s (with_link s e)
+pub link-says : (s : GatewayAndOutput) (e : Link) → Saying [] s (with_link s e)
 link-says s e = λ is w. (
-  record { tells = tells-unseen s (with_link s e) refl refl refl refl; sound = record { book = is.book; kept = is.kept }; wired = w },
+  record { tells = tells-unseen s (with_link s e) refl refl refl refl (refl, (refl, omega arith)); sound = record { book = is.book; kept = is.kept }; wired = w },
   refl,
 )
 
-reset-says : Frames → (s : GatewayAndOutput) → Saying [] s (reset s)
-reset-says frames s =
+-- the scene in which a greater boot is heard, before anybody's wait is over
+abbrev pub reset_scene : GatewayAndOutput → GatewayAndOutput
+reset_scene s =
+    let g = s.shown in let b = g.ledger.book in
+    scene (record g { ledger = restarted_ledger g.ledger; link = restart_link b g.link }) (with_notes s.told (restart_notes b g.moment))
+
+pub reset-first : (s : GatewayAndOutput) → Saying [] s (reset_scene s)
+reset-first s =
     let g = s.shown in let b = g.ledger.book in
     let notes = restart_notes b g.moment in
-    let mid = scene (record g { ledger = restarted_ledger g.ledger; link = restart_link b g.link }) (with_notes s.told notes) in
-    let first : Saying [] s mid = λ is w. (
+    let mid = reset_scene s in
+    λ is w. (
       record {
-        tells = tells-quietly s mid notes refl refl (restart-useless b g.moment) refl (restart-rooted b g.moment is.book.keys);
+        tells = tells-quietly s mid notes refl refl (restart-useless b g.moment) refl (restart-rooted b g.moment is.book.keys) (refl, (refl, omega arith));
         sound = record { book = restart-keeps b is.book; kept = is.kept };
         wired = w;
       },
       refl,
-    ) in
-    saying-then [] [] s mid (reset s) first (released-says frames mid AllPairs)
+    )
+
+pub reset-says : Frames → (s : GatewayAndOutput) → Saying [] s (reset s)
+reset-says frames s = saying-then [] [] s (reset_scene s) (reset s) (reset-first s) (released-says frames (reset_scene s) AllPairs)
 
 heard-says : Frames → (s : GatewayAndOutput) (d : Datagram) → IsWellFormed d → Saying [] s (heard_by s d)
 heard-says frames s d fits = at (is_restart s.shown.link d)
@@ -253,27 +298,39 @@ datagram-says frames s bytes (Ok d) read are = at (refusal s.shown.link d)
     at (Some fault) = saying-nothing s []
 datagram-says frames s bytes (Err fault) read are = saying-nothing s []
 
-taken-says : Frames → (s : GatewayAndOutput) (n : ℕ) → is_synced s.shown.ledger.book.stage ≡ true → Saying [] s (word_taken s n)
-taken-says frames s n synced =
+-- the scene in which the operator's word is taken, before anybody's wait is over
+abbrev pub word_scene : GatewayAndOutput → ℕ → GatewayAndOutput
+word_scene s n =
+    let g = s.shown in let b = g.ledger.book in
+    scene (record g { ledger = alone_ledger g.moment g.ledger; link = closed_at g.link n }) (with_notes s.told (retaken (id_of g) g.moment (back_in b.entries)))
+
+pub word-first : (s : GatewayAndOutput) (n : ℕ) → is_synced s.shown.ledger.book.stage ≡ true → Saying [] s (word_scene s n)
+word-first s n synced =
     let g = s.shown in let b = g.ledger.book in
     let notes = retaken (id_of g) g.moment (back_in b.entries) in
-    let mid = scene (record g { ledger = alone_ledger g.moment g.ledger; link = closed_at g.link n }) (with_notes s.told notes) in
-    let first : Saying [] s mid = λ is w. (
+    let mid = word_scene s n in
+    λ is w. (
       record {
-        tells = tells-quietly s mid notes refl refl (retaken-useless (id_of g) g.moment (back_in b.entries)) refl (alone-rooted b (id_of g) g.moment is.book.keys);
+        tells = tells-quietly s mid notes refl refl (retaken-useless (id_of g) g.moment (back_in b.entries)) refl (alone-rooted b (id_of g) g.moment is.book.keys) (refl, (refl, omega arith));
         sound = record { book = alone-keeps b is.book synced; kept = is.kept };
         wired = w;
       },
       refl,
-    ) in
-    saying-then [] [] s mid (word_taken s n) first (released-says frames mid AllPairs)
+    )
 
-word-says : Frames → (s : GatewayAndOutput) (n : ℕ) (o : Option Reason) → word_refusal s.shown n ≡ o → Saying [] s (word_by s n o)
-word-says frames s n None is = taken-says frames s n (at (is_synced s.shown.ledger.book.stage) _ is)
+taken-says : Frames → (s : GatewayAndOutput) (n : ℕ) → is_synced s.shown.ledger.book.stage ≡ true → Saying [] s (word_taken s n)
+taken-says frames s n synced = saying-then [] [] s (word_scene s n) (word_taken s n) (word-first s n synced) (released-says frames (word_scene s n) AllPairs)
+
+-- a word that is taken finds the gateway synced
+pub word-synced : (g : Shown) (n : ℕ) → word_refusal g n ≡ None → is_synced g.ledger.book.stage ≡ true
+word-synced g n is = at (is_synced g.ledger.book.stage) _ is
   where
     at : (b c : Bool) → (let o : Option Reason = cond (not b) (Some NotUp) (cond c (Some OldWord) None) in o) ≡ None → b ≡ true
     at true c is = refl
     at false c is = absurd (cc)
+
+word-says : Frames → (s : GatewayAndOutput) (n : ℕ) (o : Option Reason) → word_refusal s.shown n ≡ o → Saying [] s (word_by s n o)
+word-says frames s n None is = taken-says frames s n (word-synced s.shown n is)
 word-says frames s n (Some reason) is = saying-nothing s []
 
 -- ---- ticks
@@ -296,13 +353,13 @@ old-says s = λ is w. (
 
 stopped-says : (s : GatewayAndOutput) → Saying [] s (stopped s)
 stopped-says s = λ is w. (
-  record { tells = tells-unseen s (stopped s) refl refl refl refl; sound = record { book = is.book; kept = is.kept }; wired = w },
+  record { tells = tells-unseen s (stopped s) refl refl refl refl (refl, (refl, omega arith)); sound = record { book = is.book; kept = is.kept }; wired = w },
   refl,
 )
 
 ticked-speaks : (s : GatewayAndOutput) (now : ℕ) → Speaks [] s (ticked s now)
 ticked-speaks s now = λ is w. record {
-  tells = tells-unseen s (ticked s now) refl refl refl refl;
+  tells = tells-unseen s (ticked s now) refl refl refl refl (refl, (refl, le-max_left s.shown.moment (min now last_moment)));
   sound = record { book = is.book; kept = is.kept };
   wired = w;
 }
@@ -316,32 +373,32 @@ turn-says frames s s2 takes =
   where
     left-says : (middle : GatewayAndOutput) → Saying [] middle (left middle)
     left-says middle = λ is w. (
-      record { tells = tells-unseen middle (left middle) refl refl refl refl; sound = record { book = is.book; kept = is.kept }; wired = w },
+      record { tells = tells-unseen middle (left middle) refl refl refl refl (refl, (refl, omega arith)); sound = record { book = is.book; kept = is.kept }; wired = w },
       refl,
     )
 
     back : (starts : Bool) → Saying [] s (scene (back_as starts s.shown) s.told)
     back true = λ is w. (
       record {
-        tells = tells-unseen s (scene (back_as true s.shown) s.told) refl refl refl refl;
+        tells = tells-unseen s (scene (back_as true s.shown) s.told) refl refl refl refl (refl, (refl, omega arith));
         sound = record { book = is.book; kept = is.kept };
         wired = (w.0, (record { own = w.1.0.own; known = w.1.0.known }, record { own = w.1.1.own; known = w.1.1.known }));
       },
       refl,
     )
     back false = λ is w. (
-      record { tells = tells-unseen s (scene (back_as false s.shown) s.told) refl refl refl refl; sound = record { book = is.book; kept = is.kept }; wired = w },
+      record { tells = tells-unseen s (scene (back_as false s.shown) s.told) refl refl refl refl (refl, (refl, omega arith)); sound = record { book = is.book; kept = is.kept }; wired = w },
       refl,
     )
 
 -- a side's cable
 plugged-says : (s : GatewayAndOutput) (side : Side) (up : Bool) → Saying [] s (side_plugged s side up)
 plugged-says s Inside up = λ is w. (
-  record { tells = tells-unseen s (side_plugged s Inside up) refl refl refl refl; sound = record { book = is.book; kept = is.kept }; wired = (w.0, (record { own = w.1.0.own; known = w.1.0.known }, w.1.1)) },
+  record { tells = tells-unseen s (side_plugged s Inside up) refl refl refl refl (refl, (refl, omega arith)); sound = record { book = is.book; kept = is.kept }; wired = (w.0, (record { own = w.1.0.own; known = w.1.0.known }, w.1.1)) },
   refl,
 )
 plugged-says s Outside up = λ is w. (
-  record { tells = tells-unseen s (side_plugged s Outside up) refl refl refl refl; sound = record { book = is.book; kept = is.kept }; wired = (w.0, (w.1.0, record { own = w.1.1.own; known = w.1.1.known })) },
+  record { tells = tells-unseen s (side_plugged s Outside up) refl refl refl refl (refl, (refl, omega arith)); sound = record { book = is.book; kept = is.kept }; wired = (w.0, (w.1.0, record { own = w.1.1.own; known = w.1.1.known })) },
   refl,
 )
 
@@ -376,20 +433,20 @@ answered-tells : (s : GatewayAndOutput) → Told [] s (link_answered s)
 answered-tells s = at (handed_in s.shown).link.due
   where
     at : (b : Bool) → Told [] s (let g = handed_in s.shown in scene (record g { link = sent_on_answer g.link }) (let t : Output = cond b (with_datagram s.told (datagram_in g)) s.told in t))
-    at true = tells-unseen s _ refl refl refl refl
-    at false = tells-unseen s _ refl refl refl refl
+    at true = tells-unseen s _ refl refl refl refl (refl, (refl, omega arith))
+    at false = tells-unseen s _ refl refl refl refl (refl, (refl, omega arith))
 
-ticked-tells : (s : GatewayAndOutput) → Told [] s (link_ticked s) × ((known_of (link_ticked s).shown ≡ known_of s.shown) × (AreWired s.shown → AreWired (link_ticked s).shown))
+ticked-tells : (s : GatewayAndOutput) → Told [] s (link_ticked s) × ((known_of (link_ticked s).shown ≡ known_of s.shown) × (IsSetUp s.shown → IsSetUp (link_ticked s).shown))
 ticked-tells s = at (is_due_on_tick (handed_in s.shown).link s.shown.moment)
   where
-    at : (b : Bool) → (let x : GatewayAndOutput = (let g = handed_in s.shown in cond b (scene (record g { link = sent_on_tick g.link g.moment }) (with_datagram s.told (datagram_in g))) (scene g s.told)) in Told [] s x × ((known_of x.shown ≡ known_of s.shown) × (AreWired s.shown → AreWired x.shown)))
-    at true = (tells-unseen s _ refl refl refl refl, (refl, λ w. w))
-    at false = (tells-unseen s _ refl refl refl refl, (refl, λ w. w))
+    at : (b : Bool) → (let x : GatewayAndOutput = (let g = handed_in s.shown in cond b (scene (record g { link = sent_on_tick g.link g.moment }) (with_datagram s.told (datagram_in g))) (scene g s.told)) in Told [] s x × ((known_of x.shown ≡ known_of s.shown) × (IsSetUp s.shown → IsSetUp x.shown)))
+    at true = (tells-unseen s _ refl refl refl refl (refl, (refl, omega arith)), (refl, λ w. w))
+    at false = (tells-unseen s _ refl refl refl refl (refl, (refl, omega arith)), (refl, λ w. w))
 
-answered-ends : (h : List AtHand) (s done : GatewayAndOutput) → Told h s done → AreWired done.shown → Told (h ++ []) s (link_answered done) × AreWired (link_answered done).shown
+answered-ends : (h : List AtHand) (s done : GatewayAndOutput) → Told h s done → IsSetUp done.shown → Told (h ++ []) s (link_answered done) × IsSetUp (link_answered done).shown
 answered-ends h s done x w = (tells-then h [] s done (link_answered done) refl x (answered-tells done), w)
 
-end-tells : (s : GatewayAndOutput) (event : Event) (done : GatewayAndOutput) → Told (hand_of event) s done → AreWired done.shown → Told (hand_of event) s (ended_on event done) × AreWired (ended_on event done).shown
+end-tells : (s : GatewayAndOutput) (event : Event) (done : GatewayAndOutput) → Told (hand_of event) s done → IsSetUp done.shown → Told (hand_of event) s (ended_on event done) × IsSetUp (ended_on event done).shown
 end-tells s (Frame side bytes) done x w = answered-ends (at_hand side bytes.now ∷ []) s done x w
 end-tells s (Comes bytes) done x w = answered-ends [] s done x w
 end-tells s (Tick now) done x w =
@@ -400,8 +457,11 @@ end-tells s (PeerOff n) done x w = answered-ends [] s done x w
 end-tells s (SideIs side up) done x w = (x, w)
 
 -- a whole step
-pub step-tells : Frames → (s : GatewayAndOutput) (event : Event) (s2 : GatewayAndOutput) → IsStepOn s event s2 → HasBytes event → IsSound s.shown → AreWired s.shown → TellsAll (hand_of event) s s2 × AreWired s2.shown
-step-tells frames s event s2 step has is w =
+pub step-told : Frames → (s : GatewayAndOutput) (event : Event) (s2 : GatewayAndOutput) → IsStepOn s event s2 → HasBytes event → IsSound s.shown → IsSetUp s.shown → Told (hand_of event) s s2 × IsSetUp s2.shown
+step-told frames s event s2 step has is w =
     let said = does-speak frames s event step.done step.does has is w in
     let end = end-tells s event step.done said.tells said.wired in
-    subst (λ (x : GatewayAndOutput). TellsAll (hand_of event) s x × AreWired x.shown) (sym step.sends) (end.0.all, end.1)
+    subst (λ (x : GatewayAndOutput). Told (hand_of event) s x × IsSetUp x.shown) (sym step.sends) end
+
+pub step-tells : Frames → (s : GatewayAndOutput) (event : Event) (s2 : GatewayAndOutput) → IsStepOn s event s2 → HasBytes event → IsSound s.shown → IsSetUp s.shown → TellsAll (hand_of event) s s2 × IsSetUp s2.shown
+step-tells frames s event s2 step has is w = let told = step-told frames s event s2 step has is w in (told.0.all, told.1)

@@ -6,8 +6,11 @@ pub mod GivingWay
 pub mod Steps
 pub mod Truly
 pub mod Others
+pub mod OwnAnswers
 pub mod PassedOn
 pub mod Machine
+pub mod Sayings
+pub mod Seconds
 pub mod Rests
 pub mod Settled
 pub mod Founding

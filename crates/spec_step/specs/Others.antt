@@ -1,5 +1,5 @@
--- The other frames of a step, which are neither of a packet that was translated nor of an error that was passed on: an answer
--- to an ARP request, the frames of the routers' actions, and requests for next hops.
+-- The other frames of a step, which are neither of a packet that was translated, nor of an error that was passed on, nor the
+-- gateway's own: an answer to an ARP request, the frames of the routers' actions, and requests for next hops.
 use Rattle.std.specs.Prelude.{◌≡◌, ◌⊎◌, ℕ, zero, suc, ◌-◌, Bool, true, false, not, ◌&&◌, ◌||◌, Option, Some, None, Result, Ok, Err, List, [], ◌∷◌, ◌++◌, map, if◌then◌else◌}
 use Rattle.std.specs.List.{AllByRecursion, filter, flat_map}
 use Rattle.std.specs.List.Sorted.{IsPermutation}
@@ -29,16 +29,21 @@ use Rattle.waiting.specs.declared.waits.WaitsFor.TheVariants as wait
 use Rattle.waiting.specs.Packets.{HeldPacket, asks_again, hop_count, is_young, with_asked, without_first_hop}
 use Rattle.waiting.specs.Waits.{ends, is_for_pair}
 use Rattle.packet_rules.specs.declared.readings.Reading.{Reading}
-use Rattle.packet_rules.specs.declared.readings.Reading.TheVariants.{Arp, Advert, Packet, Error}
+use Rattle.packet_rules.specs.declared.readings.Reading.TheVariants.{Arp, Advert, Packet, Error, Asked}
 use Rattle.packet_rules.specs.declared.networks.Networks.{Networks}
 use Rattle.packet_rules.specs.declared.reasons.Reason.{Reason}
+use Rattle.packet_rules.specs.declared.reasons.Reason.TheVariants.{TooLong, TtlOver}
 use Rattle.packet_rules.specs.declared.translations.Translation.{Translation}
 use Rattle.packet_rules.specs.declared.translations.Translation.TheVariants.{Outward, Inward, Hairpin}
 use Rattle.packet_rules.specs.Arping.{answer_frame, answer_to, is_learnable}
 use Rattle.packet_rules.specs.Errors.{AreErrorPairs, error_direction, is_error_frame}
 use Rattle.packet_rules.specs.Flows.{flow_in, source_of, error_flow_in}
 use Rattle.packet_rules.specs.Frames.{hop_of, is_translation, way_of}
-use Rattle.packet_rules.specs.Networks.{direction_of}
+use Rattle.frames.specs.Frame.{frame_of}
+use Rattle.packet_rules.specs.declared.complaints.Complaint.{Complaint}
+use Rattle.packet_rules.specs.Asked.{IsAskable, is_asked}
+use Rattle.packet_rules.specs.Networks.{back_hop, direction_of, may_answer, network_of}
+use Rattle.packet_rules.specs.Own.{complaint_of, is_own_frame}
 use Rattle.packet_rules.specs.Steps.{IsForwardable, IsPassable}
 use Rattle.interfaces.specs.Stations.{IsRouterStep, Interface, is_active}
 use Rattle.output.specs.Output.{Sent}
@@ -50,18 +55,19 @@ use Rattle.spec_step.specs.declared.events.Event.TheVariants.{Frame, Datagram, T
 use Rattle.spec_step.specs.declared.turns.Turn.{Turn}
 use Rattle.spec_step.specs.declared.turns.Turn.TheVariants.{Leaves, Returns, Stays}
 use Rattle.spec_step.specs.GivingWay.{returned, turn_of}
-use Rattle.spec_step.specs.Parts.{frames_of, record_done, request_by, reset, waiting, with_link}
+use Rattle.spec_step.specs.Parts.{frames_of, record_done, request_by, reset, sender_in, waiting, with_link}
 use Rattle.spec_step.specs.Shown.{GatewayAndOutput, Shown, station_on}
 use Rattle.spec_step.specs.Steps.{clock_after, word_refusal}
 use Rattle.spec_step.specs.Truly.{AreItsPairs, AtHand, Known, known_of, near_on, packets_of}
 use Rattle.spec_step.specs.Verdict.{exit_by, reading_on}
 
--- a frame that left at this side is of neither
-unfoldable pub is_other : Side → List ℕ → Bool
-is_other side bytes = not (is_translation side bytes) && not (is_error_frame bytes)
+-- a frame that left at this side is of none of these
+unfoldable pub is_other : Networks → Side → List ℕ → Bool
+is_other networks side bytes =
+    not (is_own_frame networks side bytes) && (not (is_translation side bytes) && not (is_error_frame bytes))
 
-abbrev pub other_frames : List Sent → List Sent
-other_frames frames = filter (λ f. is_other f.side f.bytes) frames
+abbrev pub other_frames : Networks → List Sent → List Sent
+other_frames networks frames = filter (λ f. is_other networks f.side f.bytes) frames
 
 abbrev pub sent_on : Side → List (List ℕ) → List Sent
 sent_on side frames = map (λ bytes. record { side = side; bytes = bytes }) frames
@@ -105,6 +111,7 @@ FrameOwes g side (Ok (Arp p)) own = own ≡ sent_on side (answers (station_on g 
 FrameOwes g side (Ok (Advert a from)) own = AreOfAction g side (table.Heard a.priority a.interval from.0) g.moment own
 FrameOwes g side (Ok (Packet packet)) own = own ≡ []
 FrameOwes g side (Ok (Error packet)) own = own ≡ []
+FrameOwes g side (Ok (Asked echo)) own = own ≡ []
 FrameOwes g side (Err reason) own = own ≡ []
 
 abbrev pub Owes : Shown → Event → List Sent → Type 0
@@ -123,6 +130,7 @@ frees_as g side (Ok (Arp p)) w = is_learnable (station_on g side).network p && e
 frees_as g side (Ok (Advert a from)) w = false
 frees_as g side (Ok (Packet packet)) w = false
 frees_as g side (Ok (Error packet)) w = false
+frees_as g side (Ok (Asked echo)) w = false
 frees_as g side (Err reason) w = false
 
 -- a record: those that wait for the pair of the endpoint that it answers
@@ -172,12 +180,15 @@ is_old g (SideIs side up) w = false
 
 -- ---- the packets that come to wait
 
--- the packet of an event, where the frame is read as one
+-- the packet of an event, where the frame is read as one, or something may be said of it (none is read as too long)
 abbrev pub packet_as : Side → List ℕ → Result Reading Reason → List AtHand
 packet_as side bytes (Ok (Arp p)) = []
 packet_as side bytes (Ok (Advert a from)) = []
 packet_as side bytes (Ok (Packet packet)) = record { side = side; bytes = bytes } ∷ []
 packet_as side bytes (Ok (Error packet)) = record { side = side; bytes = bytes } ∷ []
+packet_as side bytes (Ok (Asked echo)) = record { side = side; bytes = bytes } ∷ []
+packet_as side bytes (Err TtlOver) = record { side = side; bytes = bytes } ∷ []
+packet_as side bytes (Err TooLong) = record { side = side; bytes = bytes } ∷ []
 packet_as side bytes (Err reason) = []
 
 abbrev pub packet_in : Shown → Event → List AtHand
@@ -210,7 +221,7 @@ targets (Outward pair) = []
 targets (Inward pair) = pair ∷ []
 targets (Hairpin own other) = other ∷ []
 
--- a UDP or TCP packet goes the way that the rules say, by its pairs
+-- a packet of one of the three protocols goes the way that the rules say, by its pairs
 pub record IsPacketBy (networks : Networks) (packet : AtHand) (by : Translation) : Type 0 where
   pub passes : IsForwardable packet.bytes
   pub way : let flow = flow_in packet.bytes in
@@ -225,12 +236,34 @@ pub record IsErrorBy (networks : Networks) (packet : AtHand) (by : Translation) 
 
 -- The host is the next hop of a packet or an error, at the side at which it leaves: it goes the way that the rules say, by its
 -- pairs, and it may go by that of the port that it goes to.
-pub record IsNextHop (k : Known) (may : Pair → Type 0) (packet : AtHand) (by : Translation) (exit : Side) (host : Ip)
+pub record IsOnward (k : Known) (may : Pair → Type 0) (packet : AtHand) (by : Translation) (exit : Side) (host : Ip)
     : Type 0 where
   pub goes : IsPacketBy k.networks packet by ⊎ IsErrorBy k.networks packet by
   pub target : AllByRecursion may (targets by)
   pub exit_is : exit ≡ exit_by by
   pub hop : host.0 ≡ hop_of k.networks by (flow_in packet.bytes).destination.0
+
+-- or that of what the gateway says itself to the packet's sender, at the side at which the packet came
+pub record IsBack (k : Known) (packet : AtHand) (exit : Side) (host : Ip) : Type 0 where
+  pub source : may_answer k.networks packet.side (sender_in packet.bytes).0 ≡ true
+  pub exit_is : exit ≡ packet.side
+  pub hop : host.0 ≡ back_hop k.networks packet.side (sender_in packet.bytes).0
+
+-- the packet is an Echo to the gateway
+abbrev pub IsEcho : Known → AtHand → Type 0
+IsEcho k packet =
+    IsAskable packet.bytes
+    × ((active : Bool) × (is_asked (network_of k.networks packet.side) active (frame_of packet.bytes) ≡ true))
+
+-- there is something to say of the packet where it is dropped
+abbrev pub IsTold : Known → AtHand → Type 0
+IsTold k packet = (reason : Reason) × ((exit : Side) × ((complaint : Complaint)
+    × (complaint_of k.networks packet.side exit reason packet.bytes ≡ Some complaint)))
+
+-- the next hop of a packet or an error, or of the answer to an Echo
+abbrev pub IsNextHop : Known → (Pair → Type 0) → AtHand → Side → Ip → Type 0
+IsNextHop k may packet exit host =
+    ((by : Translation) × IsOnward k may packet by exit host) ⊎ (IsEcho k packet × IsBack k packet exit host)
 
 -- no hardware address is known for a host
 abbrev pub IsUnknown : Known → Side → Ip → Type 0
@@ -239,7 +272,7 @@ IsUnknown k exit host = mac_at host.0 k.moment (near_on k exit) ≡ None
 -- a packet waits for the pair of its own endpoint, or for its own next hop
 abbrev pub IsItsWait : Known → (Pair → Type 0) → AtHand → WaitsFor → Type 0
 IsItsWait k may packet (wait.Pair e) = e ≡ source_of (flow_in packet.bytes)
-IsItsWait k may packet (wait.Hop exit host) = (by : Translation) × (IsNextHop k may packet by exit host × IsUnknown k exit host)
+IsItsWait k may packet (wait.Hop exit host) = IsNextHop k may packet exit host × IsUnknown k exit host
 
 -- it does so since now
 pub record IsNew (k : Known) (may : Pair → Type 0) (w : HeldPacket) : Type 0 where
@@ -249,8 +282,8 @@ pub record IsNew (k : Known) (may : Pair → Type 0) (w : HeldPacket) : Type 0 w
 
 -- ---- requests
 
--- Why a packet's next hop is asked for: the packet comes to wait for it; it was sent to it just now; or it is dropped, because
--- another waits for it.
+-- Why a packet's next hop is asked for: the packet comes to wait for it; it, or what the gateway says of it, was sent to it
+-- just now; or it is dropped, because another waits for it.
 pub data Cause : Type 0 where
   Waits : Cause
   Sends : Cause
@@ -261,10 +294,9 @@ has_come Waits = true
 has_come Sends = false
 has_come Drops = false
 
--- one request: of which packet, by which pairs it leaves, its next hop and the side, and why
+-- one request: of which packet, its next hop and the side, and why
 pub record Asking : Type 0 where
   pub packet : AtHand
-  pub by : Translation
   pub exit : Side
   pub host : Ip
   pub cause : Cause
@@ -283,8 +315,15 @@ IsCause g k exit host Waits = IsUnknown k exit host
 IsCause g k exit host Sends = asks_at host.0 k.moment (station_on g exit).neighbours ≡ true
 IsCause g k exit host Drops = IsUnknown k exit host × (asks_again k.moment (wait.Hop exit host) g.kept ≡ true)
 
+-- behind what was sent it may be the next hop of what the gateway said of a packet, too
+abbrev pub IsHost : Known → (Pair → Type 0) → AtHand → Side → Ip → Cause → Type 0
+IsHost k may packet exit host Waits = IsNextHop k may packet exit host
+IsHost k may packet exit host Sends =
+    IsNextHop k may packet exit host ⊎ (IsTold k packet × IsBack k packet exit host)
+IsHost k may packet exit host Drops = IsNextHop k may packet exit host
+
 pub record IsDue (g : Shown) (k : Known) (may : Pair → Type 0) (a : Asking) : Type 0 where
-  pub hop : IsNextHop k may a.packet a.by a.exit a.host
+  pub hop : IsHost k may a.packet a.exit a.host a.cause
   pub cause : IsCause g k a.exit a.host a.cause
 
 -- those of packets that come to wait, and the packets of the others
@@ -337,7 +376,7 @@ pub record AreOthers (s : GatewayAndOutput) (event : Event) (s2 : GatewayAndOutp
   pub owed : Owes s.shown event own
   pub askings : List Asking
   pub due : AllByRecursion (IsDue s.shown (known_of s2.shown) (MayGoBy s.shown notes)) askings
-  pub others : other_frames frames ≡ own ++ requests s.shown askings
+  pub others : other_frames s2.shown.networks frames ≡ own ++ requests s.shown askings
   pub came : List HeldPacket
   pub new : AllByRecursion (IsNew (known_of s2.shown) (MayGoBy s.shown notes)) came
   pub hops : hops_of came ≡ map (waiting_by s2.shown.moment) (firsts askings)

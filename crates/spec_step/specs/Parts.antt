@@ -15,7 +15,7 @@ use Rattle.arp.specs.Neighbours.{asked_at, asks_at}
 use Rattle.frames.specs.Frame.{frame_of}
 use Rattle.icmp.specs.declared.packets.ErrorFlow.{ErrorFlow}
 use Rattle.ipv4.specs.declared.flows.Flow.{Flow}
-use Rattle.ipv4.specs.Header.{payload_of}
+use Rattle.ipv4.specs.Header.{header_of, payload_of}
 use Rattle.ipv4.specs.Segment.{segment_of}
 use Rattle.activity.specs.declared.packets.Packet.{Packet as Carried}
 use Rattle.activity.specs.declared.packets.Remote.{Remote}
@@ -37,10 +37,12 @@ use Rattle.waiting.specs.declared.waits.Ended.TheVariants.{One, AllPairs}
 use Rattle.waiting.specs.declared.waits.WaitsFor.{WaitsFor}
 use Rattle.waiting.specs.declared.waits.WaitsFor.TheVariants as wait
 use Rattle.waiting.specs.Packets.{HeldPacket, asks_again, ended_by, is_young, left_by, with_asked, with_room}
+use Rattle.packet_rules.specs.declared.complaints.Complaint.{Complaint}
+use Rattle.packet_rules.specs.declared.readings.Asked.{Asked as Echo}
 use Rattle.packet_rules.specs.declared.readings.Reading.{Reading}
-use Rattle.packet_rules.specs.declared.readings.Reading.TheVariants.{Arp, Advert, Packet, Error}
+use Rattle.packet_rules.specs.declared.readings.Reading.TheVariants.{Arp, Advert, Packet, Error, Asked}
 use Rattle.packet_rules.specs.declared.reasons.Reason.{Reason}
-use Rattle.packet_rules.specs.declared.reasons.Reason.TheVariants.{ShortFrame, NotMine, BadHeader, BadLength, BadHeaderSum, Fragment, TtlOver, NotUdpTcp, BadTransport, BadArp, BadAdvert, NotUp, NoBinding, NoPort, CannotWait, BadDatagram, OldWord, HostLimit}
+use Rattle.packet_rules.specs.declared.reasons.Reason.TheVariants.{NoPort, TooLong, TtlOver}
 use Rattle.packet_rules.specs.declared.translations.Translation.{Translation}
 use Rattle.packet_rules.specs.declared.translations.Translation.TheVariants.{Outward, Inward, Hairpin}
 use Rattle.packet_rules.specs.Adverts.{advert_frame}
@@ -48,7 +50,10 @@ use Rattle.packet_rules.specs.Arping.{answer_frame, answer_to, gratuitous_frame,
 use Rattle.packet_rules.specs.Errors.{passed_frame}
 use Rattle.packet_rules.specs.Flows.{source_of}
 use Rattle.packet_rules.specs.Frames.{sent_frame}
-use Rattle.interfaces.specs.Stations.{Interface, after_arp, is_active, with_plug}
+use Rattle.packet_rules.specs.Networks.{direction_of, network_of}
+use Rattle.packet_rules.specs.Own.{answer_frame as own_answer, complaint_frame, complaint_of, exit_for}
+use Rattle.interfaces.specs.Stations.{Interface, after_arp, is_active, with_complaint, with_plug, with_reply}
+use Rattle.interfaces.specs.Tallies.{may_complain}
 use Rattle.vrrp_states.specs.declared.Action.{Action}
 use Rattle.vrrp_states.specs.declared.Action.TheVariants.{Nothing, Advertise, AdvertiseAndArp}
 use Rattle.vrrp_states.specs.declared.State.{State}
@@ -57,8 +62,10 @@ use Rattle.vrrp_states.specs.Table.{Router, active_down_interval}
 use Rattle.output.specs.Output.{Output, with_datagram, with_frame}
 use Rattle.spec_step.specs.declared.plans.Plan.{Plan}
 use Rattle.spec_step.specs.declared.plans.Plan.TheVariants.{Send, Ask, AskAgain, Wait as WaitFor}
+use Rattle.spec_step.specs.declared.plans.Reply.{Reply}
+use Rattle.spec_step.specs.declared.plans.Reply.TheVariants as reply
 use Rattle.spec_step.specs.Shown.{GatewayAndOutput, Shown, id_of, is_running, scene, serves, station_on, with_notes, with_station}
-use Rattle.spec_step.specs.Verdict.{error_hop, error_plan, exit_by, hop_by, plan_of, reading_on}
+use Rattle.spec_step.specs.Verdict.{error_hop, error_plan, exit_by, hop_back, hop_by, next_back, plan_of, reading_on, reply_to}
 
 -- ---- rows of the binding protocol
 
@@ -148,6 +155,17 @@ asked_again s exit hop = let g = s.shown in let what = wait.Hop exit hop in
 
 -- ---- plans
 
+-- how many bytes a frame's packet has, and who sent it
+abbrev pub length_in : List ℕ → ℕ
+length_in bytes = (header_of (frame_of bytes).body).total_length
+
+abbrev pub sender_in : List ℕ → Ip
+sender_in bytes = record { 0 = (header_of (frame_of bytes).body).source }
+
+-- something of the gateway's own was sent at a side, and counted there
+abbrev pub counted : GatewayAndOutput → Side → Interface → GatewayAndOutput
+counted s side station = scene (with_station s.shown side station) s.told
+
 -- a plan is done
 abbrev pub by_plan : GatewayAndOutput → Side → List ℕ → Flow → Plan → GatewayAndOutput
 by_plan s side bytes flow (Send by next) =
@@ -164,33 +182,42 @@ by_plan s side bytes flow (AskAgain by hop) = asked_again s (exit_by by) hop
 by_plan s side bytes flow (WaitFor endpoint) =
     keeping (wanted_by s endpoint) side bytes (wait.Pair endpoint)
 
--- a packet is dropped, and where no port was free ports may be asked for
-abbrev pub by_refusal : GatewayAndOutput → Flow → Reason → GatewayAndOutput
-by_refusal s flow NoPort = wanted_by s (source_of flow)
-by_refusal s flow ShortFrame = s
-by_refusal s flow NotMine = s
-by_refusal s flow BadHeader = s
-by_refusal s flow BadLength = s
-by_refusal s flow BadHeaderSum = s
-by_refusal s flow Fragment = s
-by_refusal s flow TtlOver = s
-by_refusal s flow NotUdpTcp = s
-by_refusal s flow BadTransport = s
-by_refusal s flow BadArp = s
-by_refusal s flow BadAdvert = s
-by_refusal s flow NotUp = s
-by_refusal s flow NoBinding = s
-by_refusal s flow CannotWait = s
-by_refusal s flow BadDatagram = s
-by_refusal s flow OldWord = s
-by_refusal s flow HostLimit = s
+-- what is said of a packet that is dropped goes out where its next hop is known, and not too much was said in this second
+abbrev pub complained_to : GatewayAndOutput → Side → List ℕ → Complaint → Option Mac → GatewayAndOutput
+complained_to s side bytes complaint (Some next) =
+    if may_complain s.shown.moment (station_on s.shown side).said
+    then renewed_behind
+    (counted (framed s side (complaint_frame (network_of s.shown.networks side) complaint next bytes)) side (with_complaint (station_on s.shown side) s.shown.moment))
+    side (hop_back s.shown side (sender_in bytes))
+    else s
+complained_to s side bytes complaint None = s
+
+abbrev pub complained : GatewayAndOutput → Side → List ℕ → Option Complaint → GatewayAndOutput
+complained s side bytes (Some complaint) =
+    complained_to s side bytes complaint (next_back s.shown side (sender_in bytes))
+complained s side bytes None = s
+
+-- a packet is dropped, which would have left at `exit`: it is said where its time to live is over, or it is too long
+abbrev pub refused : GatewayAndOutput → Side → Side → List ℕ → Reason → GatewayAndOutput
+refused s side exit bytes TtlOver =
+    complained s side bytes (complaint_of s.shown.networks side exit TtlOver bytes)
+refused s side exit bytes TooLong =
+    complained s side bytes (complaint_of s.shown.networks side exit TooLong bytes)
+refused s side exit bytes reason = s
+
+-- where no port was free ports may be asked for
+abbrev pub by_refusal : GatewayAndOutput → Side → List ℕ → Flow → Reason → GatewayAndOutput
+by_refusal s side bytes flow NoPort = wanted_by s (source_of flow)
+by_refusal s side bytes flow reason =
+    let way = direction_of s.shown.networks side flow.protocol flow.source.0 flow.destination.0 in
+    refused s side (exit_for side way) bytes reason
 
 abbrev pub by_verdict : GatewayAndOutput → Side → List ℕ → Flow → Result Plan Reason → GatewayAndOutput
 by_verdict s side bytes flow (Ok plan) = by_plan s side bytes flow plan
-by_verdict s side bytes flow (Err reason) = by_refusal s flow reason
+by_verdict s side bytes flow (Err reason) = by_refusal s side bytes flow reason
 
 abbrev pub flow_taken : GatewayAndOutput → Side → List ℕ → Flow → GatewayAndOutput
-flow_taken s side bytes flow = by_verdict s side bytes flow (plan_of s.shown side flow)
+flow_taken s side bytes flow = by_verdict s side bytes flow (plan_of s.shown side flow (length_in bytes))
 
 -- An error's plan is done: a frame, a request, or a packet more that waits. No pair is made, used, renewed or ended, nothing is noted,
 -- and nothing is pushed.
@@ -212,7 +239,24 @@ by_error_verdict s side bytes flow (Ok plan) = by_error_plan s side bytes flow p
 by_error_verdict s side bytes flow (Err reason) = s
 
 abbrev pub error_taken : GatewayAndOutput → Side → List ℕ → ErrorFlow → GatewayAndOutput
-error_taken s side bytes flow = by_error_verdict s side bytes flow (error_plan s.shown side flow)
+error_taken s side bytes flow = by_error_verdict s side bytes flow (error_plan s.shown side flow (length_in bytes))
+
+-- An Echo to the gateway's answer is done: its Reply, a request, or a packet more that waits. It is no use of a pair either.
+abbrev pub by_reply : GatewayAndOutput → Side → List ℕ → Ip → Reply → GatewayAndOutput
+by_reply s side bytes source (reply.Send next) =
+    renewed_behind
+    (counted (framed s side (own_answer (network_of s.shown.networks side) next bytes)) side (with_reply (station_on s.shown side) s.shown.moment))
+    side (hop_back s.shown side source)
+by_reply s side bytes source (reply.Ask hop) =
+    framed (keeping s side bytes (wait.Hop side hop)) side (request_by s.shown side hop)
+by_reply s side bytes source (reply.AskAgain hop) = asked_again s side hop
+
+abbrev pub by_reply_verdict : GatewayAndOutput → Side → List ℕ → Ip → Result Reply Reason → GatewayAndOutput
+by_reply_verdict s side bytes source (Ok plan) = by_reply s side bytes source plan
+by_reply_verdict s side bytes source (Err reason) = refused s side side bytes reason
+
+abbrev pub echo_taken : GatewayAndOutput → Side → List ℕ → Echo → GatewayAndOutput
+echo_taken s side bytes echo = by_reply_verdict s side bytes echo.source (reply_to s.shown side echo)
 
 -- a kept packet is read again from the first step on
 abbrev pub retaken_by : GatewayAndOutput → Side → List ℕ → Result Reading Reason → GatewayAndOutput
@@ -220,7 +264,8 @@ retaken_by s side bytes (Ok (Packet packet)) = flow_taken s side bytes packet.fl
 retaken_by s side bytes (Ok (Error packet)) = error_taken s side bytes packet.flow
 retaken_by s side bytes (Ok (Arp p)) = s
 retaken_by s side bytes (Ok (Advert a from)) = s
-retaken_by s side bytes (Err reason) = s
+retaken_by s side bytes (Ok (Asked echo)) = echo_taken s side bytes echo
+retaken_by s side bytes (Err reason) = refused s side side bytes reason
 
 abbrev pub taken_again : GatewayAndOutput → HeldPacket → GatewayAndOutput
 taken_again s w = retaken_by s w.side w.bytes (reading_on s.shown w.side w.bytes)
@@ -373,7 +418,7 @@ abbrev pub all_idle_done : GatewayAndOutput → List Key → GatewayAndOutput
 all_idle_done s [] = s
 all_idle_done s (k ∷ ks) = all_idle_done (idle_done s k) ks
 
--- the idle pairs of a moment, by protocol (tcp first) and port
+-- the idle pairs of a moment, by protocol and port
 abbrev pub idle_taken : GatewayAndOutput → GatewayAndOutput
 idle_taken s = let l = s.shown.ledger in all_idle_done s (idle_keys_in (is_lone l.book.stage) s.shown.moment l.book.entries l.lives)
 

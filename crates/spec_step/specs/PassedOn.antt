@@ -1,21 +1,23 @@
--- Errors passed on: the error frames of a step are, one for one and in order, errors at hand with addresses and ports
+-- Errors passed on, and Own answers: the error frames of a step are, one for one and in order, errors at hand with addresses and ports
 -- replaced, by pairs that translate there; what an error sent outward hides; and that an error is no use of its pairs.
-use Rattle.std.specs.Prelude.{◌≡◌, ℕ, Some, List, ◌++◌, map}
+use Rattle.std.specs.Prelude.{◌≡◌, Some, List, not, ◌&&◌, ◌++◌, map}
 use Rattle.std.specs.List.{AllByRecursion, filter, flat_map}
 use Rattle.std.specs.List.Sorted.{IsPermutation}
 use Rattle.addresses.specs.declared.ethernet.Mac.{Mac}
-use Rattle.nat_types.specs.declared.gateways.Side.TheVariants.{Outside}
+use Rattle.nat_types.specs.declared.gateways.Side.TheVariants.{Inside, Outside}
 use Rattle.nat_types.specs.declared.notes.Note.{Note}
 use Rattle.nat_types.specs.declared.pairs.Pair.{Pair}
 use Rattle.arp.specs.Neighbours.{mac_at}
+use Rattle.packet_rules.specs.declared.networks.Networks.{Networks}
 use Rattle.packet_rules.specs.declared.translations.Translation.{Translation}
 use Rattle.packet_rules.specs.Errors.{HidesInside, is_error_frame, passed_frame}
 use Rattle.packet_rules.specs.Flows.{error_flow_in}
 use Rattle.packet_rules.specs.Frames.{hop_of, pairs_of}
 use Rattle.output.specs.Output.{Sent}
 use Rattle.spec_step.specs.Others.{IsErrorBy, MayGoBy}
-use Rattle.spec_step.specs.Shown.{GatewayAndOutput}
-use Rattle.spec_step.specs.Truly.{AreSent, AtHand, Known, Sending, known_of, near_on, packets_of, translated_frames, used_pairs}
+use Rattle.spec_step.specs.OwnAnswers.{IsOwnOf, OwnFrame, own_frames, tallied}
+use Rattle.spec_step.specs.Shown.{GatewayAndOutput, Shown}
+use Rattle.spec_step.specs.Truly.{AreSent, AtHand, Known, Sending, is_own, known_of, near_on, packets_of, translated_frames, used_pairs}
 use Rattle.spec_step.specs.Verdict.{exit_by}
 
 -- The frame is the error passed on: it goes the way that the rules say, by its pairs, by all of which packets may go, to its
@@ -31,34 +33,41 @@ pub record IsPassedOn (k : Known) (may : Pair → Type 0) (packet : AtHand) (by 
 abbrev pub ArePassedOn : Known → (Pair → Type 0) → List Sending → Type 0
 ArePassedOn k may passed = AllByRecursion (λ d. IsPassedOn k may d.packet d.by d.sent) passed
 
--- those of the frames that are errors
-abbrev pub error_frames : List Sent → List Sent
-error_frames frames = filter (λ f. is_error_frame f.bytes) frames
+-- those of the frames that are errors, and none of the gateway's own
+abbrev pub error_frames : Networks → List Sent → List Sent
+error_frames networks frames = filter (λ f. not (is_own networks f) && is_error_frame f.bytes) frames
 
--- From a scene to a later one, with these packets in hand: what was told more, errors among it. Beside the packets that were
--- translated, as `Tells` has them, stand the errors that were passed on: others of those at hand or kept before, each once,
--- and none of them is dropped or kept afterwards. The gateway translated by their pairs before, or takes them up on the way.
+-- From a scene to a later one, with these packets in hand: what was told more, errors among it, and what the gateway said
+-- itself. Beside the packets that were translated, as `Tells` has them, stand the errors that were passed on, and the packets
+-- that were answered or complained of: others of those at hand or kept before, each once, and none of them is kept afterwards.
+-- The gateway translated by the errors' pairs before, or takes them up on the way. What it says is counted at its side.
 pub record TellsAll (hand : List AtHand) (old new : GatewayAndOutput) : Type 0 where
   pub frames : List Sent
   pub frames_are : new.told.frames ≡ old.told.frames ++ frames
   pub notes : List Note
   pub notes_are : new.told.notes ≡ old.told.notes ++ notes
   pub done : List Sending
-  pub translated : translated_frames frames ≡ map (λ d. d.sent) done
+  pub translated : translated_frames new.shown.networks frames ≡ map (λ d. d.sent) done
   pub used : used_pairs notes ≡ flat_map (λ d. pairs_of d.by) done
   pub each : AreSent (known_of new.shown) done
   pub passed : List Sending
-  pub errors : error_frames frames ≡ map (λ d. d.sent) passed
+  pub errors : error_frames new.shown.networks frames ≡ map (λ d. d.sent) passed
   pub each_error : ArePassedOn (known_of new.shown) (MayGoBy old.shown notes) passed
+  pub own : List OwnFrame
+  pub own_are : own_frames new.shown.networks frames ≡ map (λ o. o.sent) own
+  pub each_own : AllByRecursion (IsOwnOf (known_of new.shown)) own
+  pub counted_inside : new.shown.inside.said ≡ tallied new.shown.moment Inside own old.shown.inside.said
+  pub counted_outside : new.shown.outside.said ≡ tallied new.shown.moment Outside own old.shown.outside.said
   pub dropped : List AtHand
   pub once : IsPermutation (hand ++ packets_of old.shown.kept)
-      (map (λ d. d.packet) done ++ (map (λ d. d.packet) passed ++ (dropped ++ packets_of new.shown.kept)))
+      (map (λ d. d.packet) done ++ (map (λ d. d.packet) passed
+      ++ (map (λ o. o.packet) own ++ (dropped ++ packets_of new.shown.kept))))
 
 -- in each error among these frames that was sent outward the source, and the destination of the packet inside, are the
 -- outside virtual address
-abbrev pub HidesAllInside : ℕ → List Sent → Type 0
-HidesAllInside outside frames =
-    AllByRecursion (λ f. f.side ≡ Outside → HidesInside outside f.bytes) (error_frames frames)
+abbrev pub HidesAllInside : Networks → List Sent → Type 0
+HidesAllInside networks frames =
+    AllByRecursion (λ f. f.side ≡ Outside → HidesInside networks.outside.interface.virtual_ip.0 f.bytes) (error_frames networks frames)
 
 -- no pair is made, used, renewed or ended from a scene to a later one, and nothing is noted, pushed or sent to the peer
 pub record LeavesPairs (old new : GatewayAndOutput) : Type 0 where
@@ -66,3 +75,14 @@ pub record LeavesPairs (old new : GatewayAndOutput) : Type 0 where
   pub link : new.shown.link ≡ old.shown.link
   pub notes : new.told.notes ≡ old.told.notes
   pub datagrams : new.told.datagrams ≡ old.told.datagrams
+
+-- nothing of a gateway changes but how much was said at its sides, and when neighbours were last asked for
+pub record ChangesLittle (old new : Shown) : Type 0 where
+  pub known : known_of new ≡ known_of old
+  pub stopped : new.stopped ≡ old.stopped
+  pub away : new.away ≡ old.away
+  pub ledger : new.ledger ≡ old.ledger
+  pub link : new.link ≡ old.link
+  pub kept : new.kept ≡ old.kept
+  pub inside : new.inside ≡ record old.inside { neighbours = new.inside.neighbours; said = new.inside.said }
+  pub outside : new.outside ≡ record old.outside { neighbours = new.outside.neighbours; said = new.outside.said }

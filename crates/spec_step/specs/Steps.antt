@@ -7,7 +7,7 @@ use Rattle.link.specs.Link.{taking}
 use Rattle.link.specs.Reading.{reading}
 use Rattle.spec_binding.specs.Books.{is_synced}
 use Rattle.packet_rules.specs.declared.readings.Reading.{Reading}
-use Rattle.packet_rules.specs.declared.readings.Reading.TheVariants.{Arp, Advert, Packet, Error}
+use Rattle.packet_rules.specs.declared.readings.Reading.TheVariants.{Arp, Advert, Packet, Error, Asked}
 use Rattle.packet_rules.specs.declared.reasons.Reason.{Reason}
 use Rattle.packet_rules.specs.declared.reasons.Reason.TheVariants.{NotUp, BadDatagram, OldWord}
 use Rattle.vrrp_states.specs.Table as table
@@ -16,7 +16,7 @@ use Rattle.spec_step.specs.declared.events.Event.TheVariants.{Frame, Datagram as
 use Rattle.spec_step.specs.declared.events.Outcome.{Outcome}
 use Rattle.spec_step.specs.declared.events.Outcome.TheVariants.{Done, Dropped}
 use Rattle.spec_step.specs.GivingWay.{GivingWay}
-use Rattle.spec_step.specs.Parts.{arp_taken, datagram_taken, error_taken, flow_taken, idle_taken, link_answered, link_ticked, old_dropped, side_plugged, word_taken}
+use Rattle.spec_step.specs.Parts.{arp_taken, datagram_taken, echo_taken, error_taken, flow_taken, idle_taken, link_answered, link_ticked, old_dropped, refused, side_plugged, word_taken}
 use Rattle.spec_step.specs.Routers.{BothAct, RouterActs}
 use Rattle.spec_step.specs.Shown.{GatewayAndOutput, Shown, scene}
 use Rattle.spec_step.specs.Verdict.{reading_on, verdict}
@@ -35,7 +35,8 @@ FrameDoes s side bytes (Ok (Arp p)) s2 = s2 ≡ arp_taken s side p
 FrameDoes s side bytes (Ok (Advert a from)) s2 = RouterActs s side (table.Heard a.priority a.interval from.0) s2
 FrameDoes s side bytes (Ok (Packet packet)) s2 = s2 ≡ flow_taken s side bytes packet.flow
 FrameDoes s side bytes (Ok (Error packet)) s2 = s2 ≡ error_taken s side bytes packet.flow
-FrameDoes s side bytes (Err reason) s2 = s2 ≡ s
+FrameDoes s side bytes (Ok (Asked echo)) s2 = s2 ≡ echo_taken s side bytes echo
+FrameDoes s side bytes (Err reason) s2 = s2 ≡ refused s side side bytes reason
 
 abbrev pub ticked : GatewayAndOutput → ℕ → GatewayAndOutput
 ticked s now = scene (record s.shown { moment = clock_after s.shown.moment now }) s.told

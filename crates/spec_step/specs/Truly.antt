@@ -1,6 +1,6 @@
 -- Told truly: the translated frames of a step are, one for one and in order, translations of different packets at hand, by
 -- the pairs that the step's Used notes name.
-use Rattle.std.specs.Prelude.{◌≡◌, ℕ, List, [], ◌∷◌, ◌++◌, map, Some, Ok}
+use Rattle.std.specs.Prelude.{◌≡◌, ℕ, Bool, not, ◌&&◌, List, [], ◌∷◌, ◌++◌, map, Some, Ok}
 use Rattle.std.specs.List.{filter, flat_map}
 use Rattle.std.specs.List.Sorted.{IsPermutation}
 use Rattle.addresses.specs.declared.ethernet.Mac.{Mac}
@@ -14,12 +14,14 @@ use Rattle.arp.specs.declared.caches.CacheEntry.{CacheEntry}
 use Rattle.arp.specs.Neighbours.{Neighbours, mac_at}
 use Rattle.ipv4.specs.declared.flows.Flow.{Flow}
 use Rattle.waiting.specs.Packets.{HeldPacket}
+use Rattle.packet_rules.specs.declared.networks.Network.{Network}
 use Rattle.packet_rules.specs.declared.networks.Networks.{Networks}
 use Rattle.packet_rules.specs.declared.translations.Translation.{Translation}
 use Rattle.packet_rules.specs.declared.translations.Translation.TheVariants.{Outward, Inward, Hairpin}
 use Rattle.packet_rules.specs.Flows.{flow_in, source_of, target_of}
 use Rattle.packet_rules.specs.Frames.{hop_of, is_translation, pairs_of, sent_frame, way_of}
-use Rattle.packet_rules.specs.Networks.{IsWired, direction_of}
+use Rattle.packet_rules.specs.Networks.{IsPlaced, IsWired, direction_of}
+use Rattle.packet_rules.specs.Own.{is_own_frame}
 use Rattle.interfaces.specs.Stations.{IsWired as IsWiredStation}
 use Rattle.output.specs.Output.{Sent}
 use Rattle.spec_step.specs.declared.events.Event.{Event}
@@ -62,7 +64,7 @@ packets_of kept = map (λ w. record { side = w.side; bytes = w.bytes }) kept
 abbrev pub unasked : Neighbours → Neighbours
 unasked known = record known { learnt = map (λ (e : CacheEntry). record e { asked = 0 }) known.learnt }
 
--- what decides where a translated packet goes
+-- what decides where a translated packet goes, and what the gateway says itself
 pub record Known : Type 0 where
   pub networks : Networks
   pub moment : ℕ
@@ -109,9 +111,13 @@ abbrev pub AreSent : Known → List Sending → Type 0
 AreSent k [] = Unit {0}
 AreSent k (d ∷ ds) = IsSentBy k d.packet d.by d.sent × AreSent k ds
 
+-- a frame that a gateway of these networks sent says something of its own
+abbrev pub is_own : Networks → Sent → Bool
+is_own networks f = is_own_frame networks f.side f.bytes
+
 -- those of the frames whose packet was translated
-abbrev pub translated_frames : List Sent → List Sent
-translated_frames frames = filter (λ f. is_translation f.side f.bytes) frames
+abbrev pub translated_frames : Networks → List Sent → List Sent
+translated_frames networks frames = filter (λ f. not (is_own networks f) && is_translation f.side f.bytes) frames
 
 -- From a scene to a later one, with these packets in hand: what was told more. Each packet at hand or kept before is sent
 -- once, or dropped, or kept afterwards.
@@ -121,13 +127,21 @@ pub record Tells (hand : List AtHand) (old new : GatewayAndOutput) : Type 0 wher
   pub notes : List Note
   pub notes_are : new.told.notes ≡ old.told.notes ++ notes
   pub done : List Sending
-  pub translated : translated_frames frames ≡ map (λ d. d.sent) done
+  pub translated : translated_frames new.shown.networks frames ≡ map (λ d. d.sent) done
   pub used : used_pairs notes ≡ flat_map (λ d. pairs_of d.by) done
   pub each : AreSent (known_of new.shown) done
   pub dropped : List AtHand
   pub once : IsPermutation (hand ++ packets_of old.shown.kept)
       (map (λ d. d.packet) done ++ (dropped ++ packets_of new.shown.kept))
 
--- all hardware addresses that a gateway knows have six bytes
-abbrev pub AreWired : Shown → Type 0
-AreWired g = IsWired g.networks × (IsWiredStation g.inside × IsWiredStation g.outside)
+-- networks whose addresses are placed, and the two interfaces that stand in them
+pub record IsHouse (networks : Networks) (inside outside : Network) : Type 0 where
+  pub placed : IsPlaced networks
+  pub inside_is : inside ≡ networks.inside
+  pub outside_is : outside ≡ networks.outside
+
+-- all hardware addresses that a gateway knows have six bytes, and its interfaces stand in its networks
+abbrev pub IsSetUp : Shown → Type 0
+IsSetUp g =
+    (IsWired g.networks × IsHouse g.networks g.inside.network g.outside.network)
+    × (IsWiredStation g.inside × IsWiredStation g.outside)

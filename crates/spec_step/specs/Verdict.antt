@@ -1,5 +1,5 @@
 -- Verdict: what a packet is to do, as a function of the packet and the gateway.
-use Rattle.std.specs.Prelude.{ℕ, Option, Some, None, Result, Ok, Err, List, if◌then◌else◌}
+use Rattle.std.specs.Prelude.{ℕ, Bool, nat_le, Option, Some, None, Result, Ok, Err, List, if◌then◌else◌}
 use Rattle.addresses.specs.declared.ethernet.Mac.{Mac}
 use Rattle.addresses.specs.declared.internet.Ip.{Ip}
 use Rattle.nat_types.specs.declared.gateways.Side.{Side}
@@ -18,22 +18,26 @@ use Rattle.waiting.specs.declared.waits.WaitsFor as wait
 use Rattle.waiting.specs.Packets.{has_place}
 use Rattle.packet_rules.specs.declared.networks.Direction.{Direction}
 use Rattle.packet_rules.specs.declared.networks.Direction.TheVariants as way
+use Rattle.packet_rules.specs.declared.readings.Asked.{Asked as Echo}
 use Rattle.packet_rules.specs.declared.readings.Reading.{Reading}
-use Rattle.packet_rules.specs.declared.readings.Reading.TheVariants.{Arp, Advert, Packet, Error}
+use Rattle.packet_rules.specs.declared.readings.Reading.TheVariants.{Arp, Advert, Packet, Error, Asked}
 use Rattle.packet_rules.specs.declared.reasons.Reason.{Reason}
-use Rattle.packet_rules.specs.declared.reasons.Reason.TheVariants.{NoBinding, NoPort, CannotWait, HostLimit}
+use Rattle.packet_rules.specs.declared.reasons.Reason.TheVariants.{NoBinding, NoPort, CannotWait, HostLimit, TooLong, TooMany}
 use Rattle.packet_rules.specs.declared.translations.Translation.{Translation}
 use Rattle.packet_rules.specs.declared.translations.Translation.TheVariants.{Outward, Inward, Hairpin}
 use Rattle.packet_rules.specs.Errors.{endpoint_about, error_direction, key_about}
 use Rattle.packet_rules.specs.Flows.{source_of, target_of}
 use Rattle.packet_rules.specs.Frames.{hop_of, way_of}
-use Rattle.packet_rules.specs.Networks.{direction_of, exit_of}
+use Rattle.packet_rules.specs.Networks.{back_hop, direction_of, exit_of, may_answer, mtu_of}
 use Rattle.packet_rules.specs.Steps.{reading_of, and_then}
 use Rattle.interfaces.specs.Stations.{is_active}
+use Rattle.interfaces.specs.Tallies.{may_reply}
 use Rattle.spec_step.specs.declared.events.Outcome.{Outcome}
 use Rattle.spec_step.specs.declared.events.Outcome.TheVariants.{Sent, Waiting, Done, Dropped}
 use Rattle.spec_step.specs.declared.plans.Plan.{Plan}
 use Rattle.spec_step.specs.declared.plans.Plan.TheVariants.{Send, Ask, AskAgain, Wait}
+use Rattle.spec_step.specs.declared.plans.Reply.{Reply}
+use Rattle.spec_step.specs.declared.plans.Reply.TheVariants as reply
 use Rattle.spec_step.specs.Shown.{Shown, is_up, station_on}
 
 -- the side at which a translated packet leaves
@@ -100,8 +104,23 @@ plan_on g flow way.Inward = and_then (target_pair g flow) (λ p. plan_by g flow 
 plan_on g flow way.Hairpin =
     and_then (target_pair g flow) (λ p. plan_from g flow (λ own. Hairpin own p) (look_for g flow))
 
-abbrev pub plan_of : Shown → Side → Flow → Result Plan Reason
-plan_of g side flow = and_then (direction_of g.networks side flow.protocol flow.source.0 flow.destination.0) (plan_on g flow)
+-- so many bytes are no more than a packet has that is sent at a side
+abbrev pub fits_at : Shown → Side → ℕ → Bool
+fits_at g exit length = nat_le length (mtu_of g.networks exit)
+
+-- what would go on or wait is dropped where it is too long, before anything else is done for it; one that is dropped anyway,
+-- because another waits for its next hop, stays so
+abbrev pub if_fits : Bool → Plan → Result Plan Reason
+if_fits fits (Send by next) = (if fits then Ok (Send by next) else Err TooLong)
+if_fits fits (Ask by hop) = (if fits then Ok (Ask by hop) else Err TooLong)
+if_fits fits (AskAgain by hop) = Ok (AskAgain by hop)
+if_fits fits (Wait endpoint) = (if fits then Ok (Wait endpoint) else Err TooLong)
+
+-- a packet of so many bytes
+abbrev pub plan_of : Shown → Side → Flow → ℕ → Result Plan Reason
+plan_of g side flow length =
+    and_then (direction_of g.networks side flow.protocol flow.source.0 flow.destination.0)
+    (λ way. and_then (plan_on g flow way) (if_fits (fits_at g (exit_of way) length)))
 
 -- what a frame is read as
 abbrev pub reading_on : Shown → Side → List ℕ → Result Reading Reason
@@ -133,8 +152,40 @@ error_on g flow way.Inward = and_then (pair_out g flow) (λ p. error_by g flow (
 error_on g flow way.Hairpin =
     and_then (pair_out g flow) (λ other. and_then (pair_in_of g flow) (λ own. error_by g flow (Hairpin own other)))
 
-abbrev pub error_plan : Shown → Side → ErrorFlow → Result Plan Reason
-error_plan g side flow = and_then (error_direction g.networks side flow) (error_on g flow)
+-- an error of so many bytes
+abbrev pub error_plan : Shown → Side → ErrorFlow → ℕ → Result Plan Reason
+error_plan g side flow length =
+    and_then (error_direction g.networks side flow)
+    (λ way. and_then (error_on g flow way) (if_fits (fits_at g (exit_of way) length)))
+
+-- ---- what a gateway says itself
+
+-- the next hop of what it says to a source at a side, and its hardware address where it is known
+abbrev pub hop_back : Shown → Side → Ip → Ip
+hop_back g side source = record { 0 = back_hop g.networks side source.0 }
+
+abbrev pub next_back : Shown → Side → Ip → Option Mac
+next_back g side source = mac_at (hop_back g side source).0 g.moment (station_on g side).neighbours
+
+-- an Echo to it is answered, or waits for the next hop of the answer where no other packet does
+abbrev pub reply_via : Shown → Side → Ip → Option Mac → Result Reply Reason
+reply_via g side hop (Some next) = Ok (reply.Send next)
+reply_via g side hop None = (if has_place g.kept (wait.TheVariants.Hop side hop) then Ok (reply.Ask hop) else Ok (reply.AskAgain hop))
+
+-- where the answer isn't too long for its side
+abbrev pub if_reply_fits : Bool → Reply → Result Reply Reason
+if_reply_fits fits (reply.Send next) = (if fits then Ok (reply.Send next) else Err TooLong)
+if_reply_fits fits (reply.Ask hop) = (if fits then Ok (reply.Ask hop) else Err TooLong)
+if_reply_fits fits (reply.AskAgain hop) = Ok (reply.AskAgain hop)
+
+-- where its source may be answered, and not too many were in this second
+abbrev pub reply_to : Shown → Side → Echo → Result Reply Reason
+reply_to g side echo =
+    if may_answer g.networks side echo.source.0
+    then (if may_reply g.moment (station_on g side).said
+    then and_then (reply_via g side (hop_back g side echo.source) (next_back g side echo.source)) (if_reply_fits (fits_at g side echo.length))
+    else Err TooMany)
+    else Err NoBinding
 
 -- ---- the outcome of a frame
 
@@ -145,11 +196,18 @@ outcome_by (Ok (AskAgain by hop)) = Dropped CannotWait
 outcome_by (Ok (Wait endpoint)) = Waiting
 outcome_by (Err reason) = Dropped reason
 
+abbrev pub outcome_reply : Result Reply Reason → Outcome
+outcome_reply (Ok (reply.Send next)) = Sent
+outcome_reply (Ok (reply.Ask hop)) = Waiting
+outcome_reply (Ok (reply.AskAgain hop)) = Dropped CannotWait
+outcome_reply (Err reason) = Dropped reason
+
 abbrev pub outcome_read : Shown → Side → Result Reading Reason → Outcome
 outcome_read g side (Ok (Arp p)) = Done
 outcome_read g side (Ok (Advert a from)) = Done
-outcome_read g side (Ok (Packet packet)) = outcome_by (plan_of g side packet.flow)
-outcome_read g side (Ok (Error packet)) = outcome_by (error_plan g side packet.flow)
+outcome_read g side (Ok (Packet packet)) = outcome_by (plan_of g side packet.flow packet.length)
+outcome_read g side (Ok (Error packet)) = outcome_by (error_plan g side packet.flow packet.length)
+outcome_read g side (Ok (Asked echo)) = outcome_reply (reply_to g side echo)
 outcome_read g side (Err reason) = Dropped reason
 
 abbrev pub verdict : Shown → Side → List ℕ → Outcome

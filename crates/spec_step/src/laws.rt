@@ -1,6 +1,6 @@
 //! What holds of a step of a gateway. Each law is the contract of a function that does nothing.
 
-ghost use Rattle.std.specs.Prelude.{◌≡◌, ◌≢◌, Ok, ◌≤◌, ◌<◌, ◌+◌, ◌^◌, ◌∷◌, ◌++◌, ℕ, true, false, [], List, length, reverse};
+ghost use Rattle.std.specs.Prelude.{◌≡◌, ◌≢◌, Ok, ◌≤◌, ◌<◌, ◌+◌, ◌^◌, ◌∷◌, ◌++◌, ℕ, true, false, [], List, length, reverse, Err, Some};
 ghost use Rattle.nat_types.specs.declared.gateways.GatewayId.{GatewayId};
 ghost use Rattle.nat_types.specs.declared.gateways.Side.{Side};
 ghost use Rattle.nat_types.specs.declared.notes.NoteKind.TheVariants.{Booted, Crashed};
@@ -13,29 +13,41 @@ ghost use Rattle.settings.specs.declared.whole.Settings.{Settings};
 ghost use Rattle.icmp.specs.declared.packets.ErrorFlow.{ErrorFlow};
 ghost use Rattle.link.specs.Hearing.{peer_serves};
 ghost use Rattle.output.specs.Output.{Sent};
+ghost use Rattle.packet_rules.specs.declared.readings.Asked.{Asked as Echo};
+ghost use Rattle.ipv4.specs.declared.flows.Flow.{Flow};
+ghost use Rattle.packet_rules.specs.declared.complaints.Complaint.TheVariants.{TooBig};
+ghost use Rattle.packet_rules.specs.declared.networks.Networks.{Networks};
+ghost use Rattle.packet_rules.specs.declared.reasons.Reason.{Reason};
+ghost use Rattle.packet_rules.specs.declared.reasons.Reason.TheVariants.{TooLong};
+ghost use Rattle.packet_rules.specs.Networks.{direction_of, mtu_of};
+ghost use Rattle.packet_rules.specs.Own.{complaint_of, exit_for};
 ghost use Rattle.spec_trace.specs.Past.{Idle};
 ghost use Rattle.spec_pair.specs.Talk.{note};
-ghost use Rattle.waiting.specs.Packets.{hop_count};
+ghost use Rattle.waiting.specs.Packets.{HeldPacket, hop_count};
 ghost use Rattle.spec_binding.specs.Books.{IsBook};
 ghost use Rattle.spec_binding.specs.Ledgers.{let_go};
 ghost use Rattle.spec_step.specs.declared.events.Event.{Event};
 ghost use Rattle.spec_step.specs.declared.events.Event.TheVariants.{Tick};
 ghost use Rattle.spec_step.specs.declared.plans.Plan.TheVariants.{Wait as WaitForPair};
-ghost use Rattle.spec_step.specs.Verdict.{error_plan};
+ghost use Rattle.spec_step.specs.Verdict.{error_plan, plan_of, reading_on};
 ghost use Rattle.spec_step.specs.Founding.{HasRanges, begun, bounds_of, founded, link_places};
-ghost use Rattle.spec_step.specs.Machine.{Goes, HasBytes, HasPushed, IsAlone, IsStanding, KeepsBytes};
+ghost use Rattle.spec_step.specs.Machine.{AreBytes, Goes, HasBytes, HasPushed, IsAlone, IsStanding, KeepsBytes};
 ghost use Rattle.spec_step.specs.Machine.{letters_in, words_in};
 ghost use Rattle.spec_step.specs.Others.{AreOthers};
-ghost use Rattle.spec_step.specs.Parts.{all_idle_done, error_taken};
-ghost use Rattle.spec_step.specs.PassedOn.{HidesAllInside, LeavesPairs, TellsAll};
+ghost use Rattle.spec_step.specs.OwnAnswers.{AreWithin, SaysJust, ShowsNothing, all_own_of, own_of};
+ghost use Rattle.spec_step.specs.Parts.{all_idle_done, all_taken, echo_taken, error_taken, flow_taken, length_in, refused, retaken_by};
+ghost use Rattle.spec_step.specs.PassedOn.{ChangesLittle, HidesAllInside, LeavesPairs, TellsAll};
 ghost use Rattle.spec_step.specs.Rests.{AccountsOn, Rests, most_notes};
 ghost use Rattle.spec_step.specs.Settled.{AreIdle, HaveBegun, IsSettled};
 ghost use Rattle.spec_step.specs.Shown.{GatewayAndOutput, Shown, has_side_out, id_of, is_up, scene};
+ghost use Rattle.spec_step.specs.Sayings.{own_in};
+ghost use Rattle.spec_step.specs.Seconds.{AreStepsSaying, StepOwn, answers_at, complaints_at, in_second};
 ghost use Rattle.spec_step.specs.Shown.{with_notes};
 ghost use Rattle.spec_step.specs.Steps.{Does, IsStepOn};
-ghost use Rattle.spec_step.specs.Truly.{AreWired, Tells, hand_of};
+ghost use Rattle.spec_step.specs.Truly.{IsSetUp, Tells, hand_of};
 
-use packet_rules::{frames_law, readings_law};
+use interfaces::{limits_law, tallies_law};
+use packet_rules::{frames_law, own_frames_law, readings_law, shows_nothing_inside};
 use rewrite::hides_inside;
 
 /// A step is a step of the pair machine: it reads the letters and the words that the event hands in,
@@ -62,33 +74,38 @@ pub fn steps_keep()
 
 /// A step tells truly: the translated frames that it sends are, one for one and in order,
 /// translations of different packets, by the pairs that its Used notes name, each on its packet's way
-/// and to its next hop. And the hardware addresses that the gateway knows have six bytes afterwards,
-/// too.
+/// and to its next hop. And what that rests on holds afterwards, too.
 pub fn steps_tell()
     ensures truly { (s : GatewayAndOutput) (event : Event) (s2 : GatewayAndOutput)
         → IsStepOn s event s2
-        → HasBytes event → IsBook s.shown.ledger.book → KeepsBytes s.shown → AreWired s.shown
+        → HasBytes event → IsBook s.shown.ledger.book → KeepsBytes s.shown → IsSetUp s.shown
         → Tells (hand_of event) s s2 }
-    ensures wired { (s : GatewayAndOutput) (event : Event) (s2 : GatewayAndOutput)
+    ensures set_up { (s : GatewayAndOutput) (event : Event) (s2 : GatewayAndOutput)
         → IsStepOn s event s2
-        → HasBytes event → IsBook s.shown.ledger.book → KeepsBytes s.shown → AreWired s.shown
-        → AreWired s2.shown }
+        → HasBytes event → IsBook s.shown.ledger.book → KeepsBytes s.shown → IsSetUp s.shown
+        → IsSetUp s2.shown }
 {
     readings_law();
     frames_law();
+    own_frames_law();
+    tallies_law();
 }
 
 /// A step passes errors on: beside the translated frames its error frames are, one for one and in
 /// order, errors at hand that were passed on, each another packet and none of those that were
 /// translated, on the way that the rules say for it, to its next hop, by pairs by which the gateway
-/// translated before or that a Retaken note of the step names.
+/// translated before or that a Retaken note of the step names. And its own frames are, one for one and
+/// in order, answers to Echos at hand and complaints of packets at hand, each of another packet still,
+/// to that packet's sender, and counted at its side.
 pub fn steps_pass_on()
     ensures { (s : GatewayAndOutput) (event : Event) (s2 : GatewayAndOutput) → IsStepOn s event s2
-        → HasBytes event → IsBook s.shown.ledger.book → KeepsBytes s.shown → AreWired s.shown
+        → HasBytes event → IsBook s.shown.ledger.book → KeepsBytes s.shown → IsSetUp s.shown
         → TellsAll (hand_of event) s s2 }
 {
     readings_law();
     frames_law();
+    own_frames_law();
+    tallies_law();
 }
 
 /// An error that a step sends at the outside comes from the outside virtual address, and the packet
@@ -96,14 +113,99 @@ pub fn steps_pass_on()
 pub fn errors_hide()
     ensures { (s : GatewayAndOutput) (event : Event) (s2 : GatewayAndOutput) (frames : List Sent)
         → IsStepOn s event s2
-        → HasBytes event → IsBook s.shown.ledger.book → KeepsBytes s.shown → AreWired s.shown
+        → HasBytes event → IsBook s.shown.ledger.book → KeepsBytes s.shown → IsSetUp s.shown
         → s2.shown.networks.outside.interface.virtual_ip.0 < 2 ^ 32
         → s2.told.frames ≡ s.told.frames ++ frames
-        → HidesAllInside s2.shown.networks.outside.interface.virtual_ip.0 frames }
+        → HidesAllInside s2.shown.networks frames }
 {
     readings_law();
     frames_law();
+    own_frames_law();
+    tallies_law();
     hides_inside();
+}
+
+/// The own frames of one taking of a packet are just those that its verdict says: the answer to an Echo
+/// that is Sent, and what is said of a packet that is dropped because its time to live is over or
+/// because it is too long. So it is of packets whose wait is over, taken one after another.
+pub fn takings_say()
+    ensures one { (s : GatewayAndOutput) (side : Side) (bytes : List ℕ) → AreBytes bytes
+        → IsSetUp s.shown → SaysJust s (retaken_by s side bytes (reading_on s.shown side bytes))
+        (own_of s.shown side bytes) }
+    ensures all { (s : GatewayAndOutput) (ws : List HeldPacket)
+        → KeepsBytes (record s.shown { kept = ws }) → IsBook s.shown.ledger.book
+        → KeepsBytes s.shown → IsSetUp s.shown → SaysJust s (all_taken s ws) (all_own_of s ws) }
+{
+    readings_law();
+    frames_law();
+    own_frames_law();
+    tallies_law();
+}
+
+/// The own frames of a whole step are just those of its takings, in their order: of the frame that came,
+/// and of the packets whose wait it ended. A tick, a stop and the word of a side have none.
+pub fn steps_say()
+    ensures { (s : GatewayAndOutput) (event : Event) (s2 : GatewayAndOutput)
+        → IsStepOn s event s2
+        → HasBytes event → IsBook s.shown.ledger.book → KeepsBytes s.shown → IsSetUp s.shown
+        → SaysJust s s2 (own_in s event) }
+{
+    readings_law();
+    frames_law();
+    own_frames_law();
+    tallies_law();
+}
+
+/// A frame of its own that a step sends at the outside has no address of the inside network; and the length
+/// that Fragmentation Needed names is that of the side at which the packet would have left.
+pub fn own_frames_show_nothing()
+    ensures mtu { (networks : Networks) (side exit : Side) (reason : Reason) (bytes : List ℕ)
+        (mtu : ℕ) → complaint_of networks side exit reason bytes ≡ Some (TooBig mtu)
+        → mtu ≡ mtu_of networks exit }
+    ensures hosts { (s : GatewayAndOutput) (event : Event) (s2 : GatewayAndOutput)
+        (frames : List Sent)
+        → IsStepOn s event s2
+        → HasBytes event → IsBook s.shown.ledger.book → KeepsBytes s.shown → IsSetUp s.shown
+        → s2.told.frames ≡ s.told.frames ++ frames → ShowsNothing s2.shown.networks frames }
+{
+    readings_law();
+    frames_law();
+    own_frames_law();
+    tallies_law();
+    shows_nothing_inside();
+}
+
+/// No more is counted at either side than may be said there in one second.
+pub fn steps_count()
+    ensures { (s : GatewayAndOutput) (event : Event) (s2 : GatewayAndOutput)
+        → IsStepOn s event s2
+        → HasBytes event → IsBook s.shown.ledger.book → KeepsBytes s.shown → IsSetUp s.shown
+        → AreWithin s.shown → AreWithin s2.shown }
+{
+    readings_law();
+    frames_law();
+    own_frames_law();
+    tallies_law();
+}
+
+/// So in one life and one second of its clock a gateway sends at each side at most 100 answers and at most
+/// 10 complaints: of steps one behind the other, from a gateway at which no more is counted.
+pub fn few_in_one_second()
+    ensures answers { (g : Shown) (steps : List StepOwn) (g2 : Shown) → IsSetUp g → AreWithin g
+        → AreStepsSaying g steps g2 → (second : ℕ) (side : Side)
+        → in_second (answers_at side) second steps ≤ 100 }
+    ensures complaints { (g : Shown) (steps : List StepOwn) (g2 : Shown) → IsSetUp g
+        → AreWithin g → AreStepsSaying g steps g2 → (second : ℕ) (side : Side)
+        → in_second (complaints_at side) second steps ≤ 10 }
+    ensures begun { (settings : Settings) (id : GatewayId) (boot : ℕ)
+        → AreWithin (begun settings id boot) }
+    ensures founded { (settings : Settings) (boot : ℕ) → AreWithin (founded settings boot) }
+{
+    readings_law();
+    frames_law();
+    own_frames_law();
+    tallies_law();
+    limits_law();
 }
 
 /// An error is no use of its pairs: it makes, renews and ends none, it is neither noted nor pushed,
@@ -111,8 +213,26 @@ pub fn errors_hide()
 pub fn errors_leave_pairs()
     ensures pairs { (s : GatewayAndOutput) (side : Side) (bytes : List ℕ) (flow : ErrorFlow)
         → LeavesPairs s (error_taken s side bytes flow) }
-    ensures no_wait { (g : Shown) (side : Side) (flow : ErrorFlow) (endpoint : Endpoint)
-        → error_plan g side flow ≢ Ok (WaitForPair endpoint) }
+    ensures no_wait { (g : Shown) (side : Side) (flow : ErrorFlow) (length : ℕ)
+        (endpoint : Endpoint)
+        → error_plan g side flow length ≢ Ok (WaitForPair endpoint) }
+{}
+
+/// What a gateway says itself leaves the pairs as they are, too. A drop of which it says something counts
+/// it, and may set when its next hop was last asked for: nothing else of the gateway changes. A packet that
+/// is found too long comes to just that.
+pub fn own_leaves_pairs()
+    ensures answers { (s : GatewayAndOutput) (side : Side) (bytes : List ℕ) (echo : Echo)
+        → LeavesPairs s (echo_taken s side bytes echo) }
+    ensures complaints { (s : GatewayAndOutput) (side exit : Side) (bytes : List ℕ)
+        (reason : Reason) → LeavesPairs s (refused s side exit bytes reason) }
+    ensures little { (s : GatewayAndOutput) (side exit : Side) (bytes : List ℕ)
+        (reason : Reason) → ChangesLittle s.shown (refused s side exit bytes reason).shown }
+    ensures too_long { (s : GatewayAndOutput) (side : Side) (bytes : List ℕ) (flow : Flow)
+        → plan_of s.shown side flow (length_in bytes) ≡ Err TooLong
+        → (let way = direction_of s.shown.networks side flow.protocol flow.source.0
+        flow.destination.0 in flow_taken s side bytes flow
+        ≡ refused s side (exit_for side way) bytes TooLong) }
 {}
 
 /// All other frames of a step are, in their order: an answer to the ARP request that came in, or the
@@ -120,11 +240,13 @@ pub fn errors_leave_pairs()
 /// why it is sent, which packets wait on, and which may come to wait.
 pub fn other_frames()
     ensures { (s : GatewayAndOutput) (event : Event) (s2 : GatewayAndOutput) → IsStepOn s event s2
-        → IsBook s.shown.ledger.book → AreWired s.shown → hop_count s.shown.kept ≤ 64
-        → AreOthers s event s2 }
+        → HasBytes event → IsBook s.shown.ledger.book → KeepsBytes s.shown → IsSetUp s.shown
+        → hop_count s.shown.kept ≤ 64 → AreOthers s event s2 }
 {
     readings_law();
     frames_law();
+    own_frames_law();
+    tallies_law();
 }
 
 /// What a step asks for holds already before the datagram at a step's end, of a list of all records

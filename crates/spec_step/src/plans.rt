@@ -16,3 +16,14 @@ pub enum Plan {
     /// It waits for the answer to the proposal of its source's pair.
     Wait(Endpoint),
 }
+
+/// What an Echo to the gateway itself that isn't refused at once is to do.
+#[derive(Clone, Copy, Debug, PartialEq, Eq)]
+pub enum Reply {
+    /// It is answered at once, by a next hop that is known.
+    Send { next: Mac },
+    /// The next hop of its answer is asked for, and it waits.
+    Ask { hop: Ip },
+    /// Another packet waits for that next hop: it is dropped, and that hop may be asked for again.
+    AskAgain { hop: Ip },
+}

@@ -22,5 +22,6 @@ returns-clause-gateway c =
       history = go.history;
       pushed = go.pushed;
       places = rw (lasts.zero, lasts.one) (lasts.capacity ∙ g.places);
+      house = rw (lasts.networks, lasts.inside, lasts.outside) g.house;
       settled = c.steps_settle.ensures s c.args.event s2 step g.settled;
     }

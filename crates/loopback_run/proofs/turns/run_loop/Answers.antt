@@ -1,6 +1,13 @@
-use Rattle.std.proofs.Common.{◌∙◌}
+use Rattle.std.proofs.Common.{◌∙◌, ◌≡◌, ◌⊎◌, inl, inr, ℕ}
 use Rattle.loopback_run.proofs.Stopping.{isnt_1}
 use Rattle.loopback_run.proofs.turns.run_loop.Goals as goal
 
 pub returns-in-Err-clause-run : goal.returns-in-Err-clause-run
 returns-in-Err-clause-run g c done = isnt_1 _ (c.tell.ensures ∙ c.in-Err.ensures.known) done
+
+wider : (n : ℕ) → (n ≡ 0) ⊎ (n ≡ 3) → (n ≡ 0) ⊎ ((n ≡ 1) ⊎ (n ≡ 3))
+wider n (inl none) = inl none
+wider n (inr three) = inr (inr three)
+
+pub returns-in-Ok-clause-status : goal.returns-in-Ok-clause-status
+returns-in-Ok-clause-status g c = wider c.in-Ok.status c.in-Ok.ensures.status

@@ -6,12 +6,16 @@ use Rattle.spec_step.proofs.laws.steps_tell.Goals as goal
 pub returns-clause-truly : goal.returns-clause-truly
 returns-clause-truly c = λ s event s2 step has book kept wired.
     let f = c.frames_law.ensures in
+    let o = c.own_frames_law.ensures in
+    let l = c.tallies_law.ensures in
     truly-of (hand_of event) s s2
-    (step-tells (record { reads = c.readings_law.ensures; sent = f.sent; answer = f.answer; request = f.request; gratuitous = f.gratuitous; advert = f.advert; passed = f.passed; passed_apart = f.passed_apart; answer_no_error = f.answer_no_error; request_no_error = f.request_no_error; gratuitous_no_error = f.gratuitous_no_error; advert_no_error = f.advert_no_error })
+    (step-tells (record { reads = c.readings_law.ensures.carries; asked = c.readings_law.ensures.asked; tallies = record { replied = l.replied; complained = l.complained }; own = record { answer = o.answer; complaint = o.complaint; sent = o.sent; passed = o.passed; arp = o.arp; request = o.request; gratuitous = o.gratuitous; advert = o.advert }; sent = f.sent; answer = f.answer; request = f.request; gratuitous = f.gratuitous; advert = f.advert; passed = f.passed; passed_apart = f.passed_apart; answer_no_error = f.answer_no_error; request_no_error = f.request_no_error; gratuitous_no_error = f.gratuitous_no_error; advert_no_error = f.advert_no_error })
     s event s2 step has (record { book = book; kept = kept }) wired).0
 
-pub returns-clause-wired : goal.returns-clause-wired
-returns-clause-wired c = λ s event s2 step has book kept wired.
+pub returns-clause-set_up : goal.returns-clause-set_up
+returns-clause-set_up c = λ s event s2 step has book kept wired.
     let f = c.frames_law.ensures in
-    (step-tells (record { reads = c.readings_law.ensures; sent = f.sent; answer = f.answer; request = f.request; gratuitous = f.gratuitous; advert = f.advert; passed = f.passed; passed_apart = f.passed_apart; answer_no_error = f.answer_no_error; request_no_error = f.request_no_error; gratuitous_no_error = f.gratuitous_no_error; advert_no_error = f.advert_no_error })
+    let o = c.own_frames_law.ensures in
+    let l = c.tallies_law.ensures in
+    (step-tells (record { reads = c.readings_law.ensures.carries; asked = c.readings_law.ensures.asked; tallies = record { replied = l.replied; complained = l.complained }; own = record { answer = o.answer; complaint = o.complaint; sent = o.sent; passed = o.passed; arp = o.arp; request = o.request; gratuitous = o.gratuitous; advert = o.advert }; sent = f.sent; answer = f.answer; request = f.request; gratuitous = f.gratuitous; advert = f.advert; passed = f.passed; passed_apart = f.passed_apart; answer_no_error = f.answer_no_error; request_no_error = f.request_no_error; gratuitous_no_error = f.gratuitous_no_error; advert_no_error = f.advert_no_error })
     s event s2 step has (record { book = book; kept = kept }) wired).1

@@ -15,7 +15,7 @@ use Rattle.forwarder.proofs.forwarders.Forwarder.take_error.Goals as goal
 pub ask_for_error-requires-clause-place : goal.ask_for_error-requires-clause-place
 ask_for_error-requires-clause-place c =
     let made : c.plan_error.result ≡ Ok (Ask c.in-Ok-Ask.by c.in-Ok-Ask.hop) = c.in-Ok-Ask.is ∙ ap (λ (p : Plan). let r : Result Plan Reason = Ok p in r) c.in-Ok-Ask.field-0-is in
-    let holds = error-plan-holds (shown_of c.args.self.now) c.args.side c.args.packet.flow (Ok (Ask c.in-Ok-Ask.by c.in-Ok-Ask.hop)) (sym made ∙ c.plan_error.ensures) in
+    let holds = error-plan-holds (shown_of c.args.self.now) c.args.side c.args.packet.flow c.args.packet.length (Ok (Ask c.in-Ok-Ask.by c.in-Ok-Ask.hop)) (sym made ∙ c.plan_error.ensures) in
     let exit : c.exit.result ≡ exit_by c.in-Ok-Ask.by = c.exit.ensures ∙ ap exit_of c.direction.ensures in
     ap (λ (w : HeldPacket). has_place c.args.self.now.kept w.wait) c.in_ok-copy-in-Ok-Ask.ensures
     ∙ ap (λ (s : Side). has_place c.args.self.now.kept (Hop s c.in-Ok-Ask.hop)) exit
@@ -25,9 +25,9 @@ ask_for_error-requires-clause-place c =
 pub unreachable-requires : goal.unreachable-requires
 unreachable-requires c =
     let made : c.plan_error.result ≡ Ok (WaitFor c.in-Ok-Wait.field-0-0) = c.in-Ok-Wait.is ∙ ap (λ (p : Plan). let r : Result Plan Reason = Ok p in r) c.in-Ok-Wait.field-0-is in
-    error-plan-holds (shown_of c.args.self.now) c.args.side c.args.packet.flow (Ok (WaitFor c.in-Ok-Wait.field-0-0)) (sym made ∙ c.plan_error.ensures)
+    error-plan-holds (shown_of c.args.self.now) c.args.side c.args.packet.flow c.args.packet.length (Ok (WaitFor c.in-Ok-Wait.field-0-0)) (sym made ∙ c.plan_error.ensures)
 
 pub returns-in-Ok-Send-clause-scene : goal.returns-in-Ok-Send-clause-scene
 returns-in-Ok-Send-clause-scene c =
     let made : c.plan_error.result ≡ Ok (Send c.in-Ok-Send.by c.in-Ok-Send.next) = c.in-Ok-Send.is ∙ ap (λ (p : Plan). let r : Result Plan Reason = Ok p in r) c.in-Ok-Send.field-0-is in
-    c.pass.ensures.scene c.args.side ∙ error-taken-as (scene_on c.args.self.now c.args.page.now) c.args.side c.args.bytes.now c.args.packet.flow (Ok (Send c.in-Ok-Send.by c.in-Ok-Send.next)) (sym made ∙ c.plan_error.ensures)
+    c.pass.ensures.scene c.args.side ∙ error-taken-as (scene_on c.args.self.now c.args.page.now) c.args.side c.args.bytes.now c.args.packet (Ok (Send c.in-Ok-Send.by c.in-Ok-Send.next)) c.requires.read (sym made ∙ c.plan_error.ensures)

@@ -16,7 +16,7 @@ use Rattle.forwarder.proofs.forwarders.Forwarder.take_error_again.Goals as goal
 pub ask_for_error-requires-clause-place : goal.ask_for_error-requires-clause-place
 ask_for_error-requires-clause-place c =
     let made : c.plan_error.result ≡ Ok (Ask c.in-Ok-Ask.by c.in-Ok-Ask.hop) = c.in-Ok-Ask.is ∙ ap (λ (p : Plan). let r : Result Plan Reason = Ok p in r) c.in-Ok-Ask.field-0-is in
-    let holds = error-plan-holds (shown_of c.args.self.now) c.packet.inside.side c.args.reading.flow (Ok (Ask c.in-Ok-Ask.by c.in-Ok-Ask.hop)) (sym made ∙ c.plan_error.ensures) in
+    let holds = error-plan-holds (shown_of c.args.self.now) c.packet.inside.side c.args.reading.flow c.args.reading.length (Ok (Ask c.in-Ok-Ask.by c.in-Ok-Ask.hop)) (sym made ∙ c.plan_error.ensures) in
     let exit : c.exit.result ≡ exit_by c.in-Ok-Ask.by = c.exit.ensures ∙ ap exit_of c.direction.ensures in
     ap (λ (w : HeldPacket). has_place c.args.self.now.kept w.wait) c.again-copy.ensures
     ∙ ap (λ (s : Side). has_place c.args.self.now.kept (Hop s c.in-Ok-Ask.hop)) exit
@@ -26,7 +26,7 @@ ask_for_error-requires-clause-place c =
 pub unreachable-requires : goal.unreachable-requires
 unreachable-requires c =
     let made : c.plan_error.result ≡ Ok (WaitFor c.in-Ok-Wait.field-0-0) = c.in-Ok-Wait.is ∙ ap (λ (p : Plan). let r : Result Plan Reason = Ok p in r) c.in-Ok-Wait.field-0-is in
-    error-plan-holds (shown_of c.args.self.now) c.packet.inside.side c.args.reading.flow (Ok (WaitFor c.in-Ok-Wait.field-0-0)) (sym made ∙ c.plan_error.ensures)
+    error-plan-holds (shown_of c.args.self.now) c.packet.inside.side c.args.reading.flow c.args.reading.length (Ok (WaitFor c.in-Ok-Wait.field-0-0)) (sym made ∙ c.plan_error.ensures)
 
 pub returns-in-Ok-Send-clause-scene : goal.returns-in-Ok-Send-clause-scene
 returns-in-Ok-Send-clause-scene c =
@@ -36,4 +36,4 @@ returns-in-Ok-Send-clause-scene c =
     let bytes : c.deref.result.now ≡ c.args.packet.bytes = c.deref.ensures.value ∙ ap (λ (w : HeldPacket). w.bytes) c.packet.view_is in
     c.pass.ensures.scene c.args.packet.side
     ∙ ap (λ (bs : List ℕ). by_error_plan s c.args.packet.side bs c.args.reading.flow (Send c.in-Ok-Send.by c.in-Ok-Send.next)) bytes
-    ∙ error-taken-as s c.args.packet.side c.args.packet.bytes c.args.reading.flow (Ok (Send c.in-Ok-Send.by c.in-Ok-Send.next)) (sym made ∙ c.plan_error.ensures ∙ ap (λ (x : Side). error_plan (shown_of c.args.self.now) x c.args.reading.flow) side)
+    ∙ error-taken-as s c.args.packet.side c.args.packet.bytes c.args.reading (Ok (Send c.in-Ok-Send.by c.in-Ok-Send.next)) c.requires.read (sym made ∙ c.plan_error.ensures ∙ ap (λ (x : Side). error_plan (shown_of c.args.self.now) x c.args.reading.flow c.args.reading.length) side)

@@ -18,18 +18,18 @@ use Rattle.forwarder.proofs.forwarders.Forwarder.take_packet.Goals as goal
 pub send-requires-clause-own : goal.send-requires-clause-own
 send-requires-clause-own c =
     let made : c.plan.result ≡ Ok (Send c.in-Ok-Send.by c.in-Ok-Send.next) = c.in-Ok-Send.is ∙ ap (λ (p : Plan). let r : Result Plan Reason = Ok p in r) c.in-Ok-Send.field-0-is in
-    plan-holds (shown_of c.args.self.now) c.args.side c.args.packet.flow (Ok (Send c.in-Ok-Send.by c.in-Ok-Send.next)) (sym made ∙ c.plan.ensures)
+    plan-holds (shown_of c.args.self.now) c.args.side c.args.packet.flow c.args.packet.length (Ok (Send c.in-Ok-Send.by c.in-Ok-Send.next)) (sym made ∙ c.plan.ensures)
 
 pub ask-requires-clause-own : goal.ask-requires-clause-own
 ask-requires-clause-own c =
     let made : c.plan.result ≡ Ok (Ask c.in-Ok-Ask.by c.in-Ok-Ask.hop) = c.in-Ok-Ask.is ∙ ap (λ (p : Plan). let r : Result Plan Reason = Ok p in r) c.in-Ok-Ask.field-0-is in
-    let holds = plan-holds (shown_of c.args.self.now) c.args.side c.args.packet.flow (Ok (Ask c.in-Ok-Ask.by c.in-Ok-Ask.hop)) (sym made ∙ c.plan.ensures) in
+    let holds = plan-holds (shown_of c.args.self.now) c.args.side c.args.packet.flow c.args.packet.length (Ok (Ask c.in-Ok-Ask.by c.in-Ok-Ask.hop)) (sym made ∙ c.plan.ensures) in
     holds.0
 
 pub ask-requires-clause-place : goal.ask-requires-clause-place
 ask-requires-clause-place c =
     let made : c.plan.result ≡ Ok (Ask c.in-Ok-Ask.by c.in-Ok-Ask.hop) = c.in-Ok-Ask.is ∙ ap (λ (p : Plan). let r : Result Plan Reason = Ok p in r) c.in-Ok-Ask.field-0-is in
-    let holds = plan-holds (shown_of c.args.self.now) c.args.side c.args.packet.flow (Ok (Ask c.in-Ok-Ask.by c.in-Ok-Ask.hop)) (sym made ∙ c.plan.ensures) in
+    let holds = plan-holds (shown_of c.args.self.now) c.args.side c.args.packet.flow c.args.packet.length (Ok (Ask c.in-Ok-Ask.by c.in-Ok-Ask.hop)) (sym made ∙ c.plan.ensures) in
     let exit : c.exit.result ≡ exit_by c.in-Ok-Ask.by = c.exit.ensures ∙ ap exit_of c.direction.ensures in
     ap (λ (w : HeldPacket). has_place c.args.self.now.kept w.wait) c.in_ok-copy-in-Ok-Ask.ensures
     ∙ ap (λ (s : Side). has_place c.args.self.now.kept (Hop s c.in-Ok-Ask.hop)) exit
@@ -38,21 +38,21 @@ ask-requires-clause-place c =
 pub wait-requires-clause-place : goal.wait-requires-clause-place
 wait-requires-clause-place c =
     let made : c.plan.result ≡ Ok (WaitFor c.in-Ok-Wait.endpoint) = c.in-Ok-Wait.is ∙ ap (λ (p : Plan). let r : Result Plan Reason = Ok p in r) c.in-Ok-Wait.field-0-is in
-    let holds = plan-holds (shown_of c.args.self.now) c.args.side c.args.packet.flow (Ok (WaitFor c.in-Ok-Wait.endpoint)) (sym made ∙ c.plan.ensures) in
+    let holds = plan-holds (shown_of c.args.self.now) c.args.side c.args.packet.flow c.args.packet.length (Ok (WaitFor c.in-Ok-Wait.endpoint)) (sym made ∙ c.plan.ensures) in
     ap (λ (w : HeldPacket). has_place c.args.self.now.kept w.wait) c.in_ok-copy-in-Ok-Wait.ensures ∙ holds.0
 
 pub returns-in-Ok-Send-clause-scene : goal.returns-in-Ok-Send-clause-scene
 returns-in-Ok-Send-clause-scene c =
     let made : c.plan.result ≡ Ok (Send c.in-Ok-Send.by c.in-Ok-Send.next) = c.in-Ok-Send.is ∙ ap (λ (p : Plan). let r : Result Plan Reason = Ok p in r) c.in-Ok-Send.field-0-is in
-    c.send.ensures.scene c.args.side ∙ taken-as (scene_on c.args.self.now c.args.page.now) c.args.side c.args.bytes.now c.args.packet.flow (Ok (Send c.in-Ok-Send.by c.in-Ok-Send.next)) (sym made ∙ c.plan.ensures)
+    c.send.ensures.scene c.args.side ∙ taken-as (scene_on c.args.self.now c.args.page.now) c.args.side c.args.bytes.now c.args.packet (Ok (Send c.in-Ok-Send.by c.in-Ok-Send.next)) c.requires.read (sym made ∙ c.plan.ensures)
 
 pub returns-in_ok-copy-in-Ok-Wait-clause-scene : goal.returns-in_ok-copy-in-Ok-Wait-clause-scene
 returns-in_ok-copy-in-Ok-Wait-clause-scene c =
     let s = scene_on c.args.self.now c.args.page.now in
     let e = c.in-Ok-Wait.endpoint in
     let made : c.plan.result ≡ Ok (WaitFor e) = c.in-Ok-Wait.is ∙ ap (λ (p : Plan). let r : Result Plan Reason = Ok p in r) c.in-Ok-Wait.field-0-is in
-    let holds = plan-holds (shown_of c.args.self.now) c.args.side c.args.packet.flow (Ok (WaitFor e)) (sym made ∙ c.plan.ensures) in
+    let holds = plan-holds (shown_of c.args.self.now) c.args.side c.args.packet.flow c.args.packet.length (Ok (WaitFor e)) (sym made ∙ c.plan.ensures) in
     c.wait.ensures.scene
     ∙ ap (λ (w : HeldPacket). by_plan s w.side w.bytes c.args.packet.flow (WaitFor (source_of c.args.packet.flow))) c.in_ok-copy-in-Ok-Wait.ensures
     ∙ ap (λ (x : Endpoint). by_plan s c.args.side c.args.bytes.now c.args.packet.flow (WaitFor x)) (sym holds.1)
-    ∙ taken-as s c.args.side c.args.bytes.now c.args.packet.flow (Ok (WaitFor e)) (sym made ∙ c.plan.ensures)
+    ∙ taken-as s c.args.side c.args.bytes.now c.args.packet (Ok (WaitFor e)) c.requires.read (sym made ∙ c.plan.ensures)

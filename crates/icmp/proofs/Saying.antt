@@ -1,0 +1,80 @@
+-- What the box's own packets and messages spell.
+use Rattle.std.proofs.Common.{◌≡◌, ℕ, ◌+◌, ◌-◌, ◌*◌, ◌/◌, ◌%◌, ◌<◌, List, length, take, drop, slice_index, refl, sym, ap, ◌∙◌, arith}
+use Rattle.std.proofs.lemmas.List.{get_or-drop}
+use Rattle.std.proofs.Math.Seq.{take-length}
+use Rattle.sums.specs.Sum.{IsRight}
+use Rattle.ipv4.specs.Header.{header_of, word_at}
+use Rattle.icmp.specs.Ask.{IsAsk}
+use Rattle.icmp.specs.Own.{own_message, own_packet, IsOwnPacket, IsReplyTo, reply_message}
+use Rattle.icmp.specs.Query.{IsQuery, query_of, query_data}
+use Rattle.icmp.specs.declared.kinds.Kind.TheVariants.{Reply}
+
+-- a message with its checksum is right
+pub right_message : (kind code first second : ℕ) (bytes : List ℕ) → IsRight (own_message kind code first second bytes)
+right_message kind code first second bytes = (omega arith, omega arith)
+
+-- a word and a number in their bytes
+word-written : (x : ℕ) → x < 65536 → x / 256 % 256 * 256 + (x % 256 * 1 + 0) ≡ x
+word-written x h = omega arith
+
+-- behind a word that is 0
+pub second-written : (x : ℕ) → x < 65536 → 0 * 16777216 + (0 * 65536 + (x / 256 % 256 * 256 + (x % 256 * 1 + 0))) ≡ x
+second-written x h = omega arith
+
+number-written : (x : ℕ) → x < 4294967296 → x / 16777216 % 256 * 16777216 + (x / 65536 % 256 * 65536 + (x / 256 % 256 * 256 + (x % 256 * 1 + 0))) ≡ x
+number-written x h = omega arith
+
+pub spelled : (service from to : ℕ) (message : List ℕ) → service < 256 → from < 4294967296 → to < 4294967296 → 20 + length message < 65536
+    → IsOwnPacket service from to message (own_packet service from to message)
+spelled service from to message small from_fits to_fits fits =
+    let packet = own_packet service from to message in
+    let size : length packet ≡ 20 + length message = omega arith in
+    let total : (header_of packet).total_length ≡ 20 + length message = word-written (20 + length message) fits in
+    let behind : 20 + length message - 20 ≡ length message = omega arith in
+    let sum : IsRight (take 20 packet) = (omega arith, omega arith) in
+    record {
+      right = record {
+        long = omega (arith, size);
+        version = refl;
+        holds_fields = omega arith;
+        holds_header = omega (arith, total);
+        there = omega (arith, total, size);
+        sum = sum;
+        last = refl;
+        first = refl;
+      };
+      header_length = refl;
+      type_of_service = refl;
+      total_length = total ∙ sym size;
+      identification = refl;
+      flags_word = refl;
+      ttl = refl;
+      protocol = refl;
+      source = number-written from from_fits;
+      destination = number-written to to_fits;
+      payload = ap (λ (k : ℕ). take (k - 20) message) total ∙ (ap (λ (k : ℕ). take k message) behind ∙ take-length message);
+    }
+
+-- a word of bytes fits
+word-fits : (place : ℕ) (bytes : List ℕ) → ((i : ℕ) → slice_index bytes i < 256) → word_at place bytes < 65536
+word-fits place bytes fits =
+    let high : slice_index (drop place bytes) 0 < 256 = rw (get_or-drop place bytes 0 0) (fits (place + 0)) in
+    let low : slice_index (drop place bytes) 1 < 256 = rw (get_or-drop place bytes 1 0) (fits (place + 1)) in
+    omega (arith, high, low)
+
+pub answers : (ask : List ℕ) → ((i : ℕ) → slice_index ask i < 256) → IsAsk ask → IsReplyTo ask (reply_message ask)
+answers ask fits is =
+    let q = query_of ask in
+    record {
+      type_is = refl;
+      code = refl;
+      sum = right_message 0 0 q.identifier q.sequence_number (query_data ask);
+      identifier = word-written q.identifier (word-fits 4 ask fits);
+      sequence_number = word-written q.sequence_number (word-fits 6 ask fits);
+      carried = refl;
+    }
+
+pub is_query : (ask : List ℕ) → ((i : ℕ) → slice_index ask i < 256) → IsAsk ask → 0 < (query_of ask).identifier → IsQuery Reply (reply_message ask)
+is_query ask fits is some =
+    let same : (query_of (reply_message ask)).identifier ≡ (query_of ask).identifier = (answers ask fits is).identifier in
+    record { long = omega arith; type_is = refl; code = refl; identifier = omega (arith, same, some) }

@@ -1,0 +1,276 @@
+//! What the box says itself (RFC 792): Echo Reply, Time Exceeded and Fragmentation Needed, each in a packet
+//! without options, of identification 0, with Don't Fragment and TTL 64.
+//!
+//! ```text
+//!  0                                 20     21     22         24           26            28
+//! +---------------------------------+------+------+----------+------------+-------------+------+
+//! | header                          | type | code | checksum | first word | second word | data |
+//! +---------------------------------+------+------+----------+------------+-------------+------+
+//! ```
+//!
+//! The words of a Reply are identifier and sequence number, and its data are those of the Echo. The first word
+//! of an error is 0, the second how long a packet may be, or 0; its data are a packet's beginning. 192.168.1.1
+//! answers 192.168.1.10:
+//!
+//! ```text
+//! 45         00 0020     0000   4000           40     01   b781     c0a80101    c0a8010a
+//! 4, 5 words -- 32 bytes number don't fragment TTL 64 ICMP checksum 192.168.1.1 192.168.1.10
+//! 00    00   2127     0007 0001 70696e67
+//! Reply code checksum 7    1    "ping"
+//! ```
+ghost use Rattle.std.specs.Prelude.{◌≡◌, ◌≤◌, ◌<◌, ◌+◌, ◌^◌, ◌++◌, length, drop, List, ℕ, slice_index};
+ghost use Rattle.ipv4.specs.Header.{IsIpv4};
+ghost use Rattle.icmp.specs.Ask.{IsAsk};
+ghost use Rattle.icmp.specs.Query.{IsQuery, IsTranslatable, query_of};
+ghost use Rattle.icmp.specs.Own.{head_with, header_with, own_head, own_header, own_packet, quoted};
+ghost use Rattle.icmp.specs.Own.{reply_packet, reply_message, exceeded_packet, exceeded_message, too_long_packet, too_long_message};
+ghost use Rattle.icmp.specs.Own.{IsOwnPacket, IsReplyTo, IsErrorAbout};
+ghost use Rattle.icmp.specs.declared.kinds.Kind.TheVariants.{Reply};
+ghost use Rattle.icmp.specs.declared.own.TheConstants.{CONTROL, DONT_FRAGMENT, FRAGMENTATION_NEEDED, QUOTED, TTL};
+
+use crate::errors::{TIME_EXCEEDED, UNREACHABLE};
+use crate::{AskView, Kind, PROTOCOL};
+use addresses::Ip;
+use byteorder::{BigEndian, ByteOrder};
+use ipv4::Ipv4View;
+use sums::{add, sum};
+
+/// Where what is written lies in the packet.
+mod layout {
+    use std::ops::Range;
+
+    /// The checksum in the header.
+    pub const CHECKSUM: Range<usize> = 10..12;
+    /// The bytes of a header without options.
+    pub const HEADER: usize = 20;
+
+    /// The checksum in a message.
+    pub const MESSAGE_CHECKSUM: Range<usize> = 2..4;
+    /// The bytes before a message's data.
+    pub const HEAD: usize = 8;
+    /// Where the data begin.
+    pub const DATA: usize = 28;
+}
+
+/// The version in the high half, the header's length in 4-byte words in the low one.
+const VERSION_AND_LENGTH: u8 = 0x45;
+
+/// The flag Don't Fragment.
+const DONT_FRAGMENT: u16 = 0x4000;
+
+const TTL: u8 = 64;
+
+/// The type of service of errors: the precedence of network control.
+const CONTROL: u8 = 0xc0;
+
+/// The code of Fragmentation Needed.
+const FRAGMENTATION_NEEDED: u8 = 4;
+
+/// The most bytes of a packet that an error holds.
+const QUOTED: usize = 548;
+
+/// What stands before a message's data.
+#[derive(Clone, Copy)]
+struct Said {
+    kind: u8,
+    code: u8,
+    first: u16,
+    second: u16,
+}
+
+/// Where a packet goes, and with which type of service.
+#[derive(Clone, Copy)]
+struct Way {
+    service: u8,
+    from: Ip,
+    to: Ip,
+}
+
+/// The header of a packet of this length.
+fn summed_header(way: Way, total: u16) -> [u8; layout::HEADER]
+    ensures { result ≡ own_header way.service total way.from.0 way.to.0 }
+{
+    let mut bytes = unsummed_header(way, total);
+    let checksum = 65535 - sum(&bytes);
+    BigEndian::write_u16(&mut bytes[layout::CHECKSUM], checksum);
+    bytes
+}
+
+fn unsummed_header(way: Way, total: u16) -> [u8; layout::HEADER]
+    ensures { result ≡ header_with 0 way.service total way.from.0 way.to.0 }
+{
+    let [length, low_length] = total.to_be_bytes();
+    let [flags, low_flags] = DONT_FRAGMENT.to_be_bytes();
+    let [a, b, c, d] = way.from.0.to_be_bytes();
+    let [e, f, g, h] = way.to.0.to_be_bytes();
+    [
+        VERSION_AND_LENGTH,
+        way.service,
+        length,
+        low_length,
+        0,
+        0,
+        flags,
+        low_flags,
+        TTL,
+        PROTOCOL,
+        0,
+        0,
+        a,
+        b,
+        c,
+        d,
+        e,
+        f,
+        g,
+        h,
+    ]
+}
+
+/// What stands before these data, with the checksum of the whole message.
+fn summed_head(said: Said, carried: &[u8]) -> [u8; layout::HEAD]
+    ensures { result ≡ own_head said.kind said.code said.first said.second carried.now }
+{
+    let mut bytes = unsummed_head(said);
+    let checksum = 65535 - add(sum(&bytes), sum(carried));
+    BigEndian::write_u16(&mut bytes[layout::MESSAGE_CHECKSUM], checksum);
+    bytes
+}
+
+fn unsummed_head(said: Said) -> [u8; layout::HEAD]
+    ensures { result ≡ head_with 0 said.kind said.code said.first said.second }
+{
+    let [first, low_first] = said.first.to_be_bytes();
+    let [second, low_second] = said.second.to_be_bytes();
+    [
+        said.kind, said.code, 0, 0, first, low_first, second, low_second,
+    ]
+}
+
+/// Writes three parts, one after the other.
+fn put(header: &[u8; layout::HEADER], head: &[u8; layout::HEAD], carried: &[u8], out: &mut [u8])
+    requires { 28 + length carried.now ≤ length out.old }
+    ensures { out.new
+        ≡ header.now ++ (head.now ++ carried.now) ++ drop (28 + length carried.now) out.old }
+{
+    out[..layout::HEADER].copy_from_slice(header);
+    out[layout::HEADER..layout::DATA].copy_from_slice(head);
+    out[layout::DATA..layout::DATA + carried.len()].copy_from_slice(carried);
+}
+
+/// Writes a packet of the box, and gives its length.
+fn write(way: Way, said: Said, carried: &[u8], out: &mut [u8]) -> usize
+    requires room { 28 + length carried.now ≤ length out.old }
+    requires fits { 28 + length carried.now < 2 ^ 16 }
+    ensures len { result ≡ 28 + length carried.now }
+    ensures written { out.new
+        ≡ own_packet way.service way.from.0 way.to.0
+        (own_head said.kind said.code said.first said.second carried.now ++ carried.now)
+        ++ drop result out.old }
+{
+    let total = layout::DATA + carried.len();
+    let header = summed_header(way, total as u16);
+    let head = summed_head(said, carried);
+    put(&header, &head, carried, out);
+    total
+}
+
+/// Writes the Reply to an Echo from the address that was asked, and gives its length.
+pub fn reply(ask: &AskView<'_>, from: Ip, to: Ip, out: &mut [u8; 1500]) -> usize
+    requires { 20 + length ask.now.bytes.now ≤ 1500 }
+    ensures len { result ≡ 20 + length ask.now.bytes.now }
+    ensures written { out.new
+        ≡ reply_packet ask.now.bytes.now from.0 to.0 ++ drop result out.old }
+{
+    let said = Said {
+        kind: Kind::Reply.number(),
+        code: 0,
+        first: ask.identifier().0,
+        second: ask.sequence_number(),
+    };
+    let way = Way {
+        service: 0,
+        from,
+        to,
+    };
+    write(way, said, ask.data(), out)
+}
+
+/// Writes a Time Exceeded about a packet, and gives its length.
+pub fn exceeded(packet: &Ipv4View<'_>, from: Ip, to: Ip, out: &mut [u8; 576]) -> usize
+    ensures len { result ≡ 28 + length (quoted packet.now.bytes.now) }
+    ensures written { out.new
+        ≡ exceeded_packet packet.now.bytes.now from.0 to.0 ++ drop result out.old }
+{
+    let said = Said {
+        kind: TIME_EXCEEDED,
+        code: 0,
+        first: 0,
+        second: 0,
+    };
+    write(complaining(from, to), said, quoted(packet), out)
+}
+
+/// Writes a Fragmentation Needed about a packet that is longer than `mtu`, and gives its length.
+pub fn too_long(packet: &Ipv4View<'_>, mtu: u16, from: Ip, to: Ip, out: &mut [u8; 576]) -> usize
+    ensures len { result ≡ 28 + length (quoted packet.now.bytes.now) }
+    ensures written { out.new
+        ≡ too_long_packet packet.now.bytes.now mtu from.0 to.0 ++ drop result out.old }
+{
+    let said = Said {
+        kind: UNREACHABLE,
+        code: FRAGMENTATION_NEEDED,
+        first: 0,
+        second: mtu,
+    };
+    write(complaining(from, to), said, quoted(packet), out)
+}
+
+fn complaining(from: Ip, to: Ip) -> Way
+    ensures service { result.service ≡ 0xc0 }
+    ensures from { result.from ≡ from }
+    ensures to { result.to ≡ to }
+{
+    Way {
+        service: CONTROL,
+        from,
+        to,
+    }
+}
+
+/// As much of a packet as an error holds.
+fn quoted<'a>(packet: &Ipv4View<'a>) -> &'a [u8]
+    ensures bytes { result.now ≡ quoted packet.now.bytes.now }
+    ensures cut { length result.now ≤ 548 }
+{
+    &packet.bytes[..packet.total_length().min(QUOTED)]
+}
+
+/// What is written is a packet, and its header says what it is to say. The numbers that the definitions take
+/// from the code are the RFCs'.
+pub fn own_packet_law()
+    ensures packet { (service from to : ℕ) (message : List ℕ) → service < 2 ^ 8 → from < 2 ^ 32
+        → to < 2 ^ 32 → 20 + length message < 2 ^ 16
+        → IsOwnPacket service from to message (own_packet service from to message) }
+    ensures control { CONTROL ≡ 192 }
+    ensures dont_fragment { DONT_FRAGMENT ≡ 16384 }
+    ensures time_to_live { TTL ≡ 64 }
+    ensures fragmentation_needed { FRAGMENTATION_NEEDED ≡ 4 }
+    ensures quoted { QUOTED ≡ 548 }
+{}
+
+/// What answers an Echo is its Reply, and a query of the grammar where the identifier isn't 0.
+pub fn reply_law()
+    ensures reply { (ask : List ℕ) → ((i : ℕ) → slice_index ask i < 256) → IsAsk ask
+        → IsReplyTo ask (reply_message ask) }
+    ensures query { (ask : List ℕ) → ((i : ℕ) → slice_index ask i < 256) → IsAsk ask
+        → 0 < (query_of ask).identifier → IsQuery Reply (reply_message ask) }
+{}
+
+/// What is said about a packet that is translated is an error of the grammar about that packet.
+pub fn own_error_law()
+    ensures exceeded { (packet : List ℕ) → IsIpv4 packet → IsTranslatable packet
+        → IsErrorAbout packet 11 0 0 (exceeded_message packet) }
+    ensures too_long { (packet : List ℕ) (mtu : ℕ) → IsIpv4 packet → IsTranslatable packet
+        → mtu < 2 ^ 16 → IsErrorAbout packet 3 4 mtu (too_long_message packet mtu) }
+{}

@@ -1,0 +1,126 @@
+//! Echos to the gateway itself (RFC 1122, section 3.2.2.6): which packets they are, and the frame that
+//! answers one.
+ghost use Rattle.std.specs.Prelude.{◌≡◌, ◌≤◌, ◌+◌, ◌++◌, length, take, vec_len, vec_capacity};
+ghost use Rattle.frames.specs.Frame.{frame_of, header_bytes};
+ghost use Rattle.ipv4.specs.Header.{payload_of};
+ghost use Rattle.icmp.specs.Ask.{IsAsk};
+ghost use Rattle.packet_rules.specs.Asked.{IsAskable, IsWhole, asked_of, is_asked, is_echo, is_to_box};
+ghost use Rattle.packet_rules.specs.Own.{answer_frame, answer_packet, own_frame};
+
+use crate::Asked;
+use crate::appending::append_reserved;
+use crate::networks::{Network, is_to_virtual};
+use addresses::Mac;
+use frames::{EthView, EtherType, write_header};
+use icmp::AskView;
+use ipv4::Ipv4View;
+
+/// Whether a packet is for the gateway itself, by the address and the hardware address that it goes to.
+#[tactic(auto, unfolding(crate::specs::Asked::is_to_box))]
+fn is_to_gateway(
+    network: &Network,
+    active: bool,
+    frame: &EthView<'_>,
+    packet: &Ipv4View<'_>,
+) -> bool
+    requires { packet.now.bytes.now ≡ (frame_of frame.now.bytes.now).body }
+    ensures { result ≡ is_to_box network.now active (frame_of frame.now.bytes.now) }
+{
+    let destination = packet.destination();
+    if frame.dst() == network.own_mac && destination == network.own_ip {
+        return true;
+    }
+    active
+        && is_to_virtual(network, frame.dst())
+        && (destination == network.interface.virtual_ip || destination == network.outside_ip)
+}
+
+#[tactic(auto, unfolding(crate::specs::Asked::is_echo))]
+fn is_echo(packet: &Ipv4View<'_>) -> bool
+    ensures { result ≡ is_echo packet.now.bytes.now }
+{
+    packet.protocol() == icmp::PROTOCOL && AskView::parse(packet.payload()).is_ok()
+}
+
+/// Whether a frame's packet is an Echo to the gateway, which is to answer Echos.
+#[tactic(auto, unfolding(crate::specs::Asked::is_asked))]
+pub(crate) fn is_asked(
+    network: &Network,
+    active: bool,
+    frame: &EthView<'_>,
+    packet: &Ipv4View<'_>,
+) -> bool
+    requires { packet.now.bytes.now ≡ (frame_of frame.now.bytes.now).body }
+    ensures { result ≡ is_asked network.now active (frame_of frame.now.bytes.now) }
+{
+    network.icmp.echo && is_to_gateway(network, active, frame, packet) && is_echo(packet)
+}
+
+pub(crate) fn asked(packet: &Ipv4View<'_>) -> Asked
+    ensures { result ≡ asked_of packet.now.bytes.now }
+{
+    Asked {
+        source: packet.source(),
+        destination: packet.destination(),
+        length: 20 + packet.payload().len(),
+    }
+}
+
+/// The packet of a frame of which it is known that it has one.
+pub(crate) fn packet_of(bytes: &[u8]) -> Ipv4View<'_>
+    requires { IsWhole bytes.now }
+    ensures { result.bytes.now ≡ (frame_of bytes.now).body }
+{
+    match Ipv4View::parse(&bytes[14..]) {
+        Ok(packet) => packet,
+        Err(_fault) => unreachable!(),
+    }
+}
+
+fn ask_of<'a>(packet: &Ipv4View<'a>) -> AskView<'a>
+    requires { IsAsk (payload_of packet.now.bytes.now) }
+    ensures { result.bytes.now ≡ payload_of packet.now.bytes.now }
+{
+    match AskView::parse(packet.payload()) {
+        Ok(ask) => ask,
+        Err(_fault) => unreachable!(),
+    }
+}
+
+/// The header of a frame that the gateway sends of its own.
+pub(crate) fn own_header(network: &Network, next_mac: Mac) -> [u8; 14]
+    ensures { result ≡ header_bytes next_mac.0 network.now.own_mac.0 2048 }
+{
+    let mut header = [0; 14];
+    write_header(&mut header, next_mac, network.own_mac, EtherType::IPV4);
+    header
+}
+
+/// Writes the packet that answers the Echo of a frame, and gives its length.
+#[tactic(auto, unfolding(crate::specs::Own::answer_packet))]
+fn write_answer(bytes: &[u8], out: &mut [u8; 1500]) -> usize
+    requires { IsAskable bytes.now }
+    ensures bytes { take result out.new ≡ answer_packet (frame_of bytes.now).body }
+    ensures fits { 14 + result ≤ length bytes.now }
+    ensures room { result ≤ 1500 }
+{
+    let packet = packet_of(bytes);
+    let ask = ask_of(&packet);
+    icmp::reply(&ask, packet.destination(), packet.source(), out)
+}
+
+/// Puts the frame that answers the Echo of a frame that came, `bytes`, behind a list with room for it.
+#[tactic(auto, unfolding(crate::specs::Own::own_frame))]
+pub fn append_echo_reply(list: &mut Vec<u8>, network: &Network, next_mac: Mac, bytes: &[u8])
+    requires room { vec_len list.old + length bytes.now ≤ vec_capacity list.old }
+    requires askable { IsAskable bytes.now }
+    ensures items { list.new.items
+        ≡ list.old.items ++ answer_frame network.now next_mac bytes.now }
+    ensures len { vec_len list.new ≤ vec_len list.old + length bytes.now }
+    ensures capacity { vec_capacity list.old ≤ vec_capacity list.new }
+{
+    let mut packet = [0; 1500];
+    let count = write_answer(bytes, &mut packet);
+    append_reserved(list, &own_header(network, next_mac));
+    append_reserved(list, &packet[..count]);
+}

@@ -1,0 +1,184 @@
+//! What the gateway says of a packet that it drops: Time Exceeded and Fragmentation Needed (RFC 1812, sections
+//! 4.3.2 and 5.3.1; RFC 1191).
+ghost use Rattle.std.specs.Prelude.{◌≡◌, ◌≤◌, ◌+◌, ◌++◌, slice_index, take, vec_len, vec_capacity};
+ghost use Rattle.frames.specs.Frame.{frame_of};
+ghost use Rattle.icmp.specs.Own.{exceeded_packet, too_long_packet};
+ghost use Rattle.ipv4.specs.Header.{header_of};
+ghost use Rattle.packet_rules.specs.Asked.{IsWhole};
+ghost use Rattle.packet_rules.specs.Own.{complaint_about, complaint_frame, complaint_of, complaint_packet, exit_for, is_any_error, is_told, is_to_host, is_unbroken, own_frame};
+
+use crate::Reason;
+use crate::answering::{is_broadcast, may_answer, mtu_at};
+use crate::appending::append_reserved;
+use crate::asking::{own_header, packet_of};
+use crate::networks::{Direction, Network, Networks, is_martian};
+use addresses::{Ip, Mac};
+use ipv4::Ipv4View;
+use nat_types::Side;
+
+/// The bytes of the longest frame that complains.
+pub const COMPLAINT_FRAME: usize = 590;
+
+/// What is said of a packet.
+#[derive(Clone, Copy, Debug, PartialEq, Eq)]
+pub enum Complaint {
+    /// Its time to live is over.
+    Exceeded,
+    /// It is longer than the packets that are sent at the side at which it would leave: so many bytes.
+    TooBig(u16),
+}
+
+/// Whether a packet is an ICMP error of any type, also of those that aren't passed on.
+#[tactic(auto, unfolding(crate::specs::Own::is_any_error))]
+fn is_any_error(packet: &Ipv4View<'_>) -> bool
+    ensures { result ≡ is_any_error packet.now.bytes.now }
+{
+    let kind = first_of(packet.payload());
+    packet.protocol() == icmp::PROTOCOL
+        && (kind == 3 || kind == 4 || kind == 5 || kind == 11 || kind == 12)
+}
+
+/// The first byte, or 0.
+fn first_of(bytes: &[u8]) -> u8
+    ensures { result ≡ slice_index bytes.now 0 }
+{
+    match bytes {
+        [first, ..] => *first,
+        [] => 0,
+    }
+}
+
+/// Whether an address may be one host's.
+#[tactic(auto, unfolding(crate::specs::Own::is_to_host))]
+fn is_to_host(networks: &Networks, destination: Ip) -> bool
+    ensures { result ≡ is_to_host networks.now destination.0 }
+{
+    !is_martian(destination)
+        && !is_broadcast(&networks.inside.interface, destination)
+        && !is_broadcast(&networks.outside.interface, destination)
+}
+
+#[tactic(auto, unfolding(crate::specs::Own::is_told))]
+fn is_told(networks: &Networks, side: Side, packet: &Ipv4View<'_>) -> bool
+    ensures { result ≡ is_told networks.now side packet.now.bytes.now }
+{
+    networks.of(side).icmp.errors
+        && !is_any_error(packet)
+        && may_answer(networks, side, packet.source())
+        && is_to_host(networks, packet.destination())
+}
+
+/// Whether a packet has the flag Don't Fragment.
+#[tactic(auto, unfolding(crate::specs::Own::is_unbroken))]
+fn is_unbroken(packet: &Ipv4View<'_>) -> bool
+    ensures { result ≡ is_unbroken packet.now.bytes.now }
+{
+    packet.flags_word() / 0x4000 % 2 == 1
+}
+
+#[tactic(auto, unfolding(crate::specs::Own::complaint_about))]
+fn complaint_about(mtu: u16, reason: Reason, packet: &Ipv4View<'_>) -> Option<Complaint>
+    ensures { result ≡ complaint_about mtu reason packet.now.bytes.now }
+{
+    match reason {
+        Reason::TtlOver => Some(Complaint::Exceeded),
+        Reason::TooLong => {
+            if is_unbroken(packet) {
+                Some(Complaint::TooBig(mtu))
+            } else {
+                None
+            }
+        }
+        _ => None,
+    }
+}
+
+/// The side at which a packet of this way would leave. Of a packet without a way it isn't looked at how long
+/// it is, so it is any side: the one where it came in.
+pub fn exit_for(side: Side, way: Result<Direction, Reason>) -> Side
+    ensures { result ≡ exit_for side way }
+{
+    match way {
+        Ok(way) => way.exit(),
+        Err(_reason) => side,
+    }
+}
+
+/// What is said where the packet of a frame that came in at a side is dropped for a reason. It would have
+/// left at `exit`.
+#[tactic(auto, unfolding(crate::specs::Own::complaint_of))]
+pub fn complaint_of(
+    networks: &Networks,
+    side: Side,
+    exit: Side,
+    reason: Reason,
+    bytes: &[u8],
+) -> Option<Complaint>
+    requires { IsWhole bytes.now }
+    ensures { result ≡ complaint_of networks.now side exit reason bytes.now }
+{
+    let packet = packet_of(bytes);
+    if is_told(networks, side, &packet) {
+        complaint_about(mtu_at(networks, exit), reason, &packet)
+    } else {
+        None
+    }
+}
+
+/// Writes a Time Exceeded about a packet, and gives its length.
+fn write_exceeded(network: &Network, packet: &Ipv4View<'_>, out: &mut [u8; 576]) -> usize
+    ensures bytes { take result out.new ≡ exceeded_packet packet.now.bytes.now
+        network.now.own_ip.0 (header_of packet.now.bytes.now).source }
+    ensures room { result ≤ 576 }
+{
+    icmp::exceeded(packet, network.own_ip, packet.source(), out)
+}
+
+/// Writes a Fragmentation Needed about a packet, and gives its length.
+fn write_too_big(network: &Network, mtu: u16, packet: &Ipv4View<'_>, out: &mut [u8; 576]) -> usize
+    ensures bytes { take result out.new ≡ too_long_packet packet.now.bytes.now mtu
+        network.now.own_ip.0 (header_of packet.now.bytes.now).source }
+    ensures room { result ≤ 576 }
+{
+    icmp::too_long(packet, mtu, network.own_ip, packet.source(), out)
+}
+
+/// Writes the packet that complains of another, and gives its length.
+#[tactic(auto, unfolding(crate::specs::Own::complaint_packet))]
+fn write_complaint(
+    network: &Network,
+    complaint: Complaint,
+    packet: &Ipv4View<'_>,
+    out: &mut [u8; 576],
+) -> usize
+    ensures bytes { take result out.new
+        ≡ complaint_packet network.now complaint packet.now.bytes.now }
+    ensures room { result ≤ 576 }
+{
+    match complaint {
+        Complaint::Exceeded => write_exceeded(network, packet, out),
+        Complaint::TooBig(mtu) => write_too_big(network, mtu, packet, out),
+    }
+}
+
+/// Puts the frame that complains of the packet of a frame that came, `bytes`, behind a list with room for it.
+#[tactic(auto, unfolding(crate::specs::Own::own_frame))]
+pub fn append_complaint(
+    list: &mut Vec<u8>,
+    network: &Network,
+    complaint: Complaint,
+    next_mac: Mac,
+    bytes: &[u8],
+)
+    requires room { vec_len list.old + 590 ≤ vec_capacity list.old }
+    requires whole { IsWhole bytes.now }
+    ensures items { list.new.items
+        ≡ list.old.items ++ complaint_frame network.now complaint next_mac bytes.now }
+    ensures len { vec_len list.new ≤ vec_len list.old + 590 }
+    ensures capacity { vec_capacity list.old ≤ vec_capacity list.new }
+{
+    let mut packet = [0; 576];
+    let count = write_complaint(network, complaint, &packet_of(bytes), &mut packet);
+    append_reserved(list, &own_header(network, next_mac));
+    append_reserved(list, &packet[..count]);
+}

@@ -1,0 +1,280 @@
+-- The own frames of a whole step are just those of its takings.
+use Rattle.std.proofs.Common.{◌≡◌, ℕ, Bool, true, false, cond, ◌&&◌, List, [], ◌∷◌, ◌++◌, length, Option, Some, None, Result, Ok, Err, refl, sym, ap, subst, ◌∙◌}
+use Rattle.std.specs.List.{AllByRecursion}
+use Rattle.addresses.specs.declared.ethernet.Mac.{Mac}
+use Rattle.nat_types.specs.declared.gateways.Side.{Side}
+use Rattle.nat_types.specs.declared.gateways.Side.TheVariants.{Inside, Outside}
+use Rattle.nat_types.specs.declared.pairs.Endpoint.{Endpoint}
+use Rattle.nat_types.specs.declared.pairs.Key.{Key}
+use Rattle.nat_types.specs.declared.records.Record.{Record}
+use Rattle.arp.specs.declared.packets.ArpPacket.{ArpPacket}
+use Rattle.bindings.specs.Lives.{idle_keys_in}
+use Rattle.link.specs.declared.datagrams.Datagram.{Datagram}
+use Rattle.link.specs.declared.faults.LinkFault.{LinkFault}
+use Rattle.link.specs.Grammar.{IsWellFormed, IsWellFormedRecord}
+use Rattle.link.specs.Link.{after_take, is_due_on_tick, is_restart, records_taken, refusal, sent_on_tick}
+use Rattle.link.specs.Reading.{reading}
+use Rattle.link.proofs.Offered.{all_taken as all_formed, reading_takes}
+use Rattle.spec_binding.specs.Books.{is_lone}
+use Rattle.spec_binding.specs.Ledgers.{rests_for, taken_ledger}
+use Rattle.spec_binding.specs.Rows.{answered, taken_answer, taken_ended}
+use Rattle.waiting.specs.declared.waits.Ended.{Ended}
+use Rattle.waiting.specs.declared.waits.Ended.TheVariants.{AllPairs, One}
+use Rattle.waiting.specs.declared.waits.WaitsFor.TheVariants as wait
+use Rattle.waiting.specs.Packets.{ended_by, left_by}
+use Rattle.packet_rules.specs.declared.readings.Reading.{Reading}
+use Rattle.packet_rules.specs.declared.readings.Reading.TheVariants.{Arp, Advert, Packet, Error, Asked}
+use Rattle.packet_rules.specs.declared.reasons.Reason.{Reason}
+use Rattle.packet_rules.specs.Arping.{answer_frame, answer_to, is_learnable}
+use Rattle.interfaces.specs.Stations.{Interface, after_arp, is_active}
+use Rattle.output.specs.Output.{Output, Sent, with_datagram}
+use Rattle.vrrp_states.specs.Table as table
+use Rattle.vrrp_states.specs.Table.{Event as RouterEvent}
+use Rattle.spec_step.specs.declared.events.Event.{Event}
+use Rattle.spec_step.specs.declared.events.Event.TheVariants.{Frame, Datagram as Comes, Tick, Stop, PeerOff, Side as SideIs}
+use Rattle.spec_step.specs.GivingWay.{GivingWay, left, turn_of}
+use Rattle.spec_step.specs.Machine.{AreBytes, HasBytes}
+use Rattle.spec_step.specs.OwnAnswers.{SaysJust}
+use Rattle.spec_step.specs.Parts.{acted, all_framed, all_idle_done, answered_by, arp_taken, datagram_in, datagram_read, framed, frames_of, handed_in, has_synced, heard_by, heard_unless, idle_done, idle_taken, link_answered, link_ticked, old_dropped, record_done, records_done, released, reset, routers_started, side_plugged, wait_ended, with_link, with_routers, word_taken}
+use Rattle.spec_step.specs.Routers.{BothAct, RouterActs}
+use Rattle.spec_step.specs.Sayings.{own_arp, own_datagram, own_ended, own_framed, own_heard, own_in, own_record, own_records, own_released, own_reset, own_word}
+use Rattle.spec_step.specs.Shown.{GatewayAndOutput, Shown, is_running, scene, station_on, with_station}
+use Rattle.spec_step.specs.Steps.{Does, FrameDoes, IsStepOn, ended_on, stopped, ticked, word_by, word_refusal}
+use Rattle.spec_step.specs.Truly.{IsSetUp}
+use Rattle.spec_step.specs.Verdict.{reading_on}
+use Rattle.spec_step.proofs.FrameKinds.{other-none}
+use Rattle.spec_step.proofs.OwnTakings.{Just, all-just, just-then, nothing-just, other-just, quiet-just, read-just}
+use Rattle.spec_step.proofs.Packets.{kept-filter}
+use Rattle.spec_step.proofs.Passing.{IsSound}
+use Rattle.spec_step.proofs.Saying.{Saying}
+use Rattle.spec_step.proofs.Sending.{Frames, answer-other, own-six}
+use Rattle.spec_step.proofs.Truths.{AllOther, action-frames, after-net, after-said, after-wired, answered-says, link-says, record-first, record-says, record_scene, reset-first, reset-says, reset_scene, station-speaks, wired-on, word-first, word-synced, word_scene}
+use Rattle.spec_step.proofs.Turning.{back_as, turn-by}
+
+-- where the gateway is sound and set up
+abbrev Justly : List Sent → GatewayAndOutput → GatewayAndOutput → Type 0
+Justly own s s2 = IsSound s.shown → IsSetUp s.shown → Just s s2 own
+
+justly-then : (xs ys : List Sent) (a b c : GatewayAndOutput) → Justly xs a b → Saying [] a b → Justly ys b c → Justly (xs ++ ys) a c
+justly-then xs ys a b c x said y = λ is w.
+    let mid = said is w in
+    just-then xs ys a b c (x is w) (y mid.0.sound mid.0.wired)
+
+-- a part that sends none of its own
+none-just : (own : List Sent) (s mid s2 : GatewayAndOutput) → Just s mid [] → Just mid s2 own → Just s s2 own
+none-just own s mid s2 first rest = just-then [] own s mid s2 first rest
+
+station-nets : (g : Shown) (side : Side) (station : Interface) → (with_station g side station).networks ≡ g.networks
+station-nets g Inside station = refl
+station-nets g Outside station = refl
+
+station-just : (s : GatewayAndOutput) (side : Side) (station : Interface) → Just s (scene (with_station s.shown side station) s.told) []
+station-just s side station = quiet-just s (scene (with_station s.shown side station) s.told) refl (station-nets s.shown side station)
+
+-- ---- those whose wait is over
+
+released-just : Frames → (s : GatewayAndOutput) (ended : Ended) → Justly (own_released s ended) s (released s ended)
+released-just frames s ended = λ is w.
+    let start = scene (record s.shown { kept = left_by ended s.shown.kept }) s.told in
+    let freed = ended_by ended s.shown.kept in
+    let all = all-just frames start freed (kept-filter _ s.shown.kept is.kept) (record { book = is.book; kept = kept-filter _ s.shown.kept is.kept }) w in
+    none-just (own_released s ended) s start (released s ended) (quiet-just s start refl refl) all
+
+-- ---- routers
+
+all-framed-just : (s : GatewayAndOutput) (side : Side) (fs : List (List ℕ)) → AllOther side fs → Just s (all_framed s side fs) []
+all-framed-just s side [] all = nothing-just s
+all-framed-just s side (f ∷ fs) all =
+    none-just [] s (framed s side f) (all_framed s side (f ∷ fs)) (other-just s side f (other-none s.shown.networks side f (all.0 s.shown.networks)).0) (all-framed-just (framed s side f) side fs all.1)
+
+router-just : Frames → (s : GatewayAndOutput) (side : Side) (event : RouterEvent) (s2 : GatewayAndOutput) → RouterActs s side event s2 → Just s s2 []
+router-just frames s side event s2 acts =
+    let mid = scene (with_station s.shown side acts.station) s.told in
+    subst (λ (x : GatewayAndOutput). Just s x []) (sym acts.is)
+    (none-just [] s mid (acted s side acts.station acts.action) (station-just s side acts.station) (all-framed-just mid side (frames_of acts.station acts.action) (action-frames frames side acts.station acts.action)))
+
+both-just : Frames → (s : GatewayAndOutput) (event : RouterEvent) (s2 : GatewayAndOutput) → BothAct s event s2 → Just s s2 []
+both-just frames s event s2 both = none-just [] s both.between s2 (router-just frames s Inside event both.between both.inside) (router-just frames both.between Outside event s2 both.outside)
+
+turn-just : Frames → (s s2 : GatewayAndOutput) → GivingWay s s2 → Just s s2 []
+turn-just frames s s2 takes =
+    turn-by (λ x. Just s x []) s s2
+    (λ middle both. none-just [] s middle (left middle) (both-just frames s table.Stop middle both) (quiet-just middle (left middle) refl refl))
+    (λ starts is. back starts) (nothing-just s) (turn_of s.shown) takes
+  where
+    back : (starts : Bool) → Just s (scene (back_as starts s.shown) s.told) []
+    back true = quiet-just s (scene (back_as true s.shown) s.told) refl refl
+    back false = quiet-just s (scene (back_as false s.shown) s.told) refl refl
+
+-- ---- ARP
+
+arp-just : Frames → (s : GatewayAndOutput) (side : Side) (p : ArpPacket) → length p.sender_mac.0 ≡ 6 → Justly (own_arp s side p) s (arp_taken s side p)
+arp-just frames s side p six = λ is w.
+    let station = station_on s.shown side in
+    let after = after_arp station p s.shown.moment in
+    let heard = scene (with_station s.shown side after) s.told in
+    let o = answer_to station.network (is_active station) p in
+    let told = answered_by heard side p o in
+    let one = station-speaks s side after (after-net station p s.shown.moment) (after-said station p s.shown.moment) (λ v. after-wired station p s.shown.moment six (wired-on s.shown v side)) is w in
+    let two = answered-says frames heard side p o six one.sound one.wired in
+    none-just (own_arp s side p) s heard (arp_taken s side p) (station-just s side after)
+    (none-just (own_arp s side p) heard told (arp_taken s side p) (answers heard one.wired o) (at (is_learnable station.network p) told two.0.sound two.0.wired))
+  where
+    answers : (t : GatewayAndOutput) → IsSetUp t.shown → (o : Option Mac) → Just t (answered_by t side p o) []
+    answers t v (Some mac) =
+        let network = (station_on t.shown side).network in
+        other-just t side (answer_frame network p mac) (other-none t.shown.networks side (answer_frame network p mac) (answer-other frames t.shown.networks side network p mac (own-six t.shown v side) six)).0
+    answers t v None = nothing-just t
+
+    at : (b : Bool) (told : GatewayAndOutput) → IsSound told.shown → IsSetUp told.shown
+        → Just told (let x : GatewayAndOutput = cond b (released told (One (wait.Hop side p.sender_ip))) told in x) (cond b (own_released told (One (wait.Hop side p.sender_ip))) [])
+    at true told is w = released-just frames told (One (wait.Hop side p.sender_ip)) is w
+    at false told is w = nothing-just told
+
+-- ---- a frame
+
+frame-just : Frames → (s : GatewayAndOutput) (side : Side) (bytes : List ℕ) (r : Result Reading Reason) (s2 : GatewayAndOutput) → reading_on s.shown side bytes ≡ r → AreBytes bytes → FrameDoes s side bytes r s2 → Justly (own_framed s side bytes r) s s2
+frame-just frames s side bytes (Ok (Arp p)) s2 read are does = λ is w.
+    let at = station_on s.shown side in
+    let six = frames.reads side at.network (is_active at) _ bytes (Arp p) read in
+    subst (λ (x : GatewayAndOutput). Just s x (own_arp s side p)) (sym does) (arp-just frames s side p six is w)
+frame-just frames s side bytes (Ok (Advert a from)) s2 read are does = λ is w. router-just frames s side _ s2 does
+frame-just frames s side bytes (Ok (Packet packet)) s2 read are does = λ is w.
+    subst (λ (x : GatewayAndOutput). Just s x (own_framed s side bytes (Ok (Packet packet)))) (sym does) (read-just frames s side bytes are w (Ok (Packet packet)) read)
+frame-just frames s side bytes (Ok (Error packet)) s2 read are does = λ is w.
+    subst (λ (x : GatewayAndOutput). Just s x []) (sym does) (read-just frames s side bytes are w (Ok (Error packet)) read)
+frame-just frames s side bytes (Ok (Asked echo)) s2 read are does = λ is w.
+    subst (λ (x : GatewayAndOutput). Just s x (own_framed s side bytes (Ok (Asked echo)))) (sym does) (read-just frames s side bytes are w (Ok (Asked echo)) read)
+frame-just frames s side bytes (Err reason) s2 read are does = λ is w.
+    subst (λ (x : GatewayAndOutput). Just s x (own_framed s side bytes (Err reason))) (sym does) (read-just frames s side bytes are w (Err reason) read)
+
+-- ---- records
+
+ended-just : Frames → (s : GatewayAndOutput) (o : Option Endpoint) → Justly (own_ended o s) s (wait_ended o s)
+ended-just frames s None = λ is w. nothing-just s
+ended-just frames s (Some e) = released-just frames s (One (wait.Pair e))
+
+routed-nets : (g g2 : Shown) → (with_routers g g2).networks ≡ g2.networks
+routed-nets g g2 = at (has_synced g g2) (is_running g2)
+  where
+    at : (b c : Bool) → (let x : Shown = cond (b && c) (routers_started g2) g2 in x.networks) ≡ g2.networks
+    at true true = refl
+    at true false = refl
+    at false c = refl
+
+record-just : Frames → (s : GatewayAndOutput) (r : Record) → IsWellFormedRecord r → Justly (own_record s r) s (record_done s r)
+record-just frames s r formed =
+    let g = s.shown in
+    let rests = rests_for g.moment g.ledger r in
+    let g2 : Shown = record g { ledger = taken_ledger g.moment g.ledger r; link = answered g.link (taken_answer g.ledger.book rests r) } in
+    justly-then [] (own_record s r) s (record_scene s r) (record_done s r) (λ is w. quiet-just s (record_scene s r) refl (routed-nets g g2)) (record-first s r formed)
+    (ended-just frames (record_scene s r) (taken_ended g.ledger.book (rests_for g.moment g.ledger r) r))
+
+records-just : Frames → (s : GatewayAndOutput) (rs : List Record) → AllByRecursion IsWellFormedRecord rs → Justly (own_records s rs) s (records_done s rs)
+records-just frames s [] all = λ is w. nothing-just s
+records-just frames s (r ∷ rs) all =
+    justly-then (own_record s r) (own_records (record_done s r) rs) s (record_done s r) (records_done s (r ∷ rs)) (record-just frames s r all.0) (record-says frames s r all.0) (records-just frames (record_done s r) rs all.1)
+
+-- ---- datagrams, and the operator's word
+
+reset-just : Frames → (s : GatewayAndOutput) → Justly (own_reset s) s (reset s)
+reset-just frames s =
+    justly-then [] (own_reset s) s (reset_scene s) (reset s) (λ is w. quiet-just s (reset_scene s) refl refl) (reset-first s) (released-just frames (reset_scene s) AllPairs)
+
+heard-just : Frames → (s : GatewayAndOutput) (d : Datagram) → IsWellFormed d → Justly (own_heard s d None) s (heard_by s d)
+heard-just frames s d fits = at (is_restart s.shown.link d)
+  where
+    after : GatewayAndOutput
+    after = with_link s (after_take s.shown.link d s.shown.moment)
+
+    rs : List Record
+    rs = records_taken s.shown.link d
+
+    at : (b : Bool) → Justly (cond b (own_reset after ++ own_records (reset after) rs) (own_records after rs)) s (records_done (let x : GatewayAndOutput = cond b (reset after) after in x) rs)
+    at true =
+        justly-then [] (own_reset after ++ own_records (reset after) rs) s after (records_done (reset after) rs) (λ is w. quiet-just s after refl refl) (link-says s (after_take s.shown.link d s.shown.moment))
+        (justly-then (own_reset after) (own_records (reset after) rs) after (reset after) (records_done (reset after) rs) (reset-just frames after) (reset-says frames after)
+        (records-just frames (reset after) rs (all_formed s.shown.link d fits)))
+    at false =
+        justly-then [] (own_records after rs) s after (records_done after rs) (λ is w. quiet-just s after refl refl) (link-says s (after_take s.shown.link d s.shown.moment))
+        (records-just frames after rs (all_formed s.shown.link d fits))
+
+datagram-just : Frames → (s : GatewayAndOutput) (bytes : List ℕ) (r : Result Datagram LinkFault) → reading bytes ≡ r → AreBytes bytes → Justly (own_datagram s r) s (datagram_read s r)
+datagram-just frames s bytes (Ok d) read are = at (refusal s.shown.link d)
+  where
+    at : (o : Option LinkFault) → Justly (own_heard s d o) s (heard_unless s d o)
+    at None = heard-just frames s d (reading_takes bytes d are read).0
+    at (Some fault) = λ is w. nothing-just s
+datagram-just frames s bytes (Err fault) read are = λ is w. nothing-just s
+
+word-just : Frames → (s : GatewayAndOutput) (n : ℕ) (o : Option Reason) → word_refusal s.shown n ≡ o → Justly (own_word s n o) s (word_by s n o)
+word-just frames s n None is =
+    justly-then [] (own_word s n None) s (word_scene s n) (word_taken s n) (λ i w. quiet-just s (word_scene s n) refl refl) (word-first s n (word-synced s.shown n is)) (released-just frames (word_scene s n) AllPairs)
+word-just frames s n (Some reason) is = λ i w. nothing-just s
+
+-- ---- ticks
+
+all-idle-just : (s : GatewayAndOutput) (ks : List Key) → Just s (all_idle_done s ks) []
+all-idle-just s [] = nothing-just s
+all-idle-just s (k ∷ ks) = none-just [] s (idle_done s k) (all_idle_done s (k ∷ ks)) (quiet-just s (idle_done s k) refl refl) (all-idle-just (idle_done s k) ks)
+
+plugged-just : (s : GatewayAndOutput) (side : Side) (up : Bool) → Just s (side_plugged s side up) []
+plugged-just s Inside up = quiet-just s (side_plugged s Inside up) refl refl
+plugged-just s Outside up = quiet-just s (side_plugged s Outside up) refl refl
+
+-- ---- an event's own parts
+
+does-just : Frames → (s : GatewayAndOutput) (event : Event) (done : GatewayAndOutput) → Does s event done → HasBytes event → Justly (own_in s event) s done
+does-just frames s (Frame side bytes) done does has = frame-just frames s side bytes.now (reading_on s.shown side bytes.now) done refl has does
+does-just frames s (Comes bytes) done does has = λ is w.
+    subst (λ (x : GatewayAndOutput). Just s x (own_datagram s (reading bytes.now))) (sym does) (datagram-just frames s bytes.now (reading bytes.now) refl has is w)
+does-just frames s (Tick now) done does has = λ is w.
+    let start = ticked s now in
+    let turned = does.0 in
+    let middle = does.1 in
+    let young = old_dropped middle in
+    let l = young.shown.ledger in
+    let parts = none-just [] start turned (idle_taken young) (turn-just frames start turned does.2)
+    (none-just [] turned middle (idle_taken young) (both-just frames turned table.Tick middle does.3)
+    (none-just [] middle young (idle_taken young) (quiet-just middle young refl refl) (all-idle-just young (idle_keys_in (is_lone l.book.stage) young.shown.moment l.book.entries l.lives)))) in
+    subst (λ (x : GatewayAndOutput). Just s x []) (sym does.4) (none-just [] s start (idle_taken young) (quiet-just s start refl refl) parts)
+does-just frames s Stop done does has = λ is w.
+    let middle = does.0 in
+    subst (λ (x : GatewayAndOutput). Just s x []) (sym does.2) (none-just [] s middle (stopped middle) (both-just frames s table.Stop middle does.1) (quiet-just middle (stopped middle) refl refl))
+does-just frames s (PeerOff n) done does has = λ is w.
+    subst (λ (x : GatewayAndOutput). Just s x (own_word s n (word_refusal s.shown n))) (sym does) (word-just frames s n (word_refusal s.shown n) refl is w)
+does-just frames s (SideIs side up) done does has = λ is w. subst (λ (x : GatewayAndOutput). Just s x []) (sym does) (plugged-just s side up)
+
+-- ---- the datagram at the end
+
+answered-frames : (s : GatewayAndOutput) → (link_answered s).told.frames ≡ s.told.frames
+answered-frames s = at (handed_in s.shown).link.due
+  where
+    at : (b : Bool) → (let t : Output = cond b (with_datagram s.told (datagram_in (handed_in s.shown))) s.told in t.frames) ≡ s.told.frames
+    at true = refl
+    at false = refl
+
+ticked-frames : (s : GatewayAndOutput) → (link_ticked s).told.frames ≡ s.told.frames
+ticked-frames s = at (is_due_on_tick (handed_in s.shown).link s.shown.moment)
+  where
+    at : (b : Bool) → (let x : GatewayAndOutput = (let g = handed_in s.shown in cond b (scene (record g { link = sent_on_tick g.link g.moment }) (with_datagram s.told (datagram_in g))) (scene g s.told)) in x.told.frames) ≡ s.told.frames
+    at true = refl
+    at false = refl
+
+end-frames : (event : Event) (done : GatewayAndOutput) → (ended_on event done).told.frames ≡ done.told.frames
+end-frames (Frame side bytes) done = answered-frames done
+end-frames (Comes bytes) done = answered-frames done
+end-frames (Tick now) done = ticked-frames done
+end-frames Stop done = answered-frames done
+end-frames (PeerOff n) done = answered-frames done
+end-frames (SideIs side up) done = refl
+
+-- a whole step
+pub step-just : Frames → (s : GatewayAndOutput) (event : Event) (s2 : GatewayAndOutput) → IsStepOn s event s2 → HasBytes event → IsSound s.shown → IsSetUp s.shown → SaysJust s s2 (own_in s event)
+step-just frames s event s2 step has is w =
+    let done = (does-just frames s event step.done step.does has is w).says in
+    record {
+      frames = done.frames;
+      frames_are = ap (λ (x : GatewayAndOutput). x.told.frames) step.sends ∙ end-frames event step.done ∙ done.frames_are;
+      own_are = done.own_are;
+    }

@@ -1,0 +1,102 @@
+-- The own frames of a whole step: those of the takings that it has, in their order.
+use Rattle.std.specs.Prelude.{ℕ, Option, Some, None, Result, Ok, Err, List, [], ◌∷◌, ◌++◌, if◌then◌else◌}
+use Rattle.nat_types.specs.declared.gateways.Side.{Side}
+use Rattle.nat_types.specs.declared.pairs.Endpoint.{Endpoint}
+use Rattle.nat_types.specs.declared.records.Record.{Record}
+use Rattle.arp.specs.declared.packets.ArpPacket.{ArpPacket}
+use Rattle.link.specs.declared.datagrams.Datagram.{Datagram}
+use Rattle.link.specs.declared.faults.LinkFault.{LinkFault}
+use Rattle.link.specs.Link.{after_take, closed_at, is_restart, records_taken, refusal}
+use Rattle.link.specs.Reading.{reading}
+use Rattle.spec_binding.specs.Ledgers.{alone_ledger, restarted_ledger, rests_for}
+use Rattle.spec_binding.specs.Resets.{back_in, restart_link, restart_notes, retaken}
+use Rattle.spec_binding.specs.Rows.{taken_ended}
+use Rattle.waiting.specs.declared.waits.Ended.{Ended}
+use Rattle.waiting.specs.declared.waits.Ended.TheVariants.{AllPairs, One}
+use Rattle.waiting.specs.declared.waits.WaitsFor.TheVariants as wait
+use Rattle.waiting.specs.Packets.{ended_by, left_by}
+use Rattle.packet_rules.specs.declared.readings.Reading.{Reading}
+use Rattle.packet_rules.specs.declared.readings.Reading.TheVariants.{Arp, Advert, Packet, Error, Asked}
+use Rattle.packet_rules.specs.declared.reasons.Reason.{Reason}
+use Rattle.packet_rules.specs.Arping.{answer_to, is_learnable}
+use Rattle.interfaces.specs.Stations.{after_arp, is_active}
+use Rattle.output.specs.Output.{Sent}
+use Rattle.spec_step.specs.declared.events.Event.{Event}
+use Rattle.spec_step.specs.declared.events.Event.TheVariants.{Frame, Datagram as Comes, Tick, Stop, PeerOff, Side as SideIs}
+use Rattle.spec_step.specs.OwnAnswers.{all_own_of, own_read}
+use Rattle.spec_step.specs.Parts.{answered_by, record_done, record_shown, record_told, reset, with_link}
+use Rattle.spec_step.specs.Shown.{GatewayAndOutput, id_of, scene, station_on, with_notes, with_station}
+use Rattle.spec_step.specs.Steps.{word_refusal}
+use Rattle.spec_step.specs.Verdict.{reading_on}
+
+-- of the packets whose wait is over
+abbrev pub own_released : GatewayAndOutput → Ended → List Sent
+own_released s ended =
+    all_own_of (scene (record s.shown { kept = left_by ended s.shown.kept }) s.told) (ended_by ended s.shown.kept)
+
+-- of an ARP packet: of those that waited for its sender, where that may be learnt
+abbrev pub own_arp : GatewayAndOutput → Side → ArpPacket → List Sent
+own_arp s side p =
+    let station = station_on s.shown side in
+    let heard = scene (with_station s.shown side (after_arp station p s.shown.moment)) s.told in
+    let told = answered_by heard side p (answer_to station.network (is_active station) p) in
+    if is_learnable station.network p then own_released told (One (wait.Hop side p.sender_ip)) else []
+
+-- of a frame: of its own packet, or of an ARP packet
+abbrev pub own_framed : GatewayAndOutput → Side → List ℕ → Result Reading Reason → List Sent
+own_framed s side bytes (Ok (Arp p)) = own_arp s side p
+own_framed s side bytes (Ok (Advert a from)) = []
+own_framed s side bytes (Ok (Packet packet)) = own_read s.shown side bytes (Ok (Packet packet))
+own_framed s side bytes (Ok (Error packet)) = []
+own_framed s side bytes (Ok (Asked echo)) = own_read s.shown side bytes (Ok (Asked echo))
+own_framed s side bytes (Err reason) = own_read s.shown side bytes (Err reason)
+
+-- of records: of those that waited for the pairs that they answer
+abbrev pub own_ended : Option Endpoint → GatewayAndOutput → List Sent
+own_ended None s = []
+own_ended (Some e) s = own_released s (One (wait.Pair e))
+
+abbrev pub own_record : GatewayAndOutput → Record → List Sent
+own_record s r = let g = s.shown in
+    own_ended (taken_ended g.ledger.book (rests_for g.moment g.ledger r) r)
+    (scene (record_shown g r) (record_told g r s.told))
+
+abbrev pub own_records : GatewayAndOutput → List Record → List Sent
+own_records s [] = []
+own_records s (r ∷ rs) = own_record s r ++ own_records (record_done s r) rs
+
+-- of a greater boot, and of the operator's word: of all that waited for pairs
+abbrev pub own_reset : GatewayAndOutput → List Sent
+own_reset s = let g = s.shown in let book = g.ledger.book in
+    own_released
+    (scene (record g { ledger = restarted_ledger g.ledger; link = restart_link book g.link })
+    (with_notes s.told (restart_notes book g.moment)))
+    AllPairs
+
+abbrev pub own_heard : GatewayAndOutput → Datagram → Option LinkFault → List Sent
+own_heard s d None = let e = s.shown.link in
+    let after = with_link s (after_take e d s.shown.moment) in
+    if is_restart e d then own_reset after ++ own_records (reset after) (records_taken e d)
+    else own_records after (records_taken e d)
+own_heard s d (Some fault) = []
+
+abbrev pub own_datagram : GatewayAndOutput → Result Datagram LinkFault → List Sent
+own_datagram s (Ok d) = own_heard s d (refusal s.shown.link d)
+own_datagram s (Err fault) = []
+
+abbrev pub own_word : GatewayAndOutput → ℕ → Option Reason → List Sent
+own_word s n None = let g = s.shown in let book = g.ledger.book in
+    own_released
+    (scene (record g { ledger = alone_ledger g.moment g.ledger; link = closed_at g.link n })
+    (with_notes s.told (retaken (id_of g) g.moment (back_in book.entries))))
+    AllPairs
+own_word s n (Some reason) = []
+
+-- of an event; a tick, a stop and the word of a side have none
+abbrev pub own_in : GatewayAndOutput → Event → List Sent
+own_in s (Frame side bytes) = own_framed s side bytes.now (reading_on s.shown side bytes.now)
+own_in s (Comes bytes) = own_datagram s (reading bytes.now)
+own_in s (Tick now) = []
+own_in s Stop = []
+own_in s (PeerOff n) = own_word s n (word_refusal s.shown n)
+own_in s (SideIs side up) = []

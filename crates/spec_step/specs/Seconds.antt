@@ -1,0 +1,55 @@
+-- How much a gateway says itself in one second of a life.
+use Rattle.std.specs.Prelude.{◌≡◌, ℕ, ◌+◌, Bool, true, false, not, ◌==◌, ◌&&◌, List, [], ◌∷◌, if◌then◌else◌}
+use Rattle.std.specs.List.{count_by}
+use Rattle.nat_types.specs.declared.gateways.Side.{Side}
+use Rattle.interfaces.specs.Stations.{same_side}
+use Rattle.interfaces.specs.Tallies.{second_of}
+use Rattle.output.specs.Output.{Output}
+use Rattle.spec_binding.specs.Books.{IsBook}
+use Rattle.spec_step.specs.declared.events.Event.{Event}
+use Rattle.spec_step.specs.Machine.{HasBytes, KeepsBytes}
+use Rattle.spec_step.specs.OwnAnswers.{Answers, Complains, OwnFrame, Purpose}
+use Rattle.spec_step.specs.PassedOn.{TellsAll}
+use Rattle.spec_step.specs.Shown.{Shown, scene}
+use Rattle.spec_step.specs.Steps.{IsStepOn}
+use Rattle.spec_step.specs.Truly.{hand_of}
+
+abbrev pub is_answer : Purpose → Bool
+is_answer Answers = true
+is_answer (Complains reason exit) = false
+
+-- the answers among own frames of a side, and what is said there of packets that are dropped
+abbrev pub answers_at : Side → List OwnFrame → ℕ
+answers_at side own = count_by (λ o. same_side o.packet.side side && is_answer o.purpose) own
+
+abbrev pub complaints_at : Side → List OwnFrame → ℕ
+complaints_at side own = count_by (λ o. same_side o.packet.side side && not (is_answer o.purpose)) own
+
+-- what was said at a step, and the moment of the clock after it
+pub record StepOwn : Type 0 where
+  pub moment : ℕ
+  pub own : List OwnFrame
+
+-- so many of the steps of one second
+abbrev pub in_second : (List OwnFrame → ℕ) → ℕ → List StepOwn → ℕ
+in_second count second [] = 0
+in_second count second (x ∷ xs) =
+    (if second_of x.moment == second then count x.own else 0) + in_second count second xs
+
+-- A step of a gateway, whatever event it takes and whatever was told before: just this it says itself, one for one.
+pub record IsStepSaying (g : Shown) (x : StepOwn) (new : Shown) : Type 0 where
+  pub event : Event
+  pub before : Output
+  pub after : Output
+  pub step : IsStepOn (scene g before) event (scene new after)
+  pub bytes : HasBytes event
+  pub book : IsBook g.ledger.book
+  pub kept : KeepsBytes g
+  pub tells : TellsAll (hand_of event) (scene g before) (scene new after)
+  pub own_is : x.own ≡ tells.own
+  pub moment_is : x.moment ≡ new.moment
+
+-- steps of one life, one behind the other
+abbrev pub AreStepsSaying : Shown → List StepOwn → Shown → Type 0
+AreStepsSaying g [] g2 = g2 ≡ g
+AreStepsSaying g (x ∷ xs) g2 = (new : Shown) × (IsStepSaying g x new × AreStepsSaying new xs g2)
