@@ -100,6 +100,7 @@ impl Cache {
 
     /// The hardware address of a neighbour that is fixed, or valid at the moment `now`, in
     /// centiseconds.
+    #[inline(always)]
     pub fn mac_of(&self, address: Ip, now: u64) -> Option<Mac>
         ensures mac { result ≡ mac_at address.0 now self.now }
         ensures six { IfSome result (λ m. length m.0 ≡ 6) }
@@ -113,6 +114,7 @@ impl Cache {
     /// Whether a packet just sent to a neighbour, at the moment `now` in centiseconds, is to be
     /// followed by a request for its address: it isn't fixed, was learnt or renewed 90,000 ago or
     /// more, and last asked for 100 ago or more. If so, it counts as asked for at this moment.
+    #[inline(always)]
     pub fn ask(&mut self, address: Ip, now: u64) -> bool
         ensures asks { result ≡ asks_at address.0 now self.old }
         ensures after { self.new

@@ -129,6 +129,7 @@ impl Core {
 
     /// Whether the table has that very pair, Live or Held: asked by the pair's key alone. `want` changes nothing for the
     /// endpoint of such a pair, and a gateway that is synced answers its port.
+    #[inline(always)]
     pub fn carries(&self, pair: Pair) -> bool
         ensures exact { result ≡ carries_pair (book_of self.now) pair }
         ensures quiet { result ≡ true → (full : Bool)
@@ -306,6 +307,7 @@ impl Core {
         self.new_wish_for(full, endpoint, port)
     }
 
+    #[inline(always)]
     pub(crate) fn wish_for(&self, full: bool, endpoint: Endpoint) -> PortRequest
         ensures { result ≡ wish_of (book_of self.now) full endpoint }
     {
@@ -319,6 +321,7 @@ impl Core {
     }
 
     /// What `want` would answer; nothing changes.
+    #[inline(always)]
     pub fn look(&self, link: &Link, endpoint: Endpoint) -> Want
         ensures { result ≡ (wish_of (book_of self.now) (is_full link.now) endpoint).answer }
     {
@@ -355,6 +358,7 @@ impl Core {
         tell(link, notes, self.id, now, row);
     }
 
+    #[inline(always)]
     fn carry_row_of(&self, key: Key) -> Transition
         ensures { result ≡ carry_row (book_of self.now) key }
     {
@@ -458,6 +462,7 @@ impl Core {
         self.idle.len()
     }
 
+    #[inline(always)]
     pub(crate) fn make_ready(&mut self, endpoints: &[Endpoint]) -> Result<(), AllocError>
         ensures ok { OnOk result (self.new ≡ record self.old {
           table = record self.old.table {
@@ -500,6 +505,7 @@ impl Core {
     // ---- a promised batch
 
     /// Hands in what the link wants of a promised batch. Afterwards it wants none.
+    #[inline(always)]
     pub fn hand_in(&mut self, link: &mut Link)
         requires promised { length self.old.coming ≡ link.old.promised }
         ensures core { self.new ≡ record self.old {

@@ -283,6 +283,7 @@ pub(crate) fn tell(link: &mut Link, notes: &mut Vec<Note>, by: GatewayId, now: u
 }
 
 /// A packet is carried, where the pair is used.
+#[inline(always)]
 pub(crate) fn carry_by(table: &mut Table, is_used: bool, key: Key, packet: Packet)
     ensures same { table.new ≡ record table.old { lives = table.new.lives } }
     ensures lives { table.new.lives ≡ (if is_used then lives_with

@@ -151,6 +151,7 @@ fn put_state(slots: &mut PortSlots<Item>, key: Key, pair: Pair, state: EntryStat
 }
 
 /// A packet is carried with a key's pair.
+#[inline(always)]
 fn put_packet(slots: &mut PortSlots<Item>, key: Key, packet: Packet)
     ensures some { (item : Kept) → item_of slots.old.rows key ≡ Some item → slots.new
         ≡ record slots.old {
@@ -188,6 +189,7 @@ fn put_renewal(slots: &mut PortSlots<Item>, key: Key, now: u64)
 
 /// A key whose entry may be let go is due no later than the entry is idle. One that is due before that
 /// is looked at then, and set anew.
+#[inline(always)]
 fn set_in_time(slots: &PortSlots<Item>, dues: &mut Dues, alone: bool, key: Key)
     ensures timed { (item : Kept) → item_of slots.now.rows key ≡ Some item → may_go
         alone item.entry.state ≡ true → IsTimed dues.new key item.life }
@@ -292,6 +294,7 @@ impl Store {
     }
 
     /// The entry of a key.
+    #[inline(always)]
     pub(crate) fn entry(&self, key: Key) -> Option<Entry>
         ensures { result ≡ slot_of self.now.entries key }
     {
@@ -302,6 +305,7 @@ impl Store {
     }
 
     /// The entry of an endpoint. A Doomed one doesn't count.
+    #[inline(always)]
     pub(crate) fn entry_of(&self, endpoint: Endpoint) -> Option<Entry>
         ensures { result ≡ entry_of self.now.entries endpoint }
     {
@@ -401,6 +405,7 @@ impl Store {
     }
 
     /// A packet is carried with a key's pair.
+    #[inline(always)]
     pub(crate) fn carry(&mut self, key: Key, packet: Packet)
         ensures lives { self.new ≡ record self.old {
           lives = lives_with (life_carried key.protocol packet) key self.old.entries self.old.lives;

@@ -115,6 +115,7 @@ impl Table {
     }
 
     /// The entry of an outside port, whatever its state.
+    #[inline(always)]
     pub fn pair_of_port(&self, key: Key) -> Option<Entry>
         ensures { result ≡ slot_of self.now.entries key }
     {
@@ -137,6 +138,7 @@ impl Table {
     }
 
     /// The entry of an endpoint. A Doomed one doesn't count.
+    #[inline(always)]
     pub fn port_of(&self, endpoint: Endpoint) -> Option<Entry>
         ensures { result ≡ entry_of self.now.entries endpoint }
     {
@@ -369,6 +371,7 @@ impl Table {
 
     /// The pair of a key carried a packet, to or from a remote host. The flags of a UDP packet aren't read. A key without
     /// an entry changes nothing.
+    #[inline(always)]
     pub fn carried(&mut self, key: Key, remote: Remote, way: Way, flags: TcpFlags, now: u64)
         ensures longer { let packet : Carried = record {
           remote = remote;

@@ -170,6 +170,7 @@ impl Forwarder {
     /// Takes an Echo to the gateway itself: it is answered, waits for the next hop of its answer, or is
     /// dropped. One that has to wait is copied. An `Err` stands for a refused copy: it comes only where
     /// the Echo has to wait, and nothing has changed then.
+    #[cold]
     pub fn take_echo(
         &mut self,
         alloc: Global,

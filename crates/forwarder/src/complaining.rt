@@ -129,6 +129,7 @@ impl Forwarder {
 
     /// A packet is dropped that would have left at `exit`: its source is told, where that is to be said
     /// at all.
+    #[cold]
     pub fn refuse_whole(
         &mut self,
         page: &mut OutputBuffer,

@@ -155,6 +155,7 @@ impl Forwarder {
     /// Takes an error: it goes on, waits for its next hop, or is dropped. One that has to wait is
     /// copied. An `Err` stands for a refused copy: it comes only where the error has to wait, and
     /// nothing has changed then.
+    #[cold]
     pub fn take_error(
         &mut self,
         alloc: Global,

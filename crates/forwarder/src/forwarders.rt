@@ -58,6 +58,7 @@ impl Forwarder {
     }
 
     /// Reads a frame that came in on a side; or gives the reason of the first step that refuses it.
+    #[inline(always)]
     pub fn read_frame(&self, side: Side, bytes: &[u8]) -> Result<Reading, Reason>
         ensures reading { result ≡ reading_on (shown_of self.now) side bytes.now }
         ensures carries { IfOk result (Carries side bytes.now) }

@@ -41,6 +41,7 @@ impl Forwarder {
     }
 
     /// A packet waits for its next hop, which is asked for.
+    #[cold]
     pub(crate) fn ask(
         &mut self,
         page: &mut OutputBuffer,
@@ -68,6 +69,7 @@ impl Forwarder {
 
     /// A packet is dropped because another one waits for its next hop, which is asked for again
     /// where it wasn't just now.
+    #[cold]
     pub(crate) fn ask_again(&mut self, page: &mut OutputBuffer, exit: Side, hop: Ip)
         requires room { HasRoomFor (frames_alone 1) self.old page.old }
         ensures scene { scene_on self.new page.new
@@ -81,6 +83,7 @@ impl Forwarder {
     }
 
     /// A packet waits for the answer to the proposal of its endpoint's pair.
+    #[cold]
     pub(crate) fn wait(&mut self, page: &mut OutputBuffer, flow: Flow, copy: HeldPacket)
         requires formed { IsWellFormedEndpoint (source_of flow) }
         requires place { has_place self.old.kept copy.wait ≡ true }
@@ -100,6 +103,7 @@ impl Forwarder {
 
     /// A packet is dropped; where no port was free, ports may be asked for, and where it is too long
     /// its source may be told.
+    #[cold]
     pub(crate) fn refuse(
         &mut self,
         page: &mut OutputBuffer,

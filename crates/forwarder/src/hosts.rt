@@ -56,6 +56,7 @@ impl Forwarder {
 
     /// Takes an ARP packet: its sender may be learnt, a request is answered, and the packet that
     /// waited for that host is taken again.
+    #[cold]
     pub fn take_arp(&mut self, page: &mut OutputBuffer, side: Side, packet: &ArpPacket)
         requires room { HasRoomFor an_arp_packet self.old page.old }
         ensures scene { scene_on self.new page.new

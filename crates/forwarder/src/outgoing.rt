@@ -39,6 +39,7 @@ impl WriteBytes for SentFrame<'_> {
 
     ghost room = { λ f. length f.bytes.now };
 
+    #[inline(always)]
     fn write_to(&self, list: &mut Vec<u8>) {
         append_sent(
             list,

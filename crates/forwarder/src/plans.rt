@@ -32,6 +32,7 @@ fn own_pair(flow: Flow, port: Port) -> Pair
 }
 
 /// The pair of an entry, where there is one and it translates.
+#[inline(always)]
 pub(crate) fn pair_of(entry: Option<Entry>) -> Result<Pair, Reason>
     ensures { result ≡ pair_at entry }
 {
@@ -56,6 +57,7 @@ fn leaving(own: Pair, other: Option<Pair>) -> Translation
 }
 
 /// What would go on or wait, where it isn't too long for the side at which it leaves.
+#[inline(always)]
 pub(crate) fn if_fits(fits: bool, plan: Plan) -> Result<Plan, Reason>
     ensures { result ≡ if_fits fits plan }
 {
@@ -69,6 +71,7 @@ pub(crate) fn if_fits(fits: bool, plan: Plan) -> Result<Plan, Reason>
 
 impl Forwarder {
     /// What a packet is to do, or why it is dropped; nothing changes.
+    #[inline(always)]
     pub(crate) fn plan(&self, side: Side, packet: Packet) -> Result<Plan, Reason>
         ensures { result ≡ plan_of (shown_of self.now) side packet.flow packet.length }
     {
@@ -82,6 +85,7 @@ impl Forwarder {
     }
 
     /// Which way a packet goes that came in on a side.
+    #[inline(always)]
     pub(crate) fn way_of(&self, side: Side, flow: Flow) -> Result<Direction, Reason>
         ensures { result ≡ direction_of self.now.networks side flow.protocol flow.source.0
             flow.destination.0 }
@@ -96,12 +100,14 @@ impl Forwarder {
     }
 
     /// Whether a packet of so many bytes isn't too long for the side at which it leaves.
+    #[inline(always)]
     pub(crate) fn fits_at(&self, exit: Side, length: usize) -> bool
         ensures { result ≡ fits_at (shown_of self.now) exit length }
     {
         length <= usize::from(mtu_at(&self.networks, exit))
     }
 
+    #[inline(always)]
     fn plan_on(&self, flow: Flow, way: Direction) -> Result<Plan, Reason>
         ensures { result ≡ plan_on (shown_of self.now) flow way }
     {
@@ -119,6 +125,7 @@ impl Forwarder {
     }
 
     /// What the endpoint of a packet's source is given.
+    #[inline(always)]
     fn look_for(&self, flow: Flow) -> Want
         ensures { result ≡ look_for (shown_of self.now) flow }
     {
@@ -126,6 +133,7 @@ impl Forwarder {
     }
 
     /// The pair of the outside port to which a packet goes.
+    #[inline(always)]
     fn target_pair(&self, flow: Flow) -> Result<Pair, Reason>
         ensures { result ≡ target_pair (shown_of self.now) flow }
     {
@@ -133,6 +141,7 @@ impl Forwarder {
     }
 
     /// What a packet of the inside is to do, by what its endpoint is given.
+    #[inline(always)]
     fn plan_from(&self, flow: Flow, other: Option<Pair>, given: Want) -> Result<Plan, Reason>
         ensures { result ≡ plan_from (shown_of self.now) flow (leaving_by other) given }
     {
@@ -157,6 +166,7 @@ impl Forwarder {
 
     /// What a packet to this address whose pairs are known is to do: it goes on, or waits for its next
     /// hop.
+    #[inline(always)]
     pub(crate) fn plan_to(&self, to: Ip, by: Translation) -> Result<Plan, Reason>
         ensures { result ≡ plan_via (shown_of self.now) by to }
     {

@@ -35,6 +35,7 @@ fn remote_at(address: Ip, port: Port) -> Remote
 
 impl Forwarder {
     /// An endpoint wants a port: its pair is made or proposed, or ports are asked for.
+    #[cold]
     pub(crate) fn wish(&mut self, page: &mut OutputBuffer, endpoint: Endpoint)
         requires formed { IsWellFormedEndpoint endpoint }
         requires room { HasRoomFor a_wish self.old page.old }
@@ -54,6 +55,7 @@ impl Forwarder {
 
     /// The endpoint of a pair wants a port. Where the table has that very pair nothing changes, and the
     /// endpoint isn't looked up.
+    #[inline(always)]
     fn wish_by(&mut self, page: &mut OutputBuffer, own: Pair)
         requires formed { IsWellFormedEndpoint own.endpoint }
         requires room { HasRoomFor a_wish self.old page.old }
@@ -70,6 +72,7 @@ impl Forwarder {
     }
 
     /// A packet of the inside has its endpoint's pair made, or proposed, or a port wanted for it.
+    #[inline(always)]
     pub(crate) fn wish_for(&mut self, page: &mut OutputBuffer, flow: Flow, by: &Translation)
         requires formed { IsWellFormedEndpoint (source_of flow) }
         requires own { IsOwn flow by.now }
@@ -88,6 +91,7 @@ impl Forwarder {
     }
 
     /// The pair of a key carries a packet.
+    #[inline(always)]
     fn carry(
         &mut self,
         page: &mut OutputBuffer,
@@ -114,6 +118,7 @@ impl Forwarder {
     }
 
     /// The packet as the sessions of its pairs see it: of a hairpin the sender's pair first.
+    #[inline(always)]
     fn carry_all(&mut self, page: &mut OutputBuffer, flow: Flow, flags: TcpFlags, by: &Translation)
         requires room { HasRoomFor (notes_alone 2) self.old page.old }
         ensures scene { scene_on self.new page.new
@@ -141,6 +146,7 @@ impl Forwarder {
     }
 
     /// The frame by which a packet is sent on.
+    #[inline(always)]
     fn send_frame(
         &self,
         page: &mut OutputBuffer,
@@ -170,6 +176,7 @@ impl Forwarder {
     }
 
     /// Whether a neighbour on a side is to be asked for; where it is, it counts as asked for now.
+    #[inline(always)]
     fn ask_neighbour(&mut self, exit: Side, hop: Ip) -> bool
         ensures asks { result ≡ asks_at hop.0 self.old.moment
             (station_on (shown_of self.old) exit).neighbours }
@@ -186,6 +193,7 @@ impl Forwarder {
     }
 
     /// Behind a packet that was sent to a neighbour, asks for it, where it is to be asked for.
+    #[inline(always)]
     pub(crate) fn ask_behind(&mut self, page: &mut OutputBuffer, exit: Side, hop: Ip)
         requires room { HasRoomFor (frames_alone 1) self.old page.old }
         ensures scene { scene_on self.new page.new
@@ -199,6 +207,7 @@ impl Forwarder {
     }
 
     /// A packet goes on at once. It needs room for two frames: its own, and a request behind it.
+    #[inline(always)]
     pub(crate) fn send(
         &mut self,
         page: &mut OutputBuffer,

@@ -32,6 +32,7 @@ fn recall_source(bytes: &[u8], packet: Packet)
 impl Forwarder {
     /// Takes a packet: it goes on, waits, or is dropped. One that has to wait is copied. An `Err`
     /// stands for a refused copy; nothing has changed then.
+    #[inline(always)]
     pub fn take_packet(
         &mut self,
         alloc: Global,

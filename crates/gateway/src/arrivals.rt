@@ -18,6 +18,7 @@ use std::alloc::Global;
 
 /// Does what a frame that was read asks for. An `Err` stands for a refused copy; nothing has changed
 /// then.
+#[inline(always)]
 pub(crate) fn take_reading(
     alloc: Global,
     forwarder: &mut Forwarder,

@@ -42,6 +42,7 @@ fn send(page: &mut OutputBuffer, datagram: Option<Datagram>)
 }
 
 /// Sends the datagram that is due at the end of a tick.
+#[cold]
 pub(crate) fn end_tick(forwarder: &mut Forwarder, page: &mut OutputBuffer)
     requires promised { length forwarder.old.core.coming ≡ forwarder.old.link.promised }
     requires datagrams { 1 ≤ page.old.room.datagrams }

@@ -115,6 +115,7 @@ pub(crate) fn datagram_room(forwarder: &Forwarder) -> Room
 
 /// Makes a page ready for so much, and a core for so many new pairs. An `Err` stands for a refused
 /// growth; nothing shows then.
+#[inline(always)]
 pub(crate) fn make_ready(
     forwarder: &mut Forwarder,
     page: &mut OutputBuffer,

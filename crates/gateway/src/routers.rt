@@ -100,6 +100,7 @@ fn tell(station: &mut Interface, cue: Cue, now: u64) -> Action
 }
 
 /// Tells the router on a side something, and sends its frames.
+#[cold]
 pub(crate) fn cue_router(forwarder: &mut Forwarder, page: &mut OutputBuffer, side: Side, cue: Cue)
     requires moment { IsMoment forwarder.old.moment }
     requires room { HasRoomFor a_router forwarder.old page.old }

@@ -34,6 +34,7 @@ use packet_rules::Reason;
 use spec_step::{Event, Outcome, parts_stand, steps_go, steps_keep, steps_settle};
 use std::alloc::Global;
 
+#[inline(always)]
 fn frame_came(
     alloc: Global,
     forwarder: &mut Forwarder,
@@ -66,6 +67,7 @@ fn frame_came(
     }
 }
 
+#[cold]
 fn datagram_came(
     alloc: Global,
     forwarder: &mut Forwarder,
@@ -93,6 +95,7 @@ fn datagram_came(
     }
 }
 
+#[cold]
 fn clock_ticked(
     forwarder: &mut Forwarder,
     page: &mut OutputBuffer,
@@ -112,6 +115,7 @@ fn clock_ticked(
     Ok(Outcome::Done)
 }
 
+#[cold]
 fn stop_came(forwarder: &mut Forwarder, page: &mut OutputBuffer) -> Result<Outcome, NoMemory>
     requires moment { IsMoment forwarder.old.moment }
     ensures outcome { IfOk result (λ o. o ≡ Done) }
@@ -126,6 +130,7 @@ fn stop_came(forwarder: &mut Forwarder, page: &mut OutputBuffer) -> Result<Outco
     Ok(Outcome::Done)
 }
 
+#[cold]
 fn word_came(
     alloc: Global,
     forwarder: &mut Forwarder,
@@ -152,6 +157,7 @@ fn word_came(
 }
 
 /// An event's own parts. An `Err` stands for a refused growth; nothing shows then.
+#[inline(always)]
 fn take_event(
     alloc: Global,
     forwarder: &mut Forwarder,

@@ -108,6 +108,7 @@ pub(crate) fn take_turn(forwarder: &mut Forwarder, page: &mut OutputBuffer)
 }
 
 /// Is told that the cable of a side is in (`up`) or out; nothing is told to anyone.
+#[cold]
 pub(crate) fn plug(forwarder: &mut Forwarder, side: Side, up: bool)
     ensures { let g = shown_of forwarder.old in let station = station_on g side in
         shown_of forwarder.new ≡ with_station g side (with_plug station up g.moment) }

@@ -240,6 +240,7 @@ impl Interface {
     }
 
     /// The hardware address of a neighbour that is static, or was learnt and is valid at a moment.
+    #[inline(always)]
     pub fn mac_of(&self, address: Ip, now: u64) -> Option<Mac>
         ensures mac { result ≡ mac_at address.0 now self.now.neighbours }
         ensures six { IfSome result (λ mac. length mac.0 ≡ 6) }
@@ -250,6 +251,7 @@ impl Interface {
     /// Whether a packet just sent to a neighbour at a moment is to be followed by a request for its
     /// address: it isn't static, was learnt or renewed 90,000 centiseconds ago or more, and last
     /// asked for 100 ago or more. If so, it counts as asked for now.
+    #[inline(always)]
     pub fn ask(&mut self, address: Ip, now: u64) -> bool
         ensures asks { result ≡ asks_at address.0 now self.old.neighbours }
         ensures after { self.new
@@ -263,6 +265,7 @@ impl Interface {
 
     /// Reads a frame that came in here, on this side of a gateway that is `up` or not; or gives the
     /// reason of the first step that refuses it.
+    #[inline(always)]
     pub fn read_frame(&self, side: Side, up: bool, bytes: &[u8]) -> Result<Reading, Reason>
         ensures reading { result
             ≡ reading_of side self.now.network (is_active self.now) up bytes.now }

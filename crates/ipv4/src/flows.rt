@@ -28,6 +28,7 @@ impl Flow {
     }
 
     /// The flow of a packet that carries this.
+    #[inline(always)]
     pub(crate) fn carrying(packet: &Ipv4View<'_>, transport: &Transport<'_>) -> Flow
         requires bytes { carried_bytes transport.now ≡ payload_of packet.now.bytes.now }
         requires protocol { carried_protocol transport.now ≡ protocol_of packet.now.bytes.now }

@@ -21,6 +21,7 @@ pub struct Packet {
 
 impl Packet {
     /// Reads a UDP or TCP packet, or refuses it as [`Transport::parse`] does.
+    #[inline(always)]
     pub fn parse(view: &Ipv4View<'_>) -> Result<Packet, Ipv4Fault>
         ensures refusal { result_err result ≡ transport_refusal view.now.bytes.now }
         ensures ok { IsOk result ↔ IsTransport view.now.bytes.now }
@@ -31,6 +32,7 @@ impl Packet {
     }
 
     /// What a packet of this flow says of itself.
+    #[inline(always)]
     pub fn going(view: &Ipv4View<'_>, flow: Flow) -> Packet
         requires { flow ≡ flow_of view.now.bytes.now }
         ensures { result ≡ packet_of view.now.bytes.now }

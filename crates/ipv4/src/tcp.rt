@@ -119,6 +119,7 @@ impl<'a> TcpView<'a> {
         header_length(self.bytes)
     }
 
+    #[inline(always)]
     pub fn flags(&self) -> TcpFlags
         ensures { result ≡ (segment_of self.now.bytes.now).flags }
     {
@@ -193,6 +194,7 @@ fn header_length(bytes: &[u8]) -> usize
 }
 
 /// Whether a flag is among the control bits.
+#[inline(always)]
 fn is_set(bits: u8, flag: u8) -> bool
     requires { 0 < flag }
     ensures { result ≡ not (bits / flag % 2 == 0) }
@@ -200,6 +202,7 @@ fn is_set(bits: u8, flag: u8) -> bool
     bits / flag % 2 != 0
 }
 
+#[inline(always)]
 fn flags_by(bits: u8) -> TcpFlags
     ensures { result ≡ flags_of bits }
 {
@@ -212,6 +215,7 @@ fn flags_by(bits: u8) -> TcpFlags
 }
 
 /// The flags that a payload's control bits set: none where the payload ends before them.
+#[inline(always)]
 pub(crate) fn flags(payload: &[u8]) -> TcpFlags
     ensures { result ≡ (segment_of payload.now).flags }
 {

@@ -18,6 +18,7 @@ pub enum Transport<'a> {
 impl<'a> Transport<'a> {
     /// What a packet carries: refused as NotUdpTcp where its protocol is neither, and as
     /// BadTransport where its payload isn't what its protocol asks for. Checksums aren't tested.
+    #[inline(always)]
     pub fn parse(packet: &Ipv4View<'a>) -> Result<Transport<'a>, Ipv4Fault>
         ensures refusal { result_err result ≡ transport_refusal packet.now.bytes.now }
         ensures ok { IsOk result ↔ IsTransport packet.now.bytes.now }

@@ -92,6 +92,7 @@ impl OutputBuffer {
     }
 
     /// Makes room for so much, in all.
+    #[inline(always)]
     pub fn ready(&mut self, room: Room) -> Result<(), AllocError>
         requires few_frames { room.frames ≤ 4096 }
         requires few_datagrams { room.datagrams ≤ 4096 }
@@ -120,6 +121,7 @@ impl OutputBuffer {
     }
 
     /// Adds a frame that goes to this side, and is made where it lies.
+    #[inline(always)]
     pub fn make_frame<W: WriteBytes>(&mut self, side: Side, frame: &W)
         requires ready { W.can_write frame.now }
         requires room { 0 < self.old.room.frames }

@@ -62,6 +62,7 @@ impl Pile {
     }
 
     /// Lets a string be made behind the others.
+    #[inline(always)]
     pub(crate) fn write<W: WriteBytes>(&mut self, source: &W)
         requires ready { W.can_write source.now }
         requires place { 0 < self.old.places }

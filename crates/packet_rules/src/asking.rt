@@ -44,6 +44,7 @@ fn is_echo(packet: &Ipv4View<'_>) -> bool
 
 /// Whether a frame's packet is an Echo to the gateway, which is to answer Echos.
 #[tactic(auto, unfolding(crate::specs::Asked::is_asked))]
+#[inline(always)]
 pub(crate) fn is_asked(
     network: &Network,
     active: bool,

@@ -48,6 +48,7 @@ fn reason_for_icmp(fault: IcmpFault) -> Reason
 }
 
 #[tactic(auto, unfolding(crate::specs::Steps::size_refusal))]
+#[inline(always)]
 fn view_frame(bytes: &[u8]) -> Result<EthView<'_>, Reason>
     ensures refusal { result_err result ≡ size_refusal bytes.now }
     ensures short { OnOk result (length bytes.now ≤ LONGEST) }
@@ -63,6 +64,7 @@ fn view_frame(bytes: &[u8]) -> Result<EthView<'_>, Reason>
 }
 
 #[tactic(auto, unfolding(crate::specs::Steps::destination_refusal))]
+#[inline(always)]
 fn test_destination(network: &Network, active: bool, frame: &EthView<'_>) -> Result<(), Reason>
     ensures { result_err result
         ≡ destination_refusal network.now active (frame_of frame.now.bytes.now) }
@@ -77,6 +79,7 @@ fn test_destination(network: &Network, active: bool, frame: &EthView<'_>) -> Res
 }
 
 #[tactic(auto, unfolding(crate::specs::Steps::arp_reading))]
+#[cold]
 fn read_arp(body: &[u8]) -> Result<Reading, Reason>
     ensures reading { result ≡ arp_reading body.now }
 {
@@ -87,6 +90,7 @@ fn read_arp(body: &[u8]) -> Result<Reading, Reason>
 }
 
 #[tactic(auto, unfolding(crate::specs::Steps::header_refusal))]
+#[inline(always)]
 fn view_packet(bytes: &[u8]) -> Result<Ipv4View<'_>, Reason>
     ensures refusal { result_err result ≡ header_refusal bytes.now }
     ensures bytes { IfOk result (λ v. v.bytes.now ≡ bytes.now) }
@@ -100,6 +104,7 @@ fn view_packet(bytes: &[u8]) -> Result<Ipv4View<'_>, Reason>
 
 /// Whether a packet goes to VRRP (RFC 9568, sections 5.1.1.2 and 5.1.1.4).
 #[tactic(auto, unfolding(crate::specs::Steps::is_vrrp))]
+#[inline(always)]
 fn is_for_vrrp(packet: &Ipv4View<'_>) -> bool
     ensures { result ≡ is_vrrp packet.now.bytes.now }
 {
@@ -107,6 +112,7 @@ fn is_for_vrrp(packet: &Ipv4View<'_>) -> bool
 }
 
 #[tactic(auto, unfolding(crate::specs::Steps::advert_reading, crate::specs::Steps::is_from_peer))]
+#[cold]
 fn read_advert(network: &Network, packet: &Ipv4View<'_>) -> Result<Reading, Reason>
     ensures { result ≡ advert_reading network.now packet.now.bytes.now }
 {
@@ -124,6 +130,7 @@ fn read_advert(network: &Network, packet: &Ipv4View<'_>) -> Result<Reading, Reas
 }
 
 #[tactic(auto, unfolding(crate::specs::Steps::virtual_refusal))]
+#[inline(always)]
 fn test_virtual(network: &Network, frame: &EthView<'_>) -> Result<(), Reason>
     ensures { result_err result ≡ virtual_refusal network.now (frame_of frame.now.bytes.now) }
 {
@@ -135,6 +142,7 @@ fn test_virtual(network: &Network, frame: &EthView<'_>) -> Result<(), Reason>
 }
 
 #[tactic(auto, unfolding(crate::specs::Steps::transport_refusal))]
+#[inline(always)]
 fn read_transport(view: &Ipv4View<'_>) -> Result<Packet, Reason>
     ensures refusal { result_err result ≡ transport_refusal view.now.bytes.now }
     ensures packet { IfOk result (λ p. p ≡ packet_of view.now.bytes.now) }
@@ -169,6 +177,7 @@ fn read_error(view: &Ipv4View<'_>) -> Result<ErrorPacket, Reason>
 }
 
 #[tactic(auto, unfolding(crate::specs::Steps::ttl_refusal))]
+#[inline(always)]
 fn test_ttl(packet: &Ipv4View<'_>) -> Result<(), Reason>
     ensures refusal { result_err result ≡ ttl_refusal packet.now.bytes.now }
     ensures ttl { OnOk result (2 ≤ (header_of packet.now.bytes.now).ttl) }
@@ -182,6 +191,7 @@ fn test_ttl(packet: &Ipv4View<'_>) -> Result<(), Reason>
 
 /// A UDP or TCP packet.
 #[tactic(auto, unfolding(crate::specs::Steps::transport_reading))]
+#[inline(always)]
 fn take_transport(view: &Ipv4View<'_>) -> Result<Reading, Reason>
     ensures { result ≡ transport_reading view.now.bytes.now }
 {
@@ -227,6 +237,7 @@ fn take_error(side: Side, view: &Ipv4View<'_>) -> Result<Reading, Reason>
 
 /// A packet of ICMP: an error by its type, else a query, or it is refused.
 #[tactic(auto, unfolding(crate::specs::Steps::icmp_reading))]
+#[inline(never)]
 fn take_icmp(side: Side, view: &Ipv4View<'_>) -> Result<Reading, Reason>
     ensures { result ≡ icmp_reading side view.now.bytes.now }
 {
@@ -239,6 +250,7 @@ fn take_icmp(side: Side, view: &Ipv4View<'_>) -> Result<Reading, Reason>
 
 /// A packet that isn't VRRP's.
 #[tactic(auto, unfolding(crate::specs::Steps::packet_reading))]
+#[inline(always)]
 fn read_packet(
     side: Side,
     network: &Network,
@@ -258,6 +270,7 @@ fn read_packet(
 
 /// A packet that is no Echo to the gateway.
 #[tactic(auto, unfolding(crate::specs::Steps::other_reading))]
+#[inline(always)]
 fn read_other(
     side: Side,
     network: &Network,
@@ -275,6 +288,7 @@ fn read_other(
 }
 
 #[tactic(auto, unfolding(crate::specs::Steps::ipv4_reading))]
+#[inline(always)]
 fn read_ipv4(
     side: Side,
     network: &Network,
@@ -293,6 +307,7 @@ fn read_ipv4(
 
 /// Reads a frame that came in on a side's network, at an interface that is `active` or not, by a gateway
 /// that is `up` or not; or gives the reason of the first step that refuses it.
+#[inline(always)]
 pub fn read_frame(
     side: Side,
     network: &Network,
@@ -309,6 +324,7 @@ pub fn read_frame(
 }
 
 #[tactic(auto, unfolding(crate::specs::Steps::up_refusal, crate::specs::Steps::body_reading))]
+#[inline(always)]
 fn take_steps(
     side: Side,
     network: &Network,

@@ -70,6 +70,7 @@ impl Translation {
 }
 
 /// The flow that a packet of this flow has once it is translated.
+#[inline(always)]
 fn flow_by(networks: &Networks, translation: &Translation, old: Flow) -> Flow
     ensures { result ≡ new_flow networks.now translation.now old }
 {
@@ -97,6 +98,7 @@ fn flow_by(networks: &Networks, translation: &Translation, old: Flow) -> Flow
 
 /// Translates a packet of this flow in place.
 #[tactic(auto, unfolding(crate::specs::Frames::translated_by))]
+#[inline(always)]
 fn translate(packet: &mut [u8], old: Flow, networks: &Networks, translation: &Translation)
     requires ipv4 { IsIpv4 packet.old }
     requires translatable { IsTranslatable packet.old }
@@ -111,6 +113,7 @@ fn translate(packet: &mut [u8], old: Flow, networks: &Networks, translation: &Tr
 }
 
 /// Translates the packet of a frame in place.
+#[inline(always)]
 fn translate_body(frame: &mut [u8], old: Flow, networks: &Networks, translation: &Translation)
     requires whole { 14 ≤ length frame.old }
     requires ipv4 { IsIpv4 (frame_of frame.old).body }
@@ -126,6 +129,7 @@ fn translate_body(frame: &mut [u8], old: Flow, networks: &Networks, translation:
 
 /// Gives a frame the header of one that is sent on.
 #[tactic(auto, using(crate::proofs::Cut::header_length))]
+#[inline(always)]
 pub(crate) fn readdress(
     frame: &mut [u8],
     networks: &Networks,
@@ -144,6 +148,7 @@ pub(crate) fn readdress(
 /// Makes of a frame that came the one by which its packet is sent on, with the padding still behind
 /// it.
 #[tactic(auto, using(crate::proofs::Cut::drop_kept))]
+#[inline(always)]
 fn translate_frame(
     frame: &mut [u8],
     old: Flow,
@@ -165,6 +170,7 @@ fn translate_frame(
 }
 
 /// Translates the frame at the end of a list.
+#[inline(always)]
 fn translate_tail(
     list: &mut Vec<u8>,
     start: usize,
@@ -192,6 +198,7 @@ fn translate_tail(
 /// Puts the frame by which a packet is sent on behind a list with room for the frame that came,
 /// `bytes`, of which `packet` was read.
 #[tactic(auto, unfolding(crate::specs::Frames::sent_frame), using(crate::proofs::Cut::tail_cut))]
+#[inline(always)]
 pub fn append_sent(
     list: &mut Vec<u8>,
     networks: &Networks,

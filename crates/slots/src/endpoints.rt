@@ -69,6 +69,7 @@ impl<S: BuildHasher + Copy + Drop> EndpointIndex<S> {
     }
 
     /// The slot of an endpoint.
+    #[inline(always)]
     pub fn get(&self, endpoint: Endpoint) -> Option<SlotNumber>
         ensures { result ≡ slot_of self.now endpoint }
     {

@@ -149,6 +149,7 @@ impl<T> PortSlots<T> {
     }
 
     /// The item of a key.
+    #[inline(always)]
     pub fn get(&self, key: Key) -> Option<&T>
         ensures { option_copied result ≡ item_of self.now.rows key }
     {
@@ -191,6 +192,7 @@ impl<T> PortSlots<T> {
     }
 
     /// The item of a key for writing.
+    #[inline(always)]
     pub fn get_mut(&mut self, key: Key) -> Option<&mut T>
         ensures* writes_back { sem 𝓛 (lends_item T.row self.entry key result) }
         ensures value { option_copied_mut result ≡ item_of self.old.rows key }
