@@ -10,6 +10,7 @@ use Rattle.nat_types.specs.declared.pairs.EntryState.{EntryState}
 use Rattle.nat_types.specs.declared.pairs.Key.{Key}
 use Rattle.nat_types.specs.Same.{same_key}
 use Rattle.activity.specs.Lives.{Activity}
+use Rattle.slots.specs.declared.hashers.Hashers.{Hashers}
 use Rattle.port_range.specs.Ports.{is_free, is_within, is_listed, AreRising}
 use Rattle.bindings.specs.declared.entries.Entry.{Entry}
 use Rattle.bindings.specs.declared.entries.PortBounds.{PortBounds}
@@ -176,8 +177,8 @@ in-both low high port h =
     (λ a. between high.lowest.0 high.highest.0 port (lowest_of low high) (highest_of low high) l.1 g.1 a) h
 
 -- what callers see keeps it
-pub table-is : (es : List Entry) (ls : List Activity) (ports : Ports) (low high : PortBounds) (cap places ready : ℕ) → IsStored es ls ports low high cap places → AreRising ports.tcp.owned → IsTable (record { entries = es; lives = ls; owned = ports.tcp.owned; zero = low; one = high; capacity = cap; ready = ready })
-table-is es ls ports low high cap places ready s rises = record {
+pub table-is : (es : List Entry) (ls : List Activity) (ports : Ports) (low high : PortBounds) (cap places ready : ℕ) (hashers : Hashers) → IsStored es ls ports low high cap places → AreRising ports.tcp.owned → IsTable (record { entries = es; lives = ls; owned = ports.tcp.owned; zero = low; one = high; capacity = cap; ready = ready; hashers = hashers })
+table-is es ls ports low high cap places ready hashers s rises = record {
   order = s.order;
   keys = s.keys;
   endpoints = s.endpoints;

@@ -8,6 +8,7 @@ use Rattle.nat_types.specs.declared.pairs.Key.{Key}
 use Rattle.nat_types.specs.declared.pairs.EntryState.{EntryState}
 use Rattle.activity.specs.Lives.{Activity}
 use Rattle.slots.specs.declared.numbers.SlotNumber.{SlotNumber}
+use Rattle.slots.specs.declared.hashers.Hashers.{Hashers}
 use Rattle.slots.specs.Rows.{Row, PortSlots}
 use Rattle.slots.specs.Rows as slots
 use Rattle.slots.specs.Endpoints.{EndpointIndex, look_up, is_of, count_in}
@@ -24,8 +25,8 @@ use Rattle.bindings.proofs.Counts.{lost_by, count-put, count-without, count-turn
 use Rattle.bindings.proofs.Walks.{rises-distinct}
 
 -- what callers see of slots and an index
-abbrev pub seen : PortSlots Item → EndpointIndex → Store
-seen slots index = record { entries = entries_of slots.rows; lives = lives_of slots.rows; room = slots.room; spare = index.spare }
+abbrev pub seen : PortSlots Item → EndpointIndex Hashers → Store
+seen slots index = record { entries = entries_of slots.rows; lives = lives_of slots.rows; room = slots.room; spare = index.spare; hashers = index.hasher }
 
 -- the entry of a key's item is the key's
 pub held-by : (rows : List (Row Item)) (key : Key) (i : Item) → AreKeyed rows → slots.item_of rows key ≡ Some i → slot_of (entries_of rows) key ≡ Some i.entry
@@ -35,7 +36,7 @@ cancelled : (m n p q k : ℕ) → m ≡ n + k → m ≡ p → p ≡ q + k → n 
 cancelled m n p q k h g f = omega (arith, h, g, f)
 
 -- a key's life was changed, or there was none
-pub changed-life : (old new : PortSlots Item) (index : EndpointIndex) (key : Key) (g : Activity → Activity) → IsIndexed old.rows index → slots.Rises 0 old.rows
+pub changed-life : (old new : PortSlots Item) (index : EndpointIndex Hashers) (key : Key) (g : Activity → Activity) → IsIndexed old.rows index → slots.Rises 0 old.rows
     → ((i : Item) → slots.item_of old.rows key ≡ Some i → new ≡ record old { rows = slots.with_item key (record i { life = g i.life }) old.rows }) → (slots.item_of old.rows key ≡ None → new ≡ old)
     → IsIndexed new.rows index × (seen new index ≡ record (seen old index) { lives = lives_with g key (entries_of old.rows) (lives_of old.rows) })
 changed-life old new index key g k r some none = by (slots.item_of old.rows key) refl
@@ -44,7 +45,7 @@ changed-life old new index key g k r some none = by (slots.item_of old.rows key)
     by None e =
         let same = none e in (
           rw same k,
-          rw same (ap (λ ls. (let s : Store = record { entries = entries_of old.rows; lives = ls; room = old.room; spare = index.spare } in s)) (lives-nowhere key g old.rows k.keyed e)),
+          rw same (ap (λ ls. (let s : Store = record { entries = entries_of old.rows; lives = ls; room = old.room; spare = index.spare; hashers = index.hasher } in s)) (lives-nowhere key g old.rows k.keyed e)),
         )
     by (Some i) e =
         let t : Item = record i { life = g i.life } in
@@ -59,11 +60,11 @@ changed-life old new index key g k r some none = by (slots.item_of old.rows key)
         )
 
 -- no rows, and no endpoints
-pub none-indexed : (index : EndpointIndex) → ((x : Endpoint) → number_of_endpoint index x ≡ None) → ((a : Ip) → count_in index a ≡ 0) → IsIndexed [] index
+pub none-indexed : (index : EndpointIndex Hashers) → ((x : Endpoint) → number_of_endpoint index x ≡ None) → ((a : Ip) → count_in index a ≡ 0) → IsIndexed [] index
 none-indexed index none counts = record { keyed = tt; indexed = none; counted = counts }
 
 -- more room alone
-pub readied : (rows : List (Row Item)) (index index2 : EndpointIndex) → IsIndexed rows index → index2.entries ≡ index.entries → IsIndexed rows index2
+pub readied : (rows : List (Row Item)) (index index2 : EndpointIndex Hashers) → IsIndexed rows index → index2.entries ≡ index.entries → IsIndexed rows index2
 readied rows index index2 k same = record {
   keyed = k.keyed;
   indexed = λ x. ap (λ es. look_up es x) same ∙ k.indexed x;
@@ -71,7 +72,7 @@ readied rows index index2 k same = record {
 }
 
 -- an entry came in
-pub added : (old : PortSlots Item) (index index2 : EndpointIndex) (r : Row Item) → IsIndexed old.rows index → r.key ≡ r.item.entry.pair.key → (is_pair r.item.entry.state ≡ true → entry_of (entries_of old.rows) r.item.entry.pair.endpoint ≡ None)
+pub added : (old : PortSlots Item) (index index2 : EndpointIndex Hashers) (r : Row Item) → IsIndexed old.rows index → r.key ≡ r.item.entry.pair.key → (is_pair r.item.entry.state ≡ true → entry_of (entries_of old.rows) r.item.entry.pair.endpoint ≡ None)
     → ((x : Endpoint) → number_of_endpoint index2 x ≡ cond (serves x r.item.entry) (Some r.number) (number_of_endpoint index x)) → ((a : Ip) → count_in index2 a ≡ count_in index a + one_of a r.item.entry) → IsIndexed (slots.put_in r old.rows) index2
 added old index index2 r k key free listed counts = record {
   keyed = keyed-put r old.rows k.keyed key;
@@ -80,7 +81,7 @@ added old index index2 r k key free listed counts = record {
 }
 
 -- a key's row went
-pub removed : (rows : List (Row Item)) (index index2 : EndpointIndex) (key : Key) (i : Item) → IsIndexed rows index → slots.Rises 0 rows → slots.item_of rows key ≡ Some i → (is_pair i.entry.state ≡ true → HasDistinctEndpoints (entries_of rows))
+pub removed : (rows : List (Row Item)) (index index2 : EndpointIndex Hashers) (key : Key) (i : Item) → IsIndexed rows index → slots.Rises 0 rows → slots.item_of rows key ≡ Some i → (is_pair i.entry.state ≡ true → HasDistinctEndpoints (entries_of rows))
     → ((x : Endpoint) → number_of_endpoint index2 x ≡ cond (serves x i.entry) None (number_of_endpoint index x)) → ((a : Ip) → count_in index a ≡ count_in index2 a + one_of a i.entry) → IsIndexed (slots.without key rows) index2
 removed rows index index2 key i k r e d unlisted counts = record {
   keyed = keyed-without key rows k.keyed;
@@ -115,7 +116,7 @@ item-absent rows key k h = by (slots.item_of rows key) refl
     by (Some i) f = (let some = slot-is rows key k ∙ ap (option_map (λ (j : Item). j.entry)) f in absurd (cc))
 
 -- a key's entry has another state
-pub turned : (old new : PortSlots Item) (index index2 : EndpointIndex) (key : Key) (s : EntryState) (e : Entry) → IsIndexed old.rows index → slots.Rises 0 old.rows → slot_of (entries_of old.rows) key ≡ Some e
+pub turned : (old new : PortSlots Item) (index index2 : EndpointIndex Hashers) (key : Key) (s : EntryState) (e : Entry) → IsIndexed old.rows index → slots.Rises 0 old.rows → slot_of (entries_of old.rows) key ≡ Some e
     → (is_pair s ≡ true → is_pair e.state ≡ true) → (is_pair e.state ≡ true → is_pair s ≡ false → HasDistinctEndpoints (entries_of old.rows))
     → ((i : Item) → slots.item_of old.rows key ≡ Some i → new ≡ record old { rows = slots.with_item key (record i { entry = entry_in s e.pair }) old.rows })
     → ((x : Endpoint) → number_of_endpoint index2 x ≡ cond (serves x e && not (is_pair s)) None (number_of_endpoint index x))
@@ -148,7 +149,7 @@ turned old new index index2 key s e k r h back d some unlisted counts =
     )
 
 -- the slot of an endpoint has the entry that serves it
-pub served : (old : PortSlots Item) (index : EndpointIndex) (x : Endpoint) → IsIndexed old.rows index → slots.Rises 0 old.rows → (n : SlotNumber) → number_of_endpoint index x ≡ Some n
+pub served : (old : PortSlots Item) (index : EndpointIndex Hashers) (x : Endpoint) → IsIndexed old.rows index → slots.Rises 0 old.rows → (n : SlotNumber) → number_of_endpoint index x ≡ Some n
     → (r : Row Item) × (slots.number_of old.rows r.key ≡ Some n) × (slots.item_of old.rows r.key ≡ Some r.item) × (entry_of (entries_of old.rows) x ≡ Some r.item.entry)
 served old index x k rises n h = by (find (λ (r : Row Item). serves x r.item.entry) old.rows) refl
   where
@@ -163,7 +164,7 @@ served old index x k rises n h = by (find (λ (r : Row Item). serves x r.item.en
           entry-is old.rows x ∙ ap (option_map (λ (z : Row Item). z.item.entry)) e,
         )
 
-pub unserved : (old : PortSlots Item) (index : EndpointIndex) (x : Endpoint) → IsIndexed old.rows index → number_of_endpoint index x ≡ None → entry_of (entries_of old.rows) x ≡ None
+pub unserved : (old : PortSlots Item) (index : EndpointIndex Hashers) (x : Endpoint) → IsIndexed old.rows index → number_of_endpoint index x ≡ None → entry_of (entries_of old.rows) x ≡ None
 unserved old index x k h = entry-is old.rows x ∙ by (find (λ (r : Row Item). serves x r.item.entry) old.rows) (sym (k.indexed x) ∙ h)
   where
     by : (o : Option (Row Item)) → option_map (λ (r : Row Item). r.number) o ≡ None → option_map (λ (r : Row Item). r.item.entry) o ≡ None

@@ -6,6 +6,7 @@ use Rattle.addresses.specs.declared.internet.Ip.{Ip}
 use Rattle.nat_types.specs.declared.pairs.Endpoint.{Endpoint}
 use Rattle.activity.specs.Lives.{Activity}
 use Rattle.slots.specs.declared.numbers.SlotNumber.{SlotNumber}
+use Rattle.slots.specs.declared.hashers.Hashers.{Hashers}
 use Rattle.slots.specs.Rows.{Row}
 use Rattle.slots.specs.Endpoints.{EndpointIndex, count_in}
 use Rattle.slots.specs.Endpoints.{slot_of as number_of_endpoint}
@@ -13,12 +14,13 @@ use Rattle.bindings.specs.declared.entries.Entry.{Entry}
 use Rattle.bindings.specs.declared.store.Item.{Item}
 use Rattle.bindings.specs.Entries.{serves, is_pair_of, pairs_of}
 
--- entries and their lives, how many there is room for, and for how many more pairs the index has room
+-- entries and their lives, how many there is room for, for how many more pairs the index has room, and by what it hashes
 pub record Store : Type 0 where
   pub entries : List Entry
   pub lives : List Activity
   pub room : ℕ
   pub spare : ℕ
+  pub hashers : Hashers
 
 abbrev pub entries_of : List (Row Item) → List Entry
 entries_of rows = map (λ r. r.item.entry) rows
@@ -40,7 +42,7 @@ abbrev pub one_of : Ip → Entry → ℕ
 one_of address e = (if is_pair_of address e then 1 else 0)
 
 -- The index has the slot of each pair, and no other, and counts the pairs of each inside address.
-pub record IsIndexed (rows : List (Row Item)) (index : EndpointIndex) : Type 0 where
+pub record IsIndexed (rows : List (Row Item)) (index : EndpointIndex Hashers) : Type 0 where
   pub keyed : AreKeyed rows
   pub indexed : (x : Endpoint) → number_of_endpoint index x ≡ number_for rows x
   pub counted : (address : Ip) → count_in index address ≡ pairs_of address (entries_of rows)

@@ -6,6 +6,7 @@ use Rattle.nat_types.specs.declared.pairs.Key.{Key}
 use Rattle.activity.specs.Lives.{History, Activity}
 use Rattle.activity.specs.Rests.{AccountsFor}
 use Rattle.port_range.specs.Ports.{is_listed, AreRising}
+use Rattle.slots.specs.declared.hashers.Hashers.{Hashers}
 use Rattle.bindings.specs.declared.entries.Entry.{Entry}
 use Rattle.bindings.specs.declared.entries.PortBounds.{PortBounds}
 use Rattle.bindings.specs.declared.ports.Ports.{Ports}
@@ -15,7 +16,8 @@ use Rattle.bindings.specs.Ports.{AreAlike, AreFree, in_either, lowest_of, highes
 use Rattle.bindings.specs.Lives.{HasPast, lives_without, idle_keys_in}
 
 -- A table: its entries by protocol (icmp first) and port, their lives, the ports that the gateway owns, the ranges of
--- both gateways, how many entries it has room for, and for how many more adds it is ready.
+-- both gateways, how many entries it has room for, for how many more adds it is ready, and by what it hashes endpoints
+-- and inside addresses.
 pub record Table : Type 0 where
   pub entries : List Entry
   pub lives : List Activity
@@ -24,6 +26,7 @@ pub record Table : Type 0 where
   pub one : PortBounds
   pub capacity : ℕ
   pub ready : ℕ
+  pub hashers : Hashers
 
 -- the gateway owns a port
 abbrev pub owns : Table → ℕ → Bool
@@ -57,9 +60,18 @@ pub record IsTable (t : Table) : Type 0 where
 abbrev pub AreInRanges : Table → Type 0
 AreInRanges t = (key : Key) (entry : Entry) → slot_of t.entries key ≡ Some entry → in_either t.zero t.one key.port.0 ≡ true
 
--- a table for these ranges without entries and owned ports, that is ready for no add
-abbrev pub empty_table : PortBounds → PortBounds → Table
-empty_table zero one = record { entries = []; lives = []; owned = []; zero = zero; one = one; capacity = key_count zero one; ready = 0 }
+-- a table for these ranges without entries and owned ports, that is ready for no add and hashes by these hashers
+abbrev pub empty_table : PortBounds → PortBounds → Hashers → Table
+empty_table zero one hashers = record {
+  entries = [];
+  lives = [];
+  owned = [];
+  zero = zero;
+  one = one;
+  capacity = key_count zero one;
+  ready = 0;
+  hashers = hashers;
+}
 
 -- the table with one more entry and its life
 abbrev pub with_entry : Table → Entry → Activity → Table

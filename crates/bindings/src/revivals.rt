@@ -25,6 +25,7 @@ fn drop_if_doomed(store: &mut Store, ports: &mut Ports, pair: Pair, state: Entry
         else lives_without pair.key store.old.entries store.old.lives) }
     ensures room { store.new.room ≡ store.old.room }
     ensures spare { store.old.spare ≤ store.new.spare }
+    ensures hashers { store.new.hashers ≡ store.old.hashers }
     ensures free { AreFree ports.old.tcp.lowest ports.old.tcp.highest store.new.entries ports.new }
     ensures owned { SameOwned ports.old ports.new }
     ensures bounds { SameBounds ports.old ports.new }
@@ -44,6 +45,7 @@ pub(crate) fn drop_doomed(store: &mut Store, ports: &mut Ports)
     ensures lives { store.new.lives ≡ lives_of_pairs store.old.entries store.old.lives }
     ensures room { store.new.room ≡ store.old.room }
     ensures spare { store.old.spare ≤ store.new.spare }
+    ensures hashers { store.new.hashers ≡ store.old.hashers }
     ensures free { AreFree ports.old.tcp.lowest ports.old.tcp.highest store.new.entries ports.new }
     ensures owned { SameOwned ports.old ports.new }
     ensures bounds { SameBounds ports.old ports.new }
@@ -64,6 +66,7 @@ pub(crate) fn wake(store: &mut Store)
     ensures lives { store.new.lives ≡ store.old.lives }
     ensures room { store.new.room ≡ store.old.room }
     ensures spare { store.old.spare ≤ store.new.spare }
+    ensures hashers { store.new.hashers ≡ store.old.hashers }
 {
     let mut last = None;
     while let Some(entry) = store.entry_after(last) {

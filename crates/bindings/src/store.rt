@@ -63,6 +63,7 @@ impl Model for Store {
       lives = lives_of s.slots.rows;
       room = s.slots.room;
       spare = s.index.spare;
+      hashers = s.index.hasher;
     } };
 
     ghost invariant = { λ s. IsIndexed s.slots.rows s.index × AreTimed s.alone s.dues s.slots.rows };
@@ -91,6 +92,7 @@ fn list_pair(index: &mut EndpointIndex<Hashers>, pair: Pair, state: EntryState, 
     ensures counts { (a : Address) → count_in index.new a
         ≡ count_in index.old a + one_of a (entry_in state pair) }
     ensures spare { index.old.spare ≤ index.new.spare + 1 }
+    ensures hasher { index.new.hasher ≡ index.old.hasher }
 {
     if is_pair_state(state) {
         index.put(endpoint_of(pair), number);
@@ -105,6 +107,7 @@ fn unlist(index: &mut EndpointIndex<Hashers>, pair: Pair, state: EntryState)
     ensures counts { (a : Address) → count_in index.old a
         ≡ count_in index.new a + one_of a (entry_in state pair) }
     ensures spare { index.old.spare ≤ index.new.spare }
+    ensures hasher { index.new.hasher ≡ index.old.hasher }
 {
     if is_pair_state(state) {
         index.remove(endpoint_of(pair));
@@ -120,6 +123,7 @@ fn unlist_turned(index: &mut EndpointIndex<Hashers>, pair: Pair, was: EntryState
     ensures counts { (a : Address) → count_in index.old a ≡ count_in index.new a
         + (if is_pair_of a (entry_in was pair) && not (is_pair state) then 1 else 0) }
     ensures spare { index.old.spare ≤ index.new.spare }
+    ensures hasher { index.new.hasher ≡ index.old.hasher }
 {
     if !is_pair_state(state) {
         unlist(index, pair, was);
@@ -257,6 +261,7 @@ impl Store {
         ensures entries { IfOk result (λ s. s.entries ≡ []) }
         ensures lives { IfOk result (λ s. s.lives ≡ []) }
         ensures room { IfOk result (λ s. s.room ≡ room) }
+        ensures hashers { IfOk result (λ s. s.hashers ≡ hashers) }
     {
         let slots = PortSlots::new(alloc, room)?;
         let index = EndpointIndex::new(alloc, hashers);
@@ -346,6 +351,7 @@ impl Store {
             self.old.entries) life }
         ensures room { self.new.room ≡ self.old.room }
         ensures spare { self.old.spare ≤ self.new.spare + 1 }
+        ensures hashers { self.new.hashers ≡ self.old.hashers }
     {
         let key = key_of(pair);
         let number = self.slots.insert(key, item_with(pair, state, life));
@@ -366,6 +372,7 @@ impl Store {
         ensures lives { self.new.lives ≡ self.old.lives }
         ensures room { self.new.room ≡ self.old.room }
         ensures spare { self.old.spare ≤ self.new.spare }
+        ensures hashers { self.new.hashers ≡ self.old.hashers }
     {
         self.slots.recall();
         if let Some(entry) = self.entry(key) {
@@ -385,6 +392,7 @@ impl Store {
         ensures lives { self.new.lives ≡ lives_without key self.old.entries self.old.lives }
         ensures room { self.new.room ≡ self.old.room }
         ensures spare { self.old.spare ≤ self.new.spare }
+        ensures hashers { self.new.hashers ≡ self.old.hashers }
     {
         self.slots.recall();
         if let Some(item) = self.slots.remove(key) {
@@ -399,6 +407,7 @@ impl Store {
         ensures lives { self.new.lives ≡ [] }
         ensures room { self.new.room ≡ self.old.room }
         ensures spare { self.old.spare ≤ self.new.spare }
+        ensures hashers { self.new.hashers ≡ self.old.hashers }
     {
         self.slots.clear();
         self.index.clear();

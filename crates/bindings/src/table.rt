@@ -58,6 +58,7 @@ impl Model for Table {
       one = t.one;
       capacity = t.capacity;
       ready = t.ready;
+      hashers = t.store.hashers;
     } };
 
     ghost use Rattle.std.specs.Prelude.{◌≤◌, vec_capacity};
@@ -89,7 +90,8 @@ impl Table {
         ensures zero { IfOk result (λ t. t.zero ≡ zero) }
         ensures one { IfOk result (λ t. t.one ≡ one) }
         ensures capacity { IfOk result (λ t. t.capacity ≡ key_count zero one) }
-        ensures empty { IfOk result (λ t. t ≡ empty_table zero one) }
+        ensures hashers { IfOk result (λ t. t.hashers ≡ hashers) }
+        ensures empty { IfOk result (λ t. t ≡ empty_table zero one hashers) }
     {
         let capacity = 3 * (port_count(zero) + port_count(one));
         let found = Vec::with_capacity(alloc, CELLS)?;

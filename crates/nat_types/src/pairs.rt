@@ -1,16 +1,53 @@
 //! Pairs: an outside port, the inside endpoint that it serves, and where a table's entry stands.
-ghost use Rattle.std.specs.Prelude.{◌≡◌};
+ghost use Rattle.std.specs.Prelude.{◌≡◌, ◌/◌, ◌%◌, ◌^◌};
+ghost use Rattle.std.proofs.Common.{rules};
+ghost use Rattle.std.specs.Hash as fed;
+ghost use Rattle.std.specs.Cmp.Rules.{hashing};
+ghost use Rattle.nat_types.specs.Hashing.{number_of, protocol_place};
 
 use addresses::{Ip, Port, Protocol};
 use std::fmt;
+use std::hash::{Hash, Hasher};
 use std::marker::Model;
 
 /// An inside host's address and port.
-#[derive(Clone, Copy, Debug, PartialEq, Eq, PartialOrd, Ord, Hash)]
+#[derive(Clone, Copy, Debug, PartialEq, Eq, PartialOrd, Ord)]
 pub struct Endpoint {
     pub protocol: Protocol,
     pub address: Ip,
     pub port: Port,
+}
+
+impl Endpoint {
+    /// The endpoint in 50 bits: its protocol above, then its address and its port. Each can be read from them, so no
+    /// other endpoint has this number.
+    #[inline]
+    fn number(&self) -> u64
+        ensures number { result ≡ number_of self.now }
+        ensures protocol { result / 2 ^ 48 ≡ protocol_place self.now.protocol }
+        ensures address { result / 2 ^ 16 % 2 ^ 32 ≡ self.now.address.0 }
+        ensures port { result % 2 ^ 16 ≡ self.now.port.0 }
+    {
+        let place = match self.protocol {
+            Protocol::Icmp => 0,
+            Protocol::Tcp => 1,
+            Protocol::Udp => 2,
+        };
+        let address = self.address.0;
+        let port = self.port.0;
+        (place << 48) + (u64::from(address) << 16) + u64::from(port)
+    }
+}
+
+/// A hasher is written to once, and not for each part: a look-up hashes an endpoint for every packet.
+impl Hash for Endpoint {
+    ghost hash_input = { λ e. fed.u64 (number_of e) };
+
+    ghost respects_eq = { Prim.search (hashing, rules) };
+
+    fn hash<H: Hasher>(&self, state: &mut H) {
+        state.write_u64(self.number());
+    }
 }
 
 /// A port of the outside virtual address.

@@ -6,17 +6,18 @@ use Rattle.nat_types.specs.Same.{same_endpoint}
 use Rattle.slots.specs.declared.numbers.SlotNumber.{SlotNumber}
 use Rattle.slots.specs.Counts.{AddressCounts, is_address, count_at}
 
--- the endpoints with their slots, in no certain order, and how many more fit without memory
-pub record EndpointIndex : Type 0 where
+-- the endpoints with their slots, in no certain order, how many more fit without memory, and what makes its hashers
+pub record EndpointIndex (S : Type 0) : Type 0 where
   pub entries : List (Endpoint × SlotNumber)
   pub spare : ℕ
+  pub hasher : S
 
 abbrev pub look_up : List (Endpoint × SlotNumber) → Endpoint → Option SlotNumber
 look_up [] x = None
 look_up (e ∷ es) x = (if same_endpoint x e.0 then Some e.1 else look_up es x)
 
 -- the slot of an endpoint
-abbrev pub slot_of : EndpointIndex → Endpoint → Option SlotNumber
+abbrev pub slot_of : {S : Type 0} → EndpointIndex S → Endpoint → Option SlotNumber
 slot_of index x = look_up index.entries x
 
 -- the same slots but for this endpoint
@@ -27,7 +28,7 @@ abbrev pub is_of : Ip → Endpoint × SlotNumber → Bool
 is_of address e = is_address e.0.address address
 
 -- how many endpoints of an address have a slot
-abbrev pub count_in : EndpointIndex → Ip → ℕ
+abbrev pub count_in : {S : Type 0} → EndpointIndex S → Ip → ℕ
 count_in index address = count_by (is_of address) index.entries
 
 -- the counts are those of the endpoints

@@ -28,13 +28,14 @@ impl<S: BuildHasher + Copy + Drop> Model for EndpointIndex<S> {
     ghost use Rattle.std.specs.Prelude.{◌<◌, length};
     ghost use Rattle.slots.specs.Endpoints.{EndpointIndex as Seen, AreCounted, spare_of};
 
-    ghost Value = { Seen };
+    ghost Value = { Seen S };
 
-    ghost use Rattle.indexmap.specs.IndexMap.{spare};
+    ghost use Rattle.indexmap.specs.IndexMap.{hasher_of, spare};
 
     ghost view = { λ i. record {
       entries = i.numbers.entries;
       spare = spare_of i.numbers.entries (spare i.numbers) i.counts.spare;
+      hasher = hasher_of i.numbers;
     } };
 
     ghost invariant = { λ i. AreCounted i.numbers.entries i.counts
@@ -46,6 +47,7 @@ impl<S: BuildHasher + Copy + Drop> EndpointIndex<S> {
     pub fn new(alloc: Global, hasher: S) -> EndpointIndex<S>
         ensures slots { (x : InsidePort) → slot_of result x ≡ None }
         ensures counts { (a : Address) → count_in result a ≡ 0 }
+        ensures hasher { result.hasher ≡ hasher }
     {
         EndpointIndex {
             numbers: IndexMap::with_hasher(alloc, hasher),
@@ -59,6 +61,7 @@ impl<S: BuildHasher + Copy + Drop> EndpointIndex<S> {
         ensures room { OnOk result (more ≤ self.new.spare) }
         ensures spare { self.old.spare ≤ self.new.spare }
         ensures same { self.new.entries ≡ self.old.entries }
+        ensures hasher { self.new.hasher ≡ self.old.hasher }
         ensures succeeds { more ≤ self.old.spare → IsOk result }
     {
         if more > MOST - self.numbers.len() {
@@ -94,6 +97,7 @@ impl<S: BuildHasher + Copy + Drop> EndpointIndex<S> {
         ensures recounted { IsSome (slot_of self.old endpoint)
             → (a : Address) → count_in self.new a ≡ count_in self.old a }
         ensures spare { self.old.spare ≤ self.new.spare + 1 }
+        ensures hasher { self.new.hasher ≡ self.old.hasher }
     {
         match self.numbers.insert(endpoint, number) {
             Ok(Some(_)) => {}
@@ -112,6 +116,7 @@ impl<S: BuildHasher + Copy + Drop> EndpointIndex<S> {
         ensures absent { slot_of self.old endpoint ≡ None
             → (a : Address) → count_in self.new a ≡ count_in self.old a }
         ensures spare { self.old.spare ≤ self.new.spare }
+        ensures hasher { self.new.hasher ≡ self.old.hasher }
     {
         match self.numbers.swap_remove(&endpoint) {
             Some(_) => self.counts.take_one(endpoint.address),
@@ -124,6 +129,7 @@ impl<S: BuildHasher + Copy + Drop> EndpointIndex<S> {
         ensures slots { (x : InsidePort) → slot_of self.new x ≡ None }
         ensures counts { (a : Address) → count_in self.new a ≡ 0 }
         ensures spare { self.old.spare ≤ self.new.spare }
+        ensures hasher { self.new.hasher ≡ self.old.hasher }
     {
         self.numbers.clear();
         self.counts.clear();

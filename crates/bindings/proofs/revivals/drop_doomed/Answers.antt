@@ -14,6 +14,7 @@ loop-entry-init c = record {
   first = sym (ap first_doomed (behind-none c.args.store.now.entries));
   room = refl;
   spare = omega arith;
+  hashers = refl;
   owned = owned-refl c.args.ports.now;
   bounds = bounds-refl c.args.ports.now;
 }
@@ -44,6 +45,7 @@ loop-entry-preserved c =
       first = rw (c.key_of.ensures, d.entries) one.first;
       room = d.room ∙ i.room;
       spare = (let a = d.spare in let b = i.spare in omega (arith, a, b));
+      hashers = d.hashers ∙ i.hashers;
       owned = owned-trans c.args.ports.now old c.drop_if_doomed.new.ports i.owned d.owned;
       bounds = bounds-trans c.args.ports.now old c.drop_if_doomed.new.ports i.bounds d.bounds;
     }

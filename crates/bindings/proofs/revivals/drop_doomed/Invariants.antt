@@ -16,6 +16,7 @@ invariant-loop-entry l = record {
   first : find (λ e. not (is_pair e.state)) l.store.entries ≡ find (λ e. not (is_pair e.state)) (behind l.last l.store.entries);
   room : l.store.room ≡ l.fn.store.room;
   spare : l.fn.store.spare ≤ l.store.spare;
+  hashers : l.store.hashers ≡ l.fn.store.hashers;
   owned : SameOwned l.fn.ports l.ports;
   bounds : SameBounds l.fn.ports l.ports;
 }

@@ -11,7 +11,7 @@ use Rattle.bindings.proofs.Walks.{behind-less, next-held, wake-all, wake-end, wa
 use Rattle.bindings.proofs.revivals.wake.Goals as goal
 
 pub loop-entry-init : goal.loop-entry-init
-loop-entry-init c = record { woken = wake-all c.args.store.now.entries; lives = refl; room = refl; spare = omega arith }
+loop-entry-init c = record { woken = wake-all c.args.store.now.entries; lives = refl; room = refl; spare = omega arith; hashers = refl }
 
 pub turn-requires : goal.turn-requires
 turn-requires c =
@@ -37,6 +37,7 @@ loop-entry-preserved c =
       lives = c.turn.ensures.lives ∙ i.lives;
       room = c.turn.ensures.room ∙ i.room;
       spare = (let a = c.turn.ensures.spare in let b = i.spare in omega (arith, a, b));
+      hashers = c.turn.ensures.hashers ∙ i.hashers;
     }
 
 pub loop-entry-smaller : goal.loop-entry-smaller
@@ -50,4 +51,4 @@ pub returns : goal.returns
 returns c =
     let i = c.loop-entry.invariant in
     let end = wake-end c.loop-entry.last c.loop-entry.store.entries (sym c.entry_after.ensures ∙ c.in_default.is) in
-    record { entries = sym end ∙ i.woken; lives = i.lives; room = i.room; spare = i.spare }
+    record { entries = sym end ∙ i.woken; lives = i.lives; room = i.room; spare = i.spare; hashers = i.hashers }

@@ -10,6 +10,7 @@ invariant-loop-entry l = record {
   lives : l.store.lives ≡ l.fn.store.lives;
   room : l.store.room ≡ l.fn.store.room;
   spare : l.fn.store.spare ≤ l.store.spare;
+  hashers : l.store.hashers ≡ l.fn.store.hashers;
 }
 
 abbrev pub decreases-loop-entry : goal.decreases-loop-entry
