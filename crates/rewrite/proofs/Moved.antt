@@ -55,8 +55,8 @@ pub query-put : (s s1 s2 : List ℕ) (identifier field : ℕ) → Puts 4 (big_by
 query-put s s1 s2 identifier field p1 p2 = p2 ∙ ap (λ (x : List ℕ). take 2 x ++ big_bytes 2 field ++ drop 4 x) p1
 
 -- an update by the identifier is the sum that is asked for
-pub moved-by : (t old new u : ℕ) → IsUpdate (t % 65535) old new u → u ≡ moved_sum t old new
-moved-by t old new u is = moved_sum-update t old new old new u (omega arith) (is.0, omega (arith, is))
+pub moved-by : (t old new u : ℕ) → IsUpdate t old new u → u ≡ moved_sum t old new
+moved-by t old new u is = moved_sum-update t old new old new u (omega arith) is
 
 -- sums that are moved by the same difference
 moved-same : (t old new s s2 : ℕ) → s2 + old ≡ s + new → moved_sum t old new ≡ moved_sum t s s2
@@ -92,9 +92,13 @@ header-put new (b0 ∷ b1 ∷ b2 ∷ b3 ∷ b4 ∷ b5 ∷ b6 ∷ b7 ∷ b8 ∷ b
     (p2 ∙ ap (λ (x : List ℕ). take 10 x ++ big_bytes 2 field ++ drop 12 x) q1))
 header-put new _ h1 h2 h3 h4 ttl field long is_ttl p1 p2 p3 p4 = absurd (omega arith)
 
--- two updates after one another are one by the sums of their words
-pub update-join : (c old new old2 new2 u v : ℕ) → IsUpdate c old new u → IsUpdate u old2 new2 v → IsUpdate c (old + old2) (new + new2) v
-update-join c old new old2 new2 u v first second = (second.0, omega (arith, first, second))
+-- an update counts the word of TTL and protocol in, where only the hop of it was counted
+pub hop-counted : (c hops a b c' d u : ℕ) → 256 ≤ hops → IsUpdate c (a + b + 256) (c' + d) u → IsUpdate c (hops + a + b) ((hops - 256) + c' + d) u
+hop-counted c hops a b c' d u hop is = (is.0, omega (arith, is))
+
+-- an update by numbers that are those
+pub update-of : (t a b v w t' a' b' v' w' u : ℕ) → t' ≡ t → a' ≡ a → b' ≡ b → v' ≡ v → w' ≡ w → IsUpdate t' (a' + b' + 256) (v' + w') u → IsUpdate t (a + b + 256) (v + w) u
+update-of t a b v w t' a' b' v' w' u is_t is_a is_b is_v is_w is = (is.0, omega (arith, is))
 
 -- the two words of an address in four bytes
 address_sum-bytes : (a b c d : ℕ) → a < 256 → b < 256 → c < 256 → d < 256 → address_sum (a * 16777216 + (b * 65536 + (c * 256 + (d * 1 + 0)))) ≡ 256 * a + b + (256 * c + d)

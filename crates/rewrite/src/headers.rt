@@ -3,12 +3,12 @@ ghost use Rattle.std.specs.Prelude.{◌≡◌, ℕ, ◌<◌, ◌≤◌, length, 
 ghost use Rattle.sums.specs.Sum.{checksum_of, IsRight};
 ghost use Rattle.rewrite.specs.Translated.{header_unsummed, header_with};
 
-use crate::flows::update_address;
+use crate::flows::address_words;
 use ipv4::{Flow, Ipv4ViewMut};
-use sums::update;
+use sums::update_words;
 
 /// What a TTL lowered by one takes from the word of TTL and protocol.
-const ONE_HOP: u16 = 0x0100;
+const ONE_HOP: u32 = 0x0100;
 
 /// The checksum that a header has after its TTL and addresses have changed.
 fn header_checksum(header: &Ipv4ViewMut<'_>, new: Flow) -> u16
@@ -18,10 +18,9 @@ fn header_checksum(header: &Ipv4ViewMut<'_>, new: Flow) -> u16
     requires ttl { 0 < slice_index header.now.bytes.now 8 }
     ensures { result ≡ checksum_of (header_unsummed new header.now.bytes.now) }
 {
-    let hops = ONE_HOP * u16::from(header.ttl()) + u16::from(header.protocol());
-    let checksum = update(header.checksum(), hops, hops - ONE_HOP);
-    let checksum = update_address(checksum, header.source(), new.source);
-    update_address(checksum, header.destination(), new.destination)
+    let old = address_words(header.source()) + address_words(header.destination());
+    let now = address_words(new.source) + address_words(new.destination);
+    update_words(header.checksum(), old + ONE_HOP, now)
 }
 
 /// Gives a header other addresses, a lower TTL and its checksum.

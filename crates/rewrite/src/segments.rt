@@ -76,7 +76,7 @@ pub(crate) fn identifier_after(old: Flow, new: Flow) -> Port
 fn moved_by(checksum: u16, old: Port, new: Port) -> u16
     ensures { result ≡ moved_sum checksum old.0 new.0 }
 {
-    update(checksum % 65535, old.0, new.0)
+    update(checksum, old.0, new.0)
 }
 
 /// Writes the identifier of a query, of which 8 bytes are there at least, and lets the checksum follow:

@@ -1,5 +1,5 @@
 -- Sums of words of a list in parts, and of a list with one word replaced.
-use Rattle.std.proofs.Common.{◌≡◌, ℕ, ◌+◌, ◌-◌, ◌*◌, ◌%◌, ◌<◌, ◌≤◌, List, [], ◌∷◌, ◌++◌, length, take, drop, arith, ap, sym, length-drop}
+use Rattle.std.proofs.Common.{◌≡◌, ℕ, ◌+◌, ◌-◌, ◌*◌, ◌%◌, ◌<◌, ◌≤◌, List, [], ◌∷◌, ◌++◌, length, take, drop, arith, ap, ap₂, sym, ◌∙◌, length-drop}
 use Rattle.std.proofs.lemmas.List.{take-append-drop, length-take-le, drop-drop}
 use Rattle.sums.specs.Sum.{word_sum, ones_sum}
 
@@ -36,3 +36,19 @@ ones_sum-more m n = omega arith
 -- the field that makes a whole sum 0 modulo 65535 is the complement of the other words' sum
 pub ones_sum-complement : (u s : ℕ) → u < 65535 → 0 < s → (u + s) % 65535 ≡ 0 → u ≡ 65535 - ones_sum s
 ones_sum-complement u s small some whole = omega arith
+
+-- a part's words, added to a sum in one's complement, as those of the whole rest
+part-added : (t f s p r u : ℕ) → f ≡ ones_sum s → ones_sum s ≡ ones_sum p → u ≡ ones_sum (t + f) → ones_sum (u + r) ≡ ones_sum (t + (p + r))
+part-added t f s p r u is_f same is_u = omega arith
+
+-- the words of a front of even length and of what is behind it
+words-of-parts : (n h : ℕ) (bytes : List ℕ) → n ≡ 2 * h → n ≤ length bytes → word_sum (take n bytes) + word_sum (drop n bytes) ≡ word_sum bytes
+words-of-parts n h bytes even within =
+    let front : length (take n bytes) ≡ 2 * h = length-take-le n bytes within ∙ even in
+    sym (word_sum-append (take n bytes) (drop n bytes) h front) ∙ ap word_sum (take-append-drop n bytes)
+
+-- a sum goes on by a part of even length
+pub goes-on : (n h : ℕ) (t f s u : ℕ) (bytes part behind : List ℕ) → n ≡ 2 * h → n ≤ length bytes → part ≡ take n bytes → behind ≡ drop n bytes → f ≡ ones_sum s → ones_sum s ≡ ones_sum (word_sum part) → u ≡ ones_sum (t + f) → ones_sum (u + word_sum behind) ≡ ones_sum (t + word_sum bytes)
+goes-on n h t f s u bytes part behind even within is_part is_behind is_f same is_u =
+    let whole : word_sum part + word_sum behind ≡ word_sum bytes = ap₂ (λ (a b : List ℕ). word_sum a + word_sum b) is_part is_behind ∙ words-of-parts n h bytes even within in
+    part-added t f s (word_sum part) (word_sum behind) u is_f same is_u ∙ ap (λ (x : ℕ). ones_sum (t + x)) whole

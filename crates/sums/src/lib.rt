@@ -22,28 +22,88 @@ pub fn add(a: u16, b: u16) -> u16
     }
 }
 
+/// The bytes that are added up in one number before it is folded.
+const LONGEST: usize = 65536;
+
+/// The one's complement sum of words that add up to this.
+fn folded(total: u64) -> u16
+    ensures { result ≡ ones_sum total }
+{
+    if total == 0 {
+        0
+    } else {
+        ((total - 1) % 65535) as u16 + 1
+    }
+}
+
+/// The last three bytes or fewer, as words added up.
+fn last_words(rest: &[u8]) -> u64
+    requires { length rest.now < 4 }
+    ensures value { result ≡ word_sum rest.now }
+    ensures small { result ≤ 2 * 65535 }
+{
+    match rest {
+        [] => 0,
+        [a] => 256 * u64::from(*a),
+        [_, _] => u64::from(BigEndian::read_u16(rest)),
+        [_, _, c, ..] => u64::from(BigEndian::read_u16(rest)) + 256 * u64::from(*c),
+    }
+}
+
+/// A number with the one's complement sum of the words of so many bytes. Two words at a time are
+/// added as one number of 32 bits: 65536 is 1 modulo 65535.
+fn short_total(bytes: &[u8]) -> u64
+    requires { length bytes.now ≤ 65536 }
+    ensures { ones_sum result ≡ ones_sum (word_sum bytes.now) }
+{
+    let mut total = 0u64;
+    let mut rest = bytes;
+    while let [_, _, _, _, others @ ..] = rest {
+        total += u64::from(BigEndian::read_u32(rest));
+        rest = others;
+    }
+    total + last_words(rest)
+}
+
+/// The same of more bytes, a part after another.
+fn long_total(bytes: &[u8]) -> u64
+    ensures { ones_sum result ≡ ones_sum (word_sum bytes.now) }
+{
+    let mut total = 0;
+    let mut rest = bytes;
+    while rest.len() > LONGEST {
+        let (part, others) = rest.split_at(LONGEST);
+        total = add(total, folded(short_total(part)));
+        rest = others;
+    }
+    u64::from(add(total, folded(short_total(rest))))
+}
+
+/// A number with the one's complement sum of the big-endian 16-bit words.
+fn total_of(bytes: &[u8]) -> u64
+    ensures { ones_sum result ≡ ones_sum (word_sum bytes.now) }
+{
+    if bytes.len() <= LONGEST {
+        short_total(bytes)
+    } else {
+        long_total(bytes)
+    }
+}
+
 /// The one's complement sum of the big-endian 16-bit words, an odd last byte followed by a zero: 0
 /// only where all bytes are 0. A checksum is its complement.
 pub fn sum(bytes: &[u8]) -> u16
     ensures { result ≡ ones_sum (word_sum bytes.now) }
 {
-    let mut total = 0;
-    let mut rest = bytes;
-    while let [_, _, others @ ..] = rest {
-        total = add(total, BigEndian::read_u16(rest));
-        rest = others;
-    }
-    if let [last] = rest {
-        total = add(total, 256 * u16::from(*last));
-    }
-    total
+    folded(total_of(bytes))
 }
 
 /// Whether the checksum among these bytes is right.
 pub fn is_right(bytes: &[u8]) -> bool
     ensures { IsTrue result ↔ IsRight bytes.now }
 {
-    sum(bytes) == 65535
+    let total = total_of(bytes);
+    total != 0 && total % 65535 == 0
 }
 
 /// The checksum after one of its words has changed from `old` to `new`, where it was `c`
@@ -52,6 +112,15 @@ pub fn update(c: u16, old: u16, new: u16) -> u16
     ensures { IsUpdate c old new result }
 {
     ((u32::from(c) + u32::from(old) + 65535 - u32::from(new)) % 65535) as u16
+}
+
+/// The same where several words have changed, which added up to `old` and now add up to `new`.
+pub fn update_words(c: u16, old: u32, new: u32) -> u16
+    ensures { IsUpdate c old new result }
+{
+    // The multiple of 65535 that no `new` exceeds.
+    let turn = 65535 * 65537;
+    ((u64::from(c) + u64::from(old) + turn - u64::from(new)) % 65535) as u16
 }
 
 /// A whole sum follows an update of one of its words: where the other words added up to `s` and
