@@ -103,8 +103,8 @@ module _ {T : Type 0} where
     pub made : rows_in slots cells ≡ rows
     pub stored : IsStored slots cells places
 
-  pub empty-stored : (slots : Slab T) (cells : List (Option SlotNumber)) (room : ℕ) → slots.slots ≡ [] → length cells ≡ 196608 → ((i : ℕ) → get_or cells i None ≡ None) → room ≤ slots.capacity → Changed slots cells room []
-  empty-stored slots cells room empty all none fits =
+  pub empty-stored : (slots : Slab T) (cells : List (Option SlotNumber)) (room : ℕ) → slots.slots ≡ [] → length cells ≡ 196608 → ((i : ℕ) → get_or cells i None ≡ None) → room ≤ slots.capacity → slots.capacity ≤ 4294967295 → Changed slots cells room []
+  empty-stored slots cells room empty all none fits small =
       let rows = rows-none (item_at slots) 0 cells none in
       record {
         made = rows;
@@ -114,6 +114,7 @@ module _ {T : Type 0} where
           distinct = λ i j n e f. (let no = none i in absurd (cc));
           count = ap length rows ∙ sym (ap (λ xs. count_by is_some xs) empty);
           room = fits;
+          small = small;
         };
       }
 
@@ -147,6 +148,7 @@ module _ {T : Type 0} where
           ];
           count = ap length put ∙ length-put _ (rows_in slots cells) ∙ (let k = s.count in omega (arith, k, len));
           room = (let r = s.room in omega (arith, r, capacity));
+          small = (let r = s.small in omega (arith, r, capacity));
         };
       }
 
@@ -171,6 +173,7 @@ module _ {T : Type 0} where
           distinct = λ i j m e f. (let w = at-other i m e in let v = at-other j m f in s.distinct i j m w.1 v.1);
           count = (let fewer = gone (item_at slots n) refl in let k = s.count in let now = ap length same in omega (arith, fewer, k, len, now));
           room = (let r = s.room in omega (arith, r, capacity));
+          small = (let r = s.small in omega (arith, r, capacity));
         };
       }
     where
@@ -195,6 +198,7 @@ module _ {T : Type 0} where
           distinct = s.distinct;
           count = ap length made ∙ length-map _ _ ∙ s.count ∙ sym len;
           room = (let r = s.room in omega (arith, r, capacity));
+          small = (let r = s.small in omega (arith, r, capacity));
         };
       }
     where

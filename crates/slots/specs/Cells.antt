@@ -63,3 +63,5 @@ module _ {T : Type 0} where
     pub distinct : (i j : ℕ) (n : SlotNumber) → get_or cells i None ≡ Some n → get_or cells j None ≡ Some n → i ≡ j
     pub count : length (rows_from (item_at slots) 0 cells) ≡ slab_len slots
     pub room : places ≤ slots.capacity
+    -- each slot's number fits into 32 bits
+    pub small : slots.capacity ≤ 4294967295

@@ -5,3 +5,4 @@ pub mod Endpoints
 pub mod Lends
 pub mod Hashers
 pub mod Dues
+pub mod SmallNumbers

@@ -4,13 +4,14 @@ ghost use Rattle.std.proofs.Common.{get_or};
 ghost use Rattle.slots.specs.Cells.{AreMarked, HasBlocks};
 
 use crate::SlotNumber;
+use crate::small_numbers::SmallNumber;
 use std::alloc::{AllocError, Global};
 use std::marker::Model;
 
 /// A cell for each protocol and port. Cells are found in blocks of 256, of which those without a number are passed over.
 #[derive(Drop)]
 pub(crate) struct Cells {
-    numbers: Vec<Option<SlotNumber>>,
+    numbers: Vec<SmallNumber>,
     // Which blocks had a number since the last `clear`.
     marks: Vec<bool>,
 }
@@ -28,10 +29,10 @@ impl Model for Cells {
         × HasBlocks c.numbers.items c.marks.items × (length c.numbers.items ≤ 196608) };
 }
 
-fn empty_cells(alloc: Global, count: usize) -> Result<Vec<Option<SlotNumber>>, AllocError>
+fn empty_cells(alloc: Global, count: usize) -> Result<Vec<SmallNumber>, AllocError>
     ensures { IfOk result (λ v. v.items ≡ replicate count None) }
 {
-    vec![in alloc; None; count]
+    vec![in alloc; SmallNumber::none(); count]
 }
 
 fn unmarked(alloc: Global, count: usize) -> Result<Vec<bool>, AllocError>
@@ -41,7 +42,7 @@ fn unmarked(alloc: Global, count: usize) -> Result<Vec<bool>, AllocError>
 }
 
 /// The first cell from one on that has a number.
-fn next_used(numbers: &[Option<SlotNumber>], marks: &[bool], from: usize) -> Option<usize>
+fn next_used(numbers: &[SmallNumber], marks: &[bool], from: usize) -> Option<usize>
     requires marked { AreMarked numbers.now marks.now }
     requires blocks { HasBlocks numbers.now marks.now }
     requires count { length numbers.now ≤ 196608 }
@@ -64,12 +65,12 @@ fn next_used(numbers: &[Option<SlotNumber>], marks: &[bool], from: usize) -> Opt
     None
 }
 
-fn empty_all(numbers: &mut [Option<SlotNumber>])
+fn empty_all(numbers: &mut [SmallNumber])
     ensures length { length numbers.new ≡ length numbers.old }
     ensures none { (k : ℕ) → get_or numbers.new k None ≡ None }
 {
     for number in numbers.iter_mut() {
-        *number = None;
+        *number = SmallNumber::none();
     }
 }
 
@@ -98,14 +99,15 @@ impl Cells {
         requires { cell < length self.now }
         ensures { result ≡ get_or self.now cell None }
     {
-        self.numbers[cell]
+        self.numbers[cell].number()
     }
 
     pub(crate) fn fill(&mut self, cell: usize, number: SlotNumber)
-        requires { cell < length self.old }
+        requires cell { cell < length self.old }
+        requires number { number.0 < 4294967295 }
         ensures { self.new ≡ slice_set self.old cell (Some number) }
     {
-        self.numbers[cell] = Some(number);
+        self.numbers[cell] = SmallNumber::of(number);
         self.marks[cell / 256] = true;
     }
 
@@ -113,7 +115,7 @@ impl Cells {
         requires { cell < length self.old }
         ensures { self.new ≡ slice_set self.old cell None }
     {
-        self.numbers[cell] = None;
+        self.numbers[cell] = SmallNumber::none();
     }
 
     /// The first cell from one on that has a number.

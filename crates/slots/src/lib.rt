@@ -8,6 +8,7 @@ mod endpoints;
 mod hashers;
 mod numbers;
 mod port_slots;
+mod small_numbers;
 
 pub use dues::Dues;
 pub use endpoints::EndpointIndex;

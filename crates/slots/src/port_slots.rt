@@ -21,6 +21,9 @@ pub const CELLS: usize = 196_608;
 /// How many blocks of 256 cells these are.
 const BLOCKS: usize = 768;
 
+/// More slots than there are numbers for in 32 bits aren't made.
+const MOST_SLOTS: usize = 4_294_967_295;
+
 /// Items in slots, by protocol (icmp first) and port.
 #[derive(Drop)]
 pub struct PortSlots<T> {
@@ -111,6 +114,9 @@ impl<T: Drop> PortSlots<T> {
         ensures room { IfOk result (λ s. s.room ≡ room) }
     {
         let slots = Slab::with_capacity(alloc, room)?;
+        if slots.capacity() > MOST_SLOTS {
+            return Err(AllocError);
+        }
         let cells = Cells::new(alloc, CELLS, BLOCKS)?;
         Ok(PortSlots { slots, cells, room })
     }
