@@ -77,9 +77,8 @@ impl Watch {
         Ok(())
     }
 
-    /// A tick is over that let so many pairs go.
-    fn ticked<R: CpuClock>(&mut self, rt: &R, start: u128, let_go: u32) -> Result<()> {
-        let spent = self.now(rt)?.saturating_sub(start);
+    /// A tick took so long, and let so many pairs go.
+    fn ticked(&mut self, spent: u128, let_go: u32) {
         let may = TICK.saturating_add(EACH.saturating_mul(u128::from(let_go)));
         self.ticks = self.ticks.saturating_add(1);
         if spent > may {
@@ -91,7 +90,6 @@ impl Watch {
             self.worst = spent;
             self.worst_let_go = let_go;
         }
-        Ok(())
     }
 }
 
@@ -181,16 +179,18 @@ impl Churn {
         self.both
             .zero
             .tick(self.both.moment.saturating_add(ACTIVE))?;
-        let let_go = self.both.zero.let_go();
-        self.watch.ticked(rt, start, let_go)
+        let spent = self.watch.now(rt)?.saturating_sub(start);
+        self.watch.ticked(spent, self.both.zero.let_go());
+        Ok(())
     }
 
     /// A tick of the second gateway.
     fn tick_one<R: CpuClock>(&mut self, rt: &R) -> Result<()> {
         let start = self.watch.now(rt)?;
         self.both.one.tick(self.both.moment)?;
-        let let_go = self.both.one.let_go();
-        self.watch.ticked(rt, start, let_go)
+        let spent = self.watch.now(rt)?.saturating_sub(start);
+        self.watch.ticked(spent, self.both.one.let_go());
+        Ok(())
     }
 
     /// Both clocks go on by so many centiseconds, and what is told is taken.
