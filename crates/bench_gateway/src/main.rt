@@ -1,22 +1,43 @@
-//! `bench_gateway packets COUNT PAIRS..`: what a packet costs a gateway from its frame to the frame
-//! that is sent, over COUNT of each kind, once for each number of pairs. `bench_gateway many PAIRS..`:
-//! what so many pairs cost at once. `bench_gateway start`: a gateway starts, and that is all.
+//! What a gateway's steps cost. Each command prints nanoseconds, and does just as much as its numbers
+//! say, so that instructions and requests for memory can be counted by two runs:
+//!
+//! - `packets COUNT PAIRS..`: a packet from its frame to the frame that is sent, over COUNT of each
+//!   kind, once for each number of pairs
+//! - `kind SIDE PROTOCOL SIZE COUNT PAIRS`: packets of one kind alone
+//! - `new COUNT`: new flows at two gateways; `lone COUNT`: the same at one that is alone
+//! - `pair COUNT PAIRS`: ticks of two gateways, each with the datagram that is due, which the other takes
+//! - `idle COUNT PAIRS`: ticks of a gateway nothing of which is due; `still COUNT PAIRS`: the same while
+//!   its clock stands
+//! - `ports want COUNT`, `ports begin COUNT`, `ports batch COUNT`: ports that are asked for, the
+//!   beginning of a batch, and a batch; COUNT is 0 or 1
+//! - `churn ROUNDS ENDPOINTS`: flows that are opened, closed and let go, by the processor's time;
+//!   `longest ROUNDS ENDPOINTS`: the longest step, and the longest tick, of the same
+//! - `many PAIRS..`: what so many pairs cost at once
+//! - `start`: a gateway starts, and that is all
+//!
 //! Without words it does nothing.
 #![tactic(auto)]
 
+mod boxes;
+mod churn;
+mod flows;
 mod many;
 mod packets;
+mod ports;
 mod stations;
 
 use addresses::Protocol;
 use anyhow::{Context, Result, bail};
+use churn::report_churn;
+use flows::{report_lone, report_new, report_pair, report_ticks};
 use many::{Costs, TICKS, costs_of};
 use nat_types::Side;
 use packets::{Kind, PORTS, frame_of, set_pair};
+use ports::report_ports;
 use stations::{Station, start};
 use std::env;
 use std::rt::Clock;
-use std::time::Instant;
+use std::time::{CpuClock, Instant};
 
 /// The next packet's pair lies so many above this one's, so that they aren't found in order.
 const STRIDE: u32 = 7919;
@@ -123,6 +144,54 @@ fn report_packets<R: Print + Clock + AllocGlobal>(rt: &R, words: &[String]) -> R
     Ok(())
 }
 
+/// The number that stands at a place among the words.
+fn number_at(words: &[String], place: usize) -> Result<u32> {
+    let word = words.get(place).context("a number is missing")?;
+    word.parse::<u32>().context("no number")
+}
+
+/// The kind of packets that three words name: its side, its protocol and its size.
+fn kind_of(words: &[String]) -> Result<Kind> {
+    let [side, protocol, size, ..] = words else {
+        bail!("a kind is SIDE PROTOCOL SIZE");
+    };
+    let side = match side.as_str() {
+        "inside" => Side::Inside,
+        "outside" => Side::Outside,
+        _ => bail!("a side is inside or outside"),
+    };
+    let protocol = match protocol.as_str() {
+        "udp" => Protocol::Udp,
+        "tcp" => Protocol::Tcp,
+        _ => bail!("a protocol is udp or tcp"),
+    };
+    let size = size.parse::<u16>().context("no size")?;
+    Ok(Kind {
+        side,
+        protocol,
+        size: size.clamp(40, 1500),
+    })
+}
+
+/// Prints what packets of one kind cost.
+fn report_kind<R: Print + Clock + AllocGlobal>(rt: &R, words: &[String]) -> Result<()> {
+    let kind = kind_of(words)?;
+    let count = number_at(words, 3)?;
+    let pairs = number_at(words, 4)?;
+    let mut station = Station::ready(rt.alloc(), kind.protocol, pairs)?;
+    let measured = measure(rt, &mut station, kind, pairs, count);
+    station.end();
+    let (each, sent) = measured?;
+    println!(rt; "{each} ns, {sent} of {count} sent")?;
+    Ok(())
+}
+
+/// Prints what is asked of ports.
+fn report_some_ports<R: Print + AllocGlobal>(rt: &R, words: &[String]) -> Result<()> {
+    let what = words.first().context("there is no word of ports")?;
+    report_ports(rt, what, number_at(words, 1)?)
+}
+
 /// Prints what many pairs cost, for each of the numbers of pairs.
 fn report_all_costs<R: Print + Clock + AllocGlobal>(rt: &R, numbers: &[String]) -> Result<()> {
     for number in numbers {
@@ -132,6 +201,25 @@ fn report_all_costs<R: Print + Clock + AllocGlobal>(rt: &R, numbers: &[String]) 
     Ok(())
 }
 
+/// The commands whose words are two numbers, or one.
+fn report_numbers<R: Print + Clock + CpuClock + AllocGlobal>(
+    rt: &R,
+    command: &str,
+    words: &[String],
+) -> Result<()> {
+    let first = number_at(words, 0)?;
+    match command {
+        "new" => report_new(rt, first),
+        "lone" => report_lone(rt, first),
+        "pair" => report_pair(rt, first, number_at(words, 1)?),
+        "idle" => report_ticks(rt, first, number_at(words, 1)?, 1),
+        "still" => report_ticks(rt, first, number_at(words, 1)?, 0),
+        "churn" => report_churn(rt, first, number_at(words, 1)?, false),
+        "longest" => report_churn(rt, first, number_at(words, 1)?, true),
+        _ => bail!("there is no such command"),
+    }
+}
+
 fn main(rt: HostRuntime) -> Result<()> {
     let words = env::args(&rt)?.skip(1).collect::<Vec<String>>(rt.alloc())?;
     let Some((command, rest)) = words.as_slice().split_first() else {
@@ -139,8 +227,10 @@ fn main(rt: HostRuntime) -> Result<()> {
     };
     match command.as_str() {
         "packets" => report_packets(&rt, rest),
+        "kind" => report_kind(&rt, rest),
         "many" => report_all_costs(&rt, rest),
+        "ports" => report_some_ports(&rt, rest),
         "start" => start(rt.alloc()),
-        _ => bail!("the first word is packets, many or start"),
+        command => report_numbers(&rt, command, rest),
     }
 }

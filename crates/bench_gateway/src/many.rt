@@ -1,11 +1,10 @@
 //! What many pairs cost at once: to open them, to let all of them idle at one tick, and to hand them to a gateway that
 //! starts with an empty table.
 
+use crate::boxes::Both;
 use crate::stations::{ACTIVE, Station};
 use addresses::Protocol;
 use anyhow::{Result, bail};
-use nat_types::GatewayId;
-use std::alloc::Global;
 use std::rt::Clock;
 use std::time::{Duration, Instant};
 
@@ -14,9 +13,6 @@ const REST: u64 = 800_000;
 
 /// So many ticks are measured at once.
 pub(crate) const TICKS: u64 = 100;
-
-/// So many ticks are given at most until nothing is left to do.
-const PATIENCE: u32 = 20_000;
 
 /// What so many pairs cost.
 pub(crate) struct Costs {
@@ -70,50 +66,7 @@ fn open_and_idle<R: Clock + AllocGlobal>(rt: &R, pairs: u32) -> Result<(Duration
     Ok((opened?, idled?))
 }
 
-/// A gateway's clock goes on; the other takes what it tells, and it what the other answers.
-fn tick_both_hear(own: &mut Station, other: &mut Station, moment: u64) -> Result<()> {
-    own.tick(moment)?;
-    other.take(own)?;
-    own.take(other)
-}
-
-/// A gateway with pairs, and one that starts with an empty table.
-struct Both {
-    zero: Station,
-    one: Station,
-}
-
 impl Both {
-    fn ready(alloc: Global, pairs: u32) -> Result<Both> {
-        let zero = Station::ready(alloc, Protocol::Udp, pairs)?;
-        match Station::new(alloc, GatewayId::One, 1, false) {
-            Ok(one) => Ok(Both { zero, one }),
-            Err(fault) => {
-                zero.end();
-                Err(fault)
-            }
-        }
-    }
-
-    fn end(self) {
-        let Both { zero, one } = self;
-        zero.end();
-        one.end();
-    }
-
-    /// Ticks of both until the second one is synced; how many.
-    fn load(&mut self) -> Result<u32> {
-        for ticks in 1..PATIENCE {
-            let moment = u64::from(ticks);
-            tick_both_hear(&mut self.zero, &mut self.one, ACTIVE + moment)?;
-            tick_both_hear(&mut self.one, &mut self.zero, moment)?;
-            if self.one.is_synced() {
-                return Ok(ticks);
-            }
-        }
-        bail!("the second gateway isn't synced");
-    }
-
     /// The seconds of the load, and its ticks. Then both have as many pairs.
     fn load_timed<R: Clock>(&mut self, rt: &R) -> Result<(Duration, u32)> {
         let start = Instant::now(rt)?;
@@ -146,7 +99,7 @@ struct Load {
 
 /// Loads so many pairs into a gateway that starts, and lets both rest.
 fn loaded<R: Clock + AllocGlobal>(rt: &R, pairs: u32) -> Result<Load> {
-    let mut both = Both::ready(rt.alloc(), pairs)?;
+    let mut both = Both::ready(rt.alloc(), Protocol::Udp, pairs)?;
     let load = both.load_and_rest(rt);
     both.end();
     load

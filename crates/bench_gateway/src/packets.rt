@@ -96,6 +96,16 @@ pub(crate) fn frame_of(kind: Kind) -> [u8; LONGEST] {
     frame
 }
 
+/// The flags of a segment that opens a connection, and of one that ends its half of it.
+pub(crate) const SYN: u8 = 0x02;
+
+pub(crate) const FIN: u8 = 0x11;
+
+/// Gives a segment these flags.
+pub(crate) fn set_flags(frame: &mut [u8; LONGEST], flags: u8) {
+    frame[47] = flags;
+}
+
 /// Makes it a packet of the pair with this number, counted from 0.
 pub(crate) fn set_pair(frame: &mut [u8; LONGEST], side: Side, number: u32) {
     match side {

@@ -4,8 +4,8 @@
 use crate::packets::{HEADER, Kind, LONGEST, PORTS, frame_of, set_pair};
 use addresses::Protocol;
 use anyhow::{Result, bail};
-use gateway::{Event, Gateway, Hashers, Out, Outcome};
-use nat_types::{GatewayId, Side};
+use gateway::{Event, Gateway, Hashers, NoMemory, Out, Outcome};
+use nat_types::{GatewayId, NoteKind, Side};
 use settings::Settings;
 use std::alloc::Global;
 
@@ -22,14 +22,25 @@ pub(crate) struct Station {
 }
 
 impl Station {
-    /// A gateway in this boot, founded or not; the second one can't be founded.
+    /// A gateway of the sample settings in this boot, founded or not.
     pub(crate) fn new(alloc: Global, id: GatewayId, boot: u64, found: bool) -> Result<Station> {
+        let settings = Settings::sample(alloc)?;
+        Station::of(alloc, &settings, id, boot, found)
+    }
+
+    /// A gateway in this boot, founded or not; the second one can't be founded.
+    pub(crate) fn of(
+        alloc: Global,
+        settings: &Settings,
+        id: GatewayId,
+        boot: u64,
+        found: bool,
+    ) -> Result<Station> {
         if boot == 0 || (found && id == GatewayId::One) {
             bail!("boots are counted from 1, and the second gateway isn't founded");
         }
-        let settings = Settings::sample(alloc)?;
         let hashers = Hashers::fixed();
-        let gateway = Gateway::new(alloc, &settings, id, boot, found, hashers)?;
+        let gateway = Gateway::new(alloc, settings, id, boot, found, hashers)?;
         let out = Out::new(alloc);
         Ok(Station { gateway, out })
     }
@@ -44,7 +55,18 @@ impl Station {
     /// A founded gateway of the sample settings, Active on both sides, with so many pairs: of this
     /// protocol while it has ports, the others of the other one.
     pub(crate) fn ready(alloc: Global, protocol: Protocol, pairs: u32) -> Result<Station> {
-        let mut station = Station::new(alloc, GatewayId::Zero, 1, true)?;
+        let settings = Settings::sample(alloc)?;
+        Station::ready_of(alloc, &settings, protocol, pairs)
+    }
+
+    /// The same by any settings.
+    pub(crate) fn ready_of(
+        alloc: Global,
+        settings: &Settings,
+        protocol: Protocol,
+        pairs: u32,
+    ) -> Result<Station> {
+        let mut station = Station::of(alloc, settings, GatewayId::Zero, 1, true)?;
         match station.fill(protocol, pairs) {
             Ok(()) => Ok(station),
             Err(fault) => {
@@ -62,14 +84,14 @@ impl Station {
     }
 
     /// The clock goes on.
-    pub(crate) fn tick(&mut self, moment: u64) -> Result<()> {
+    pub(crate) fn tick(&mut self, moment: u64) -> Result<(), NoMemory> {
         let event = Event::Tick(moment);
         step(&mut self.gateway, event, &mut self.out)?;
         Ok(())
     }
 
     /// Takes the datagrams that the other gateway told last. What it tells of its own with the last of them is there then.
-    pub(crate) fn take(&mut self, other: &Station) -> Result<()> {
+    pub(crate) fn take(&mut self, other: &Station) -> Result<(), NoMemory> {
         for datagram in other.out.datagrams() {
             let event = Event::Datagram(datagram);
             step(&mut self.gateway, event, &mut self.out)?;
@@ -85,6 +107,32 @@ impl Station {
     /// How many pairs it has.
     pub(crate) fn count(&self) -> Result<usize> {
         Ok(self.gateway.pairs()?.len())
+    }
+
+    /// How many entries its table has: nothing is listed.
+    pub(crate) fn entry_count(&self) -> usize {
+        self.gateway.entry_count()
+    }
+
+    /// Whether it told a datagram last.
+    pub(crate) fn tells(&self) -> bool {
+        self.out.datagram_count() > 0
+    }
+
+    /// Whether it sent a frame last.
+    pub(crate) fn sends(&self) -> bool {
+        self.out.frames().next().is_some()
+    }
+
+    /// How many pairs it let go last.
+    pub(crate) fn let_go(&self) -> u32 {
+        let mut count = 0u32;
+        for note in self.out.notes() {
+            if let NoteKind::Released(_) = note.what {
+                count = count.saturating_add(1);
+            }
+        }
+        count
     }
 
     /// Opens so many pairs, each by a packet of its own.
@@ -110,14 +158,24 @@ impl Station {
         side: Side,
         frame: &[u8; LONGEST],
         size: u16,
-    ) -> Result<bool> {
+    ) -> Result<bool, NoMemory> {
+        Ok(self.hand(side, frame, size)? == Outcome::Sent)
+    }
+
+    /// What becomes of a packet of so many bytes that comes in on a side.
+    pub(crate) fn hand(
+        &mut self,
+        side: Side,
+        frame: &[u8; LONGEST],
+        size: u16,
+    ) -> Result<Outcome, NoMemory> {
         let bytes = &frame[..(HEADER + usize::from(size)).min(LONGEST)];
         let event = Event::Frame(side, bytes);
-        let outcome = step(&mut self.gateway, event, &mut self.out)?;
-        Ok(outcome == Outcome::Sent)
+        step(&mut self.gateway, event, &mut self.out)
     }
 }
 
+/// The protocol whose ports serve where this one has none left.
 fn other(protocol: Protocol) -> Protocol {
     match protocol {
         Protocol::Icmp | Protocol::Tcp => Protocol::Udp,
@@ -126,10 +184,9 @@ fn other(protocol: Protocol) -> Protocol {
 }
 
 /// One step, by a cleared `Out`.
-fn step(gateway: &mut Gateway, event: Event<'_>, out: &mut Out) -> Result<Outcome> {
+fn step(gateway: &mut Gateway, event: Event<'_>, out: &mut Out) -> Result<Outcome, NoMemory> {
     out.clear();
-    let outcome = gateway.step(event, out)?;
-    Ok(outcome)
+    gateway.step(event, out)
 }
 
 /// A gateway starts, and ends.
