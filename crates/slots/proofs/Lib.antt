@@ -1,3 +1,4 @@
+mod Rare
 mod Places
 mod Rows
 mod Edits

@@ -1,16 +1,15 @@
 -- The hasher that each choice makes.
 use Rattle.std.specs.Prelude.{Bool, true, false}
-use Rattle.std.specs.Hash.BuildHasherDefault.{initial_hasher as fixed_hasher}
-use Rattle.std.specs.RandomState.{initial_hasher as drawn_hasher}
-use Rattle.std.specs.declared.hash.DefaultHasher.{DefaultHasher}
+use Rattle.slots.specs.declared.keyed_hasher.KeyedHasher.{KeyedHasher}
 use Rattle.slots.specs.declared.hashers.Hashers.{Hashers}
 use Rattle.slots.specs.declared.hashers.Hashers.TheVariants.{Fixed, Drawn}
+use Rattle.slots.specs.KeyedHashing.{fixed_keys, new_hasher}
 
--- its seed was drawn
+-- its keys were drawn
 abbrev pub is_drawn : Hashers → Bool
-is_drawn (Fixed state) = false
-is_drawn (Drawn state) = true
+is_drawn Fixed = false
+is_drawn (Drawn keys) = true
 
-abbrev pub hasher_of : Hashers → DefaultHasher
-hasher_of (Fixed state) = fixed_hasher state
-hasher_of (Drawn state) = drawn_hasher state
+abbrev pub hasher_of : Hashers → KeyedHasher
+hasher_of Fixed = new_hasher fixed_keys
+hasher_of (Drawn keys) = new_hasher keys

@@ -6,3 +6,4 @@ pub mod Lends
 pub mod Hashers
 pub mod Dues
 pub mod SmallNumbers
+pub mod KeyedHashing

@@ -2,17 +2,18 @@
 ghost use Rattle.std.specs.Prelude.{◌≡◌, true, false, IfOk};
 ghost use Rattle.slots.specs.Hashers.{hasher_of, is_drawn};
 
-use std::hash::{BuildHasher, BuildHasherDefault, DefaultHasher, RandomState};
+use crate::keyed_hasher::{KeyedHasher, Keys};
+use std::hash::BuildHasher;
 use std::io;
 use std::random::RandomSource;
 
-/// Makes hashers from a fixed seed, or from one that was drawn.
+/// Makes hashers with fixed keys, or with keys that were drawn.
 #[derive(Clone, Copy)]
 pub enum Hashers {
     /// The same in each run.
-    Fixed(BuildHasherDefault<DefaultHasher>),
+    Fixed,
     /// For endpoints that an adversary may pick.
-    Drawn(RandomState),
+    Drawn(Keys),
 }
 
 impl Hashers {
@@ -20,27 +21,28 @@ impl Hashers {
     pub fn fixed() -> Hashers
         ensures { is_drawn result ≡ false }
     {
-        Hashers::Fixed(BuildHasherDefault::new())
+        Hashers::Fixed
     }
 
-    /// Hashers from a seed that is drawn now. It is an error where the system refuses one.
+    /// Hashers with keys that are drawn now. It is an error where the system refuses them.
     pub fn drawn<R: RandomSource>(rt: &R) -> io::Result<Hashers>
         ensures { IfOk result (λ hashers. is_drawn hashers ≡ true) }
     {
-        let state = RandomState::new(rt)?;
-        Ok(Hashers::Drawn(state))
+        let keys = Keys::drawn(rt)?;
+        Ok(Hashers::Drawn(keys))
     }
 }
 
 impl BuildHasher for Hashers {
-    type Hasher = DefaultHasher;
+    type Hasher = KeyedHasher;
 
     ghost build_hasher = { hasher_of };
 
-    fn build_hasher(&self) -> DefaultHasher {
+    #[inline(always)]
+    fn build_hasher(&self) -> KeyedHasher {
         match self {
-            Hashers::Fixed(state) => state.build_hasher(),
-            Hashers::Drawn(state) => state.build_hasher(),
+            Hashers::Fixed => KeyedHasher::new(Keys::fixed()),
+            Hashers::Drawn(keys) => KeyedHasher::new(*keys),
         }
     }
 }

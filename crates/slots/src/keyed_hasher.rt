@@ -1,0 +1,86 @@
+//! A hasher that costs a packet one product, and that nobody who hasn't seen its keys can make meet
+//! often.
+ghost use Rattle.std.specs.Prelude.{◌≡◌, ℕ, ◌%◌, ◌*◌, ◌+◌};
+ghost use Rattle.slots.specs.KeyedHashing.{finished, fixed_keys, new_hasher, written, written_from};
+ghost use Rattle.slots.specs.KeyedHashing.{AreCollisionsRare};
+
+use std::hash::Hasher;
+use std::io;
+use std::random::RandomSource;
+
+/// What a hasher multiplies by and adds.
+#[derive(Clone, Copy)]
+pub struct Keys {
+    factor: u128,
+    summand: u128,
+}
+
+impl Keys {
+    /// The digits of pi behind the point, in base 16.
+    pub(crate) fn fixed() -> Keys
+        ensures { result ≡ fixed_keys }
+    {
+        Keys {
+            factor: 0x243f_6a88_85a3_08d3_1319_8a2e_0370_7344,
+            summand: 0xa409_3822_299f_31d0_082e_fa98_ec4e_6c89,
+        }
+    }
+
+    /// Keys that are drawn now. It is an error where the system refuses them.
+    pub(crate) fn drawn<R: RandomSource>(rt: &R) -> io::Result<Keys> {
+        let mut factor = [0; 16];
+        rt.fill_bytes(&mut factor)?;
+        let mut summand = [0; 16];
+        rt.fill_bytes(&mut summand)?;
+        Ok(Keys {
+            factor: u128::from_le_bytes(factor),
+            summand: u128::from_le_bytes(summand),
+        })
+    }
+}
+
+/// Hashes what is written to it as one number, of which the last 64 bits count: the upper 32 of the 128
+/// bits of factor times number plus summand (multiply-shift hashing). A map uses no more than 32.
+#[derive(Clone, Copy)]
+pub struct KeyedHasher {
+    keys: Keys,
+    number: u64,
+}
+
+impl KeyedHasher {
+    #[inline(always)]
+    pub(crate) fn new(keys: Keys) -> KeyedHasher
+        ensures { result ≡ new_hasher keys }
+    {
+        KeyedHasher { keys, number: 0 }
+    }
+}
+
+impl Hasher for KeyedHasher {
+    ghost write = { written };
+
+    ghost finish = { finished };
+
+    #[inline(always)]
+    fn finish(&self) -> u64 {
+        let product = self.keys.factor.wrapping_mul(u128::from(self.number));
+        (product.wrapping_add(self.keys.summand) >> 96) as u64
+    }
+
+    #[inline(always)]
+    fn write(&mut self, bytes: &[u8]) {
+        let mut number = self.number;
+        for byte in bytes {
+            number = number.wrapping_mul(256).wrapping_add(u64::from(*byte));
+        }
+        self.number = number;
+    }
+}
+
+/// Collisions are rare: of so many buckets, a power of two, two numbers x and y fall into one under at
+/// most one factor of buckets / 2 - 1, whatever the summand and whoever picked the numbers, as long as
+/// he hadn't seen the keys. In a stretch of factors in which factor times y - x grows by 2^96 for each
+/// bucket but two, those under which they fall together lie within a growth of 2^97.
+pub fn collisions_are_rare()
+    ensures { AreCollisionsRare }
+{}
