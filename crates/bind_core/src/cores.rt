@@ -650,6 +650,7 @@ impl Core {
         requires one { AreBounds one }
         ensures ledger { IfOk result (λ c. ledger_of c
             ≡ record { book = empty_book id zero one limit; lives = [] }) }
+        ensures hashers { IfOk result (λ c. c.table.hashers ≡ hashers) }
     {
         books_begin();
         recall_port(zero.highest);
@@ -681,6 +682,7 @@ impl Core {
         requires one { AreBounds one }
         ensures ledger { IfOk result (λ c. ledger_of c
             ≡ record { book = founded_book zero one limit; lives = [] }) }
+        ensures hashers { IfOk result (λ c. c.table.hashers ≡ hashers) }
     {
         let mut core = Core::unsynced(alloc, GatewayId::Zero, zero, one, limit, hashers)?;
         core.found(zero, one);
@@ -693,6 +695,7 @@ impl Core {
         requires empty { book_of self.old ≡ empty_book Zero zero one self.old.limit }
         ensures book { book_of self.new ≡ founded_book zero one self.old.limit }
         ensures lives { self.new.table.lives ≡ self.old.table.lives }
+        ensures hashers { self.new.table.hashers ≡ self.old.table.hashers }
     {
         books_begin();
         recall_port(zero.highest);
