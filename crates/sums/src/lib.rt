@@ -22,6 +22,9 @@ pub fn add(a: u16, b: u16) -> u16
     }
 }
 
+/// The bytes of a header of IPv4 without options, of which a packet has one.
+const HEADER: usize = 20;
+
 /// The bytes that are added up in one number before it is folded.
 const LONGEST: usize = 65536;
 
@@ -50,8 +53,35 @@ fn last_words(rest: &[u8]) -> u64
     }
 }
 
-/// A number with the one's complement sum of the words of so many bytes. Two words at a time are
-/// added as one number of 32 bits: 65536 is 1 modulo 65535.
+/// Adds two words as one number of 32 bits: 65536 is 1 modulo 65535. Gives what is behind them.
+fn add_four(total: u64, bytes: &[u8]) -> (u64, &[u8])
+    requires long { 4 ≤ length bytes.now }
+    requires small { total ≤ 70368744177664 }
+    ensures sum { ones_sum (result.0 + word_sum result.1.now)
+        ≡ ones_sum (total + word_sum bytes.now) }
+    ensures most { result.0 ≤ total + 4294967295 }
+    ensures rest { length result.1.now + 4 ≡ length bytes.now }
+{
+    match bytes {
+        [_, _, _, _, rest @ ..] => (total + u64::from(BigEndian::read_u32(bytes)), rest),
+        _ => unreachable!(),
+    }
+}
+
+/// A number with the one's complement sum of the words of a header of IPv4 without options.
+fn header_total(bytes: &[u8]) -> u64
+    requires { length bytes.now ≡ 20 }
+    ensures { ones_sum result ≡ ones_sum (word_sum bytes.now) }
+{
+    let (total, rest) = add_four(0, bytes);
+    let (total, rest) = add_four(total, rest);
+    let (total, rest) = add_four(total, rest);
+    let (total, rest) = add_four(total, rest);
+    let (total, rest) = add_four(total, rest);
+    total + last_words(rest)
+}
+
+/// The same of so many bytes.
 fn short_total(bytes: &[u8]) -> u64
     requires { length bytes.now ≤ 65536 }
     ensures { ones_sum result ≡ ones_sum (word_sum bytes.now) }
@@ -83,7 +113,9 @@ fn long_total(bytes: &[u8]) -> u64
 fn total_of(bytes: &[u8]) -> u64
     ensures { ones_sum result ≡ ones_sum (word_sum bytes.now) }
 {
-    if bytes.len() <= LONGEST {
+    if bytes.len() == HEADER {
+        header_total(bytes)
+    } else if bytes.len() <= LONGEST {
         short_total(bytes)
     } else {
         long_total(bytes)

@@ -2,6 +2,7 @@ mod Found
 mod Leading
 mod Writing
 mod Standing
+mod Packing
 mod Unlinking
 mod Linking
 mod Counting

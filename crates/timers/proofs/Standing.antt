@@ -4,7 +4,7 @@ use Rattle.std.proofs.lemmas.Bool.{cond-true, cond-false, eqb-true, eq-eqb, case
 use Rattle.std.proofs.lemmas.Option.{none-some}
 use Rattle.std.proofs.lemmas.List.{get_or_past}
 use Rattle.timers.specs.declared.links.Links.{Links}
-use Rattle.timers.specs.Chains.{links_of, unset_links, times, stands, chain_of, Leads, AreChains, IsSlot}
+use Rattle.timers.specs.Chains.{links_of, unset_links, times, stands, chain_of, Leads, AreChains, IsSlot, IsBelow}
 use Rattle.timers.proofs.Leading.{answered, from_before, head_within}
 
 -- a slot of a moment stands in that moment's chain
@@ -82,3 +82,8 @@ head_is_slot heads turns links chains a chain (Some u) is =
     let stood = stands_from heads turns links chains a chain u (head_stands heads turns links chains a chain u is).0 in
     let moment = moment_there turns chain (links_of links u).due stood in
     within_from (λ l. l.due) links u moment.0 refl moment.1
+
+-- a slot's number is below what no store has more slots than
+pub slot-below : (links : List Links) (limit : ℕ) (slot : Option ℕ) → length links ≤ limit → IsSlot links slot → IsBelow limit slot
+slot-below links limit None few within = tt
+slot-below links limit (Some s) few within = omega arith

@@ -19,6 +19,10 @@ due_of links = links.due
 abbrev pub IsSlot : List Links → Option ℕ → Type 0
 IsSlot links slot = IfSome slot (λ s. s < length links)
 
+-- a slot's number that is below that, if there is one
+abbrev pub IsBelow : ℕ → Option ℕ → Type 0
+IsBelow limit slot = IfSome slot (λ s. s < limit)
+
 -- the moment of each slot that is set
 abbrev pub moments : List Links → List (Option ℕ)
 moments links = map (λ l. l.due) links

@@ -7,10 +7,11 @@ ghost use Rattle.std.specs.List.Sorted.{IsPermutation};
 ghost use Rattle.timers.specs.Due.{due_slots, cleared, set_count};
 
 mod links;
+mod packed;
 mod wheel;
 
-use crate::links::unset_slots;
 pub use crate::links::{Links, Slots};
+use crate::packed::PackedSlots;
 pub use crate::wheel::Wheel;
 use std::alloc::{AllocError, Global};
 use std::marker::Model;
@@ -20,19 +21,20 @@ use std::marker::Model;
 #[derive(Drop)]
 pub struct Timers {
     wheel: Wheel,
-    links: Vec<Links>,
+    links: PackedSlots,
 }
 
 impl Model for Timers {
     ghost use Rattle.std.specs.Prelude.{ℕ, List, Option};
     ghost use Rattle.timers.specs.Chains.{moments};
     ghost use Rattle.timers.specs.Linked.{IsLinked};
+    ghost use Rattle.timers.specs.Packed.{all_unpacked};
 
     ghost Value = { List (Option ℕ) };
 
-    ghost view = { λ t. moments t.links.items };
+    ghost view = { λ t. moments (all_unpacked t.links.list.items) };
 
-    ghost invariant = { λ t. IsLinked t.wheel t.links.items };
+    ghost invariant = { λ t. IsLinked t.wheel (all_unpacked t.links.list.items) };
 }
 
 impl Timers {
@@ -41,7 +43,7 @@ impl Timers {
         ensures { IfOk result (λ timers. timers ≡ replicate count None) }
     {
         let wheel = Wheel::new(alloc)?;
-        let links = unset_slots(alloc, count)?;
+        let links = PackedSlots::unset(alloc, count)?;
         Ok(Timers { wheel, links })
     }
 
@@ -50,7 +52,7 @@ impl Timers {
         requires { slot < length self.now }
         ensures { result ≡ get_or self.now slot None }
     {
-        self.links[slot].due()
+        self.links.due(slot)
     }
 
     /// Makes a slot due at that moment, and at no other.

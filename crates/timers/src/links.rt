@@ -1,10 +1,8 @@
 //! What a wheel keeps of its caller's slots.
-ghost use Rattle.std.specs.Prelude.{◌≡◌, ◌<◌, ⊤, IfOk, List, length, replicate, slice_set};
+ghost use Rattle.std.specs.Prelude.{◌≡◌, ◌<◌, ◌≤◌, ◌^◌, ⊤, ℕ, List, length, slice_set};
 ghost use Rattle.timers.specs.declared.links.Links.{Links};
-ghost use Rattle.timers.specs.Chains.{due_of, unset_links, links_of, IsSlot};
+ghost use Rattle.timers.specs.Chains.{due_of, unset_links, links_of, IsSlot, IsBelow};
 ghost use Rattle.timers.specs.Steps.{with_next, with_previous};
-
-use std::alloc::{AllocError, Global};
 
 /// A slot's neighbours in its chain, and its due moment in centiseconds where it is set.
 #[derive(Clone, Copy, Debug, PartialEq, Eq)]
@@ -34,13 +32,6 @@ impl Links {
     }
 }
 
-/// Slots that aren't set.
-pub(crate) fn unset_slots(alloc: Global, count: usize) -> Result<Vec<Links>, AllocError>
-    ensures { IfOk result (λ slots. slots.items ≡ replicate count unset_links) }
-{
-    vec![in alloc; Links::unset(); count]
-}
-
 /// A store of slots, numbered from 0 on, that keeps a wheel's links for it.
 pub trait Slots {
     // What a wheel leaves as it was.
@@ -51,16 +42,38 @@ pub trait Slots {
     // The links of each slot.
     ghost all: { Self → List Links };
 
+    // Links name slots below this.
+    ghost limit: { ℕ };
+
+    /// Reminds the prover of how many slots there may be; it does nothing when it runs.
+    fn recall(&self)
+        ensures { length (all self.now) ≤ limit };
+
     /// The links of that slot.
     fn links(&self, slot: usize) -> Links
         requires { slot < length (all self.now) }
-        ensures { result ≡ links_of (all self.now) slot };
+        ensures links { result ≡ links_of (all self.now) slot }
+        ensures next { IsBelow limit result.next }
+        ensures previous { IsBelow limit result.previous };
 
     /// Gives that slot these links, and changes nothing else.
     fn set_links(&mut self, slot: usize, links: Links)
-        requires { slot < length (all self.old) }
+        requires within { slot < length (all self.old) }
+        requires next { IsBelow limit links.next }
+        requires previous { IsBelow limit links.previous }
         ensures all { all self.new ≡ slice_set (all self.old) slot links }
         ensures rest { rest self.new ≡ rest self.old };
+}
+
+/// The slot as it is: its type's range is what the prover is reminded of.
+fn in_range(slot: Option<usize>) -> Option<usize>
+    ensures same { result ≡ slot }
+    ensures below { IsBelow 18446744073709551616 result }
+{
+    match slot {
+        Some(slot) => Some(slot),
+        None => None,
+    }
 }
 
 impl Slots for Vec<Links> {
@@ -70,8 +83,19 @@ impl Slots for Vec<Links> {
 
     ghost all = { λ slots. slots.items };
 
+    ghost limit = { 18446744073709551616 };
+
+    fn recall(&self) {
+        let _count = self.len();
+    }
+
     fn links(&self, slot: usize) -> Links {
-        self[slot]
+        let links = self[slot];
+        Links {
+            next: in_range(links.next),
+            previous: in_range(links.previous),
+            due: links.due,
+        }
     }
 
     fn set_links(&mut self, slot: usize, links: Links) {
@@ -81,7 +105,8 @@ impl Slots for Vec<Links> {
 
 /// Gives a slot, if there is one, that slot after it.
 pub(crate) fn set_next<S: Slots>(slots: &mut S, slot: Option<usize>, next: Option<usize>)
-    requires { IsSlot (S.all slots.old) slot }
+    requires slot { IsSlot (S.all slots.old) slot }
+    requires next { IsBelow S.limit next }
     ensures all { S.all slots.new ≡ with_next (S.all slots.old) slot next }
     ensures rest { S.rest slots.new ≡ S.rest slots.old }
 {
@@ -93,7 +118,8 @@ pub(crate) fn set_next<S: Slots>(slots: &mut S, slot: Option<usize>, next: Optio
 
 /// Gives a slot, if there is one, that slot before it.
 pub(crate) fn set_previous<S: Slots>(slots: &mut S, slot: Option<usize>, previous: Option<usize>)
-    requires { IsSlot (S.all slots.old) slot }
+    requires slot { IsSlot (S.all slots.old) slot }
+    requires previous { IsBelow S.limit previous }
     ensures all { S.all slots.new ≡ with_previous (S.all slots.old) slot previous }
     ensures rest { S.rest slots.new ≡ S.rest slots.old }
 {

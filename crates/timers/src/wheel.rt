@@ -141,6 +141,7 @@ impl Wheel {
             ≡ slice_set (moments (S.all slots.old)) slot (Some due) }
         ensures rest { S.rest slots.new ≡ S.rest slots.old }
     {
+        slots.recall();
         let chain = chain_of(self.turns, due);
         let next = self.heads[chain];
         set_previous(slots, next, Some(slot));

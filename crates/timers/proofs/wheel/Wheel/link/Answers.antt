@@ -2,17 +2,24 @@ use Rattle.std.proofs.Common.{◌<◌, None, length, slice_set, ap, ◌∙◌, r
 use Rattle.std.proofs.lemmas.List.{get_or_read, length-map}
 use Rattle.timers.specs.Due.{set_count}
 use Rattle.timers.specs.Chains.{moments}
-use Rattle.timers.proofs.Standing.{head_is_slot}
+use Rattle.timers.proofs.Standing.{head_is_slot, slot-below}
 use Rattle.timers.proofs.Counting.{moment_of, count-set, count-le}
 use Rattle.timers.proofs.Linking.{put_before, first_links, moments-put_before, length-put_before}
 use Rattle.timers.proofs.Changing.{put-linked}
 use Rattle.timers.proofs.wheel.Wheel.link.Goals as goal
 
-pub set_previous-requires : goal.set_previous-requires
-set_previous-requires g c =
+pub set_previous-requires-clause-slot : goal.set_previous-requires-clause-slot
+set_previous-requires-clause-slot g c =
     let l = c.requires.linked in
     let first = get_or_read c.args.self.now.heads.items c.chain_of-chain.result c.index-next.result.now (omega (arith, l.heads)) c.index-next.ensures None in
     head_is_slot c.args.self.now.heads.items c.args.self.now.turns (g.S.Slots.all c.args.slots.now) l.chains l.linked c.chain_of-chain.result c.index-next.result.now (sym first)
+
+pub set_links-requires-clause-next : goal.set_links-requires-clause-next
+set_links-requires-clause-next g c =
+    let l = c.requires.linked in
+    let links = g.S.Slots.all c.args.slots.now in
+    let first = get_or_read c.args.self.now.heads.items c.chain_of-chain.result c.index-next.result.now (omega (arith, l.heads)) c.index-next.ensures None in
+    slot-below links (g.S.Slots.limit) c.index-next.result.now c.recall.ensures (head_is_slot c.args.self.now.heads.items c.args.self.now.turns links l.chains l.linked c.chain_of-chain.result c.index-next.result.now (sym first))
 
 pub overflow_add-self : goal.overflow_add-self
 overflow_add-self g c =

@@ -10,5 +10,5 @@ returns-then-due-now-clause-taken g c =
     let links = g.S.Slots.all c.args.slots.now in
     let s = c.args.slot in
     let sized : s < length (moments links) = omega (arith, length-map links (λ x. x.due), c.requires.within) in
-    let moment : get_or (moments links) s None ≡ Some c.in-Some.due = moment_of links s ∙ ap (λ l. l.due) (sym c.links-links.ensures) ∙ c.in-Some.is in
+    let moment : get_or (moments links) s None ≡ Some c.in-Some.due = moment_of links s ∙ ap (λ l. l.due) (sym c.links-links.ensures.links) ∙ c.in-Some.is in
     taken_one c.args.now (moments links) (moments (g.S.Slots.all c.unlink.new.slots)) c.args.out.now.items c.push_reserved.new.self.items s c.in-Some.due sized moment c.if-due-now.true c.unlink.ensures.moments c.push_reserved.ensures.items
