@@ -11,7 +11,7 @@
 //! drops a pair; two proposals that cross; lost and repeated datagrams, which it refuses by their numbers and boots and
 //! doesn't mend; a box that gives way.
 //!
-//! usage: bare packets COUNT PAIRS..; kind SIDE PROTOCOL SIZE COUNT PAIRS; new COUNT; lone COUNT; pair COUNT PAIRS;
+//! usage: bare packets COUNT PAIRS..; kind|synced SIDE PROTOCOL SIZE COUNT PAIRS; new COUNT; lone COUNT; pair COUNT PAIRS;
 //! idle COUNT PAIRS; still COUNT PAIRS; ports want|begin|batch COUNT; start
 use std::collections::{HashMap, VecDeque};
 use std::hash::{BuildHasher, Hash, Hasher};
@@ -1640,12 +1640,12 @@ fn report_packets(count: u32, pairs: u32) {
     }
 }
 
-/// One kind of packets alone, so that its instructions can be counted.
-fn report_kind(words: &[String]) {
+/// One kind of packets alone, so that its instructions can be counted; at a box that is alone, or one of two.
+fn report_kind(words: &[String], is_synced: bool) {
     let side = if words[0] == "inside" { Side::Inside } else { Side::Outside };
     let protocol = if words[1] == "tcp" { Protocol::Tcp } else { Protocol::Udp };
     let [size, count, pairs] = [2, 3, 4].map(|at| number(words, at));
-    let mut station = Station::ready(RANGES, protocol, pairs);
+    let mut station = if is_synced { Both::synced(RANGES, protocol, pairs).zero } else { Station::ready(RANGES, protocol, pairs) };
     let (each, sent) = measure(&mut station, side, protocol, size as u16, count, pairs);
     println!("{each} ns, {sent} of {count} sent");
 }
@@ -1729,7 +1729,8 @@ fn main() {
     };
     match command.as_str() {
         "packets" => (1..words.len()).for_each(|at| report_packets(number(words, 0), number(words, at))),
-        "kind" => report_kind(words),
+        "kind" => report_kind(words, false),
+        "synced" => report_kind(words, true),
         "new" => report_new(number(words, 0)),
         "lone" => report_lone(number(words, 0)),
         "pair" => report_pair(number(words, 0), number(words, 1)),
