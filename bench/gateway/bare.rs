@@ -905,15 +905,15 @@ impl Interface {
         self.next = now + ADVERT_INTERVAL;
         self.active = true;
         let mut packet = [0; 32];
-        packet[..12].copy_from_slice(&[0x45, 0xc0, 0, 32, 0, 0, 0, 0, 255, 112, 0, 0]);
+        packet[..12].copy_from_slice(&[0x45, 0, 0, 32, 0, 0, 0, 0, 255, 112, 0, 0]);
         packet[12..16].copy_from_slice(&self.own_address.to_be_bytes());
         packet[16..20].copy_from_slice(&VRRP_GROUP.to_be_bytes());
         let header_sum = !sum(&packet[..20]);
         packet[10..12].copy_from_slice(&header_sum.to_be_bytes());
         packet[20..26].copy_from_slice(&[0x31, self.router, self.priority, 1, 0, ADVERT_INTERVAL as u8]);
         packet[28..32].copy_from_slice(&self.address.to_be_bytes());
-        let whole = u32::from(sum(&packet[12..20])) + 112 + 12 + u32::from(sum(&packet[20..]));
-        packet[26..28].copy_from_slice(&(!folded(whole)).to_be_bytes());
+        let message_sum = !sum(&packet[20..]);
+        packet[26..28].copy_from_slice(&message_sum.to_be_bytes());
         out.frames.extend_from_slice(&VRRP);
         out.frames.extend_from_slice(&self.routed);
         out.frames.extend_from_slice(&[8, 0]);
