@@ -35,6 +35,8 @@ KINDS = [(protocol, size, side) for protocol in ("udp", "tcp") for size in (44, 
 WAYS = {"inside": "outward", "outside": "inward"}
 # What else is measured: its words with a place for how often, how often in the shorter and in the longer run, and in a turn.
 STEPS = {
+    "udp, 44 bytes, outward, 1,000 pairs, at one of two boxes": ("synced inside udp 44 {} 1000", 1000, 5000, 100_000),
+    "udp, 44 bytes, inward, 1,000 pairs, at one of two boxes": ("synced outside udp 44 {} 1000", 1000, 5000, 100_000),
     "a new flow, both boxes together": ("new {}", 2000, 6000, 30_000),
     "a new flow of a lone box": ("lone {}", 2000, 6000, 30_000),
     "a tick of both boxes, each with its datagram, 1,000 pairs": ("pair {} 1000", 1000, 5000, 5000),
@@ -54,6 +56,7 @@ MEMORY = {
        for protocol, size, side in KINDS},
     **{name: (words, short, long) for name, (words, short, long, _) in STEPS.items()},
     "flows that come and go, 2,000 at a time": ("churn {} 2000", 2, 6),
+    **{name: (words, 0, 1) for name, words in PORTS.items()},
 }
 ROUNDS, ENDPOINTS = 60, 20_000
 
@@ -238,14 +241,15 @@ def churn(program, rounds):
 def tell_churn(lines):
     flows, longest = lines
     count, each, rate = map(int, re.match(r"(\d+) flows: (\d+) ns each, (\d+) a second", flows).groups())
-    step, slow, steps = map(int, re.search(r"longest step: (\d+) ns; (\d+) of (\d+)", longest).groups())
+    found = re.search(r"longest step: (\d+) ns, number (\d+); (\d+) of (\d+)", longest)
+    step, number, slow, steps = map(int, found.groups())
     tick = re.search(r"worst tick: (\d+) ns, let go (\d+), (\d+) ns beyond; (\d+) of (\d+) late", longest)
     spent, let_go, beyond, late, ticks = map(int, tick.groups())
     print(f"Flows that come and go, {ENDPOINTS:,} at a time, {count // ENDPOINTS} times; by the processor's time:\n")
     table(["", ""], [
         ["flows a second of one processor, both boxes together", f"{rate:,}"],
         ["a flow, from its first packet until both boxes have let it go", f"{each:,} ns"],
-        ["the longest step that isn't a tick", f"{step / 1000:,.0f} us; {slow} of {steps:,} above 100 us"],
+        ["the longest step that isn't a tick", f"{step / 1000:,.0f} us, number {number:,}; {slow} of {steps:,} above 100 us"],
         ["the tick that took most beyond 10 us, and 1 us for each pair that it let go",
          f"{spent / 1000:,.1f} us, let go {let_go:,}, {beyond / 1000:,.1f} us beyond; {late} of {ticks:,} beyond"],
     ])

@@ -46,15 +46,17 @@ class Loop:
 class Flow:
     """One socket of the inside host, and the ports from which the server saw it."""
 
-    def __init__(self, loop, number, protocol, on_answer):
+    def __init__(self, loop, number, protocol, on_answer, hosts=HOSTS):
         self.loop = loop
         self.number = number
         self.protocol = protocol
         self.on_answer = on_answer
+        self.hosts = hosts
         self.round = 0
         self.answered = 0
         self.asked = 0.0
         self.ports = []
+        self.addresses = set()
         self.broken = ""
         self.connected = False
 
@@ -63,7 +65,7 @@ class Flow:
         with space.entered():
             self.sock = socket.socket(socket.AF_INET, kind)
         self.sock.setblocking(False)
-        self.sock.bind((HOSTS[self.number % len(HOSTS)], 0))
+        self.sock.bind((self.hosts[self.number % len(self.hosts)], 0))
         self.sock.connect_ex((SERVER, PORT))
         if self.protocol == "udp":
             self.connected = True
@@ -110,6 +112,7 @@ class Flow:
         if int(words[1]) == self.number and int(words[2]) == self.round > self.answered:
             self.answered = self.round
             self.ports.append(int(words[5]))
+            self.addresses.add(words[4].decode())
             self.on_answer(self)
 
     def connect(self):
@@ -136,12 +139,14 @@ class Flow:
 
 
 class Flows:
-    """Many flows at once."""
+    """Many flows at once, of these hosts, numbered from the first on."""
 
-    def __init__(self, loop, space, stack):
+    def __init__(self, loop, space, stack, hosts=HOSTS, first=0):
         self.loop = loop
         self.space = space
         self.stack = stack
+        self.hosts = hosts
+        self.first = first
         self.flows = []
         self.repeated = 0.0
 
@@ -158,8 +163,8 @@ class Flows:
         return new
 
     def open_one(self, on_answer):
-        number = len(self.flows)
-        flow = Flow(self.loop, number, ("udp", "tcp")[number % 2], on_answer)
+        number = self.first + len(self.flows)
+        flow = Flow(self.loop, number, ("udp", "tcp")[number % 2], on_answer, self.hosts)
         flow.open(self.space)
         flow.ask()
         self.stack.callback(flow.close)

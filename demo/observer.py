@@ -154,7 +154,10 @@ class Observer:
 
     def see_advertisement(self, side, source, moment):
         settings = self.networks.settings
-        number = next(i for i in (0, 1) if settings[f"gateway_{i}"][f"{side}_ip"] == source)
+        number = next((i for i in (0, 1) if settings[f"gateway_{i}"][f"{side}_ip"] == source), None)
+        if number is None:
+            # Of another pair on the same networks.
+            return
         now = moment - time.time() + time.monotonic()
         if self.advertised.get(side, (None, 0))[0] != number:
             self.changes.append((now, side, number))

@@ -11,7 +11,7 @@
 //! drops a pair; two proposals that cross; lost and repeated datagrams, which it refuses by their numbers and boots and
 //! doesn't mend; a box that gives way.
 //!
-//! usage: bare packets COUNT PAIRS..; kind SIDE PROTOCOL SIZE COUNT PAIRS; new COUNT; lone COUNT; pair COUNT PAIRS;
+//! usage: bare packets COUNT PAIRS..; kind|synced SIDE PROTOCOL SIZE COUNT PAIRS; new COUNT; lone COUNT; pair COUNT PAIRS;
 //! idle COUNT PAIRS; still COUNT PAIRS; ports want|begin|batch COUNT; start
 use std::collections::{HashMap, VecDeque};
 use std::hash::{BuildHasher, Hash, Hasher};
@@ -905,15 +905,15 @@ impl Interface {
         self.next = now + ADVERT_INTERVAL;
         self.active = true;
         let mut packet = [0; 32];
-        packet[..12].copy_from_slice(&[0x45, 0xc0, 0, 32, 0, 0, 0, 0, 255, 112, 0, 0]);
+        packet[..12].copy_from_slice(&[0x45, 0, 0, 32, 0, 0, 0, 0, 255, 112, 0, 0]);
         packet[12..16].copy_from_slice(&self.own_address.to_be_bytes());
         packet[16..20].copy_from_slice(&VRRP_GROUP.to_be_bytes());
         let header_sum = !sum(&packet[..20]);
         packet[10..12].copy_from_slice(&header_sum.to_be_bytes());
         packet[20..26].copy_from_slice(&[0x31, self.router, self.priority, 1, 0, ADVERT_INTERVAL as u8]);
         packet[28..32].copy_from_slice(&self.address.to_be_bytes());
-        let whole = u32::from(sum(&packet[12..20])) + 112 + 12 + u32::from(sum(&packet[20..]));
-        packet[26..28].copy_from_slice(&(!folded(whole)).to_be_bytes());
+        let message_sum = !sum(&packet[20..]);
+        packet[26..28].copy_from_slice(&message_sum.to_be_bytes());
         out.frames.extend_from_slice(&VRRP);
         out.frames.extend_from_slice(&self.routed);
         out.frames.extend_from_slice(&[8, 0]);
@@ -1640,12 +1640,12 @@ fn report_packets(count: u32, pairs: u32) {
     }
 }
 
-/// One kind of packets alone, so that its instructions can be counted.
-fn report_kind(words: &[String]) {
+/// One kind of packets alone, so that its instructions can be counted; at a box that is alone, or one of two.
+fn report_kind(words: &[String], is_synced: bool) {
     let side = if words[0] == "inside" { Side::Inside } else { Side::Outside };
     let protocol = if words[1] == "tcp" { Protocol::Tcp } else { Protocol::Udp };
     let [size, count, pairs] = [2, 3, 4].map(|at| number(words, at));
-    let mut station = Station::ready(RANGES, protocol, pairs);
+    let mut station = if is_synced { Both::synced(RANGES, protocol, pairs).zero } else { Station::ready(RANGES, protocol, pairs) };
     let (each, sent) = measure(&mut station, side, protocol, size as u16, count, pairs);
     println!("{each} ns, {sent} of {count} sent");
 }
@@ -1729,7 +1729,8 @@ fn main() {
     };
     match command.as_str() {
         "packets" => (1..words.len()).for_each(|at| report_packets(number(words, 0), number(words, at))),
-        "kind" => report_kind(words),
+        "kind" => report_kind(words, false),
+        "synced" => report_kind(words, true),
         "new" => report_new(number(words, 0)),
         "lone" => report_lone(number(words, 0)),
         "pair" => report_pair(number(words, 0), number(words, 1)),

@@ -1,6 +1,6 @@
 // A malloc that counts the requests for memory. As the program ends it prints how many bytes it had at the most, and in the
 // last line the number of requests; with REFUSED in the environment it refuses the request of that number. For LD_PRELOAD:
-// made and used by bench/gateway.sh and bench/refusals.sh.
+// made and used by bench/gateway.py and bench/refusals.sh.
 #define _GNU_SOURCE
 #include <dlfcn.h>
 #include <malloc.h>

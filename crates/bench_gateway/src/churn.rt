@@ -31,6 +31,8 @@ struct Watch {
     is_on: bool,
     steps: u64,
     longest: u128,
+    /// Which step took longest: by the same number each time where it isn't the machine's doing.
+    longest_at: u64,
     /// The steps that took more than `STEP`.
     slow: u64,
     ticks: u64,
@@ -48,6 +50,7 @@ impl Watch {
             is_on,
             steps: 0,
             longest: 0,
+            longest_at: 0,
             slow: 0,
             ticks: 0,
             late: 0,
@@ -70,7 +73,10 @@ impl Watch {
     fn stepped<R: CpuClock>(&mut self, rt: &R, start: u128) -> Result<()> {
         let spent = self.now(rt)?.saturating_sub(start);
         self.steps = self.steps.saturating_add(1);
-        self.longest = self.longest.max(spent);
+        if spent > self.longest {
+            self.longest = spent;
+            self.longest_at = self.steps;
+        }
         if spent > STEP {
             self.slow = self.slow.saturating_add(1);
         }
@@ -268,6 +274,7 @@ fn report_watch<R: Print>(rt: &R, watch: &Watch) -> Result<()> {
     let Watch {
         steps,
         longest,
+        longest_at,
         slow,
         ticks,
         late,
@@ -276,7 +283,9 @@ fn report_watch<R: Print>(rt: &R, watch: &Watch) -> Result<()> {
         worst_let_go,
         ..
     } = watch;
-    println!(rt; "longest step: {longest} ns; {slow} of {steps} above {STEP} ns")?;
+    println!(rt;
+        "longest step: {longest} ns, number {longest_at}; {slow} of {steps} above {STEP} ns"
+    )?;
     println!(rt;
         "worst tick: {worst} ns, let go {worst_let_go}, {beyond} ns beyond; {late} of {ticks} late"
     )?;

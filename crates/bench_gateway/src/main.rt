@@ -3,7 +3,8 @@
 //!
 //! - `packets COUNT PAIRS..`: a packet from its frame to the frame that is sent, over COUNT of each
 //!   kind, once for each number of pairs
-//! - `kind SIDE PROTOCOL SIZE COUNT PAIRS`: packets of one kind alone
+//! - `kind SIDE PROTOCOL SIZE COUNT PAIRS`: packets of one kind alone; `synced ..`: the same at a gateway
+//!   whose pairs another one has loaded
 //! - `new COUNT`: new flows at two gateways; `lone COUNT`: the same at one that is alone
 //! - `pair COUNT PAIRS`: ticks of two gateways, each with the datagram that is due, which the other takes
 //! - `idle COUNT PAIRS`: ticks of a gateway nothing of which is due; `still COUNT PAIRS`: the same while
@@ -28,6 +29,7 @@ mod stations;
 
 use addresses::Protocol;
 use anyhow::{Context, Result, bail};
+use boxes::Both;
 use churn::report_churn;
 use flows::{report_lone, report_new, report_pair, report_ticks};
 use many::{Costs, TICKS, costs_of};
@@ -186,6 +188,19 @@ fn report_kind<R: Print + Clock + AllocGlobal>(rt: &R, words: &[String]) -> Resu
     Ok(())
 }
 
+/// Prints what packets of one kind cost a gateway whose pairs another one has loaded.
+fn report_synced<R: Print + Clock + AllocGlobal>(rt: &R, words: &[String]) -> Result<()> {
+    let kind = kind_of(words)?;
+    let count = number_at(words, 3)?;
+    let pairs = number_at(words, 4)?;
+    let mut both = Both::synced(rt.alloc(), kind.protocol, pairs)?;
+    let measured = measure(rt, &mut both.zero, kind, pairs, count);
+    both.end();
+    let (each, sent) = measured?;
+    println!(rt; "{each} ns, {sent} of {count} sent")?;
+    Ok(())
+}
+
 /// Prints what is asked of ports.
 fn report_some_ports<R: Print + AllocGlobal>(rt: &R, words: &[String]) -> Result<()> {
     let what = words.first().context("there is no word of ports")?;
@@ -228,6 +243,7 @@ fn main(rt: HostRuntime) -> Result<()> {
     match command.as_str() {
         "packets" => report_packets(&rt, rest),
         "kind" => report_kind(&rt, rest),
+        "synced" => report_synced(&rt, rest),
         "many" => report_all_costs(&rt, rest),
         "ports" => report_some_ports(&rt, rest),
         "start" => start(rt.alloc()),
