@@ -34,7 +34,9 @@ mod Sending
 mod Sends
 mod Settling
 mod Sides
+mod Standing
 mod Stepping
+mod TakingOver
 mod Takings
 mod Telling
 mod Translating

@@ -14,3 +14,4 @@ pub mod Seconds
 pub mod Rests
 pub mod Settled
 pub mod Founding
+pub mod TakingOver

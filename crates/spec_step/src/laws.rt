@@ -11,6 +11,7 @@ ghost use Rattle.nat_types.specs.declared.records.Record.{Record};
 ghost use Rattle.nat_types.specs.Same.{same};
 ghost use Rattle.settings.specs.declared.whole.Settings.{Settings};
 ghost use Rattle.icmp.specs.declared.packets.ErrorFlow.{ErrorFlow};
+ghost use Rattle.interfaces.specs.Stations.{is_active};
 ghost use Rattle.link.specs.Hearing.{peer_serves};
 ghost use Rattle.output.specs.Output.{Sent};
 ghost use Rattle.packet_rules.specs.declared.readings.Asked.{Asked as Echo};
@@ -39,11 +40,15 @@ ghost use Rattle.spec_step.specs.Parts.{all_idle_done, all_taken, echo_taken, er
 ghost use Rattle.spec_step.specs.PassedOn.{ChangesLittle, HidesAllInside, LeavesPairs, TellsAll};
 ghost use Rattle.spec_step.specs.Rests.{AccountsOn, Rests, most_notes};
 ghost use Rattle.spec_step.specs.Settled.{AreIdle, HaveBegun, IsSettled};
-ghost use Rattle.spec_step.specs.Shown.{GatewayAndOutput, Shown, has_side_out, id_of, is_up, scene};
+ghost use Rattle.spec_step.specs.Shown.{GatewayAndOutput, Shown, has_side_out, id_of, is_up, scene, station_on};
 ghost use Rattle.spec_step.specs.Sayings.{own_in};
 ghost use Rattle.spec_step.specs.Seconds.{AreStepsSaying, StepOwn, answers_at, complaints_at, in_second};
 ghost use Rattle.spec_step.specs.Shown.{with_notes};
 ghost use Rattle.spec_step.specs.Steps.{Does, IsStepOn};
+ghost use Rattle.spec_step.specs.TakingOver.{AreSilentSteps, HearsAdvert, IsBehind, IsSilentStep};
+ghost use Rattle.spec_step.specs.TakingOver.{router_on};
+ghost use Rattle.vrrp_states.specs.declared.State.TheVariants.{Backup};
+ghost use Rattle.vrrp_states.specs.Table.{Follows, active_down_interval};
 ghost use Rattle.spec_step.specs.Truly.{IsSetUp, Tells, hand_of};
 
 use interfaces::{limits_law, tallies_law};
@@ -356,4 +361,21 @@ pub fn never_alone()
         → IsStepOn s (Tick now) s2 → IsSettled s.shown
         → peer_serves s.shown.link s2.shown.moment ≡ false → is_up s2.shown ≡ true
         → HaveBegun s2.shown }
+{}
+
+/// A gateway takes over where nobody advertises: while it runs and no advertisement is heard on a side
+/// on which it is in Backup, its router there is Active behind the first tick at or after the moment
+/// at which its Active_Down_Timer is due, and stays so. The timer is due Active_Down_Interval after the
+/// last advertisement that the router followed (RFC 9568, section 6.4.2).
+pub fn takes_over()
+    ensures since { (s : GatewayAndOutput) (side : Side) (event : Event) (s2 : GatewayAndOutput)
+        (priority interval : ℕ) → IsStepOn s event s2
+        → HearsAdvert side s.shown event priority interval
+        → (let router = router_on s.shown side in router.state ≡ Backup
+        → 0 < priority → Follows router priority → IsBehind s2.shown side
+        (s.shown.moment + active_down_interval router.priority interval)) }
+    ensures over { (g : Shown) (side : Side) (due now : ℕ) (events : List Event) (last new : Shown)
+        → IsSettled g → IsBehind g side due → AreSilentSteps g side events last
+        → IsSilentStep last side (Tick now) new → due ≤ new.moment
+        → is_active (station_on new side) ≡ true }
 {}
