@@ -16,6 +16,7 @@ mod Hiding
 mod Idle
 mod InSeconds
 mod Leaving
+mod LettingGo
 mod Limits
 mod Lines
 mod Near

@@ -15,3 +15,4 @@ pub mod Rests
 pub mod Settled
 pub mod Founding
 pub mod TakingOver
+pub mod LettingGo

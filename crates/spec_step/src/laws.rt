@@ -25,7 +25,9 @@ ghost use Rattle.packet_rules.specs.Own.{complaint_of, exit_for};
 ghost use Rattle.spec_trace.specs.Past.{Idle};
 ghost use Rattle.spec_pair.specs.Talk.{note};
 ghost use Rattle.waiting.specs.Packets.{HeldPacket, hop_count};
-ghost use Rattle.spec_binding.specs.Books.{IsBook};
+ghost use Rattle.bindings.specs.declared.entries.Entry.{Entry};
+ghost use Rattle.spec_binding.specs.declared.setups.Stage.TheVariants.{Paired};
+ghost use Rattle.spec_binding.specs.Books.{IsBook, is_lone};
 ghost use Rattle.spec_binding.specs.Ledgers.{let_go};
 ghost use Rattle.spec_step.specs.declared.events.Event.{Event};
 ghost use Rattle.spec_step.specs.declared.events.Event.TheVariants.{Tick};
@@ -34,6 +36,7 @@ ghost use Rattle.spec_step.specs.Verdict.{error_plan, plan_of, reading_on};
 ghost use Rattle.spec_step.specs.Founding.{HasRanges, begun, bounds_of, founded, link_places};
 ghost use Rattle.spec_step.specs.Machine.{AreBytes, Goes, HasBytes, HasPushed, IsAlone, IsStanding, KeepsBytes};
 ghost use Rattle.spec_step.specs.Machine.{letters_in, words_in};
+ghost use Rattle.spec_step.specs.LettingGo.{CanAskForAll, HasRested, IsLetGo};
 ghost use Rattle.spec_step.specs.Others.{AreOthers};
 ghost use Rattle.spec_step.specs.OwnAnswers.{AreWithin, SaysJust, ShowsNothing, all_own_of, own_of};
 ghost use Rattle.spec_step.specs.Parts.{all_idle_done, all_taken, echo_taken, error_taken, flow_taken, length_in, refused, retaken_by};
@@ -378,4 +381,17 @@ pub fn takes_over()
         → IsSettled g → IsBehind g side due → AreSilentSteps g side events last
         → IsSilentStep last side (Tick now) new → due ≤ new.moment
         → is_active (station_on new side) ≡ true }
+{}
+
+/// What has rested is let go: after its rest and a tick an entry that may be let go is gone at a lone
+/// gateway, and else it is closing, where the peer may be asked for all such entries; and its release
+/// is noted.
+pub fn ticks_let_go()
+    ensures alone { (s : GatewayAndOutput) (now : ℕ) (s2 : GatewayAndOutput) (x : Entry)
+        → IsStepOn s (Tick now) s2 → is_lone s.shown.ledger.book.stage ≡ true
+        → HasRested s.shown.ledger s2.shown.moment x → IsLetGo s x s2 }
+    ensures paired { (s : GatewayAndOutput) (now : ℕ) (s2 : GatewayAndOutput) (x : Entry)
+        → IsStepOn s (Tick now) s2 → s.shown.ledger.book.stage ≡ Paired
+        → CanAskForAll s.shown.ledger s.shown.link s2.shown.moment
+        → HasRested s.shown.ledger s2.shown.moment x → IsLetGo s x s2 }
 {}

@@ -12,7 +12,7 @@ pub use laws::{
     few_in_one_second, gives_way, idle_at_once, never_alone, other_frames,
     others_account, own_frames_show_nothing, own_leaves_pairs, parts_stand, steps_account,
     steps_count, steps_go, steps_keep, steps_note, steps_pass_on, steps_say, steps_settle,
-    steps_tell, takes_over, takings_say,
+    steps_tell, takes_over, takings_say, ticks_let_go,
 };
 pub use plans::{Plan, Reply};
 pub use turns::Turn;
