@@ -11,6 +11,7 @@ mod Fitting
 mod FrameKinds
 mod Freeing
 mod Giving
+mod GoingOn
 mod Hearing
 mod Hiding
 mod Idle
@@ -27,6 +28,7 @@ mod OwnTakings
 mod Packets
 mod Passed
 mod Passing
+mod Reasons
 mod Records
 mod Resting
 mod Rooting

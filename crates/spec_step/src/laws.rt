@@ -1,6 +1,6 @@
 //! What holds of a step of a gateway. Each law is the contract of a function that does nothing.
 
-ghost use Rattle.std.specs.Prelude.{◌≡◌, ◌≢◌, Ok, ◌≤◌, ◌<◌, ◌+◌, ◌^◌, ◌∷◌, ◌++◌, ℕ, true, false, [], List, length, reverse, Err, Some};
+ghost use Rattle.std.specs.Prelude.{◌≡◌, ◌≢◌, ◌↔◌, Ok, ◌≤◌, ◌<◌, ◌+◌, ◌^◌, ◌∷◌, ◌++◌, ℕ, true, false, [], List, length, reverse, Err, Some};
 ghost use Rattle.nat_types.specs.declared.gateways.GatewayId.{GatewayId};
 ghost use Rattle.nat_types.specs.declared.gateways.Side.{Side};
 ghost use Rattle.nat_types.specs.declared.notes.NoteKind.TheVariants.{Booted, Crashed};
@@ -19,7 +19,8 @@ ghost use Rattle.ipv4.specs.declared.flows.Flow.{Flow};
 ghost use Rattle.packet_rules.specs.declared.complaints.Complaint.TheVariants.{TooBig};
 ghost use Rattle.packet_rules.specs.declared.networks.Networks.{Networks};
 ghost use Rattle.packet_rules.specs.declared.reasons.Reason.{Reason};
-ghost use Rattle.packet_rules.specs.declared.reasons.Reason.TheVariants.{TooLong};
+ghost use Rattle.packet_rules.specs.declared.reasons.Reason.TheVariants.{HostLimit, NoPort, TooLong};
+ghost use Rattle.packet_rules.specs.declared.translations.Translation.{Translation};
 ghost use Rattle.packet_rules.specs.Networks.{direction_of, mtu_of};
 ghost use Rattle.packet_rules.specs.Own.{complaint_of, exit_for};
 ghost use Rattle.spec_trace.specs.Past.{Idle};
@@ -31,9 +32,11 @@ ghost use Rattle.spec_binding.specs.Books.{IsBook, is_lone};
 ghost use Rattle.spec_binding.specs.Ledgers.{let_go};
 ghost use Rattle.spec_step.specs.declared.events.Event.{Event};
 ghost use Rattle.spec_step.specs.declared.events.Event.TheVariants.{Tick};
+ghost use Rattle.spec_step.specs.declared.events.Outcome.TheVariants as outcome;
 ghost use Rattle.spec_step.specs.declared.plans.Plan.TheVariants.{Wait as WaitForPair};
-ghost use Rattle.spec_step.specs.Verdict.{error_plan, plan_of, reading_on};
+ghost use Rattle.spec_step.specs.Verdict.{error_plan, plan_of, reading_on, verdict};
 ghost use Rattle.spec_step.specs.Founding.{HasRanges, begun, bounds_of, founded, link_places};
+ghost use Rattle.spec_step.specs.GoingOn.{HasAllPairs, HasNoPort, MayGoOn, MayPassOn};
 ghost use Rattle.spec_step.specs.Machine.{AreBytes, Goes, HasBytes, HasPushed, IsAlone, IsStanding, KeepsBytes};
 ghost use Rattle.spec_step.specs.Machine.{letters_in, words_in};
 ghost use Rattle.spec_step.specs.LettingGo.{CanAskForAll, HasRested, IsLetGo};
@@ -394,4 +397,19 @@ pub fn ticks_let_go()
         → IsStepOn s (Tick now) s2 → s.shown.ledger.book.stage ≡ Paired
         → CanAskForAll s.shown.ledger s.shown.link s2.shown.moment
         → HasRested s.shown.ledger s2.shown.moment x → IsLetGo s x s2 }
+{}
+
+/// What goes on is sent: a packet whose pairs translate, and an error about one, where it is valid, its
+/// time to live is above one, its next hop is known and it fits. And a packet is dropped since no port
+/// is free (outcome 14), or since its host has all the pairs that it may have (outcome 18), just where
+/// a port has to be chosen for it, and it is so.
+pub fn goes_on_is_sent()
+    ensures packet { (g : Shown) (side : Side) (bytes : List ℕ) (by : Translation)
+        → MayGoOn g side bytes by → verdict g side bytes ≡ outcome.Sent }
+    ensures error { (g : Shown) (side : Side) (bytes : List ℕ) (by : Translation)
+        → MayPassOn g side bytes by → verdict g side bytes ≡ outcome.Sent }
+    ensures no_port { (g : Shown) (side : Side) (bytes : List ℕ) → IsBook g.ledger.book
+        → (verdict g side bytes ≡ outcome.Dropped NoPort) ↔ HasNoPort g side bytes }
+    ensures host_limit { (g : Shown) (side : Side) (bytes : List ℕ)
+        → (verdict g side bytes ≡ outcome.Dropped HostLimit) ↔ HasAllPairs g side bytes }
 {}
