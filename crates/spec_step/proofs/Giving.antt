@@ -25,9 +25,9 @@ use Rattle.spec_step.proofs.Settling.{step-settles}
 use Rattle.spec_step.proofs.Turning.{back_as, turn-by}
 
 -- the moment, and whether it is away, stay
-record Lasts (s s2 : GatewayAndOutput) : Type 0 where
-  moment : s2.shown.moment ≡ s.shown.moment
-  away : s2.shown.away ≡ s.shown.away
+pub record Lasts (s s2 : GatewayAndOutput) : Type 0 where
+  pub moment : s2.shown.moment ≡ s.shown.moment
+  pub away : s2.shown.away ≡ s.shown.away
 
 lasts-then : (a b c : GatewayAndOutput) → Lasts a b → Lasts b c → Lasts a c
 lasts-then a b c x y = record { moment = y.moment ∙ x.moment; away = y.away ∙ x.away }
@@ -37,13 +37,13 @@ both-last s s2 event both =
     let shown = both-shown s event s2 both in
     record { moment = ap (λ (g : Shown). g.moment) shown; away = ap (λ (g : Shown). g.away) shown }
 
-idle-lasts : (s : GatewayAndOutput) → Lasts s (idle_taken s)
+pub idle-lasts : (s : GatewayAndOutput) → Lasts s (idle_taken s)
 idle-lasts s =
     let l = s.shown.ledger in
     let once = idle-at-once s (idle_keys_in (is_lone l.book.stage) s.shown.moment l.book.entries l.lives) in
     record { moment = ap (λ (x : GatewayAndOutput). x.shown.moment) once; away = ap (λ (x : GatewayAndOutput). x.shown.away) once }
 
-ended-lasts : (s : GatewayAndOutput) → Lasts s (link_ticked s)
+pub ended-lasts : (s : GatewayAndOutput) → Lasts s (link_ticked s)
 ended-lasts s = at (is_due_on_tick (handed_in s.shown).link s.shown.moment)
   where
     at : (b : Bool) → Lasts s (let g = handed_in s.shown in let x : GatewayAndOutput = cond b (scene (record g { link = sent_on_tick g.link g.moment }) (with_datagram s.told (datagram_in g))) (scene g s.told) in x)
@@ -51,7 +51,7 @@ ended-lasts s = at (is_due_on_tick (handed_in s.shown).link s.shown.moment)
     at false = record { moment = refl; away = refl }
 
 -- whether it is away behind a turn
-abbrev away_by : Turn → Bool → Bool
+abbrev pub away_by : Turn → Bool → Bool
 away_by Leaves away = true
 away_by Returns away = false
 away_by Stays away = away
@@ -76,11 +76,11 @@ turned-moment s s2 t takes =
     (λ starts up. back-moment starts s.shown) refl t takes
 
 -- a whole tick
-record Ticks (s : GatewayAndOutput) (now : ℕ) (s2 : GatewayAndOutput) : Type 0 where
-  moment : s2.shown.moment ≡ clock_after s.shown.moment now
-  away : s2.shown.away ≡ away_by (turn_of (ticked s now).shown) s.shown.away
+pub record Ticks (s : GatewayAndOutput) (now : ℕ) (s2 : GatewayAndOutput) : Type 0 where
+  pub moment : s2.shown.moment ≡ clock_after s.shown.moment now
+  pub away : s2.shown.away ≡ away_by (turn_of (ticked s now).shown) s.shown.away
 
-tick-ticks : (s : GatewayAndOutput) (now : ℕ) (s2 : GatewayAndOutput) → IsStepOn s (Tick now) s2 → Ticks s now s2
+pub tick-ticks : (s : GatewayAndOutput) (now : ℕ) (s2 : GatewayAndOutput) → IsStepOn s (Tick now) s2 → Ticks s now s2
 tick-ticks s now s2 step =
     let does = step.does in
     let turned = does.0 in
@@ -99,7 +99,7 @@ tick-ticks s now s2 step =
 
 -- ---- which turn it is
 
-abbrev turn_as : (away out whole served : Bool) → Turn
+abbrev pub turn_as : (away out whole served : Bool) → Turn
 turn_as away out whole served = cond away (cond (whole || not served) Returns Stays) (cond (out && served) Leaves Stays)
 
 -- a gateway with a side out isn't whole

@@ -11,11 +11,13 @@ mod Fitting
 mod FrameKinds
 mod Freeing
 mod Giving
+mod GoingOn
 mod Hearing
 mod Hiding
 mod Idle
 mod InSeconds
 mod Leaving
+mod LettingGo
 mod Limits
 mod Lines
 mod Near
@@ -26,6 +28,7 @@ mod OwnTakings
 mod Packets
 mod Passed
 mod Passing
+mod Reasons
 mod Records
 mod Resting
 mod Rooting
@@ -34,7 +37,9 @@ mod Sending
 mod Sends
 mod Settling
 mod Sides
+mod Standing
 mod Stepping
+mod TakingOver
 mod Takings
 mod Telling
 mod Translating

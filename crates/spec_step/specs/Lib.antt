@@ -14,3 +14,6 @@ pub mod Seconds
 pub mod Rests
 pub mod Settled
 pub mod Founding
+pub mod GoingOn
+pub mod TakingOver
+pub mod LettingGo

@@ -87,7 +87,7 @@ carried_by s k p = let g = s.shown in
 
 -- ---- one packet
 
--- the flags of a TCP segment; those of a UDP datagram aren't read
+-- the flags of a TCP segment; those of a UDP datagram or an ICMP query aren't read
 abbrev pub flags_in : List ℕ → TcpFlags
 flags_in bytes = (segment_of (payload_of (frame_of bytes).body)).flags
 

@@ -1,6 +1,6 @@
 //! What holds of a step of a gateway. Each law is the contract of a function that does nothing.
 
-ghost use Rattle.std.specs.Prelude.{◌≡◌, ◌≢◌, Ok, ◌≤◌, ◌<◌, ◌+◌, ◌^◌, ◌∷◌, ◌++◌, ℕ, true, false, [], List, length, reverse, Err, Some};
+ghost use Rattle.std.specs.Prelude.{◌≡◌, ◌≢◌, ◌↔◌, Ok, ◌≤◌, ◌<◌, ◌+◌, ◌^◌, ◌∷◌, ◌++◌, ℕ, true, false, [], List, length, reverse, Err, Some};
 ghost use Rattle.nat_types.specs.declared.gateways.GatewayId.{GatewayId};
 ghost use Rattle.nat_types.specs.declared.gateways.Side.{Side};
 ghost use Rattle.nat_types.specs.declared.notes.NoteKind.TheVariants.{Booted, Crashed};
@@ -11,6 +11,7 @@ ghost use Rattle.nat_types.specs.declared.records.Record.{Record};
 ghost use Rattle.nat_types.specs.Same.{same};
 ghost use Rattle.settings.specs.declared.whole.Settings.{Settings};
 ghost use Rattle.icmp.specs.declared.packets.ErrorFlow.{ErrorFlow};
+ghost use Rattle.interfaces.specs.Stations.{is_active};
 ghost use Rattle.link.specs.Hearing.{peer_serves};
 ghost use Rattle.output.specs.Output.{Sent};
 ghost use Rattle.packet_rules.specs.declared.readings.Asked.{Asked as Echo};
@@ -18,32 +19,42 @@ ghost use Rattle.ipv4.specs.declared.flows.Flow.{Flow};
 ghost use Rattle.packet_rules.specs.declared.complaints.Complaint.TheVariants.{TooBig};
 ghost use Rattle.packet_rules.specs.declared.networks.Networks.{Networks};
 ghost use Rattle.packet_rules.specs.declared.reasons.Reason.{Reason};
-ghost use Rattle.packet_rules.specs.declared.reasons.Reason.TheVariants.{TooLong};
+ghost use Rattle.packet_rules.specs.declared.reasons.Reason.TheVariants.{HostLimit, NoPort, TooLong};
+ghost use Rattle.packet_rules.specs.declared.translations.Translation.{Translation};
 ghost use Rattle.packet_rules.specs.Networks.{direction_of, mtu_of};
 ghost use Rattle.packet_rules.specs.Own.{complaint_of, exit_for};
 ghost use Rattle.spec_trace.specs.Past.{Idle};
 ghost use Rattle.spec_pair.specs.Talk.{note};
 ghost use Rattle.waiting.specs.Packets.{HeldPacket, hop_count};
-ghost use Rattle.spec_binding.specs.Books.{IsBook};
+ghost use Rattle.bindings.specs.declared.entries.Entry.{Entry};
+ghost use Rattle.spec_binding.specs.declared.setups.Stage.TheVariants.{Paired};
+ghost use Rattle.spec_binding.specs.Books.{IsBook, is_lone};
 ghost use Rattle.spec_binding.specs.Ledgers.{let_go};
 ghost use Rattle.spec_step.specs.declared.events.Event.{Event};
 ghost use Rattle.spec_step.specs.declared.events.Event.TheVariants.{Tick};
+ghost use Rattle.spec_step.specs.declared.events.Outcome.TheVariants as outcome;
 ghost use Rattle.spec_step.specs.declared.plans.Plan.TheVariants.{Wait as WaitForPair};
-ghost use Rattle.spec_step.specs.Verdict.{error_plan, plan_of, reading_on};
+ghost use Rattle.spec_step.specs.Verdict.{error_plan, plan_of, reading_on, verdict};
 ghost use Rattle.spec_step.specs.Founding.{HasRanges, begun, bounds_of, founded, link_places};
+ghost use Rattle.spec_step.specs.GoingOn.{HasAllPairs, HasNoPort, MayGoOn, MayPassOn};
 ghost use Rattle.spec_step.specs.Machine.{AreBytes, Goes, HasBytes, HasPushed, IsAlone, IsStanding, KeepsBytes};
 ghost use Rattle.spec_step.specs.Machine.{letters_in, words_in};
+ghost use Rattle.spec_step.specs.LettingGo.{CanAskForAll, HasRested, IsLetGo};
 ghost use Rattle.spec_step.specs.Others.{AreOthers};
 ghost use Rattle.spec_step.specs.OwnAnswers.{AreWithin, SaysJust, ShowsNothing, all_own_of, own_of};
 ghost use Rattle.spec_step.specs.Parts.{all_idle_done, all_taken, echo_taken, error_taken, flow_taken, length_in, refused, retaken_by};
 ghost use Rattle.spec_step.specs.PassedOn.{ChangesLittle, HidesAllInside, LeavesPairs, TellsAll};
 ghost use Rattle.spec_step.specs.Rests.{AccountsOn, Rests, most_notes};
 ghost use Rattle.spec_step.specs.Settled.{AreIdle, HaveBegun, IsSettled};
-ghost use Rattle.spec_step.specs.Shown.{GatewayAndOutput, Shown, has_side_out, id_of, is_up, scene};
+ghost use Rattle.spec_step.specs.Shown.{GatewayAndOutput, Shown, has_side_out, id_of, is_up, scene, station_on};
 ghost use Rattle.spec_step.specs.Sayings.{own_in};
 ghost use Rattle.spec_step.specs.Seconds.{AreStepsSaying, StepOwn, answers_at, complaints_at, in_second};
 ghost use Rattle.spec_step.specs.Shown.{with_notes};
 ghost use Rattle.spec_step.specs.Steps.{Does, IsStepOn};
+ghost use Rattle.spec_step.specs.TakingOver.{AreSilentSteps, HearsAdvert, IsBehind, IsSilentStep};
+ghost use Rattle.spec_step.specs.TakingOver.{router_on};
+ghost use Rattle.vrrp_states.specs.declared.State.TheVariants.{Backup};
+ghost use Rattle.vrrp_states.specs.Table.{Follows, active_down_interval};
 ghost use Rattle.spec_step.specs.Truly.{IsSetUp, Tells, hand_of};
 
 use interfaces::{limits_law, tallies_law};
@@ -356,4 +367,49 @@ pub fn never_alone()
         → IsStepOn s (Tick now) s2 → IsSettled s.shown
         → peer_serves s.shown.link s2.shown.moment ≡ false → is_up s2.shown ≡ true
         → HaveBegun s2.shown }
+{}
+
+/// A gateway takes over where nobody advertises: while it runs and no advertisement is heard on a side
+/// on which it is in Backup, its router there is Active behind the first tick at or after the moment
+/// at which its Active_Down_Timer is due, and stays so. The timer is due Active_Down_Interval after the
+/// last advertisement that the router followed (RFC 9568, section 6.4.2).
+pub fn takes_over()
+    ensures since { (s : GatewayAndOutput) (side : Side) (event : Event) (s2 : GatewayAndOutput)
+        (priority interval : ℕ) → IsStepOn s event s2
+        → HearsAdvert side s.shown event priority interval
+        → (let router = router_on s.shown side in router.state ≡ Backup
+        → 0 < priority → Follows router priority → IsBehind s2.shown side
+        (s.shown.moment + active_down_interval router.priority interval)) }
+    ensures over { (g : Shown) (side : Side) (due now : ℕ) (events : List Event) (last new : Shown)
+        → IsSettled g → IsBehind g side due → AreSilentSteps g side events last
+        → IsSilentStep last side (Tick now) new → due ≤ new.moment
+        → is_active (station_on new side) ≡ true }
+{}
+
+/// What has rested is let go: after its rest and a tick an entry that may be let go is gone at a lone
+/// gateway, and else it is closing, where the peer may be asked for all such entries; and its release
+/// is noted.
+pub fn ticks_let_go()
+    ensures alone { (s : GatewayAndOutput) (now : ℕ) (s2 : GatewayAndOutput) (x : Entry)
+        → IsStepOn s (Tick now) s2 → is_lone s.shown.ledger.book.stage ≡ true
+        → HasRested s.shown.ledger s2.shown.moment x → IsLetGo s x s2 }
+    ensures paired { (s : GatewayAndOutput) (now : ℕ) (s2 : GatewayAndOutput) (x : Entry)
+        → IsStepOn s (Tick now) s2 → s.shown.ledger.book.stage ≡ Paired
+        → CanAskForAll s.shown.ledger s.shown.link s2.shown.moment
+        → HasRested s.shown.ledger s2.shown.moment x → IsLetGo s x s2 }
+{}
+
+/// What goes on is sent: a packet whose pairs translate, and an error about one, where it is valid, its
+/// time to live is above one, its next hop is known and it fits. And a packet is dropped since no port
+/// is free (outcome 14), or since its host has all the pairs that it may have (outcome 18), just where
+/// a port has to be chosen for it, and it is so.
+pub fn goes_on_is_sent()
+    ensures packet { (g : Shown) (side : Side) (bytes : List ℕ) (by : Translation)
+        → MayGoOn g side bytes by → verdict g side bytes ≡ outcome.Sent }
+    ensures error { (g : Shown) (side : Side) (bytes : List ℕ) (by : Translation)
+        → MayPassOn g side bytes by → verdict g side bytes ≡ outcome.Sent }
+    ensures no_port { (g : Shown) (side : Side) (bytes : List ℕ) → IsBook g.ledger.book
+        → (verdict g side bytes ≡ outcome.Dropped NoPort) ↔ HasNoPort g side bytes }
+    ensures host_limit { (g : Shown) (side : Side) (bytes : List ℕ)
+        → (verdict g side bytes ≡ outcome.Dropped HostLimit) ↔ HasAllPairs g side bytes }
 {}

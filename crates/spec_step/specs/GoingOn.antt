@@ -1,0 +1,106 @@
+-- Going on: when a packet or an error is sent, when no port is free for a packet, and when its host has all the pairs that
+-- it may have.
+use Rattle.std.specs.Prelude.{◌≡◌, ℕ, true, false, Option, Some, None, Ok, List}
+use Rattle.addresses.specs.declared.ethernet.Mac.{Mac}
+use Rattle.nat_types.specs.declared.gateways.Side.{Side}
+use Rattle.nat_types.specs.declared.pairs.Pair.{Pair}
+use Rattle.icmp.specs.declared.packets.ErrorFlow.{ErrorFlow}
+use Rattle.icmp.specs.declared.packets.ErrorPacket.{ErrorPacket}
+use Rattle.ipv4.specs.declared.flows.Flow.{Flow}
+use Rattle.ipv4.specs.declared.packets.Packet.{Packet as Datagram}
+use Rattle.bindings.specs.declared.entries.Entry.{Entry}
+use Rattle.bindings.specs.Entries.{entry_of, slot_of, translates}
+use Rattle.bindings.specs.Ports.{is_free_in}
+use Rattle.spec_binding.specs.Books.{owns}
+use Rattle.spec_binding.specs.Rows.{is_at_limit}
+use Rattle.packet_rules.specs.declared.networks.Direction.{Direction}
+use Rattle.packet_rules.specs.declared.networks.Direction.TheVariants as way
+use Rattle.packet_rules.specs.declared.readings.Reading.TheVariants.{Packet, Error}
+use Rattle.packet_rules.specs.declared.translations.Translation.{Translation}
+use Rattle.packet_rules.specs.declared.translations.Translation.TheVariants.{Outward, Inward, Hairpin}
+use Rattle.packet_rules.specs.Errors.{endpoint_about, error_direction, key_about}
+use Rattle.packet_rules.specs.Flows.{source_of, target_of}
+use Rattle.packet_rules.specs.Frames.{way_of}
+use Rattle.packet_rules.specs.Networks.{direction_of}
+use Rattle.spec_step.specs.Shown.{Shown}
+use Rattle.spec_step.specs.Verdict.{exit_by, fits_at, next_by, next_to, reading_on, target_pair}
+
+-- an entry that was found is of this pair, and translates
+pub record Translates (found : Option Entry) (p : Pair) : Type 0 where
+  pub entry : Entry
+  pub is : found ≡ Some entry
+  pub pair : entry.pair ≡ p
+  pub translating : translates entry.state ≡ true
+
+-- ---- a packet
+
+-- The pairs of a packet translate: outward that of its source, inward that of the port that it goes to, of a hairpin both.
+abbrev pub HavePairs : Shown → Flow → Translation → Type 0
+HavePairs g flow (Outward p) = Translates (entry_of g.ledger.book.entries (source_of flow)) p
+HavePairs g flow (Inward p) = Translates (slot_of g.ledger.book.entries (target_of flow)) p
+HavePairs g flow (Hairpin own other) =
+    Translates (entry_of g.ledger.book.entries (source_of flow)) own
+    × Translates (slot_of g.ledger.book.entries (target_of flow)) other
+
+-- A frame that came in has a packet that is valid and whose time to live is above one; the packet may go this way, its pairs
+-- translate, its next hop's hardware address is known, and it is no longer than what is sent there.
+pub record MayGoOn (g : Shown) (side : Side) (bytes : List ℕ) (by : Translation) : Type 0 where
+  pub packet : Datagram
+  pub reads : reading_on g side bytes ≡ Ok (Packet packet)
+  pub way : let flow = packet.flow in
+      direction_of g.networks side flow.protocol flow.source.0 flow.destination.0 ≡ Ok (way_of by)
+  pub pairs : HavePairs g packet.flow by
+  pub hop : Mac
+  pub next : next_by g by packet.flow ≡ Some hop
+  pub fits : fits_at g (exit_by by) packet.length ≡ true
+
+-- ---- an error
+
+-- The pairs of an error translate: outward that of the endpoint to which the packet inside came in, inward that of the port
+-- by which it went out, of a hairpin both.
+abbrev pub HaveErrorPairs : Shown → ErrorFlow → Translation → Type 0
+HaveErrorPairs g flow (Outward p) = Translates (entry_of g.ledger.book.entries (endpoint_about flow)) p
+HaveErrorPairs g flow (Inward p) = Translates (slot_of g.ledger.book.entries (key_about flow)) p
+HaveErrorPairs g flow (Hairpin own other) =
+    Translates (entry_of g.ledger.book.entries (endpoint_about flow)) own
+    × Translates (slot_of g.ledger.book.entries (key_about flow)) other
+
+-- the same of a frame that has an error
+pub record MayPassOn (g : Shown) (side : Side) (bytes : List ℕ) (by : Translation) : Type 0 where
+  pub packet : ErrorPacket
+  pub reads : reading_on g side bytes ≡ Ok (Error packet)
+  pub way : error_direction g.networks side packet.flow ≡ Ok (way_of by)
+  pub pairs : HaveErrorPairs g packet.flow by
+  pub hop : Mac
+  pub next : next_to g by packet.flow.destination ≡ Some hop
+  pub fits : fits_at g (exit_by by) packet.length ≡ true
+
+-- ---- a packet for which a port has to be chosen
+
+-- the ways that need a pair of the packet's source: outward, and back in to a pair that translates
+abbrev pub NeedsPair : Shown → Flow → Direction → Type 0
+NeedsPair g flow way.Outward = Unit {0}
+NeedsPair g flow way.Inward = ⊥
+NeedsPair g flow way.Hairpin = (p : Pair) × (target_pair g flow ≡ Ok p)
+
+-- A frame that came in has such a packet, and its source has no pair (of a proposal that was given up nothing counts).
+pub record NeedsPort (g : Shown) (side : Side) (bytes : List ℕ) : Type 0 where
+  pub packet : Datagram
+  pub reads : reading_on g side bytes ≡ Ok (Packet packet)
+  pub way : Direction
+  pub goes : let flow = packet.flow in
+      direction_of g.networks side flow.protocol flow.source.0 flow.destination.0 ≡ Ok way
+  pub needs : NeedsPair g packet.flow way
+  pub none : entry_of g.ledger.book.entries (source_of packet.flow) ≡ None
+
+-- its host is below its limit, and each port that the gateway owns has an entry of the packet's protocol
+pub record HasNoPort (g : Shown) (side : Side) (bytes : List ℕ) : Type 0 where
+  pub chooses : NeedsPort g side bytes
+  pub below : is_at_limit g.ledger.book chooses.packet.flow.source ≡ false
+  pub busy : (port : ℕ) → owns g.ledger.book port ≡ true
+      → is_free_in g.ledger.book.entries chooses.packet.flow.protocol port ≡ false
+
+-- its host has as many pairs as it may have, or more
+pub record HasAllPairs (g : Shown) (side : Side) (bytes : List ℕ) : Type 0 where
+  pub chooses : NeedsPort g side bytes
+  pub reached : is_at_limit g.ledger.book chooses.packet.flow.source ≡ true
