@@ -6,13 +6,15 @@ ghost use Rattle.bindings.specs.Ports.{AreBounds};
 
 use crate::loader::Loader;
 use crate::sender::Sender;
+use crate::{beside, words_of};
 use addresses::Port;
 use anyhow::{Result, bail};
 use bindings::PortBounds;
-use cases_words::Given;
+use cases_words::{Given, is_silent};
 use nat_types::Record;
 use resync::OutOfPlace;
 use std::alloc::Global;
+use std::mem;
 
 #[derive(Drop)]
 struct Cases {
@@ -56,7 +58,7 @@ impl Cases {
         requires one { AreBounds one }
     {
         let sender = Sender::new(alloc, zero, one)?;
-        let loader = Loader::new(alloc, zero, one)?;
+        let (sender, loader) = beside(sender, Loader::new(alloc, zero, one))?;
         Ok(Cases { sender, loader })
     }
 
@@ -74,41 +76,60 @@ impl Cases {
 
     /// What a line answers; nothing, where its call gives nothing back.
     fn answer(&mut self, given: &mut Given<'_>) -> Result<String> {
-        let alloc = given.alloc;
         match given.word()? {
-            "new" => self.begin(given)?,
-            "own" => self.sender.own(given.port()?)?,
-            "disown" => self.sender.disown(given.port()?)?,
-            "add" => self.sender.add(given.pair()?, given.state()?)?,
-            "set_state" => self.sender.set_state(given.key()?, given.state()?)?,
-            "draw" => return self.draw(given),
-            "take" => return self.take(given),
-            "loaded" => return self.loader.listed(alloc),
+            "draw" => self.draw(given),
+            "take" => self.take(given),
+            "loaded" => self.loader.listed(given.alloc),
+            call => {
+                self.change(call, given)?;
+                Ok(String::new(given.alloc))
+            }
+        }
+    }
+
+    fn change(&mut self, call: &str, given: &mut Given<'_>) -> Result<()> {
+        match call {
+            "new" => self.begin(given),
+            "own" => self.sender.own(given.port()?),
+            "disown" => self.sender.disown(given.port()?),
+            "add" => self.sender.add(given.pair()?, given.state()?),
+            "set_state" => self.sender.set_state(given.key()?, given.state()?),
             call => bail!("no call {call}"),
         }
-        Ok(String::new(alloc))
     }
 
     fn begin(&mut self, given: &mut Given<'_>) -> Result<()> {
         let zero = bounds(given)?;
         let one = bounds(given)?;
-        *self = Cases::new(given.alloc, zero, one)?;
+        let new = Cases::new(given.alloc, zero, one)?;
+        drop(mem::replace(self, new));
         Ok(())
     }
 
     /// Draws records, and hands them to the other table.
     fn draw(&mut self, given: &mut Given<'_>) -> Result<String> {
         let records = self.sender.draw(given.count()?);
+        let told = self.tell_drawn(given.alloc, records.as_slice());
+        drop(records);
+        told
+    }
+
+    fn tell_drawn(&mut self, alloc: Global, records: &[Record]) -> Result<String> {
+        self.hand_on(records)?;
+        let mut out = listed(alloc, records)?;
+        if self.sender.cursor.is_over() {
+            out.push_str("; over")?;
+        }
+        Ok(out)
+    }
+
+    fn hand_on(&mut self, records: &[Record]) -> Result<()> {
         for item in records.iter() {
             if self.loader.take(*item, 0)?.is_err() {
                 bail!("a drawn record is out of place");
             }
         }
-        let mut out = listed(given.alloc, records.as_slice())?;
-        if self.sender.cursor.is_over() {
-            write!(out, "; over")?;
-        }
-        Ok(out)
+        Ok(())
     }
 
     fn take(&mut self, given: &mut Given<'_>) -> Result<String> {
@@ -120,27 +141,35 @@ impl Cases {
     }
 }
 
-/// Writes the answers to the lines of a file.
-fn write_answers(alloc: Global, cases: &mut Cases, text: &str, out: &mut String) -> Result<()> {
-    for line in text.lines() {
-        if line.is_empty() || line.starts_with("#") {
-            continue;
-        }
-        let words = line.split_whitespace().collect::<Vec<&str>>(alloc)?;
-        let mut given = Given::new(alloc, words.as_slice());
-        match cases.answer(&mut given) {
-            Ok(answer) if answer.is_empty() => {}
-            Ok(answer) => writeln!(out, "{line}: {answer}")?,
-            Err(refusal) => writeln!(out, "{line}: refused, {refusal}")?,
-        }
+fn write_answer(out: &mut String, line: &str, answer: Result<String>) -> Result<()> {
+    match answer {
+        Ok(answer) if answer.is_empty() => {}
+        Ok(answer) => writeln!(out, "{line}: {answer}")?,
+        Err(refusal) => writeln!(out, "{line}: refused, {refusal}")?,
     }
     Ok(())
 }
 
+fn answer(alloc: Global, cases: &mut Cases, line: &str) -> Result<String> {
+    let words = words_of(alloc, line)?;
+    cases.answer(&mut Given::new(alloc, words.as_slice()))
+}
+
+/// The answers to the lines of a file.
+fn all_answers(alloc: Global, cases: &mut Cases, text: &str) -> Result<String> {
+    let mut out = String::new(alloc);
+    for line in text.lines() {
+        if !is_silent(line) {
+            write_answer(&mut out, line, answer(alloc, cases, line))?;
+        }
+    }
+    Ok(out)
+}
+
 /// The lines for the cases of a file.
 pub(crate) fn answers(alloc: Global, text: &str) -> Result<String> {
-    let mut out = String::new(alloc);
     let mut cases = Cases::sample(alloc)?;
-    write_answers(alloc, &mut cases, text, &mut out)?;
-    Ok(out)
+    let answers = all_answers(alloc, &mut cases, text);
+    drop(cases);
+    answers
 }

@@ -40,18 +40,24 @@ impl Loader {
         Ok(self.loading.take(&mut self.table, item, now))
     }
 
-    /// The runs of the ports that it is to own, and its entries.
+    /// How many ports it is to own, and its entries.
     pub fn listed(&self, alloc: Global) -> Result<String> {
         let mut out = String::new(alloc);
-        let ports = self.table.owned()?;
-        write!(out, "{} ports", ports.len())?;
+        let ports = self.table.owned()?.len();
+        write!(out, "{ports} ports")?;
+        self.write_entries(&mut out)?;
+        Ok(out)
+    }
+
+    fn write_entries(&self, out: &mut String) -> Result<()> {
         let mut last = None;
         for _ in 0..self.table.len() {
             if let Some(entry) = self.table.entry_after(last) {
-                write!(out, ", {} {:?}", entry.pair, entry.state)?;
-                last = Some(entry.pair.key);
+                let (pair, state) = (entry.pair, entry.state);
+                write!(out, ", {pair} {state:?}")?;
+                last = Some(pair.key);
             }
         }
-        Ok(out)
+        Ok(())
     }
 }

@@ -4,6 +4,7 @@ ghost use Rattle.bindings.specs.Ports.{AreBounds};
 ghost use Rattle.link.specs.Grammar.{IsWellFormedPair};
 ghost use Rattle.resync.specs.Batch.{CanBeSent};
 
+use crate::beside;
 use addresses::Port;
 use anyhow::{Result, bail};
 use arrayvec::ArrayVec;
@@ -46,10 +47,17 @@ impl Sender {
             one,
             cursor,
         };
-        for port in zero.lowest.0..=zero.highest.0 {
-            sender.own(Port(port))?;
-        }
+        let owned = sender.own_first();
+        let (sender, ()) = beside(sender, owned)?;
         Ok(sender)
+    }
+
+    /// It owns the first range.
+    fn own_first(&mut self) -> Result<()> {
+        for port in self.zero.lowest.0..=self.zero.highest.0 {
+            self.own(Port(port))?;
+        }
+        Ok(())
     }
 
     pub fn own(&mut self, port: Port) -> Result<()> {

@@ -6,8 +6,10 @@ ghost use Rattle.link.specs.Link.{free_places, occupied};
 ghost use Rattle.spec_binding.specs.Resets.{restart_batch};
 ghost use Rattle.bind_core.specs.Cores.{book_of};
 
+use crate::beside;
 use crate::spelled::{
-    is_spelled, is_spelled_endpoint, say, say_endpoint, say_entry, say_owned, say_pushed, say_want,
+    is_spelled, is_spelled_endpoint, say, say_endpoint, say_entry, say_notes, say_owned,
+    say_pushed, say_want,
 };
 use addresses::{Ip, Port, Protocol};
 use anyhow::{Result, bail};
@@ -73,6 +75,10 @@ fn begin_core(
     }
 }
 
+fn begin_link(alloc: Global, id: GatewayId, capacity: usize) -> Result<Link> {
+    Ok(Link::new(alloc, id, 1, capacity)?)
+}
+
 /// How many ports a table's gateway owns.
 fn count_owned(table: &Table) -> Result<usize>
     ensures { IfOk result (λ n. n ≡ length table.now.owned) }
@@ -135,7 +141,7 @@ impl Side {
         let capacity = given.count()?;
         let limit = read_limit(given)?;
         let core = begin_core(alloc, id, word, zero, one, limit)?;
-        let link = Link::new(alloc, id, 1, capacity)?;
+        let (core, link) = beside(core, begin_link(alloc, id, capacity))?;
         Ok(Side {
             alloc,
             id,
@@ -168,20 +174,22 @@ impl Side {
 
     /// Prints the records that were pushed since the last line, and the notes.
     fn tell(&mut self, notes: &Vec<Note>, out: &mut String) -> Result<()> {
-        if self.link.wanted() == 0 {
-            let serves = self.core.is_synced();
-            if let Some(datagram) = self.link.answer(serves) {
-                for item in datagram.records.iter().skip(self.printed) {
-                    say_pushed(out, item)?;
-                }
-                self.printed = datagram.records.len();
-            }
+        self.tell_pushed(out)?;
+        say_notes(out, notes.as_slice())
+    }
+
+    fn tell_pushed(&mut self, out: &mut String) -> Result<()> {
+        if self.link.wanted() > 0 {
+            return Ok(());
         }
-        for note in notes.iter() {
-            say(out, "notes ")?;
-            write!(out, "{note}")?;
-        }
-        Ok(())
+        let serves = self.core.is_synced();
+        let Some(datagram) = self.link.answer(serves) else {
+            return Ok(());
+        };
+        let said = say_pushed(out, datagram.records.as_slice(), self.printed);
+        self.printed = datagram.records.len();
+        drop(datagram);
+        said
     }
 
     pub fn want(&mut self, endpoint: Endpoint, out: &mut String) -> Result<()> {
@@ -321,14 +329,20 @@ impl Side {
             (true, true) => "lone",
         };
         say(out, stage)?;
+        self.list_entries(out)?;
+        say_owned(out, self.core.owned()?.as_slice())
+    }
+
+    fn list_entries(&self, out: &mut String) -> Result<()> {
         let table = self.core.table();
         let mut last = None;
         for _ in 0..table.len() {
             if let Some(entry) = table.entry_after(last) {
-                say_entry(out, entry)?;
-                last = Some(entry.pair.key);
+                let (pair, state) = (entry.pair, entry.state);
+                say_entry(out, pair, state)?;
+                last = Some(pair.key);
             }
         }
-        say_owned(out, self.core.owned()?.as_slice())
+        Ok(())
     }
 }

@@ -5,9 +5,8 @@ ghost use Rattle.spec_binding.specs.WellFormed.{IsWellFormedEndpoint};
 
 use addresses::Port;
 use anyhow::Result;
-use bindings::Entry;
 use link::limits_law;
-use nat_types::{Endpoint, Granted, Key, Pair, Record};
+use nat_types::{Endpoint, EntryState, Granted, Key, Note, Pair, Record};
 use spec_binding::Want;
 
 /// Whether the ports of a pair aren't 0.
@@ -104,10 +103,21 @@ fn write_record(out: &mut String, item: &Record) -> Result<()> {
     Ok(())
 }
 
-/// A record that is pushed.
-pub fn say_pushed(out: &mut String, item: &Record) -> Result<()> {
-    begin_part(out, "pushes ")?;
-    write_record(out, item)
+/// The records that are pushed, but for so many that were printed before.
+pub fn say_pushed(out: &mut String, records: &[Record], printed: usize) -> Result<()> {
+    for item in records.iter().skip(printed) {
+        begin_part(out, "pushes ")?;
+        write_record(out, item)?;
+    }
+    Ok(())
+}
+
+pub fn say_notes(out: &mut String, notes: &[Note]) -> Result<()> {
+    for note in notes.iter() {
+        begin_part(out, "notes ")?;
+        write!(out, "{note}")?;
+    }
+    Ok(())
 }
 
 pub fn say_want(out: &mut String, want: Want) -> Result<()> {
@@ -135,9 +145,9 @@ pub fn say_endpoint(out: &mut String, word: &str, endpoint: Endpoint) -> Result<
     Ok(())
 }
 
-pub fn say_entry(out: &mut String, entry: Entry) -> Result<()> {
+pub fn say_entry(out: &mut String, pair: Pair, state: EntryState) -> Result<()> {
     begin_part(out, "")?;
-    write!(out, "{} {:?}", entry.pair, entry.state)?;
+    write!(out, "{pair} {state:?}")?;
     Ok(())
 }
 

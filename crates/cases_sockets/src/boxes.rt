@@ -42,28 +42,30 @@ impl Boxes {
     /// Opens the box with ways of its own, in place of the one before; `descriptor` is what is inherited.
     pub(crate) fn open_other(&mut self, rt: &HostRuntime, given: &mut Given<'_>) -> Result<()> {
         self.sockets.truncate(3);
-        let ways = self.ways(given)?;
+        let descriptor = u16::try_from(self.inherited.as_raw_fd())?;
+        let ways = ways_in(given, Some(descriptor))?;
         ways.inherit()?;
         self.sockets.push(opened(rt, "other", "other", &ways)?)?;
         Ok(())
     }
+}
 
-    fn ways(&self, given: &mut Given<'_>) -> Result<Ways> {
-        let inside = self.way(given.word()?)?;
-        let outside = self.way(given.word()?)?;
-        let link = self.way(given.word()?)?;
-        Ok(Ways {
-            inside,
-            outside,
-            link,
-        })
-    }
+/// The ways that the next three words write, where `descriptor` is this one, if there is one.
+pub(crate) fn ways_in(given: &mut Given<'_>, descriptor: Option<u16>) -> Result<Ways> {
+    let inside = way(given.word()?, descriptor)?;
+    let outside = way(given.word()?, descriptor)?;
+    let link = way(given.word()?, descriptor)?;
+    Ok(Ways {
+        inside,
+        outside,
+        link,
+    })
+}
 
-    fn way(&self, text: &str) -> Result<Way> {
-        if text == "descriptor" {
-            return Ok(Way::Descriptor(u16::try_from(self.inherited.as_raw_fd())?));
-        }
-        way_in(text).context("no way")
+fn way(text: &str, descriptor: Option<u16>) -> Result<Way> {
+    match descriptor {
+        Some(number) if text == "descriptor" => Ok(Way::Descriptor(number)),
+        _ => way_in(text).context("no way"),
     }
 }
 

@@ -38,12 +38,7 @@ impl Callers {
         let stream = self.streams.get_mut(number).context("no caller")?;
         let mut room = [0; 16];
         match stream.read(&mut room) {
-            Ok(5) if &room[..5] == b"heard".as_slice() => tell(output, "heard"),
-            Ok(0) => tell(output, "closed"),
-            Ok(count) => {
-                writeln!(output, "  {count} other bytes")?;
-                Ok(())
-            }
+            Ok(count) => tell_heard(&room[..count], output),
             Err(error) if error.kind() == ErrorKind::WouldBlock => tell(output, "nothing"),
             Err(_) => tell(output, "closed"),
         }
@@ -53,6 +48,18 @@ impl Callers {
     pub(crate) fn go(&mut self) {
         self.streams.clear();
     }
+}
+
+fn tell_heard(bytes: &[u8], output: &mut String) -> Result<()> {
+    if bytes == b"heard".as_slice() {
+        return tell(output, "heard");
+    }
+    if bytes.is_empty() {
+        return tell(output, "closed");
+    }
+    let count = bytes.len();
+    writeln!(output, "  {count} other bytes")?;
+    Ok(())
 }
 
 /// One that calls, and doesn't wait for what it hears.

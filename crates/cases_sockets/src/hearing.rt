@@ -1,10 +1,10 @@
 //! A place over a conduit in memory.
 
+use crate::Actor;
 use crate::memory::{Letter, Memory};
 use crate::telling::{tell, tell_losses};
-use addresses::Ip;
 use anyhow::{Context, Result, bail, ensure};
-use cases_words::{Given, words_of};
+use cases_words::Given;
 use sockets::{Attachment, End, FarEnd, LONGEST, Network, Sender};
 use std::alloc::Global;
 
@@ -13,17 +13,17 @@ pub(crate) struct Ear {
     place: Attachment<Memory>,
 }
 
+impl Actor for Ear {
+    fn act(&mut self, given: &mut Given<'_>, output: &mut String) -> Result<()> {
+        self.answer(given, output)
+    }
+}
+
 impl Ear {
     pub(crate) fn new(alloc: Global) -> Ear {
         Ear {
             place: Attachment::new(Memory::new(alloc, Vec::new(alloc)), FarEnd::Interface),
         }
-    }
-
-    /// Does what a line says.
-    pub(crate) fn act(&mut self, alloc: Global, line: &str, output: &mut String) -> Result<()> {
-        let words = words_of(alloc, line)?;
-        self.answer(&mut Given::new(alloc, words.as_slice()), output)
     }
 
     /// - `far udp END`, `far vxlan ADDRESS NUMBER`, `far interface`: a new place that speaks with this far end; the
@@ -54,8 +54,13 @@ impl Ear {
     fn begin(&mut self, far: FarEnd, left: u64, given: &mut Given<'_>) -> Result<()> {
         let mut memory = Memory::new(given.alloc, letters(given)?);
         memory.left = left;
-        self.place = Attachment::new(memory, far);
+        self.renew(memory, far);
         Ok(())
+    }
+
+    /// A new place over a conduit.
+    fn renew(&mut self, memory: Memory, far: FarEnd) {
+        self.place = Attachment::new(memory, far);
     }
 
     fn refuse(&mut self, given: &mut Given<'_>, output: &mut String) -> Result<()> {
@@ -69,13 +74,13 @@ impl Ear {
     fn stick(&mut self, alloc: Global) -> Result<()> {
         let mut memory = Memory::new(alloc, Vec::new(alloc));
         memory.stuck = true;
-        self.place = Attachment::new(memory, FarEnd::Interface);
+        self.renew(memory, FarEnd::Interface);
         Ok(())
     }
 
     fn narrow(&mut self, given: &mut Given<'_>) -> Result<()> {
         let memory = Memory::narrow(given.alloc, given.count()?);
-        self.place = Attachment::new(memory, FarEnd::Interface);
+        self.renew(memory, FarEnd::Interface);
         Ok(())
     }
 
@@ -163,10 +168,10 @@ fn end_in(text: &str) -> Option<End> {
 }
 
 fn vxlan(given: &mut Given<'_>) -> Result<FarEnd> {
-    let address = given.word()?.parse::<std::net::Ipv4Addr>()?;
-    let number = given.word()?.parse::<u32>()?;
+    let address = given.ip()?;
+    let number = u32::try_from(given.number()?)?;
     let network = Network::new(number).context("no network")?;
-    Ok(FarEnd::Vxlan(Ip(address.to_bits()), network))
+    Ok(FarEnd::Vxlan(address, network))
 }
 
 /// What all words that are left say is to come: `from`, who sends it and the bytes, again and again.

@@ -12,42 +12,34 @@ mod telling;
 mod texts;
 
 use anyhow::Result;
-use boxes::Boxes;
-use cases_words::is_silent;
+use cases_words::{Given, is_silent, words_of};
 use hearing::Ear;
+use speaking::Speakers;
 use std::alloc::Global;
 use std::fs;
+use texts::Texts;
 
-fn tell_texts(alloc: Global, cases: &str, output: &mut String) -> Result<()> {
-    for case in cases.lines() {
-        if !is_silent(case) {
-            writeln!(output, "{case}")?;
-            texts::act(alloc, case, output)?;
-        }
-    }
-    Ok(())
+/// A byte, in decimal.
+fn byte(given: &mut Given<'_>) -> Result<u8> {
+    Ok(u8::try_from(given.number()?)?)
 }
 
-fn tell_hearing(alloc: Global, ear: &mut Ear, cases: &str, output: &mut String) -> Result<()> {
-    for case in cases.lines() {
-        if !is_silent(case) {
-            writeln!(output, "{case}")?;
-            ear.act(alloc, case, output)?;
-        }
-    }
-    Ok(())
+/// Who does what the lines of a file say.
+trait Actor {
+    fn act(&mut self, given: &mut Given<'_>, output: &mut String) -> Result<()>;
 }
 
-fn tell_sockets(
-    rt: &HostRuntime,
-    boxes: &mut Boxes,
-    cases: &str,
-    output: &mut String,
-) -> Result<()> {
+fn act<A: Actor>(alloc: Global, actor: &mut A, case: &str, output: &mut String) -> Result<()> {
+    let words = words_of(alloc, case)?;
+    actor.act(&mut Given::new(alloc, words.as_slice()), output)
+}
+
+/// Does what each line says, and prints it and what comes of it.
+fn tell<A: Actor>(alloc: Global, actor: &mut A, cases: &str, output: &mut String) -> Result<()> {
     for case in cases.lines() {
         if !is_silent(case) {
             writeln!(output, "{case}")?;
-            speaking::act(rt, boxes, case, output)?;
+            act(alloc, actor, case, output)?;
         }
     }
     Ok(())
@@ -55,20 +47,24 @@ fn tell_sockets(
 
 fn try_texts(rt: &HostRuntime, output: &mut String) -> Result<()> {
     let cases = fs::read_to_string(rt, "texts.cases")?;
-    tell_texts(rt.alloc(), cases.as_str(), output)
+    tell(rt.alloc(), &mut Texts, cases.as_str(), output)
 }
 
 fn try_hearing(rt: &HostRuntime, output: &mut String) -> Result<()> {
     let cases = fs::read_to_string(rt, "hearing.cases")?;
-    let mut ear = Ear::new(rt.alloc());
-    tell_hearing(rt.alloc(), &mut ear, cases.as_str(), output)
+    tell(
+        rt.alloc(),
+        &mut Ear::new(rt.alloc()),
+        cases.as_str(),
+        output,
+    )
 }
 
 fn try_sockets(rt: &HostRuntime, output: &mut String) -> Result<()> {
     let cases = fs::read_to_string(rt, "sockets.cases")?;
-    let mut boxes = Boxes::open(rt)?;
-    let told = tell_sockets(rt, &mut boxes, cases.as_str(), output);
-    drop(boxes);
+    let mut speakers = Speakers::open(rt)?;
+    let told = tell(rt.alloc(), &mut speakers, cases.as_str(), output);
+    drop(speakers);
     told
 }
 

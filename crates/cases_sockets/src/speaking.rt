@@ -2,10 +2,10 @@
 
 use crate::boxes::{Boxes, on_loopback, place};
 use crate::callers::Callers;
-use crate::failures;
-use crate::telling::{tell, tell_losses};
-use anyhow::{Context, Result, bail};
-use cases_words::{Given, words_of};
+use crate::telling::{tell, tell_done, tell_losses};
+use crate::{Actor, byte, failures};
+use anyhow::{Result, bail};
+use cases_words::Given;
 use control::{Control, ControlPath, spelled_status};
 use sockets::{LONGEST, Sockets, Wire, WireFault};
 use std::fs;
@@ -16,20 +16,24 @@ use std::time::Duration;
 /// How many seconds a datagram is waited for.
 const PATIENCE: u64 = 5;
 
-/// Does what a line says.
-pub(crate) fn act(
-    rt: &HostRuntime,
-    boxes: &mut Boxes,
-    line: &str,
-    output: &mut String,
-) -> Result<()> {
-    let words = words_of(rt.alloc(), line)?;
-    answer(
-        rt,
-        boxes,
-        &mut Given::new(rt.alloc(), words.as_slice()),
-        output,
-    )
+/// The boxes, and what their callers and strangers speak by.
+#[derive(Drop)]
+pub(crate) struct Speakers<'a> {
+    rt: &'a HostRuntime,
+    boxes: Boxes,
+}
+
+impl<'a> Speakers<'a> {
+    pub(crate) fn open(rt: &'a HostRuntime) -> Result<Speakers<'a>> {
+        let boxes = Boxes::open(rt)?;
+        Ok(Speakers { rt, boxes })
+    }
+}
+
+impl Actor for Speakers<'_> {
+    fn act(&mut self, given: &mut Given<'_>, output: &mut String) -> Result<()> {
+        answer(self.rt, &mut self.boxes, given, output)
+    }
 }
 
 /// - `fail N`: rounds of a wire whose call N fails
@@ -51,8 +55,8 @@ fn answer(
         "call" => call(rt, &mut boxes.callers, given),
         "caller" => caller(&mut boxes.callers, given, output),
         "callers" => go(&mut boxes.callers),
-        "control" => open_control(rt, given.word()?, output),
-        "say" => say(rt, given.word()?, output),
+        "control" => tell_done(output, open_control(rt, given.word()?), "opened"),
+        "say" => tell_done(output, say(rt, given.word()?), "heard"),
         "ask" => ask(rt, given.word()?, output),
         "mode" => mode(rt, given.word()?, output),
         name => speak(rt, boxes, name, given, output),
@@ -70,20 +74,15 @@ fn speak(
     output: &mut String,
 ) -> Result<()> {
     match given.word()? {
-        "open" => match boxes.open_other(rt, given) {
-            Ok(()) => tell(output, "opened"),
-            Err(fault) => tell(output, &fault),
-        },
-        "bind" => bind(rt, name, output),
+        "open" => tell_done(output, boxes.open_other(rt, given), "opened"),
+        "bind" => tell_done(output, bind(rt, name), "bound"),
         verb => handle(boxes.named(name)?, verb, given, output),
     }
 }
 
-fn bind(rt: &HostRuntime, name: &str, output: &mut String) -> Result<()> {
-    match on_loopback(rt, name, "again") {
-        Ok(_) => tell(output, "bound"),
-        Err(fault) => tell(output, &fault),
-    }
+fn bind(rt: &HostRuntime, name: &str) -> Result<()> {
+    drop(on_loopback(rt, name, "again")?);
+    Ok(())
 }
 
 /// - `send PLACE COUNT BYTE`: the box sends so many of a byte
@@ -127,7 +126,7 @@ fn answer_word(sockets: &mut Sockets, given: &mut Given<'_>) -> Result<()> {
 
 /// The byte that the next word says, so many times.
 fn repeated(given: &mut Given<'_>, count: usize) -> Result<Vec<u8>> {
-    let byte = given.word()?.parse::<u8>()?;
+    let byte = byte(given)?;
     Ok(vec![in given.alloc; byte; count]?)
 }
 
@@ -136,7 +135,7 @@ fn receive(sockets: &mut Sockets, limit: Duration, output: &mut String) -> Resul
     let mut room = [0; LONGEST];
     match sockets.receive(limit, &mut room) {
         Ok(Some((place, count))) => {
-            let byte = room.first().context("no room")?;
+            let byte = room[0];
             writeln!(output, "  {place:?}: {count} bytes of {byte}")?;
             Ok(())
         }
@@ -189,20 +188,16 @@ fn go(callers: &mut Callers) -> Result<()> {
     Ok(())
 }
 
-fn open_control(rt: &HostRuntime, name: &str, output: &mut String) -> Result<()> {
+fn open_control(rt: &HostRuntime, name: &str) -> Result<()> {
     let path = ControlPath::beside(rt.alloc(), name)?;
-    match Control::open(rt, &path) {
-        Ok(_) => tell(output, "opened"),
-        Err(fault) => tell(output, fault),
-    }
+    drop(Control::open(rt, &path)?);
+    Ok(())
 }
 
-fn say(rt: &HostRuntime, name: &str, output: &mut String) -> Result<()> {
+fn say(rt: &HostRuntime, name: &str) -> Result<()> {
     let path = ControlPath::beside(rt.alloc(), name)?;
-    match control::say(rt, &path, b"NO\0\0\0\0\0\0\0\x07") {
-        Ok(()) => tell(output, "heard"),
-        Err(fault) => tell(output, fault),
-    }
+    control::say(rt, &path, b"NO\0\0\0\0\0\0\0\x07")?;
+    Ok(())
 }
 
 fn ask(rt: &HostRuntime, name: &str, output: &mut String) -> Result<()> {

@@ -1,20 +1,25 @@
 //! Texts: of ways, of control paths, of words and answers.
 
-use crate::boxes::way_in;
+use crate::boxes::{way_in, ways_in};
 use crate::telling::tell;
+use crate::{Actor, byte};
 use anyhow::{Context, Result, bail};
-use cases_words::{Given, words_of};
+use cases_words::Given;
 use control::{
     Answer, ControlPath, PeerOffRefusal, spelled_known_off, spelled_off, spelled_pairs,
     spelled_pairs_after, spelled_refusal, spelled_side, spelled_status, word_of,
 };
-use sockets::{Ends, Way, Ways};
+use sockets::{End, Ends, Way};
 use std::alloc::Global;
 
-/// Does what a line says.
-pub(crate) fn act(alloc: Global, line: &str, output: &mut String) -> Result<()> {
-    let words = words_of(alloc, line)?;
-    answer(&mut Given::new(alloc, words.as_slice()), output)
+/// Answers lines about texts.
+#[derive(Drop)]
+pub(crate) struct Texts;
+
+impl Actor for Texts {
+    fn act(&mut self, given: &mut Given<'_>, output: &mut String) -> Result<()> {
+        answer(given, output)
+    }
 }
 
 /// - `way TEXT`: the way that a text writes
@@ -65,21 +70,18 @@ fn way(text: &str, output: &mut String) -> Result<()> {
 }
 
 fn tell_ends(ends: &Ends, output: &mut String) -> Result<()> {
-    let (own, other) = (ends.own, ends.other);
-    write!(output, " {}:{}", own.address, own.port)?;
-    write!(output, " {}:{}", other.address, other.port)?;
+    tell_end(ends.own, output)?;
+    tell_end(ends.other, output)
+}
+
+fn tell_end(end: End, output: &mut String) -> Result<()> {
+    let (address, port) = (end.address, end.port);
+    write!(output, " {address}:{port}")?;
     Ok(())
 }
 
 fn inherit(given: &mut Given<'_>, output: &mut String) -> Result<()> {
-    let inside = way_in(given.word()?).context("no way")?;
-    let outside = way_in(given.word()?).context("no way")?;
-    let link = way_in(given.word()?).context("no way")?;
-    let ways = Ways {
-        inside,
-        outside,
-        link,
-    };
+    let ways = ways_in(given, None)?;
     match ways.inherit() {
         Ok(()) => tell(output, "inherited"),
         Err(fault) => tell(output, fault),
@@ -127,7 +129,7 @@ fn off(given: &mut Given<'_>, output: &mut String) -> Result<()> {
         "known" => tell_hex(alloc, &spelled_known_off(), output),
         number => {
             let forced = given.left().len() == 1;
-            let bytes = spelled_off(number.parse::<u64>()?, forced);
+            let bytes = spelled_off(cases_words::number(number)?, forced);
             tell_hex(alloc, &bytes, output)
         }
     }
@@ -153,8 +155,7 @@ fn read_answer(given: &mut Given<'_>, output: &mut String) -> Result<()> {
 }
 
 fn refusal(given: &mut Given<'_>, output: &mut String) -> Result<()> {
-    let number = given.word()?.parse::<u8>()?;
-    let refusal = PeerOffRefusal::numbered(number).context("no refusal")?;
+    let refusal = PeerOffRefusal::numbered(byte(given)?).context("no refusal")?;
     let text = hex::encode(given.alloc, spelled_refusal(refusal).as_slice())?;
     writeln!(output, "  {text} {refusal}")?;
     Ok(())

@@ -7,12 +7,21 @@ mod tables;
 mod wheels;
 
 use anyhow::{Result, bail};
-use cases_words::Given;
+use cases_words::{Given, is_silent};
 use ports::PortCase;
 use std::alloc::Global;
 use std::{env, fs};
 use tables::TableCase;
 use wheels::TimerCase;
+
+/// What is held, with what was made beside it; it's let go where that couldn't be made. A function that knows its type
+/// would have to show of each of its parts that it is let go.
+fn beside<A: Drop, B>(held: A, made: Result<B>) -> Result<(A, B)> {
+    match made {
+        Ok(made) => Ok((held, made)),
+        Err(fault) => Err(fault),
+    }
+}
 
 /// What the lines so far have come to.
 #[derive(Drop)]
@@ -24,9 +33,9 @@ struct Cases {
 
 impl Cases {
     fn new(alloc: Global) -> Result<Cases> {
-        let table = TableCase::sample(alloc)?;
-        let ports = PortCase::sample(alloc)?;
         let timers = TimerCase::new(alloc, 0)?;
+        let (timers, ports) = beside(timers, PortCase::sample(alloc))?;
+        let ((timers, ports), table) = beside((timers, ports), TableCase::sample(alloc))?;
         Ok(Cases {
             table,
             ports,
@@ -45,29 +54,37 @@ impl Cases {
     }
 }
 
-/// Writes the answers to the lines of a file.
-fn write_answers(alloc: Global, cases: &mut Cases, text: &str, out: &mut String) -> Result<()> {
-    for line in text.lines() {
-        if line.is_empty() || line.starts_with("#") {
-            continue;
-        }
-        let words = line.split_whitespace().collect::<Vec<&str>>(alloc)?;
-        let mut given = Given::new(alloc, words.as_slice());
-        match cases.answer(&mut given) {
-            Ok(answer) if answer.is_empty() => {}
-            Ok(answer) => writeln!(out, "{line}: {answer}")?,
-            Err(refusal) => writeln!(out, "{line}: refused, {refusal}")?,
-        }
+fn write_answer(out: &mut String, line: &str, answer: Result<String>) -> Result<()> {
+    match answer {
+        Ok(answer) if answer.is_empty() => {}
+        Ok(answer) => writeln!(out, "{line}: {answer}")?,
+        Err(refusal) => writeln!(out, "{line}: refused, {refusal}")?,
     }
     Ok(())
 }
 
+fn answer(alloc: Global, cases: &mut Cases, line: &str) -> Result<String> {
+    let words = line.split_whitespace().collect::<Vec<&str>>(alloc)?;
+    cases.answer(&mut Given::new(alloc, words.as_slice()))
+}
+
+/// The answers to the lines of a file.
+fn all_answers(alloc: Global, cases: &mut Cases, text: &str) -> Result<String> {
+    let mut out = String::new(alloc);
+    for line in text.lines() {
+        if !is_silent(line) {
+            write_answer(&mut out, line, answer(alloc, cases, line))?;
+        }
+    }
+    Ok(out)
+}
+
 /// The lines for the cases of a file.
 fn answers(alloc: Global, text: &str) -> Result<String> {
-    let mut out = String::new(alloc);
     let mut cases = Cases::new(alloc)?;
-    write_answers(alloc, &mut cases, text, &mut out)?;
-    Ok(out)
+    let answers = all_answers(alloc, &mut cases, text);
+    drop(cases);
+    answers
 }
 
 fn main(rt: HostRuntime) -> Result<()> {

@@ -4,6 +4,7 @@ use anyhow::{Result, bail};
 use cases_words::Given;
 use port_range::Range;
 use std::alloc::Global;
+use std::mem;
 
 /// `even` or `odd`.
 pub fn parity(given: &mut Given<'_>) -> Result<Parity> {
@@ -63,11 +64,12 @@ impl PortCase {
     fn begin(&mut self, given: &mut Given<'_>, owned: bool) -> Result<()> {
         let lowest = given.port()?;
         let highest = given.port()?;
-        self.range = if owned {
+        let range = if owned {
             Range::new(given.alloc, lowest, highest)?
         } else {
             Range::unowned(given.alloc, lowest, highest)?
         };
+        drop(mem::replace(&mut self.range, range));
         Ok(())
     }
 

@@ -2,13 +2,16 @@
 ghost use Rattle.std.specs.Prelude.{◌≡◌, IfOk};
 ghost use Rattle.bindings.specs.Ports.{AreBounds};
 
+use crate::beside;
 use crate::ports::parity;
 use addresses::Port;
 use anyhow::{Result, bail};
 use bindings::{Entry, Hashers, PortBounds, Table};
 use cases_words::Given;
-use nat_types::{EntryState, Pair};
+use nat_types::{EntryState, Key};
 use std::alloc::Global;
+use std::fmt::Display;
+use std::mem;
 
 /// The table that the lines so far have come to, and the ranges that it was made for.
 #[derive(Drop)]
@@ -20,22 +23,21 @@ pub struct TableCase {
     ghost second: { table.one ≡ one },
 }
 
-/// How many pairs there are, and which.
-fn listed(alloc: Global, pairs: &[Pair]) -> Result<String> {
+/// How many things there are, and which.
+pub fn listed<T: Display>(alloc: Global, things: &[T]) -> Result<String> {
     let mut out = String::new(alloc);
-    write!(out, "{}", pairs.len())?;
-    for pair in pairs.iter() {
-        write!(out, ", {pair}")?;
+    write!(out, "{}", things.len())?;
+    for thing in things.iter() {
+        write!(out, ", {thing}")?;
     }
     Ok(out)
 }
 
-/// How many ports there are, and which.
-fn listed_ports(alloc: Global, ports: &[Port]) -> Result<String> {
+fn listed_keys(alloc: Global, keys: &[Key]) -> Result<String> {
     let mut out = String::new(alloc);
-    write!(out, "{}", ports.len())?;
-    for port in ports.iter() {
-        write!(out, ", {port}")?;
+    write!(out, "{}", keys.len())?;
+    for key in keys.iter() {
+        write!(out, ", {} {}", key.protocol, key.port)?;
     }
     Ok(out)
 }
@@ -86,10 +88,17 @@ impl TableCase {
     {
         let table = Table::new(alloc, zero, one, Hashers::fixed())?;
         let mut case = TableCase { table, zero, one };
-        for port in zero.lowest.0..=zero.highest.0 {
-            case.own(Port(port))?;
-        }
+        let owned = case.own_first();
+        let (case, ()) = beside(case, owned)?;
         Ok(case)
+    }
+
+    /// It owns the first range.
+    fn own_first(&mut self) -> Result<()> {
+        for port in self.zero.lowest.0..=self.zero.highest.0 {
+            self.own(Port(port))?;
+        }
+        Ok(())
     }
 
     pub fn answer(&mut self, given: &mut Given<'_>) -> Result<String> {
@@ -120,7 +129,7 @@ impl TableCase {
             "port_of" => shown(alloc, self.table.port_of(given.endpoint()?)),
             "first_entry" => shown(alloc, self.table.entry_after(None)),
             "entry_after" => shown(alloc, self.table.entry_after(Some(given.key()?))),
-            "owned" => listed_ports(alloc, self.table.owned()?.as_slice()),
+            "owned" => listed(alloc, self.table.owned()?.as_slice()),
             "first_run" => self.run(given),
             "len" => Ok(format!(in alloc; "{}", self.table.len())?),
             "pairs_of" => Ok(format!(in alloc; "{}", self.table.pairs_of(given.ip()?))?),
@@ -146,7 +155,8 @@ impl TableCase {
     fn begin(&mut self, given: &mut Given<'_>) -> Result<()> {
         let zero = bounds(given)?;
         let one = bounds(given)?;
-        *self = TableCase::new(given.alloc, zero, one)?;
+        let new = TableCase::new(given.alloc, zero, one)?;
+        drop(mem::replace(self, new));
         Ok(())
     }
 
@@ -229,11 +239,6 @@ impl TableCase {
         let now = given.number()?;
         let mut keys = Vec::new(given.alloc);
         self.table.idle_keys(lone, now, &mut keys)?;
-        let mut out = String::new(given.alloc);
-        write!(out, "{}", keys.len())?;
-        for key in keys.iter() {
-            write!(out, ", {} {}", key.protocol, key.port)?;
-        }
-        Ok(out)
+        listed_keys(given.alloc, keys.as_slice())
     }
 }

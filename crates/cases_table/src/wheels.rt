@@ -1,9 +1,11 @@
 //! Lines on the due moments of slots.
 ghost use Rattle.std.specs.Prelude.{◌≡◌, length};
 
+use crate::tables::listed;
 use anyhow::{Result, bail};
 use cases_words::Given;
 use std::alloc::Global;
+use std::mem;
 use timers::Timers;
 
 /// Slots that the lines so far have set, and how many there are.
@@ -23,13 +25,19 @@ impl TimerCase {
     pub fn answer(&mut self, given: &mut Given<'_>) -> Result<String> {
         let alloc = given.alloc;
         match given.word()? {
-            "new" => *self = TimerCase::new(alloc, given.count()?)?,
+            "new" => self.begin(given)?,
             "set" => self.set(given.count()?, given.number()?)?,
             "clear" => self.clear(given.count()?)?,
             "due" => return self.due(alloc, given.number()?),
             call => bail!("no call {call}"),
         }
         Ok(String::new(alloc))
+    }
+
+    fn begin(&mut self, given: &mut Given<'_>) -> Result<()> {
+        let new = TimerCase::new(given.alloc, given.count()?)?;
+        drop(mem::replace(self, new));
+        Ok(())
     }
 
     fn set(&mut self, slot: usize, due: u64) -> Result<()> {
@@ -53,11 +61,6 @@ impl TimerCase {
         let mut slots = Vec::new(alloc);
         self.timers.due(now, &mut slots)?;
         slots.sort_unstable();
-        let mut out = String::new(alloc);
-        write!(out, "{}", slots.len())?;
-        for slot in slots.iter() {
-            write!(out, ", {slot}")?;
-        }
-        Ok(out)
+        listed(alloc, slots.as_slice())
     }
 }

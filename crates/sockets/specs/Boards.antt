@@ -8,6 +8,7 @@ use Rattle.sockets.specs.declared.ways.Way.{Way}
 use Rattle.sockets.specs.declared.ways.Ways.{Ways}
 use Rattle.sockets.specs.declared.channels.Channel.{Channel}
 use Rattle.sockets.specs.declared.sockets.Board.{Board}
+use Rattle.sockets.specs.declared.sockets.Places.{Places}
 use Rattle.sockets.specs.FarEnds.{Arrival, far_end_of, head_of}
 use Rattle.sockets.specs.Hearing.{Attached, Hears}
 use Rattle.sockets.specs.Traffic.{handed_on}
@@ -79,3 +80,9 @@ pub record Opens (ways : Ways) (ports : Ports) (b : Board) : Type 0 where
   pub link : IsNew ways.link ports.link b.link
   pub inside : IsNew ways.inside ports.inside b.inside
   pub outside : IsNew ways.outside ports.outside b.outside
+
+-- the same of the places before they are a box's
+pub record OpensPlaces (ways : Ways) (ports : Ports) (p : Places) : Type 0 where
+  pub link : IsNew ways.link ports.link p.link
+  pub inside : IsNew ways.inside ports.inside p.inside
+  pub outside : IsNew ways.outside ports.outside p.outside

@@ -1,6 +1,6 @@
 //! The sockets of a box, all waited for at once.
-ghost use Rattle.std.specs.Prelude.{◌≡◌, ◌≤◌, IfOk, IfSome};
-ghost use Rattle.sockets.specs.Boards.{HearsAt, IsAsBefore, IsNew, Opens, SendsAt, Tells};
+ghost use Rattle.std.specs.Prelude.{◌≡◌, ◌≤◌, IfOk, IfSome, Ok};
+ghost use Rattle.sockets.specs.Boards.{HearsAt, IsAsBefore, IsNew, Opens, OpensPlaces, SendsAt, Tells};
 ghost use Rattle.sockets.specs.Hearing.{told};
 ghost use Rattle.sockets.specs.Letters.{AnyCall};
 
@@ -70,18 +70,24 @@ impl Board {
         alloc: Global,
         ways: &Ways,
         ports: Ports,
-        mut control: Control,
+        control: Control,
     ) -> Result<Board, SocketFault>
         ensures { IfOk result (Opens ways.now ports) }
     {
-        let poll = Poll::new(net)?;
-        control.register(poll.registry(), CONTROL)?;
+        let (mut control, poll) = beside(control, Poll::new(net))?;
+        let registered = control.register(poll.registry(), CONTROL);
+        let (held, ()) = beside((control, poll), registered)?;
+        let places = open_places(net, &held.1, ways, ports);
+        let (held, places) = beside(held, places)?;
+        let events = Events::with_capacity(alloc, 8);
+        let ((held, places), events) = beside((held, places), events)?;
+        let (control, poll) = held;
         Ok(Board {
-            link: attached(net, &poll, 0, ways.link, ports.link)?,
-            inside: attached(net, &poll, 1, ways.inside, ports.inside)?,
-            outside: attached(net, &poll, 2, ways.outside, ports.outside)?,
-            events: Events::with_capacity(alloc, 8)?,
             poll,
+            events,
+            link: places.link,
+            inside: places.inside,
+            outside: places.outside,
             control,
             first: Place::Link,
         })
@@ -239,6 +245,42 @@ fn wake(
             _ => control.wake(),
         }
     }
+}
+
+/// What is held, with what was made beside it; it's let go where that couldn't be made. A function that knows its type
+/// would have to show of each of its parts that it is let go.
+fn beside<A: Drop, B, E>(held: A, made: Result<B, E>) -> Result<(A, B), E>
+    ensures held { IfOk result (λ both. both.0 ≡ held) }
+    ensures made { IfOk result (λ both. made ≡ Ok both.1) }
+{
+    match made {
+        Ok(made) => Ok((held, made)),
+        Err(fault) => Err(fault),
+    }
+}
+
+/// The places of a box.
+#[derive(Drop)]
+struct Places {
+    link: Attachment<Channel>,
+    inside: Attachment<Channel>,
+    outside: Attachment<Channel>,
+}
+
+/// The places by their ways.
+fn open_places<R: Net>(net: &R, poll: &Poll, ways: &Ways, ports: Ports) -> io::Result<Places>
+    ensures { IfOk result (OpensPlaces ways.now ports) }
+{
+    let link = attached(net, poll, 0, ways.link, ports.link)?;
+    let inside = attached(net, poll, 1, ways.inside, ports.inside);
+    let (link, inside) = beside(link, inside)?;
+    let outside = attached(net, poll, 2, ways.outside, ports.outside);
+    let ((link, inside), outside) = beside((link, inside), outside)?;
+    Ok(Places {
+        link,
+        inside,
+        outside,
+    })
 }
 
 /// A place by its way, reported by waits under a token's number.
