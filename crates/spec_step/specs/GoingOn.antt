@@ -59,8 +59,10 @@ pub record MayGoOn (g : Shown) (side : Side) (bytes : List ℕ) (by : Translatio
 -- The pairs of an error translate: outward that of the endpoint to which the packet inside came in, inward that of the port
 -- by which it went out, of a hairpin both.
 abbrev pub HaveErrorPairs : Shown → ErrorFlow → Translation → Type 0
-HaveErrorPairs g flow (Outward p) = Translates (entry_of g.ledger.book.entries (endpoint_about flow)) p
-HaveErrorPairs g flow (Inward p) = Translates (slot_of g.ledger.book.entries (key_about flow)) p
+HaveErrorPairs g flow (Outward p) =
+    Translates (entry_of g.ledger.book.entries (endpoint_about flow)) p
+HaveErrorPairs g flow (Inward p) =
+    Translates (slot_of g.ledger.book.entries (key_about flow)) p
 HaveErrorPairs g flow (Hairpin own other) =
     Translates (entry_of g.ledger.book.entries (endpoint_about flow)) own
     × Translates (slot_of g.ledger.book.entries (key_about flow)) other
@@ -83,7 +85,7 @@ NeedsPair g flow way.Outward = Unit {0}
 NeedsPair g flow way.Inward = ⊥
 NeedsPair g flow way.Hairpin = (p : Pair) × (target_pair g flow ≡ Ok p)
 
--- A frame that came in has such a packet, and its source has no pair (of a proposal that was given up nothing counts).
+-- A frame that came in has such a packet, and its source has no pair (a proposal that was given up counts as none).
 pub record NeedsPort (g : Shown) (side : Side) (bytes : List ℕ) : Type 0 where
   pub packet : Datagram
   pub reads : reading_on g side bytes ≡ Ok (Packet packet)

@@ -44,7 +44,8 @@ hears_on side g (SideIs at up) = false
 -- one of this priority and this interval is
 abbrev pub IsAdvertOf : ℕ → ℕ → Result Reading Reason → Type 0
 IsAdvertOf priority interval (Ok (Arp p)) = ⊥
-IsAdvertOf priority interval (Ok (Advert a from)) = (a.priority ≡ priority) × (a.interval ≡ interval)
+IsAdvertOf priority interval (Ok (Advert a from)) =
+    (a.priority ≡ priority) × (a.interval ≡ interval)
 IsAdvertOf priority interval (Ok (Packet packet)) = ⊥
 IsAdvertOf priority interval (Ok (Error packet)) = ⊥
 IsAdvertOf priority interval (Ok (Asked echo)) = ⊥
