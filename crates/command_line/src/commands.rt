@@ -24,6 +24,34 @@ environment's NATPAIR_LOG, or info.
 
 Example: natpair gate S.toml --id 0";
 
+/// The settings, which all commands but `init` take.
+const SETTINGS: Argument<'static> = Argument(
+    Form::File,
+    "SETTINGS",
+    "The settings in TOML, as in S.toml",
+);
+
+/// The gateway that is run or spoken to.
+const ID: Argument<'static> = Argument(
+    Form::Id,
+    "id",
+    "Which of the two gateways it is, 0 or 1, as in --id 0",
+);
+
+/// The events of a run.
+const SCRIPT: Argument<'static> = Argument(
+    Form::File,
+    "SCRIPT",
+    "The events, a line each, as in day.script",
+);
+
+/// Where a run's frames and datagrams go.
+const CAPTURE: Argument<'static> = Argument(
+    Form::Text,
+    "capture",
+    "A file for all frames and datagrams, in pcapng, as in --capture day.pcapng",
+);
+
 /// A command with one more argument.
 fn with<'a>(command: Command<'a>, arg: Arg<'a>) -> Result<Command<'a>, AllocError>
     requires local { (fields_of command).has_globals ≡ false }
@@ -71,7 +99,7 @@ fn check<'a>(alloc: Global) -> Result<Command<'a>, AllocError>
     let about = "Says each fault and each warning of settings, or where two settings differ";
     let below = "Example: natpair check S.toml --id 0 --strict";
     let arguments = [
-        Argument(Form::File, "SETTINGS", "The settings in TOML, as in S.toml"),
+        SETTINGS,
         Argument(
             Form::Word,
             "OTHER",
@@ -113,12 +141,8 @@ fn gate<'a>(alloc: Global) -> Result<Command<'a>, AllocError>
     let about = "Runs one gateway: on interfaces, over VXLAN, or on loopback sockets";
     let below = GATE_HELP;
     let arguments = [
-        Argument(Form::File, "SETTINGS", "The settings in TOML, as in S.toml"),
-        Argument(
-            Form::Id,
-            "id",
-            "Which of the two gateways it is, 0 or 1, as in --id 0",
-        ),
+        SETTINGS,
+        ID,
         Argument(
             Form::Rounds,
             "rounds",
@@ -185,12 +209,8 @@ fn status<'a>(alloc: Global) -> Result<Command<'a>, AllocError>
     let about = "Writes what a running gateway says of itself";
     let below = "Example: natpair status S.toml --id 0";
     let arguments = [
-        Argument(Form::File, "SETTINGS", "The settings in TOML, as in S.toml"),
-        Argument(
-            Form::Id,
-            "id",
-            "Which of the two gateways it is, 0 or 1, as in --id 0",
-        ),
+        SETTINGS,
+        ID,
         Argument(Form::Flag, "json", "Writes it as JSON"),
         Argument(
             Form::Flag,
@@ -218,12 +238,8 @@ fn pairs<'a>(alloc: Global) -> Result<Command<'a>, AllocError>
     let about = "Lists the pairs of a running gateway";
     let below = "Example: natpair pairs S.toml --id 0 --protocol tcp";
     let arguments = [
-        Argument(Form::File, "SETTINGS", "The settings in TOML, as in S.toml"),
-        Argument(
-            Form::Id,
-            "id",
-            "Which of the two gateways it is, 0 or 1, as in --id 0",
-        ),
+        SETTINGS,
+        ID,
         Argument(
             Form::Text,
             "protocol",
@@ -255,14 +271,7 @@ fn stop<'a>(alloc: Global) -> Result<Command<'a>, AllocError>
     let about =
         "Tells a running gateway to end: it resigns on both sides, so that its peer takes over";
     let below = "Example: natpair stop S.toml --id 0";
-    let arguments = [
-        Argument(Form::File, "SETTINGS", "The settings in TOML, as in S.toml"),
-        Argument(
-            Form::Id,
-            "id",
-            "Which of the two gateways it is, 0 or 1, as in --id 0",
-        ),
-    ];
+    let arguments = [SETTINGS, ID];
     command(alloc, "stop", about, below, &arguments)
 }
 
@@ -273,12 +282,8 @@ fn peer_off<'a>(alloc: Global) -> Result<Command<'a>, AllocError>
     let about = "Tells a running gateway that a boot of its peer has ended for good";
     let below = "Example: natpair peer-off S.toml --id 0 --boot 7";
     let arguments = [
-        Argument(Form::File, "SETTINGS", "The settings in TOML, as in S.toml"),
-        Argument(
-            Form::Id,
-            "id",
-            "Which of the two gateways it is, 0 or 1, as in --id 0",
-        ),
+        SETTINGS,
+        ID,
         Argument(
             Form::Number(0, 18_446_744_073_709_551_615),
             "boot",
@@ -300,12 +305,8 @@ fn side<'a>(alloc: Global) -> Result<Command<'a>, AllocError>
     let about = "Tells a running gateway that a side can't be used, or can be again";
     let below = "Example: natpair side S.toml --id 0 inside down";
     let arguments = [
-        Argument(Form::File, "SETTINGS", "The settings in TOML, as in S.toml"),
-        Argument(
-            Form::Id,
-            "id",
-            "Which of the two gateways it is, 0 or 1, as in --id 0",
-        ),
+        SETTINGS,
+        ID,
         Argument(Form::File, "SIDE", "The side, inside or outside"),
         Argument(Form::File, "STATE", "Whether it can be used, up or down"),
     ];
@@ -318,19 +319,7 @@ fn sim<'a>(alloc: Global) -> Result<Command<'a>, AllocError>
 {
     let about = "Runs both gateways on the events of a script and prints each step";
     let below = "Example: natpair sim S.toml day.script";
-    let arguments = [
-        Argument(Form::File, "SETTINGS", "The settings in TOML, as in S.toml"),
-        Argument(
-            Form::File,
-            "SCRIPT",
-            "The events, a line each, as in day.script",
-        ),
-        Argument(
-            Form::Text,
-            "capture",
-            "A file for all frames and datagrams, in pcapng, as in --capture day.pcapng",
-        ),
-    ];
+    let arguments = [SETTINGS, SCRIPT, CAPTURE];
     command(alloc, "sim", about, below, &arguments)
 }
 
@@ -341,19 +330,7 @@ fn repeat<'a>(alloc: Global) -> Result<Command<'a>, AllocError>
     let about =
         "Runs a script as sim does, with each frame and datagram sent through a loopback socket";
     let below = "Example: natpair loop S.toml day.script";
-    let arguments = [
-        Argument(Form::File, "SETTINGS", "The settings in TOML, as in S.toml"),
-        Argument(
-            Form::File,
-            "SCRIPT",
-            "The events, a line each, as in day.script",
-        ),
-        Argument(
-            Form::Text,
-            "capture",
-            "A file for all frames and datagrams, in pcapng, as in --capture day.pcapng",
-        ),
-    ];
+    let arguments = [SETTINGS, SCRIPT, CAPTURE];
     command(alloc, "loop", about, below, &arguments)
 }
 

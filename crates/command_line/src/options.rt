@@ -69,10 +69,7 @@ fn file<'a>(alloc: Global, name: &'a str, help: &'a str) -> Arg<'a>
     ensures rule { rule_of result ≡ file_rule name.entry.now }
     ensures local { result.global ≡ false }
 {
-    Arg::new(alloc, name)
-        .required(true)
-        .action(ArgAction::Set)
-        .help(help)
+    word(alloc, name, help).required(true)
 }
 
 /// `--id`, 0 or 1, which may be left out.
@@ -80,11 +77,7 @@ fn id_if<'a>(alloc: Global, help: &'a str) -> Arg<'a>
     ensures rule { rule_of result ≡ id_rule_if }
     ensures local { result.global ≡ false }
 {
-    Arg::new(alloc, "id")
-        .long("id")
-        .action(ArgAction::Set)
-        .value_parser(ValueParser::Signed(0, 1))
-        .help(help)
+    text(alloc, "id", help).value_parser(ValueParser::Signed(0, 1))
 }
 
 /// `--id`, 0 or 1.
@@ -92,12 +85,7 @@ fn id<'a>(alloc: Global, help: &'a str) -> Arg<'a>
     ensures rule { rule_of result ≡ id_rule }
     ensures local { result.global ≡ false }
 {
-    Arg::new(alloc, "id")
-        .long("id")
-        .required(true)
-        .action(ArgAction::Set)
-        .value_parser(ValueParser::Signed(0, 1))
-        .help(help)
+    id_if(alloc, help).required(true)
 }
 
 /// `--rounds`, from 0 to 4294967295.
@@ -105,11 +93,7 @@ fn rounds<'a>(alloc: Global, help: &'a str) -> Arg<'a>
     ensures rule { rule_of result ≡ rounds_rule }
     ensures local { result.global ≡ false }
 {
-    Arg::new(alloc, "rounds")
-        .long("rounds")
-        .action(ArgAction::Set)
-        .value_parser(ValueParser::Signed(0, 4_294_967_295))
-        .help(help)
+    text(alloc, "rounds", help).value_parser(ValueParser::Signed(0, 4_294_967_295))
 }
 
 /// `--NAME N`, from one number to another.
@@ -117,11 +101,7 @@ fn number<'a>(alloc: Global, name: &'a str, least: u64, most: u64, help: &'a str
     ensures rule { rule_of result ≡ number_rule name.entry.now least most }
     ensures local { result.global ≡ false }
 {
-    Arg::new(alloc, name)
-        .long(name)
-        .action(ArgAction::Set)
-        .value_parser(ValueParser::Unsigned(least, most))
-        .help(help)
+    text(alloc, name, help).value_parser(ValueParser::Unsigned(least, most))
 }
 
 /// `--NAME`, a flag.
@@ -140,10 +120,7 @@ fn text<'a>(alloc: Global, name: &'a str, help: &'a str) -> Arg<'a>
     ensures rule { rule_of result ≡ text_rule name.entry.now }
     ensures local { result.global ≡ false }
 {
-    Arg::new(alloc, name)
-        .long(name)
-        .action(ArgAction::Set)
-        .help(help)
+    word(alloc, name, help).long(name)
 }
 
 /// `--NAME WAY`.
@@ -151,9 +128,5 @@ fn way<'a>(alloc: Global, name: &'a str, help: &'a str) -> Arg<'a>
     ensures rule { rule_of result ≡ way_rule name.entry.now }
     ensures local { result.global ≡ false }
 {
-    Arg::new(alloc, name)
-        .long(name)
-        .action(ArgAction::Set)
-        .default_value("loopback")
-        .help(help)
+    text(alloc, name, help).default_value("loopback")
 }

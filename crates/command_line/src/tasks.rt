@@ -121,12 +121,12 @@ fn gate_words(
         rounds: values::short_if(matches, "rounds"),
         until_eof: values::flag(matches, "until-eof"),
         found: values::flag(matches, "found"),
-        ways: ways(alloc, matches)?,
         track: !values::flag(matches, "no-track"),
         log: values::word_if(alloc, matches, "log")?,
         pairs: values::flag(matches, "log-pairs"),
         capture: values::word_if(alloc, matches, "capture")?,
         notify: values::word_if(alloc, matches, "notify")?,
+        ways: ways(alloc, matches)?,
     })
 }
 
