@@ -1,0 +1,166 @@
+#!/usr/bin/env python3
+"""Says of the wrong bodies in crates/*/must-fail what refuses each, and what each changes.
+
+    scripts/edits.py clauses CRATE[/EDIT]..     which clause refuses it: the gate says only that something does
+    scripts/edits.py behaviour CRATE[/EDIT]..   the first line that a program of cases prints otherwise
+    scripts/edits.py list                       the edits, a line each
+
+An edit is refused by a clause where the prover's search leaves that clause open, or where, with the proof text of the
+functions that failed set aside, it is open at the wrong body and proved at the right one. What is open at both has to be
+decided by hand: by an input at which the clause's two sides differ. Behaviour is that of the unproved program (`rt try`).
+All is done in a copy of the repository, one edit after another: from a minute to ten for each.
+"""
+import argparse
+import pathlib
+import re
+import shutil
+import subprocess
+import sys
+import tempfile
+
+TOP = pathlib.Path(__file__).resolve().parent.parent
+PROOF_TEXT = ("Answers.antt", "Invariants.antt", "Proof.antt")
+
+
+class Edit:
+    """A wrong body: a file of a crate, and lines of it with what stands in their place."""
+
+    def __init__(self, path):
+        self.name, self.crate = path.stem, path.parent.parent.name
+        lines = path.read_text(encoding="utf-8").splitlines()
+        self.file = lines[0].removeprefix("file: ")
+        self.pairs = [(old.removeprefix("old: "), new.removeprefix("new: ")) for old, new in zip(lines[1::2], lines[2::2])]
+
+    def applied_to(self, text):
+        for old, new in self.pairs:
+            if text.count(old) != 1:
+                raise SystemExit(f"edits: {self.crate}/{self.name}: its old text stands {text.count(old)} times")
+            text = text.replace(old, new)
+        return text
+
+
+def edits_of(top, wanted):
+    found = [Edit(path) for path in sorted(top.glob("crates/*/must-fail/*.edit"))]
+    return [it for it in found if not wanted or it.crate in wanted or f"{it.crate}/{it.name}" in wanted]
+
+
+def check(folder):
+    ran = subprocess.run(["rt", "check", "--jobs", "1"], cwd=folder, capture_output=True, text=True, check=False)
+    return ran.stdout + ran.stderr
+
+
+def open_clauses(report):
+    """What the search left open: `FUNCTION: GOAL`, where the report names both."""
+    return sorted(set(re.findall(r"fn (\S+): .*?`search` did not prove (`[^\n]*`)", report)))
+
+
+def failed(report):
+    return sorted(set(re.findall(r"(?m)^fn (\S+): (?:not proved|no proof)", report)))
+
+
+def broken_text(report):
+    return sorted(set(re.findall(r"\./(proofs/\S+?\.antt):\d+:\d+: error", report)))
+
+
+def told(clauses):
+    return "; ".join(f"{goals} of {function}" for function, goals in clauses) or "none"
+
+
+def refusal(crate, edit):
+    """What refuses the edit, in one line. The crate's files are as they were when it ends."""
+    file = crate / edit.file
+    right = file.read_text(encoding="utf-8")
+    aside, moved = pathlib.Path(tempfile.mkdtemp()), []
+    try:
+        file.write_text(edit.applied_to(right), encoding="utf-8")
+        report = check(crate)
+        if "logic=proved" in report:
+            return "PROVED"
+        texts = [it for it in broken_text(report) if it.endswith(PROOF_TEXT)]
+        if not texts:
+            return "by clause: " + told(open_clauses(report)) if open_clauses(report) else f"by hand: {report[-200:]!r}"
+        for text in {(crate / it).parent for it in texts}:
+            shutil.move(str(text), str(aside / str(len(moved))))
+            moved.append(text)
+        wrong = open_clauses(check(crate))
+        file.write_text(right, encoding="utf-8")
+        both = open_clauses(check(crate))
+        alone = [it for it in wrong if it not in both]
+        return f"without proof text: {told(alone)} (open at the right body too: {told([it for it in wrong if it in both])})"
+    finally:
+        file.write_text(right, encoding="utf-8")
+        for number, folder in enumerate(moved):
+            shutil.rmtree(folder, ignore_errors=True)
+            shutil.move(str(aside / str(number)), str(folder))
+        shutil.rmtree(aside, ignore_errors=True)
+
+
+def stands_on(top):
+    """Each crate, with all crates of the repository below it."""
+    lines = [it.split("#")[0] for it in (top / "crates.txt").read_text(encoding="utf-8").splitlines()]
+    direct = {it.split(":")[0].split()[0]: it.split(":")[1].split() for it in lines if ":" in it}
+
+    def below(name, found):
+        for low in direct.get(name, []):
+            if low in direct and low not in found:
+                found.add(low)
+                below(low, found)
+        return found
+
+    return {name: below(name, set()) for name in direct}
+
+
+def printed(folder):
+    """What a program of cases prints, unproved, on its data."""
+    data = sorted((folder / "data").glob("*")) if (folder / "data").is_dir() else []
+    words = [word for it in data for word in ("--data", f"{it.name}=data/{it.name}")]
+    arguments = (folder / "args").read_text(encoding="utf-8").split("\n") if (folder / "args").exists() else []
+    given = [it for it in arguments if it]
+    ran = subprocess.run(["rt", "try", *words, *(["--", *given] if given else [])], cwd=folder, capture_output=True, check=False)
+    return ran.stdout
+
+
+def change(top, edit):
+    """The first line that a program of cases prints otherwise than it must, those that stand on the fewest crates first."""
+    file = top / "crates" / edit.crate / edit.file
+    right = file.read_text(encoding="utf-8")
+    below = stands_on(top)
+    programs = [it for it in below if edit.crate in below[it] and (top / "crates" / it / "stdout").exists()]
+    programs.sort(key=lambda it: len(below[it]))
+    file.write_text(edit.applied_to(right), encoding="utf-8")
+    try:
+        for name in programs:
+            owed = (top / "crates" / name / "stdout").read_bytes().split(b"\n")
+            got = printed(top / "crates" / name).split(b"\n")
+            for number, (one, other) in enumerate(zip(owed, got), 1):
+                if one != other:
+                    return f"{name}, line {number}: {other.decode(errors='replace').strip()!r} for {one.decode(errors='replace').strip()!r}"
+            if len(owed) != len(got):
+                return f"{name}: it ends behind line {len(got) - 1} of {len(owed) - 1}"
+        return "NO CASE: " + (", ".join(programs) or "no program of cases stands on it")
+    finally:
+        file.write_text(right, encoding="utf-8")
+
+
+def main():
+    parser = argparse.ArgumentParser(description=__doc__, formatter_class=argparse.RawDescriptionHelpFormatter)
+    parser.add_argument("part", choices=("clauses", "behaviour", "list"))
+    parser.add_argument("wanted", nargs="*", metavar="CRATE[/EDIT]")
+    words = parser.parse_args()
+    found = edits_of(TOP, words.wanted)
+    if words.part == "list" or not found:
+        print("\n".join(f"{it.crate}/{it.name}" for it in found))
+        return 0 if found else 1
+    with tempfile.TemporaryDirectory(prefix="edits-") as folder:
+        top = pathlib.Path(folder) / "copy"
+        shutil.copytree(TOP, top, ignore=shutil.ignore_patterns("out", ".git"))
+        bad = 0
+        for edit in found:
+            said = refusal(top / "crates" / edit.crate, edit) if words.part == "clauses" else change(top, edit)
+            bad += said.startswith(("PROVED", "NO CASE"))
+            print(f"{edit.crate}/{edit.name}: {said}", flush=True)
+    return 1 if bad else 0
+
+
+if __name__ == "__main__":
+    sys.exit(main())
