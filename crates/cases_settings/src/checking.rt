@@ -68,6 +68,40 @@ where
     }
 }
 
+/// What is said of the edited sample, and after it what is told of faults, and the status.
+fn told<R: Files + AllocGlobal, O: Write>(rt: &R, options: &str, output: &mut O) -> Result<()>
+where
+    R::File: Lockable,
+{
+    let mut errors = Vec::new(rt.alloc());
+    let status = match option(options, "full") {
+        Some(_) => say(rt, options, &mut Full, &mut errors),
+        None => say(rt, options, output, &mut errors),
+    };
+    output.write_all(errors.as_slice())?;
+    writeln!(output, "  status {status}")?;
+    Ok(())
+}
+
+fn case<R: Files + AllocGlobal, O: Write>(
+    rt: &R,
+    sample: &str,
+    line: &str,
+    output: &mut O,
+) -> Result<()>
+where
+    R::File: Lockable,
+{
+    let parts: Vec<&str> = line.split(';').collect(rt.alloc())?;
+    let [name, options, edits @ ..] = parts.as_slice() else {
+        return Ok(());
+    };
+    let text = all_edited(rt, sample, edits)?;
+    fs::write(rt, EDITED, text.as_bytes())?;
+    writeln!(output, "{name}")?;
+    told(rt, options, output)
+}
+
 /// A line is empty, a `#` comment, or `NAME;OPTIONS;OLD;NEW;OLD;NEW..`: what is said where the sample is edited so, and with
 /// `full` what is told where the output is on a full disk.
 pub(crate) fn run<R: Files + AllocGlobal, O: Write>(
@@ -83,20 +117,7 @@ where
         if line.is_empty() || line.starts_with("#") {
             continue;
         }
-        let parts: Vec<&str> = line.split(';').collect(rt.alloc())?;
-        let [name, options, edits @ ..] = parts.as_slice() else {
-            continue;
-        };
-        let text = all_edited(rt, sample, edits)?;
-        fs::write(rt, EDITED, text.as_bytes())?;
-        writeln!(output, "{name}")?;
-        let mut errors = Vec::new(rt.alloc());
-        let status = match option(options, "full") {
-            Some(_) => say(rt, options, &mut Full, &mut errors),
-            None => say(rt, options, output, &mut errors),
-        };
-        output.write_all(errors.as_slice())?;
-        writeln!(output, "  status {status}")?;
+        case(rt, sample, line, output)?;
     }
     Ok(())
 }

@@ -1,4 +1,5 @@
 //! Cases that change the sample settings.
+use crate::reading;
 use anyhow::{Context, Result};
 use std::alloc::Global;
 use std::io::Write;
@@ -22,6 +23,13 @@ pub(crate) fn edited(alloc: Global, sample: &str, old: &str, new: &str) -> Resul
     Ok(text)
 }
 
+fn case<O: Write>(alloc: Global, sample: &str, line: &str, output: &mut O) -> Result<()> {
+    let (name, rest) = line.split_once(';').context("a case has a name")?;
+    let (old, new) = rest.split_once(';').context("a case has two lines")?;
+    let text = edited(alloc, sample, old, new)?;
+    reading::say(alloc, name, text.as_str(), output)
+}
+
 /// A line is empty, a `#` comment, or `NAME;OLD;NEW`: the first line OLD of the sample becomes NEW.
 pub(crate) fn run<O: Write>(
     alloc: Global,
@@ -33,13 +41,7 @@ pub(crate) fn run<O: Write>(
         if line.is_empty() || line.starts_with("#") {
             continue;
         }
-        let (name, rest) = line.split_once(';').context("a case has a name")?;
-        let (old, new) = rest.split_once(';').context("a case has two lines")?;
-        let text = edited(alloc, sample, old, new)?;
-        match settings_file::read(alloc, text.as_str()) {
-            Ok(_) => writeln!(output, "{name}: read")?,
-            Err(fault) => writeln!(output, "{name}: settings {fault}")?,
-        }
+        case(alloc, sample, line, output)?;
     }
     Ok(())
 }

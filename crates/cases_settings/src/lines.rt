@@ -1,7 +1,7 @@
 //! Lines of words as command lines: what each asks for, or why it is refused.
 
 use anyhow::Result;
-use command_line::{LineFault, command};
+use command_line::{LineFault, Task, command};
 use std::alloc::Global;
 use std::io::{self, Write};
 
@@ -15,6 +15,11 @@ fn words_of(alloc: Global, line: &str) -> Result<Vec<String>> {
     Ok(words)
 }
 
+/// The task that words ask for. What a caller has to show stays small where this says nothing of it.
+fn asked(alloc: Global, words: &[String]) -> Result<Task, LineFault> {
+    command(alloc, words)
+}
+
 /// Why a line is refused: the kind of `clap`'s error, or the fault's own text.
 fn reason<O: Write>(fault: &LineFault, output: &mut O) -> io::Result<()> {
     match fault {
@@ -25,7 +30,7 @@ fn reason<O: Write>(fault: &LineFault, output: &mut O) -> io::Result<()> {
 
 /// What a line asks for.
 fn line<O: Write>(alloc: Global, words: &[String], output: &mut O) -> Result<()> {
-    match command(alloc, words) {
+    match asked(alloc, words) {
         Ok(task) => writeln!(output, "  task {task:?}")?,
         Err(fault) => {
             write!(output, "  status {}: ", fault.status())?;
@@ -37,7 +42,7 @@ fn line<O: Write>(alloc: Global, words: &[String], output: &mut O) -> Result<()>
 
 /// What a user is told of a line that is refused.
 fn told<O: Write>(alloc: Global, words: &[String], output: &mut O) -> Result<()> {
-    match command(alloc, words) {
+    match asked(alloc, words) {
         Ok(_) => writeln!(output, "  taken")?,
         Err(fault) => {
             let status = fault.tell(output);

@@ -1,4 +1,5 @@
 //! Cases with other lists of neighbours.
+use crate::reading;
 use anyhow::{Context, Result};
 use std::alloc::Global;
 use std::io::Write;
@@ -20,6 +21,13 @@ fn listed(alloc: Global, sample: &str, count: usize, first: &str) -> Result<Stri
     Ok(text)
 }
 
+fn case<O: Write>(alloc: Global, sample: &str, line: &str, output: &mut O) -> Result<()> {
+    let (name, rest) = line.split_once(';').context("a case has a name")?;
+    let (count, first) = rest.split_once(';').context("a case has a count")?;
+    let text = listed(alloc, sample, count.parse()?, first)?;
+    reading::say(alloc, name, text.as_str(), output)
+}
+
 /// A line is a `#` comment or `NAME;COUNT;LINE`.
 pub(crate) fn run<O: Write>(
     alloc: Global,
@@ -31,13 +39,7 @@ pub(crate) fn run<O: Write>(
         if line.starts_with("#") {
             continue;
         }
-        let (name, rest) = line.split_once(';').context("a case has a name")?;
-        let (count, first) = rest.split_once(';').context("a case has a count")?;
-        let text = listed(alloc, sample, count.parse()?, first)?;
-        match settings_file::read(alloc, text.as_str()) {
-            Ok(_) => writeln!(output, "{name}: read")?,
-            Err(fault) => writeln!(output, "{name}: settings {fault}")?,
-        }
+        case(alloc, sample, line, output)?;
     }
     Ok(())
 }

@@ -8,10 +8,15 @@ use std::alloc::Global;
 pub fn parsed(given: &mut Given) -> Result<String> {
     let bytes = given.bytes()?;
     let datagram = parse(bytes.as_slice())?;
-    let same = is_written_as(given.alloc, &datagram, bytes.as_slice())?;
-    let mut out = String::new(given.alloc);
-    write_head(&datagram, &mut out)?;
-    write_counts(&datagram, same, &mut out)?;
+    let told = told(given.alloc, &datagram, bytes.as_slice());
+    drop(datagram);
+    told
+}
+
+fn told(alloc: Global, datagram: &Datagram, bytes: &[u8]) -> Result<String> {
+    let mut out = String::new(alloc);
+    write_head(datagram, &mut out)?;
+    write_counts(datagram, is_written_as(alloc, datagram, bytes)?, &mut out)?;
     Ok(out)
 }
 

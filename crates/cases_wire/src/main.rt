@@ -12,7 +12,7 @@ mod packets;
 mod queries;
 
 use anyhow::Result;
-use cases_words::Given;
+use cases_words::{Given, is_silent};
 use std::alloc::Global;
 use std::{env, fs};
 
@@ -24,24 +24,22 @@ fn write_answer(out: &mut String, name: &str, answer: Result<String>) -> Result<
     Ok(())
 }
 
-/// Writes the lines for the cases of a file.
-fn write_answers(alloc: Global, text: &str, out: &mut String) -> Result<()> {
-    for line in text.lines() {
-        if line.is_empty() || line.starts_with("#") {
-            continue;
-        }
-        let words = line.split_whitespace().collect::<Vec<&str>>(alloc)?;
-        let mut given = Given::new(alloc, words.as_slice());
-        let name = given.word()?;
-        write_answer(out, name, calls::answer(&mut given))?;
-    }
-    Ok(())
+/// Writes the line for a case.
+fn write_case(alloc: Global, line: &str, out: &mut String) -> Result<()> {
+    let words = line.split_whitespace().collect::<Vec<&str>>(alloc)?;
+    let mut given = Given::new(alloc, words.as_slice());
+    let name = given.word()?;
+    write_answer(out, name, calls::answer(&mut given))
 }
 
 /// The lines for the cases of a file.
 fn answers(alloc: Global, text: &str) -> Result<String> {
     let mut out = String::new(alloc);
-    write_answers(alloc, text, &mut out)?;
+    for line in text.lines() {
+        if !is_silent(line) {
+            write_case(alloc, line, &mut out)?;
+        }
+    }
     Ok(out)
 }
 
