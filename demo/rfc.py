@@ -5,6 +5,7 @@ import functools
 import math
 import signal
 import tempfile
+import time
 from pathlib import Path
 from typing import NamedTuple
 
@@ -133,7 +134,10 @@ def on_a_narrow_pair(options, report):
     capture = options.capture and options.capture / "narrow"
     with settings_with(SHORT_OUTSIDE) as file, scene(options, capture, settings=file) as current:
         at_a_narrow_side(current, Wired(0, current), report)
-        current.tell_takeover(1, current.kill(0))
+        killed = current.kill(0)
+        current.tell_takeover(1, killed)
+        # The word is refused within 3 s of the other's last datagram, and a takeover may take less than that.
+        time.sleep(max(0.0, killed + 3.5 - time.monotonic()))
         current.boxes[1].peer_off(current.boxes[0].boot)
         at_a_narrow_side(current, Wired(1, current), report)
         current.tell_drops()
