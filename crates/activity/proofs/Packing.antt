@@ -3,12 +3,11 @@ use Rattle.std.proofs.Common.{◌≡◌, ℕ, zero, suc, ◌+◌, ◌*◌, ◌<�
 use Rattle.std.proofs.lemmas.List.{length-map, map-set, map_push, take_more_set}
 use Rattle.std.proofs.lemmas.List.Folds.{list_all-map}
 use Rattle.std.proofs.Math.Seq.{take-set-lt}
-use Rattle.core.specs.Int.{from_bool}
 use Rattle.activity.specs.declared.TheConstants.{ESTABLISHED_REST}
 use Rattle.activity.specs.declared.packed.PackedSession.{PackedSession}
 use Rattle.activity.specs.declared.packets.Packet.{Packet}
+use Rattle.activity.specs.declared.places.Place.{Place}
 use Rattle.activity.specs.declared.places.Place.TheVariants.{Known, Free, Passed, Nowhere}
-use Rattle.activity.specs.declared.sessions.Marks.{Marks}
 use Rattle.activity.specs.declared.sessions.Session.{Session}
 use Rattle.activity.specs.Packets.{same_remote}
 use Rattle.activity.specs.Sessions.{begun_session, stepped, rest_of, has_passed_by, has_rested}
@@ -16,15 +15,8 @@ use Rattle.activity.specs.Places.{put_at, is_nowhere}
 use Rattle.activity.specs.Kept.{session_place, with_session, all_passed}
 use Rattle.activity.specs.Lives.{is_empty}
 use Rattle.activity.specs.Dues.{last_end}
-use Rattle.activity.specs.Packed.{marks_in, session_in, moment_in, all_sessions, sessions_in, place_among, have_passed, end_of}
+use Rattle.activity.specs.Packed.{session_in, moment_in, all_sessions, sessions_in, place_among, have_passed, end_of}
 use Rattle.activity.proofs.Items.{place-map, known-within, passed-within, set-changed, set-new}
-
--- two bits show the marks that they were made of
-pub marks_back : (outward inward : Bool) → (let m : Marks = record { outward = outward; inward = inward } in marks_in (from_bool outward + 2 * from_bool inward) ≡ m)
-marks_back false false = refl
-marks_back false true = refl
-marks_back true false = refl
-marks_back true true = refl
 
 -- ---- a session is kept in a place
 
@@ -95,3 +87,7 @@ free_followed p count places new y place is put =
 pub nowhere_followed : (p : Packet) (count : ℕ) (places : List PackedSession) → Nowhere ≡ place_among p (take count places) → sessions_in count places ≡ with_session p (sessions_in count places)
 nowhere_followed p count places place =
     ap (λ place. put_at place (λ x. stepped x p) (begun_session p) (sessions_in count places)) (place ∙ sym (place_seen p (take count places)))
+
+-- whether a packet found no place
+pub nowhere_seen : (p : Packet) (count : ℕ) (places : List PackedSession) (place : Place) → place ≡ place_among p (take count places) → is_nowhere place ≡ is_nowhere (session_place p (sessions_in count places))
+nowhere_seen p count places place is = ap is_nowhere (is ∙ sym (place_seen p (take count places)))

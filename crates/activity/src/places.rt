@@ -58,7 +58,7 @@ fn place_among(kept: &[PackedSession], packet: Packet) -> Place
 
 /// Keeps a session in a place.
 fn put(places: &mut [PackedSession; MAX_SESSIONS], place: usize, session: Session)
-    requires { place < 4 }
+    requires { place < length places.old }
     ensures kept { (count : ℕ) → place < count → sessions_in count places.new
         ≡ slice_set (sessions_in count places.old) place session }
     ensures more { sessions_in (place + 1) places.new
