@@ -1,0 +1,2 @@
+p=$1
+for k in "inside udp 44" "outside udp 44" "inside tcp 44" "outside tcp 44"; do (a=$(valgrind --tool=cachegrind --cache-sim=no --cachegrind-out-file=/dev/null $p kind $k 1000 1000 2>&1 | sed -n 's/.*I *refs: *//p' | tr -d ,); b=$(valgrind --tool=cachegrind --cache-sim=no --cachegrind-out-file=/dev/null $p kind $k 3000 1000 2>&1 | sed -n 's/.*I *refs: *//p' | tr -d ,); echo "$k $(( (b-a)/2000 ))") & done; wait
