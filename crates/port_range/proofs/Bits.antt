@@ -1,10 +1,10 @@
 -- Bits of words, and numbers as bits of a list of words.
-use Rattle.std.proofs.Common.{◌≡◌, ℕ, zero, suc, ◌+◌, ◌-◌, ◌*◌, ◌/◌, ◌%◌, ◌^◌, ◌<◌, ◌≤◌, ◌==◌, nat_le, nat_lt, min, Bool, true, false, cond, not, ◌&&◌, ◌⊎◌, inl, inr, List, length, set, get_or, bit_and, bit_or, w64, refl, sym, ap, ◌∙◌, arith}
+use Rattle.std.proofs.Common.{◌≡◌, ℕ, zero, suc, ◌+◌, ◌-◌, ◌*◌, ◌/◌, ◌%◌, ◌^◌, ◌<◌, ◌≤◌, ◌==◌, nat_le, nat_lt, min, max, Bool, true, false, cond, not, ◌&&◌, ◌||◌, ◌⊎◌, inl, inr, List, length, set, get_or, bit_and, bit_or, w64, refl, sym, ap, ◌∙◌, arith}
 use Rattle.std.specs.Int.{bit_at, trailing_zeros}
 use Rattle.std.proofs.lemmas.Bool.{cases_eq, cases_lt, cond-true, cond-false, eq-eqb, ne_eqb, lt-ltb, le-ltb, le-leb, lt-leb, and_right}
 use Rattle.std.proofs.lemmas.List.{get_or-set_same, get_or-set_other, get_or_past}
 use Rattle.std.proofs.lemmas.Nat.{one_shl}
-use Rattle.std.proofs.lemmas.Nat.Bits.{bit_at-lt, bit_at-zero, bit_at_and, bit_at_not, bit_at_ones, bit_at_ones_above, bit_at_set_same, bit_at_set_other, bit_at_clear_same, bit_at_clear_other, bit_at-trailing_zeros}
+use Rattle.std.proofs.lemmas.Nat.Bits.{bit_at-lt, bit_at-zero, bit_at_and, bit_at_or, bit_at_not, bit_at_ones, bit_at_ones_above, bit_at_set_same, bit_at_set_other, bit_at_clear_same, bit_at_clear_other, bit_at-trailing_zeros}
 use Rattle.port_range.specs.Ports.{is_within}
 use Rattle.port_range.specs.Words.{is_set, has_bit, IsLowestBit}
 
@@ -61,12 +61,25 @@ unfolding is_set
 is_set-and a b i =
     ap (λ x. x == 1) (bit_at_and a b i) ∙ min-both (bit_at a i) (bit_at b i) (bit_at-lt a i) (bit_at-lt b i)
 
+max-either : (x y : ℕ) → x < 2 → y < 2 → (max x y == 1) ≡ ((x == 1) || (y == 1))
+max-either zero zero p q = refl
+max-either zero (suc zero) p q = refl
+max-either (suc zero) zero p q = refl
+max-either (suc zero) (suc zero) p q = refl
+max-either (suc (suc x)) y p q = absurd (omega arith)
+max-either x (suc (suc y)) p q = absurd (omega arith)
+
+pub is_set-or_word : (a b i : ℕ) → is_set (bit_or a b) i ≡ (is_set a i || is_set b i)
+unfolding is_set
+is_set-or_word a b i =
+    ap (λ x. x == 1) (bit_at_or a b i) ∙ max-either (bit_at a i) (bit_at b i) (bit_at-lt a i) (bit_at-lt b i)
+
 one-less : (x : ℕ) → x < 2 → (1 - x == 1) ≡ not (x == 1)
 one-less zero p = refl
 one-less (suc zero) p = refl
 one-less (suc (suc x)) p = absurd (omega arith)
 
-is_set-not : (b i : ℕ) → b < 2 ^ 64 → i < 64 → is_set (18446744073709551615 - b) i ≡ not (is_set b i)
+pub is_set-not : (b i : ℕ) → b < 2 ^ 64 → i < 64 → is_set (18446744073709551615 - b) i ≡ not (is_set b i)
 unfolding is_set
 is_set-not b i fits low = ap (λ x. x == 1) (bit_at_not w64 b i fits low) ∙ one-less (bit_at b i) (bit_at-lt b i)
 

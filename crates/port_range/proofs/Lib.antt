@@ -1,5 +1,7 @@
 mod Bits
 mod Choice
 mod Listed
+mod Searching
 mod Summing
+mod Writing
 pub mod Offered

@@ -1,11 +1,12 @@
 -- Which ports of a range are listed by their marks.
-use Rattle.std.proofs.Common.{◌≡◌, ℕ, zero, suc, ◌+◌, ◌-◌, ◌/◌, ◌<◌, ◌≤◌, ◌==◌, nat_le, Bool, true, false, cond, ◌&&◌, ◌||◌, Option, Some, None, IfSome, IfNone, inl, inr, List, [], ◌∷◌, refl, ap, ◌∙◌, sym, arith}
-use Rattle.std.proofs.lemmas.Bool.{both_ways, cases_eq, cases_lt, eq-eqb, ne_eqb, or_left, and_left, and_right, lt-leb, cond-true, cond-false, leb-true, and_parts, false_from_ne_true}
+use Rattle.std.proofs.Common.{◌≡◌, ℕ, zero, suc, ◌+◌, ◌-◌, ◌/◌, ◌<◌, ◌≤◌, ◌==◌, nat_le, Bool, true, false, cond, ◌&&◌, ◌||◌, not, Option, Some, None, IfSome, IfNone, inl, inr, List, [], ◌∷◌, refl, ap, ◌∙◌, sym, arith}
+use Rattle.std.proofs.lemmas.Bool.{both_ways, cases_eq, cases_lt, eq-eqb, ne_eqb, or_left, and_left, and_right, and_from, le-leb, lt-leb, cond-true, cond-false, leb-true, and_parts, false_from_ne_true}
 use Rattle.addresses.specs.declared.transport.Port.{Port}
 use Rattle.port_range.specs.Ports.{is_listed, is_within, is_available, IsRange, RiseAbove, chosen_open, chosen_port, same_parity}
 use Rattle.addresses.specs.declared.transport.Parity.{Parity}
 use Rattle.addresses.specs.declared.transport.Parity.TheVariants.{Even, Odd}
 use Rattle.addresses.specs.Transport.{parity_of}
+use Rattle.port_range.specs.Searches.{IsFirstFrom}
 use Rattle.port_range.specs.Words.{has_bit}
 use Rattle.port_range.specs.Marks.{Marked, has_both, other_parity, words_looked_at, ports_where, ranged, HasMarks, IsLowestOf}
 use Rattle.port_range.proofs.Choice.{Between, NonePass, chosen-same, chosen-like, chosen-other, chosen-nothing, parity-true}
@@ -121,6 +122,68 @@ pub listed-filled : (lowest highest : ℕ) (flag : Bool) (marks : List ℕ) → 
     → (p : ℕ) → is_listed p (ports_where (has_bit marks) lowest (highest + 1 - lowest)) ≡ (flag && is_within lowest highest p)
 listed-filled lowest highest flag marks order filled p =
     where-is lowest highest (has_bit marks) order (λ q holds. (and_parts flag (is_within lowest highest q) (sym (filled q) ∙ holds)).1) p ∙ filled p
+
+-- the ports between two are marked too
+abbrev pub AreMore : ℕ → ℕ → List ℕ → List ℕ → Type 0
+AreMore low high old new = (p : ℕ) → has_bit new p ≡ (has_bit old p || is_within low high p)
+
+either : {P : Type 0} (b c : Bool) → (b ≡ true → P) → (c ≡ true → P) → (b || c) ≡ true → P
+either true c one two h = one refl
+either false c one two h = two h
+
+within-wider : (lowest highest low high p : ℕ) → lowest ≤ low → high ≤ highest → is_within low high p ≡ true → is_within lowest highest p ≡ true
+within-wider lowest highest low high p below above h =
+    let parts = and_parts (nat_le low p) (nat_le p high) h in
+    let from : low ≤ p = leb-true low p parts.0 in
+    let to : p ≤ high = leb-true p high parts.1 in
+    and_from (nat_le lowest p) (nat_le p highest) (le-leb lowest p (omega arith)) (le-leb p highest (omega arith))
+
+pub within-more : (lowest highest low high : ℕ) (old new : List ℕ) → PassWithin lowest highest (has_bit old) → lowest ≤ low → high ≤ highest → AreMore low high old new → PassWithin lowest highest (has_bit new)
+within-more lowest highest low high old new before below above more p holds =
+    either (has_bit old p) (is_within low high p) (before p) (within-wider lowest highest low high p below above) (sym (more p) ∙ holds)
+
+pub listed-more : (lowest highest low high : ℕ) (old new : List ℕ) → lowest ≤ highest → PassWithin lowest highest (has_bit old) → lowest ≤ low → high ≤ highest → AreMore low high old new
+    → (p : ℕ) → is_listed p (ports_where (has_bit new) lowest (highest + 1 - lowest)) ≡ (is_listed p (ports_where (has_bit old) lowest (highest + 1 - lowest)) || is_within low high p)
+listed-more lowest highest low high old new order before below above more p =
+    where-is lowest highest (has_bit new) order (within-more lowest highest low high old new before below above more) p ∙ more p
+    ∙ ap (λ b. b || is_within low high p) (sym (where-is lowest highest (has_bit old) order before p))
+
+-- ---- the next port
+
+-- the same port is found by a test that agrees with the other
+pub some-first : (answer : Option Port) (a b : ℕ → Bool) (start : ℕ) → ((q : ℕ) → b q ≡ a q) → IfSome answer (λ port. IsFirstFrom a start port.0) → IfSome answer (λ port. IsFirstFrom b start port.0)
+some-first None a b start same h = tt
+some-first (Some port) a b start same h = record {
+  passes = same port.0 ∙ h.passes;
+  from = h.from;
+  first = λ q low high. same q ∙ h.first q low high;
+}
+
+-- where none is, none is, also past all ports
+pub none-first : (answer : Option Port) (a b : ℕ → Bool) (start : ℕ) → ((q : ℕ) → b q ≡ a q) → ((q : ℕ) → 65536 ≤ q → b q ≡ false)
+    → IfNone answer ((port : ℕ) → start ≤ port → port < 65536 → a port ≡ false) → IfNone answer ((port : ℕ) → start ≤ port → b port ≡ false)
+none-first None a b start same past h = λ port from.
+    elim (cases_lt port 65536) [ inl low ↦ same port ∙ h port from low | inr high ↦ past port high ]
+none-first (Some port) a b start same past h = tt
+
+not-false : (b : Bool) → not b ≡ false → b ≡ true
+not-false true h = refl
+not-false false h = cc
+
+-- and where each is marked, each is listed
+pub all-first : (answer : Option Port) (marked listed : ℕ → Bool) (start : ℕ) → ((q : ℕ) → listed q ≡ marked q)
+    → IfNone answer ((port : ℕ) → start ≤ port → port < 65536 → not (marked port) ≡ false) → IfNone answer ((port : ℕ) → start ≤ port → port < 65536 → listed port ≡ true)
+all-first None marked listed start same h = λ port from low. same port ∙ not-false (marked port) (h port from low)
+all-first (Some port) marked listed start same h = tt
+
+-- no port past all ports is owned
+pub past-owned : (lowest highest : ℕ) (marks : Marked) → HasMarks lowest highest marks → (q : ℕ) → 65536 ≤ q → is_listed q (ports_where (has_bit marks.owned) lowest (highest + 1 - lowest)) ≡ false
+past-owned lowest highest marks h q far =
+    where-is lowest highest (has_bit marks.owned) h.order h.owned q
+    ∙ false_from_ne_true (has_bit marks.owned q) (λ holds.
+    let parts = and_parts (nat_le lowest q) (nat_le q highest) (h.owned q holds) in
+    let to : q ≤ highest = leb-true q highest parts.1 in
+    let top : highest ≤ 65535 = h.high in absurd (omega arith))
 
 -- ---- the choice
 

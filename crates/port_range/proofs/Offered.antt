@@ -8,3 +8,5 @@ pub use Rattle.port_range.proofs.Choice.{Between}
 pub use Rattle.port_range.proofs.Choice.{chosen-is}
 -- where none is chosen, none may be given out
 pub use Rattle.port_range.proofs.Choice.{chosen-none}
+-- A bit of two words' conjunction.
+pub use Rattle.port_range.proofs.Bits.{is_set-and}

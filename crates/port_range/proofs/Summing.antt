@@ -10,7 +10,7 @@ use Rattle.addresses.specs.declared.transport.Parity.{Parity}
 use Rattle.addresses.specs.declared.transport.Parity.TheVariants.{Even, Odd}
 use Rattle.addresses.specs.declared.transport.Port.{Port}
 use Rattle.addresses.specs.Transport.{parity_of}
-use Rattle.port_range.specs.Ports.{same_parity}
+use Rattle.port_range.specs.Ports.{is_within, same_parity}
 use Rattle.port_range.specs.Words.{is_set, has_bit, IsLowestBit, AreOthers}
 use Rattle.port_range.specs.Marks.{has_both, mask_of, open_word, IsSummary, AreMarks, IsLowestOf}
 use Rattle.port_range.proofs.Bits.{is_set-zero, is_set-and, has_bit-in, has_bit-of, has_bit-past}
@@ -156,6 +156,26 @@ summary-said parity free owned summary free' owned' summary' index f o s is-f is
     ∙ ap (λ l. cond (n == index) (nat_lt 0 (open_word parity l o index)) (has_bit s n)) is-f
     ∙ ap (λ l. cond (n == index) (nat_lt 0 (open_word parity free' l index)) (has_bit s n)) is-o
     ∙ ap (λ l. cond (n == index) (nat_lt 0 (open_word parity free' owned' index)) (has_bit l n)) is-s)
+
+-- the same where the words from one to another change, which are said again
+each-ranged : (parity : Parity) (free owned summary owned' : List ℕ) (first last n : ℕ) (b : Bool) → is_within first last n ≡ b → IsSummary parity free owned summary → n < 1024
+    → (is_within first last n ≡ false → get_or owned' n 0 ≡ get_or owned n 0)
+    → cond b (nat_lt 0 (open_word parity free owned' n)) (has_bit summary n) ≡ nat_lt 0 (open_word parity free owned' n)
+each-ranged parity free owned summary owned' first last n true within is low same = refl
+each-ranged parity free owned summary owned' first last n false without is low same =
+    is.each n low ∙ ap (λ (w : ℕ). nat_lt 0 (bit_and (bit_and (get_or free n 0) w) (mask_of parity))) (sym (same without))
+
+pub summary-ranged : (parity : Parity) (free owned summary owned' summary' : List ℕ) (first last : ℕ) (f o s : List ℕ) → f ≡ free → o ≡ owned' → s ≡ summary
+    → IsSummary parity free owned summary → ((at : ℕ) → is_within first last at ≡ false → get_or owned' at 0 ≡ get_or owned at 0) → length summary' ≡ length s
+    → ((n : ℕ) → has_bit summary' n ≡ cond (is_within first last n) (nat_lt 0 (open_word parity f o n)) (has_bit s n)) → IsSummary parity free owned' summary'
+summary-ranged parity free owned summary owned' summary' first last f o s is-f is-o is-s is same size put = record {
+  size = size ∙ ap length is-s ∙ is.size;
+  each = λ n low. put n
+      ∙ ap (λ l. cond (is_within first last n) (nat_lt 0 (open_word parity l o n)) (has_bit s n)) is-f
+      ∙ ap (λ l. cond (is_within first last n) (nat_lt 0 (open_word parity free l n)) (has_bit s n)) is-o
+      ∙ ap (λ l. cond (is_within first last n) (nat_lt 0 (open_word parity free owned' n)) (has_bit l n)) is-s
+      ∙ each-ranged parity free owned summary owned' first last n (is_within first last n) refl is low (same n);
+}
 
 -- words that a slice's words are written back into
 pub written : (count : ℕ) (new old : List ℕ) → length new ≡ count → take count (new ++ drop (length new) old) ≡ new

@@ -1,3 +1,4 @@
 pub mod Marks
 pub mod Ports
+pub mod Searches
 pub mod Words

@@ -1,5 +1,5 @@
 -- Numbers as bits of words of 64.
-use Rattle.std.specs.Prelude.{◌≡◌, ℕ, ◌/◌, ◌%◌, ◌<◌, ◌==◌, Bool, true, false, List, slice_index}
+use Rattle.std.specs.Prelude.{◌≡◌, ℕ, ◌/◌, ◌%◌, ◌<◌, ◌==◌, Bool, true, false, not, List, slice_index}
 use Rattle.std.specs.Int.{bit_at}
 
 -- the bit of a word is set
@@ -9,6 +9,11 @@ is_set word bit = bit_at word bit == 1
 -- the bit of a number is set
 unfoldable pub has_bit : List ℕ → ℕ → Bool
 has_bit words number = is_set (slice_index words (number / 64)) (number % 64)
+
+-- a bit agrees with a flag
+abbrev pub agrees : Bool → Bool → Bool
+agrees true bit = bit
+agrees false bit = not bit
 
 -- the number is the lowest whose bit is set
 pub record IsLowestBit (words : List ℕ) (number : ℕ) : Type 0 where

@@ -1,8 +1,10 @@
 //! The ports of a range: which are free, which are owned, and which one an endpoint is given.
 #![tactic(auto)]
 
-ghost use Rattle.std.specs.Prelude.{◌≡◌, ℕ, [], true, false, OnOk, IfOk, IfErr, IfSome, IfNone, ◌≤◌, ◌==◌, ◌&&◌, if◌then◌else◌};
+ghost use Rattle.std.specs.Prelude.{◌≡◌, ℕ, [], true, false, OnOk, IfOk, IfErr, IfSome, IfNone, ◌+◌, ◌*◌, ◌<◌, ◌≤◌, ◌==◌, ◌&&◌, ◌||◌, not, if◌then◌else◌};
 ghost use Rattle.port_range.specs.Ports.{is_free, is_owned, is_available, is_within, is_bad, IsReason, IsRange, IsChosen, chosen_port};
+ghost use Rattle.port_range.specs.Searches.{IsFirstFrom};
+ghost use Rattle.port_range.specs.Words.{is_set};
 ghost use Rattle.port_range.specs.Marks.{words_looked_at};
 
 mod laws;
@@ -15,6 +17,7 @@ pub use laws::limits_law;
 use std::alloc::{AllocError, Global};
 use std::marker::Model;
 use thiserror::Error;
+pub use words::highest_below;
 
 /// The first port that isn't well known (RFC 6335, section 6).
 pub const FIRST_PORT: Port = Port(1024);
@@ -163,6 +166,41 @@ impl Range {
         self.marks.is_owned(port)
     }
 
+    /// The lowest owned port from one on.
+    pub fn next_owned(&self, from: Port) -> Option<Port>
+        ensures some { IfSome result (λ port. IsFirstFrom (is_owned self.now) from.0 port.0) }
+        ensures none { IfNone result ((port : ℕ) → from.0 ≤ port
+            → is_owned self.now port ≡ false) }
+    {
+        self.marks.next_owned(from, true)
+    }
+
+    /// The lowest port from one on that isn't owned, also one that lies outside the range.
+    pub fn next_unowned(&self, from: Port) -> Option<Port>
+        ensures some { IfSome result (λ port. IsFirstFrom (λ q. not (is_owned self.now q)) from.0
+            port.0) }
+        ensures none { IfNone result ((port : ℕ) → from.0 ≤ port → port < 65536
+            → is_owned self.now port ≡ true) }
+    {
+        self.marks.next_owned(from, false)
+    }
+
+    /// The free ones of 64 ports, the first of which is 64 times a number, as bits.
+    pub fn free_word(&self, index: usize) -> u64
+        requires { index < 1024 }
+        ensures { (i : ℕ) → i < 64 → is_set result i ≡ is_free self.now (index * 64 + i) }
+    {
+        self.marks.free_word(index)
+    }
+
+    /// The owned ones.
+    pub fn owned_word(&self, index: usize) -> u64
+        requires { index < 1024 }
+        ensures { (i : ℕ) → i < 64 → is_set result i ≡ is_owned self.now (index * 64 + i) }
+    {
+        self.marks.owned_word(index)
+    }
+
     /// Takes a free port, owned or not.
     pub fn take(&mut self, port: Port)
         requires { is_free self.old port.0 ≡ true }
@@ -199,6 +237,19 @@ impl Range {
         ensures highest { self.new.highest ≡ self.old.highest }
     {
         self.marks.put_owned(port, true);
+    }
+
+    /// Makes the ports from one to another, which lie in the range, owned ones.
+    pub fn own_between(&mut self, lowest: Port, highest: Port)
+        requires low { self.old.lowest ≤ lowest.0 }
+        requires high { highest.0 ≤ self.old.highest }
+        ensures owned { (p : ℕ) → is_owned self.new p ≡ (is_owned self.old p
+            || is_within lowest.0 highest.0 p) }
+        ensures free { self.new.free ≡ self.old.free }
+        ensures lowest { self.new.lowest ≡ self.old.lowest }
+        ensures highest { self.new.highest ≡ self.old.highest }
+    {
+        self.marks.own_between(lowest, highest);
     }
 
     /// Gives a free owned port up.

@@ -1,11 +1,12 @@
 //! Free and owned ports as bits by number, and the search through a summary for each parity.
-ghost use Rattle.std.specs.Prelude.{◌≡◌, ℕ, ◌+◌, ◌*◌, ◌/◌, ◌<◌, ◌≤◌, ◌==◌, ◌&&◌, false, length, slice_index, nat_lt, bit_and, IfOk, IfSome, IfNone, if◌then◌else◌};
+ghost use Rattle.std.specs.Prelude.{◌≡◌, ℕ, ◌+◌, ◌*◌, ◌/◌, ◌<◌, ◌≤◌, ◌==◌, ◌&&◌, ◌||◌, false, length, slice_index, nat_lt, bit_and, IfOk, IfSome, IfNone, if◌then◌else◌};
 ghost use Rattle.addresses.specs.Transport.{parity_of};
 ghost use Rattle.port_range.specs.Ports.{is_within};
-ghost use Rattle.port_range.specs.Words.{has_bit};
+ghost use Rattle.port_range.specs.Searches.{IsFirstFrom};
+ghost use Rattle.port_range.specs.Words.{is_set, has_bit, agrees};
 ghost use Rattle.port_range.specs.Marks.{has_both, other_parity, mask_of, open_word, IsSummary, IsLowestOf};
 
-use crate::words::{fill_between, has_bit, lowest_bit, put_bit, zeros};
+use crate::words::{fill_between, has_bit, lowest_bit, next_bit, put_bit, set_between, zeros};
 use addresses::{Parity, Port};
 use std::alloc::{AllocError, Global};
 use std::marker::Model;
@@ -65,6 +66,28 @@ fn sum_up_all(summary: &mut [u64], free: &[u64], owned: &[u64], parity: Parity)
     ensures { IsSummary parity free.now owned.now summary.new }
 {
     for index in 0..WORDS {
+        sum_up(summary, free, owned, parity, index);
+    }
+}
+
+/// Says again in a summary of the words from one to another whether they have a port to give.
+fn sum_up_between(
+    summary: &mut [u64],
+    free: &[u64],
+    owned: &[u64],
+    parity: Parity,
+    first: usize,
+    last: usize,
+)
+    requires summary { length summary.old ≡ 16 }
+    requires free { length free.now ≡ 1024 }
+    requires owned { length owned.now ≡ 1024 }
+    requires last { last < 1024 }
+    ensures bits { (n : ℕ) → has_bit summary.new n ≡ (if is_within first last n then
+        nat_lt 0 (open_word parity free.now owned.now n) else has_bit summary.old n) }
+    ensures size { length summary.new ≡ length summary.old }
+{
+    for index in first..last + 1 {
         sum_up(summary, free, owned, parity, index);
     }
 }
@@ -178,6 +201,64 @@ impl Marks {
         put_bit(&mut self.owned, number, flag);
         sum_up(&mut self.even, &self.free, &self.owned, Parity::Even, index);
         sum_up(&mut self.odd, &self.free, &self.owned, Parity::Odd, index);
+    }
+
+    /// The ports from one to another are owned too.
+    pub(crate) fn own_between(&mut self, lowest: Port, highest: Port)
+        ensures owned { (port : ℕ) → has_bit self.new.owned port
+            ≡ (has_bit self.old.owned port || is_within lowest.0 highest.0 port) }
+        ensures free { self.new.free ≡ self.old.free }
+    {
+        let low = usize::from(lowest.0);
+        let high = usize::from(highest.0);
+        let first = low / 64;
+        let last = high / 64;
+        set_between(&mut self.owned, low, high);
+        sum_up_between(
+            &mut self.even,
+            &self.free,
+            &self.owned,
+            Parity::Even,
+            first,
+            last,
+        );
+        sum_up_between(
+            &mut self.odd,
+            &self.free,
+            &self.owned,
+            Parity::Odd,
+            first,
+            last,
+        );
+    }
+
+    /// The free ones of 64 ports, the first of which is 64 times a number, as bits.
+    pub(crate) fn free_word(&self, index: usize) -> u64
+        requires { index < 1024 }
+        ensures { (i : ℕ) → i < 64 → is_set result i ≡ has_bit self.now.free (index * 64 + i) }
+    {
+        self.free[index]
+    }
+
+    /// The owned ones.
+    pub(crate) fn owned_word(&self, index: usize) -> u64
+        requires { index < 1024 }
+        ensures { (i : ℕ) → i < 64 → is_set result i ≡ has_bit self.now.owned (index * 64 + i) }
+    {
+        self.owned[index]
+    }
+
+    /// The lowest port from one on that is owned, or where the flag isn't set that isn't.
+    pub(crate) fn next_owned(&self, from: Port, flag: bool) -> Option<Port>
+        ensures some { IfSome result (λ port. IsFirstFrom
+            (λ q. agrees flag (has_bit self.now.owned q)) from.0 port.0) }
+        ensures none { IfNone result ((port : ℕ) → from.0 ≤ port → port < 65536
+            → agrees flag (has_bit self.now.owned port) ≡ false) }
+    {
+        match next_bit(&self.owned, usize::from(from.0), flag) {
+            Some(port) => Some(Port(port as u16)),
+            None => None,
+        }
     }
 
     /// The lowest port of a parity that is free and owned, and how many words were looked at.

@@ -1,7 +1,8 @@
 //! Numbers as bits of words of 64.
-ghost use Rattle.std.specs.Prelude.{◌≡◌, ℕ, ◌+◌, ◌-◌, ◌*◌, ◌/◌, ◌%◌, ◌^◌, ◌<◌, ◌≤◌, ◌==◌, ◌&&◌, false, length, nat_lt, replicate, IfOk, IfSome, IfNone, if◌then◌else◌};
+ghost use Rattle.std.specs.Prelude.{◌≡◌, ℕ, ◌+◌, ◌-◌, ◌*◌, ◌/◌, ◌%◌, ◌^◌, ◌<◌, ◌≤◌, ◌==◌, ◌&&◌, ◌||◌, false, length, slice_index, nat_lt, replicate, IfOk, IfSome, IfNone, if◌then◌else◌};
 ghost use Rattle.port_range.specs.Ports.{is_within};
-ghost use Rattle.port_range.specs.Words.{is_set, has_bit, IsLowestBit, AreOthers};
+ghost use Rattle.port_range.specs.Searches.{IsFirstFrom, IsLastBelow};
+ghost use Rattle.port_range.specs.Words.{is_set, has_bit, agrees, IsLowestBit, AreOthers};
 
 use std::alloc::{AllocError, Global};
 
@@ -103,4 +104,72 @@ pub(crate) fn fill_between(words: &mut [u64], lowest: usize, highest: usize, fla
     for (index, word) in words.iter_mut().enumerate() {
         *word = filled_word(index * 64, lowest, highest, flag);
     }
+}
+
+/// Sets the bits of the numbers from one to another.
+pub(crate) fn set_between(words: &mut [u64], lowest: usize, highest: usize)
+    requires words { length words.old ≤ 1024 }
+    requires high { highest < 64 * length words.old }
+    ensures bits { (n : ℕ) → has_bit words.new n
+        ≡ (has_bit words.old n || is_within lowest highest n) }
+    ensures others { (index : ℕ) → is_within (lowest / 64) (highest / 64) index ≡ false
+        → slice_index words.new index ≡ slice_index words.old index }
+    ensures size { length words.new ≡ length words.old }
+{
+    for index in lowest / 64..highest / 64 + 1 {
+        words[index] |= word_between(index * 64, lowest, highest);
+    }
+}
+
+/// The bits of a word that agree with a flag.
+fn matching(word: u64, flag: bool) -> u64
+    ensures { (i : ℕ) → i < 64 → is_set result i ≡ agrees flag (is_set word i) }
+{
+    if flag { word } else { !word }
+}
+
+/// The lowest bit from one on that is set.
+fn lowest_from(word: u64, start: usize) -> Option<usize>
+    requires { start ≤ 64 }
+    ensures some { IfSome result (IsFirstFrom (is_set word) start) }
+    ensures within { IfSome result (λ bit. bit < 64) }
+    ensures none { IfNone result ((i : ℕ) → start ≤ i → i < 64 → is_set word i ≡ false) }
+{
+    let rest = word & !low_ones(start);
+    if rest == 0 {
+        None
+    } else {
+        Some(rest.trailing_zeros() as usize)
+    }
+}
+
+/// The highest bit below one that is set.
+pub fn highest_below(word: u64, end: usize) -> Option<usize>
+    requires { end ≤ 64 }
+    ensures some { IfSome result (IsLastBelow (is_set word) end) }
+    ensures none { IfNone result ((i : ℕ) → i < end → is_set word i ≡ false) }
+{
+    let rest = word & low_ones(end);
+    if rest == 0 {
+        None
+    } else {
+        Some(63 - rest.leading_zeros() as usize)
+    }
+}
+
+/// The lowest number from one on whose bit agrees with a flag.
+pub(crate) fn next_bit(words: &[u64], from: usize, flag: bool) -> Option<usize>
+    requires { length words.now ≤ 1024 }
+    ensures some { IfSome result (IsFirstFrom (λ n. agrees flag (has_bit words.now n)) from) }
+    ensures within { IfSome result (λ n. n < 64 * length words.now) }
+    ensures none { IfNone result ((n : ℕ) → from ≤ n → n < 64 * length words.now
+        → agrees flag (has_bit words.now n) ≡ false) }
+{
+    for index in from / 64..words.len() {
+        let start = from.saturating_sub(index * 64);
+        if let Some(bit) = lowest_from(matching(words[index], flag), start) {
+            return Some(index * 64 + bit);
+        }
+    }
+    None
 }
