@@ -1,64 +1,88 @@
 -- Ports that are counted and chosen from the highest down.
-use Rattle.std.proofs.Common.{◌≡◌, ℕ, zero, suc, ◌+◌, ◌-◌, ◌≤◌, Bool, true, false, cond, List, [], ◌∷◌, ◌++◌, length, map, take, refl, sym, ap, ◌∙◌, arith}
+use Rattle.std.proofs.Common.{◌≡◌, ℕ, zero, suc, ◌+◌, ◌-◌, ◌/◌, ◌<◌, ◌≤◌, Bool, true, false, cond, inl, inr, List, [], ◌∷◌, ◌++◌, length, min, take, refl, sym, ap, ◌∙◌, append_assoc, append-nil, arith}
 use Rattle.std.specs.List.{filter}
-use Rattle.std.proofs.lemmas.List.{take-map, map-append, length-append, length-map}
-use Rattle.std.proofs.lemmas.List.Elements.{filter-append}
+use Rattle.std.proofs.lemmas.Bool.{cases_eq, cond-true, cond-false}
 use Rattle.addresses.specs.declared.transport.Port.{Port}
-use Rattle.spec_binding.specs.Rows.{falling, as_ports}
+use Rattle.nat_types.specs.Granted.{Granted}
+use Rattle.port_range.specs.Searches.{IsLastBelow}
+use Rattle.spec_binding.specs.Rows.{falling, as_ports, share}
 
-pub falling-more : (high i : ℕ) → falling high (i + 1) ≡ falling high i ++ (high - i) ∷ []
-falling-more high zero = ap (λ (x : ℕ). x ∷ []) (let e : high ≡ high - 0 = omega arith in e)
-falling-more high (suc i) =
-    ap (falling high) (let e : suc i + 1 ≡ suc (i + 1) = omega arith in e)
-    ∙ ap (λ (z : List ℕ). high ∷ z) (falling-more (high - 1) i ∙ ap (λ (x : ℕ). falling (high - 1) i ++ x ∷ []) (let e : high - 1 - i ≡ high - suc i = omega arith in e))
+-- ---- those that pass a test, from one on and below an end, in falling order
 
-pub filtered-more : (f : ℕ → Bool) (high i : ℕ) → filter f (falling high (i + 1)) ≡ filter f (falling high i) ++ cond (f (high - i)) ((high - i) ∷ []) []
-filtered-more f high i = ap (filter f) (falling-more high i) ∙ filter-append f (falling high i) ((high - i) ∷ [])
+abbrev pub those_between : (ℕ → Bool) → ℕ → ℕ → List ℕ
+those_between f low end = filter f (falling (end - 1) (end - low))
 
-pub counted-more : (f : ℕ → Bool) (high i port spare one : ℕ) → port ≡ high - i → spare ≡ length (filter f (falling high i)) → one ≡ length (filter f (port ∷ [])) → spare + one ≡ length (filter f (falling high (i + 1)))
-counted-more f high i port spare one at was is =
-    let e : filter f (port ∷ []) ≡ cond (f (high - i)) ((high - i) ∷ []) [] = ap (λ (x : ℕ). filter f (x ∷ [])) at in
-    let more = ap length (filtered-more f high i) in
-    let both = length-append (filter f (falling high i)) (cond (f (high - i)) ((high - i) ∷ []) []) in
-    let two = ap length e in
-    omega (arith, was, is, more, both, two)
+-- where none passes there is none
+none-falling : (f : ℕ → Bool) (low high count : ℕ) → (0 < count → high + 1 ≡ low + count) → ((q : ℕ) → low ≤ q → q < low + count → f q ≡ false) → filter f (falling high count) ≡ []
+none-falling f low high zero is none = refl
+none-falling f low high (suc count) is none =
+    let top : high + 1 ≡ low + suc count = is (omega arith) in
+    cond-false (f high) (high ∷ filter f (falling (high - 1) count)) (filter f (falling (high - 1) count)) (none high (omega (arith, top)) (omega (arith, top)))
+    ∙ none-falling f low (high - 1) count (λ some. omega (arith, top, some)) (λ q from below. none q from (omega (arith, below)))
 
-take-again : (k : ℕ) (xs ys : List ℕ) → take k (take k xs ++ ys) ≡ take k (xs ++ ys)
-take-again zero xs ys = refl
-take-again (suc k) [] ys = refl
-take-again (suc k) (x ∷ xs) ys = ap (λ (z : List ℕ). x ∷ z) (take-again k xs ys)
+-- the greatest that passes comes first
+first-falling : (f : ℕ → Bool) (low high count p : ℕ) → high + 1 ≡ low + count → f p ≡ true → low ≤ p → p < low + count → ((q : ℕ) → p < q → q < low + count → f q ≡ false)
+    → filter f (falling high count) ≡ p ∷ filter f (falling (p - 1) (p - low))
+first-falling f low high zero p is passes from below none = absurd (omega (arith, from, below))
+first-falling f low high (suc count) p is passes from below none =
+    elim (cases_eq p high) [
+      | inl same ↦
+          (cond-true (f high) (high ∷ filter f (falling (high - 1) count)) (filter f (falling (high - 1) count)) (ap f (sym same) ∙ passes)
+          ∙ ap (λ (z : ℕ). z ∷ filter f (falling (z - 1) count)) (sym same)
+          ∙ ap (λ (n : ℕ). p ∷ filter f (falling (p - 1) n)) (let e : count ≡ p - low = omega (arith, is, same) in e))
+      | inr other ↦
+          (cond-false (f high) (high ∷ filter f (falling (high - 1) count)) (filter f (falling (high - 1) count)) (none high (omega (arith, is, below, other)) (omega (arith, is)))
+          ∙ first-falling f low (high - 1) count p (omega (arith, is, from, below, other)) passes from (omega (arith, is, below, other)) (λ q above under. none q above (omega (arith, under))))
+    ]
 
-abbrev to-port : ℕ → Port
-to-port n = record { 0 = n }
+pub none-between : (f : ℕ → Bool) (low end : ℕ) → ((q : ℕ) → low ≤ q → q < end → f q ≡ false) → those_between f low end ≡ []
+none-between f low end none =
+    none-falling f low (end - 1) (end - low) (λ some. omega (arith, some)) (λ q from below. none q from (omega (arith, from, below)))
 
-one-port : (b : Bool) (x : ℕ) → cond b (to-port x ∷ []) [] ≡ map to-port (cond b (x ∷ []) [])
-one-port true x = refl
-one-port false x = refl
+pub first-between : (f : ℕ → Bool) (low end p : ℕ) → low ≤ p → IsLastBelow f end p → those_between f low end ≡ p ∷ those_between f low p
+first-between f low end p from is =
+    let below = is.below in
+    first-falling f low (end - 1) (end - low) p (omega (arith, from, below)) is.passes from (omega (arith, from, below)) (λ q above under. is.last q above (omega (arith, from, below, under)))
 
--- one port more is looked at
-pub chosen-more : (f : ℕ → Bool) (most high i : ℕ) (port : Port) (fits : Bool) (ports ports2 : List Port) → port.0 ≡ high - i → fits ≡ f port.0
-    → ports ≡ (as_ports (take most (filter f (falling high i)))).ports
-    → ports2 ≡ take most (ports ++ cond fits (port ∷ []) [])
-    → ports2 ≡ (as_ports (take most (filter f (falling high (i + 1))))).ports
-chosen-more f most high i port fits ports ports2 at fit was is =
+-- where the last that passes lies below, there is none
+pub none-above : (f : ℕ → Bool) (low end p : ℕ) → p < low → IsLastBelow f end p → those_between f low end ≡ []
+none-above f low end p below is = none-between f low end (λ q from under. is.last q (omega (arith, below, from)) under)
+
+-- ---- the choice
+
+-- one more is chosen
+pub chosen-next : (many rest : ℕ) (p : Port) (whole ports next : List Port) (xs ys : List ℕ) → many ≡ suc rest → xs ≡ p.0 ∷ ys → next ≡ ports ++ p ∷ []
+    → whole ≡ ports ++ (as_ports (take many xs)).ports → whole ≡ next ++ (as_ports (take rest ys)).ports
+chosen-next many rest p whole ports next xs ys more is pushed was =
+    was
+    ∙ ap (λ (n : ℕ). ports ++ (as_ports (take n xs)).ports) more
+    ∙ ap (λ (zs : List ℕ). ports ++ (as_ports (take (suc rest) zs)).ports) is
+    ∙ sym (append_assoc ports (p ∷ []) (as_ports (take rest ys)).ports)
+    ∙ ap (λ (ps : List Port). ps ++ (as_ports (take rest ys)).ports) (sym pushed)
+
+take-none : (n : ℕ) → take {A = ℕ} n [] ≡ []
+take-none zero = refl
+take-none (suc n) = refl
+
+finished : (whole ports : List Port) (left : List ℕ) → left ≡ [] → whole ≡ ports ++ (as_ports left).ports → ports ≡ whole
+finished whole ports left none was = sym (was ∙ ap (λ (zs : List ℕ). ports ++ (as_ports zs).ports) none ∙ append-nil ports)
+
+-- the choice ends where none is left
+pub chosen-all : (many : ℕ) (whole ports : List Port) (xs : List ℕ) → xs ≡ [] → whole ≡ ports ++ (as_ports (take many xs)).ports → ports ≡ whole
+chosen-all many whole ports xs none was = finished whole ports (take many xs) (ap (take many) none ∙ take-none many) was
+
+-- and where enough are chosen
+pub chosen-enough : (many : ℕ) (whole ports : List Port) (xs : List ℕ) → many ≡ 0 → whole ≡ ports ++ (as_ports (take many xs)).ports → ports ≡ whole
+chosen-enough many whole ports xs none was = finished whole ports (take many xs) (ap (λ (n : ℕ). take n xs) none) was
+
+-- a share is the same of more than twice the most
+halved : (n : ℕ) → share (min 32 n) ≡ share n
+halved n = omega arith
+
+pub granted-is : (f : ℕ → Bool) (low high end most : ℕ) (granted : Granted) → end ≡ high + 1 → most ≡ share (min 32 (length (those_between f low end))) → granted ≡ as_ports (take most (those_between f low end))
+    → granted ≡ as_ports (take (share (length (filter f (falling high (high + 1 - low))))) (filter f (falling high (high + 1 - low))))
+granted-is f low high end most granted at many is =
+    let same : those_between f low end ≡ filter f (falling high (high + 1 - low)) = ap (those_between f low) at ∙ ap (λ (n : ℕ). filter f (falling n (high + 1 - low))) (let e : high + 1 - 1 ≡ high = omega arith in e) in
     is
-    ∙ ap (λ (z : List Port). take most (z ++ cond fits (port ∷ []) [])) was
-    ∙ ap (λ (b : Bool). take most (map to-port (take most (filter f (falling high i))) ++ cond b (port ∷ []) [])) (fit ∙ ap f at)
-    ∙ ap (λ (x : ℕ). take most (map to-port (take most (filter f (falling high i))) ++ cond (f (high - i)) (to-port x ∷ []) [])) at
-    ∙ ap (λ (z : List Port). take most (map to-port (take most (filter f (falling high i))) ++ z)) (one-port (f (high - i)) (high - i))
-    ∙ ap (take most) (sym (map-append to-port (take most (filter f (falling high i))) (cond (f (high - i)) ((high - i) ∷ []) [])))
-    ∙ take-map to-port most (take most (filter f (falling high i)) ++ cond (f (high - i)) ((high - i) ∷ []) [])
-    ∙ ap (map to-port) (take-again most (filter f (falling high i)) (cond (f (high - i)) ((high - i) ∷ []) []))
-    ∙ ap (λ (z : List ℕ). map to-port (take most z)) (sym (filtered-more f high i))
-
-few-taken : (k : ℕ) (xs : List ℕ) → length (take k xs) ≤ k
-few-taken zero xs = omega arith
-few-taken (suc k) [] = omega arith
-few-taken (suc k) (x ∷ xs) = let ih = few-taken k xs in omega (arith, ih)
-
-pub few-chosen : (most : ℕ) (xs : List ℕ) (ports : List Port) → ports ≡ (as_ports (take most xs)).ports → length ports ≤ most
-few-chosen most xs ports is =
-    let same = ap length is in
-    let mapped : length (as_ports (take most xs)).ports ≡ length (take most xs) = length-map (take most xs) to-port in
-    let few = few-taken most xs in
-    omega (arith, same, mapped, few)
+    ∙ ap (λ (n : ℕ). as_ports (take n (those_between f low end))) (many ∙ halved (length (those_between f low end)))
+    ∙ ap (λ (zs : List ℕ). as_ports (take (share (length zs)) zs)) same

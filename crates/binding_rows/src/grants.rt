@@ -1,8 +1,9 @@
 //! Which ports a gateway grants.
-ghost use Rattle.std.specs.Prelude.{◌≡◌, ◌+◌, ◌-◌, ◌<◌, ◌≤◌, ◌++◌, ◌∷◌, [], length, take};
-ghost use Rattle.std.specs.Prelude.{if◌then◌else◌, nat_lt};
+ghost use Rattle.std.specs.Prelude.{◌≡◌, ◌+◌, ◌-◌, ◌<◌, ◌≤◌, ◌∷◌, [], length, min, take};
+ghost use Rattle.std.specs.Prelude.{IfSome, IfNone, if◌then◌else◌, nat_lt};
 ghost use Rattle.std.specs.List.{filter};
 ghost use Rattle.bindings.specs.Ports.{is_spare};
+ghost use Rattle.binding_rows.specs.Grants.{spares_between};
 ghost use Rattle.spec_binding.specs.Rows.{falling, as_ports, share as share_of};
 
 use addresses::Port;
@@ -17,51 +18,53 @@ fn share(spare: usize) -> usize
     (spare / 2).min(16)
 }
 
-fn count_at(table: &Table, port: Port) -> usize
-    ensures exact { result ≡ length (filter (is_spare table.now.entries table.now.owned)
-        (port.0 ∷ [])) }
-    ensures most { result ≤ 1 }
+/// The greatest spare port from one on and below a number.
+fn spare_between(table: &Table, lowest: Port, end: usize) -> Option<Port>
+    requires { end ≤ 65536 }
+    ensures first { IfSome result (λ p. spares_between table.now.entries table.now.owned lowest.0
+        end ≡ p.0 ∷ spares_between table.now.entries table.now.owned lowest.0 p.0) }
+    ensures from { IfSome result (λ p. lowest.0 ≤ p.0) }
+    ensures none { IfNone result (spares_between table.now.entries table.now.owned lowest.0 end
+        ≡ []) }
 {
-    if table.is_spare(port) { 1 } else { 0 }
+    let port = table.spare_below(end)?;
+    if lowest.0 <= port.0 { Some(port) } else { None }
 }
 
-/// How many of so many ports from the highest down are spare.
-fn count_spare(table: &Table, highest: u16, count: u16) -> usize
-    requires { count ≤ highest + 1 }
-    ensures { result ≡ length (filter (is_spare table.now.entries table.now.owned)
-        (falling highest count)) }
+/// How many ports from one on and below a number are spare: so many as matter for a share, which are twice the most.
+fn count_spare(table: &Table, lowest: Port, end: usize) -> usize
+    requires { end ≤ 65536 }
+    ensures { result ≡ min 32 (length (spares_between table.now.entries table.now.owned lowest.0
+        end)) }
 {
-    let mut spare: usize = 0;
-    for i in 0..count {
-        spare += count_at(table, Port(highest - i));
+    let mut below = end;
+    for count in 0..32 {
+        match spare_between(table, lowest, below) {
+            Some(port) => below = usize::from(port.0),
+            None => return count,
+        }
     }
-    spare
+    32
 }
 
-fn put_if(granted: &mut Granted, most: usize, port: Port, fits: bool)
+/// The greatest spare ports from one on and below a number, at most so many.
+fn greatest(table: &Table, lowest: Port, end: usize, most: usize) -> Granted
+    requires low { 0 < lowest.0 }
+    requires end { end ≤ 65536 }
     requires most { most ≤ 16 }
-    requires within { length granted.old.ports ≤ most }
-    requires port { 0 < port.0 }
-    ensures { granted.new.ports ≡ take most (granted.old.ports ++ (if fits then port ∷ []
-        else [])) }
-{
-    if fits && granted.ports().len() < most {
-        granted.push(port);
-    }
-}
-
-/// The greatest spare ports of so many from the highest down, at most so many.
-fn greatest(table: &Table, highest: u16, count: u16, most: usize) -> Granted
-    requires ports { count ≤ highest }
-    requires most { most ≤ 16 }
-    ensures { result ≡ as_ports (take most (filter
-        (is_spare table.now.entries table.now.owned) (falling highest count))) }
+    ensures { result ≡ as_ports (take most (spares_between table.now.entries table.now.owned
+        lowest.0 end)) }
 {
     let mut granted = Granted::new();
-    for i in 0..count {
-        let port = Port(highest - i);
-        let is_spare = table.is_spare(port);
-        put_if(&mut granted, most, port, is_spare);
+    let mut below = end;
+    for _taken in 0..most {
+        match spare_between(table, lowest, below) {
+            Some(port) => {
+                granted.push(port);
+                below = usize::from(port.0);
+            }
+            None => return granted,
+        }
     }
     granted
 }
@@ -75,9 +78,9 @@ pub fn choose_granted(table: &Table, lowest: Port, highest: Port) -> Granted
         (falling highest.0 (highest.0 + 1 - lowest.0))
         in result ≡ as_ports (take (share_of (length spares)) spares) }
 {
-    let count = highest.0 - lowest.0 + 1;
-    let most = share(count_spare(table, highest.0, count));
-    greatest(table, highest.0, count, most)
+    let end = usize::from(highest.0) + 1;
+    let most = share(count_spare(table, lowest, end));
+    greatest(table, lowest, end, most)
 }
 
 /// The lower of two ports.

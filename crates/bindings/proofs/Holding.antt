@@ -154,14 +154,14 @@ between low high port lowest highest a b h =
     let g : port ≤ high = leb-true port high parts.1 in
     and_from (nat_le lowest port) (nat_le port highest) (le-leb lowest port (omega arith)) (le-leb port highest (omega arith))
 
-lowest-low : (x y : ℕ) → (cond (nat_lt x y) x y ≤ x) × (cond (nat_lt x y) x y ≤ y)
+pub lowest-low : (x y : ℕ) → (cond (nat_lt x y) x y ≤ x) × (cond (nat_lt x y) x y ≤ y)
 lowest-low x y = at (nat_lt x y) refl
   where
     at : (b : Bool) → nat_lt x y ≡ b → (cond b x y ≤ x) × (cond b x y ≤ y)
     at true is = let h = ltb-true x y is in (omega arith, omega arith)
     at false is = let h = ltb-false x y is in (omega arith, omega arith)
 
-highest-high : (x y : ℕ) → (x ≤ cond (nat_lt x y) y x) × (y ≤ cond (nat_lt x y) y x)
+pub highest-high : (x y : ℕ) → (x ≤ cond (nat_lt x y) y x) × (y ≤ cond (nat_lt x y) y x)
 highest-high x y = at (nat_lt x y) refl
   where
     at : (b : Bool) → nat_lt x y ≡ b → (x ≤ cond b y x) × (y ≤ cond b y x)

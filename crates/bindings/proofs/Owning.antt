@@ -1,22 +1,25 @@
 -- The free and owned ports after a change.
-use Rattle.std.proofs.Common.{◌≡◌, ℕ, Bool, true, false, cond, ◌&&◌, ◌==◌, is_none, Option, Some, None, List, inl, inr, refl, sym, ap, ◌∙◌, eq-eqb}
-use Rattle.std.proofs.lemmas.Bool.{cond-true, cond-false, cases_Bool, both_ways, eqb-true, false_from_ne_true}
+use Rattle.std.proofs.Common.{◌≡◌, ℕ, ◌+◌, ◌-◌, ◌*◌, ◌<◌, ◌≤◌, Bool, true, false, cond, ◌&&◌, ◌||◌, ◌==◌, is_none, Option, Some, None, IfSome, IfNone, List, inl, inr, bit_and, refl, sym, ap, ◌∙◌, eq-eqb, arith}
+use Rattle.std.proofs.lemmas.Bool.{cond-true, cond-false, cases_Bool, cases_lt, both_ways, eqb-true, false_from_ne_true}
 use Rattle.addresses.specs.declared.transport.Protocol.{Protocol}
 use Rattle.addresses.specs.declared.transport.Protocol.TheVariants.{Icmp, Tcp, Udp}
 use Rattle.addresses.specs.declared.transport.Parity.{Parity}
+use Rattle.addresses.specs.declared.transport.Port.{Port}
 use Rattle.nat_types.specs.declared.pairs.Key.{Key}
 use Rattle.nat_types.specs.Same.{same_key}
 use Rattle.nat_types.proofs.Offered.{key-eq, key-true}
 use Rattle.port_range.specs.Ports.{Range, is_free, is_owned, is_within, is_available, is_listed, chosen_port as chosen_of, IsRange}
 use Rattle.bindings.specs.declared.ports.Ports.{Ports}
 use Rattle.port_range.specs.Ports.{chosen_open}
-use Rattle.port_range.proofs.Offered.{chosen-same}
+use Rattle.port_range.specs.Searches.{IsLastBelow}
+use Rattle.port_range.specs.Words.{is_set}
+use Rattle.port_range.proofs.Offered.{chosen-same, is_set-and}
 use Rattle.addresses.specs.Transport.{same_protocol}
 use Rattle.addresses.proofs.Offered.{protocol-eq, protocol-self}
 use Rattle.bindings.specs.declared.entries.Entry.{Entry}
 use Rattle.bindings.specs.declared.entries.PortBounds.{PortBounds}
 use Rattle.bindings.specs.Entries.{slot_of, set_at}
-use Rattle.bindings.specs.Ports.{range_of, is_free_at, is_free_in, is_open_in, lowest_of, highest_of, chosen_port, IsLike, AreAlike, SameEnds, SameBounds, SameOwned, AreFree, key_of}
+use Rattle.bindings.specs.Ports.{range_of, is_free_at, is_free_in, is_open_in, is_spare, is_spare_in, lowest_of, highest_of, chosen_port, IsLike, AreAlike, SameEnds, SameBounds, SameOwned, SameFree, AreFree, key_of}
 
 -- a test of ports that is written at one of them
 abbrev pub IsSetAt : (ℕ → Bool) → (ℕ → Bool) → ℕ → Bool → Type 0
@@ -188,3 +191,116 @@ bounds-trans first second third a b = record {
 
 pub owned-trans : (first second third : Ports) → SameOwned first second → SameOwned second third → SameOwned first third
 owned-trans first second third a b = record { icmp = b.icmp ∙ a.icmp; tcp = b.tcp ∙ a.tcp; udp = b.udp ∙ a.udp }
+
+-- more ports are owned, the same in each range
+abbrev pub OwnsMore : (ℕ → Bool) → Range → Range → Type 0
+OwnsMore more old new = (port : ℕ) → is_owned new port ≡ (is_owned old port || more port)
+
+pub alike-more : (low high : ℕ) (old new : Ports) (more : ℕ → Bool) → AreAlike low high old → SameBounds old new → OwnsMore more old.icmp new.icmp → OwnsMore more old.tcp new.tcp → OwnsMore more old.udp new.udp → AreAlike low high new
+alike-more low high old new more a b icmp tcp udp = record {
+  icmp = like-more old.icmp new.icmp a.icmp b.icmp icmp;
+  tcp = like-more old.tcp new.tcp a.tcp b.tcp tcp;
+  udp = like-more old.udp new.udp a.udp b.udp udp;
+}
+  where
+    like-more : (range range2 : Range) → IsLike old.tcp low high range → SameEnds range range2 → OwnsMore more range range2 → IsLike new.tcp low high range2
+    like-more range range2 l e owns = record {
+      low = e.low ∙ l.low;
+      high = e.high ∙ l.high;
+      owned = λ port. owns port ∙ ap (λ b. b || more port) (l.owned port) ∙ sym (tcp port);
+    }
+
+-- the same said of the bounds that they have
+pub alike-own : (low high : ℕ) (ports : Ports) → AreAlike low high ports → AreAlike ports.tcp.lowest ports.tcp.highest ports
+alike-own low high ports a = record { icmp = own ports.icmp a.icmp; tcp = own ports.tcp a.tcp; udp = own ports.udp a.udp }
+  where
+    own : (range : Range) → IsLike ports.tcp low high range → IsLike ports.tcp ports.tcp.lowest ports.tcp.highest range
+    own range l = record { low = l.low ∙ sym a.tcp.low; high = l.high ∙ sym a.tcp.high; owned = l.owned }
+
+pub alike-ends : (low high : ℕ) (old new : Ports) → AreAlike low high old → AreAlike old.tcp.lowest old.tcp.highest new → AreAlike low high new
+alike-ends low high old new a n = record { icmp = ends new.icmp n.icmp; tcp = ends new.tcp n.tcp; udp = ends new.udp n.udp }
+  where
+    ends : (range : Range) → IsLike new.tcp old.tcp.lowest old.tcp.highest range → IsLike new.tcp low high range
+    ends range l = record { low = l.low ∙ a.tcp.low; high = l.high ∙ a.tcp.high; owned = l.owned }
+
+pub free-trans : (first second third : Ports) → SameFree first second → SameFree second third → SameFree first third
+free-trans first second third a b = record { icmp = b.icmp ∙ a.icmp; tcp = b.tcp ∙ a.tcp; udp = b.udp ∙ a.udp }
+
+-- ---- spare ports
+
+-- the bits of four words' conjunction
+pub four-bits : (a b c d i : ℕ) (w x y z : Bool) → is_set a i ≡ w → is_set b i ≡ x → is_set c i ≡ y → is_set d i ≡ z → is_set (bit_and (bit_and (bit_and a b) c) d) i ≡ (((w && x) && y) && z)
+four-bits a b c d i w x y z p q r s =
+    is_set-and (bit_and (bit_and a b) c) d i
+    ∙ ap (λ t. t && is_set d i) (is_set-and (bit_and a b) c i)
+    ∙ ap (λ t. (t && is_set c i) && is_set d i) (is_set-and a b i)
+    ∙ ap (λ t. ((t && is_set b i) && is_set c i) && is_set d i) p
+    ∙ ap (λ t. ((w && t) && is_set c i) && is_set d i) q
+    ∙ ap (λ t. ((w && x) && t) && is_set d i) r
+    ∙ ap (λ t. ((w && x) && y) && t) s
+
+spare-flip : (o w i t u : Bool) → (o ≡ true → w ≡ true) → (((o && (w && i)) && (w && t)) && (w && u)) ≡ (o && (i && (t && u)))
+spare-flip false w i t u h = refl
+spare-flip true true true true u h = refl
+spare-flip true true true false u h = refl
+spare-flip true true false t u h = refl
+spare-flip true false i t u h = absurd (let e = h refl in both_ways false refl e)
+
+-- a port that is owned and free for each protocol is one that no entry has
+pub spare-is : (low high : ℕ) (es : List Entry) (ports : Ports) → AreFree low high es ports → ((port : ℕ) → is_listed port ports.tcp.owned ≡ true → is_within low high port ≡ true)
+    → (port : ℕ) → is_spare es ports.tcp.owned port ≡ is_spare_in ports port
+spare-is low high es ports free within port =
+    let owned = is_owned ports.tcp port in
+    let w = is_within low high port in
+    let t = is_free_in es Tcp port in
+    let u = is_free_in es Udp port in
+    sym (spare-flip owned w (is_free_in es Icmp port) t u (within port))
+    ∙ ap (λ b. ((owned && b) && (w && t)) && (w && u)) (sym (free (key_of Icmp port)))
+    ∙ ap (λ b. ((owned && is_free ports.icmp port) && b) && (w && u)) (sym (free (key_of Tcp port)))
+    ∙ ap (λ b. ((owned && is_free ports.icmp port) && is_free ports.tcp port) && b) (sym (free (key_of Udp port)))
+
+-- the last port by the one test is the last by another that agrees
+pub some-last : (answer : Option Port) (a b : ℕ → Bool) (end : ℕ) → ((q : ℕ) → b q ≡ a q) → IfSome answer (λ port. IsLastBelow a end port.0) → IfSome answer (λ port. IsLastBelow b end port.0)
+some-last None a b end same h = tt
+some-last (Some port) a b end same h = record {
+  passes = same port.0 ∙ h.passes;
+  below = h.below;
+  last = λ q above below. same q ∙ h.last q above below;
+}
+
+pub none-last : (answer : Option Port) (a b : ℕ → Bool) (end : ℕ) → ((q : ℕ) → b q ≡ a q) → IfNone answer ((port : ℕ) → port < end → a port ≡ false) → IfNone answer ((port : ℕ) → port < end → b port ≡ false)
+none-last None a b end same h = λ port below. same port ∙ h port below
+none-last (Some port) a b end same h = tt
+
+-- a word has the tests of 64 numbers
+abbrev pub HasTests : (ℕ → Bool) → ℕ → ℕ → Type 0
+HasTests test index word = (i : ℕ) → i < 64 → is_set word i ≡ test (index * 64 + i)
+
+-- no number from one on, below an end, passes
+abbrev pub NonePast : (ℕ → Bool) → ℕ → ℕ → Type 0
+NonePast test rest end = (q : ℕ) → rest ≤ q → q < end → test q ≡ false
+
+-- a word's last bit below the rest is the last number of all that passes
+pub last-here : (test : ℕ → Bool) (end rest index word bit : ℕ) → index * 64 ≤ rest → rest ≤ index * 64 + 64 → rest ≤ end → HasTests test index word
+    → IsLastBelow (is_set word) (rest - index * 64) bit → NonePast test rest end → IsLastBelow test end (index * 64 + bit)
+last-here test end rest index word bit from to within is found past = record {
+  passes = (let low = found.below in sym (is bit (omega (arith, low, to))) ∙ found.passes);
+  below = (let low = found.below in omega (arith, low, from, within));
+  last = λ q above below. elim (cases_lt q rest) [
+    | inr behind ↦ past q behind below
+    | inl here ↦
+        (let place : index * 64 + (q - index * 64) ≡ q = omega (arith, above) in
+        ap test (sym place) ∙ sym (is (q - index * 64) (omega (arith, here, to, above))) ∙ found.last (q - index * 64) (omega (arith, above)) (omega (arith, here, above)))
+  ];
+}
+
+-- where it has none, none passes from the word's first number on
+pub last-earlier : (test : ℕ → Bool) (end rest index word : ℕ) → index * 64 ≤ rest → rest ≤ index * 64 + 64 → HasTests test index word
+    → ((i : ℕ) → i < rest - index * 64 → is_set word i ≡ false) → NonePast test rest end → NonePast test (index * 64) end
+last-earlier test end rest index word from to is none past q above below =
+    elim (cases_lt q rest) [
+      | inr behind ↦ past q behind below
+      | inl here ↦
+          (let place : index * 64 + (q - index * 64) ≡ q = omega (arith, above) in
+          ap test (sym place) ∙ sym (is (q - index * 64) (omega (arith, here, to, above))) ∙ none (q - index * 64) (omega (arith, here, above)))
+    ]

@@ -183,31 +183,8 @@ owned-all low high xs rises above is =
     (rise-filter 0 (in_either low high) (range_with_len (lowest_of low high) (highest_of low high + 1 - lowest_of low high)) (rise-range 0 (lowest_of low high) (highest_of low high + 1 - lowest_of low high) above))
     (λ q. is q ∙ sym (listed-all low high q))
 
--- ---- all ports that lie in a range are made owned ones, one by one
+-- ---- the ports of the one range are made owned ones, and then those of the other
 
-pub one-further : (o i : Bool) (p port : ℕ) → ((o || (nat_lt p port && i)) || (p == port && i)) ≡ (o || (nat_lt p (port + 1) && i))
-one-further true i p port = refl
-one-further false i p port =
-    elim (cases_lt p port) [
-      | inl below ↦
-          (ap (λ b. (b && i) || (p == port && i)) (lt-ltb p port below) ∙ here i (p == port) ∙ ap (λ b. b && i) (sym (lt-ltb p (port + 1) (omega arith))))
-      | inr from ↦ elim (cases_eq p port) [
-        | inl same ↦ (ap (λ b. (b && i) || (p == port && i)) (le-ltb p port from) ∙ ap (λ b. b && i) (eq-eqb p port same ∙ sym (lt-ltb p (port + 1) (omega arith))))
-        | inr other ↦ (ap (λ b. (b && i) || (p == port && i)) (le-ltb p port from) ∙ ap (λ b. b && i) (ne_eqb p port other ∙ sym (le-ltb p (port + 1) (omega (arith, other)))))
-      ]
-    ]
-  where
-    here : (i b : Bool) → (i || (b && i)) ≡ i
-    here true b = refl
-    here false true = refl
-    here false false = refl
-
-pub all-of-them : (low high : PortBounds) (o : Bool) (p port : ℕ) → (o ≡ true → in_either low high p ≡ true) → highest_of low high < port → (o || (nat_lt p port && in_either low high p)) ≡ in_either low high p
-all-of-them low high true p port inside end = sym (inside refl)
-all-of-them low high false p port inside end = at (in_either low high p) refl
-  where
-    at : (b : Bool) → in_either low high p ≡ b → (nat_lt p port && b) ≡ b
-    at true is =
-        let to : p ≤ highest_of low high = leb-true p (highest_of low high) (and_parts (nat_le (lowest_of low high) p) (nat_le p (highest_of low high)) (in-both low high p is)).1 in
-        and_from (nat_lt p port) true (lt-ltb p port (omega arith)) refl
-    at false is = and_right (nat_lt p port) false refl
+pub both-owned : (o a b : Bool) → (o ≡ true → (a || b) ≡ true) → ((o || a) || b) ≡ (a || b)
+both-owned true a b inside = sym (inside refl)
+both-owned false a b inside = refl

@@ -1,7 +1,9 @@
 -- The ports of a rising list from one on, and their unbroken runs.
-use Rattle.std.proofs.Common.{◌≡◌, ℕ, suc, ◌+◌, ◌<◌, ◌≤◌, ◌==◌, nat_le, true, false, cond, ◌||◌, Some, inl, inr, List, [], ◌∷◌, refl, sym, ap, ◌∙◌, arith}
+use Rattle.std.proofs.Common.{◌≡◌, ℕ, zero, suc, ◌+◌, ◌-◌, ◌<◌, ◌≤◌, ◌==◌, nat_le, Bool, true, false, cond, ◌||◌, not, Option, Some, None, IfSome, IfNone, inl, inr, List, [], ◌∷◌, refl, sym, ap, ◌∙◌, arith}
 use Rattle.std.proofs.lemmas.Bool.{both_ways, cases_lt, cases_eq, cond-true, cond-false, or_parts, or_left, or_right, and_right, eq-eqb, ne_eqb, le-leb, lt-leb, false_from_ne_true, and_parts, leb-true}
-use Rattle.port_range.specs.Ports.{Range, IsRange, is_listed, RiseAbove}
+use Rattle.addresses.specs.declared.transport.Port.{Port}
+use Rattle.port_range.specs.Ports.{Range, IsRange, is_listed, is_owned, RiseAbove}
+use Rattle.port_range.specs.Searches.{IsFirstFrom}
 use Rattle.bindings.specs.declared.entries.PortBounds.{PortBounds}
 use Rattle.bindings.specs.Runs.{run_of, runs_on, ports_from_on, first_of}
 use Rattle.bindings.proofs.Rising.{not-below, listed-filter}
@@ -102,3 +104,77 @@ pub run-goes : (low first last next : ℕ) (xs : List ℕ) → next ≡ last + 1
 run-goes low first last next xs is r h =
     ap (runs_on first last) (from-take low next xs r h)
     ∙ cond-true (next == suc last) (runs_on first next (ports_from_on (next + 1) xs)) (run_of first last ∷ runs_on next next (ports_from_on (next + 1) xs)) (eq-eqb next (suc last) (omega arith))
+
+-- ---- the first owned port from one on
+
+-- the ports between are passed over, so many
+from-reach : (low n a p : ℕ) (xs : List ℕ) → p ≡ a + n → RiseAbove low xs → is_listed p xs ≡ true → ((q : ℕ) → a ≤ q → q < p → is_listed q xs ≡ false) → ports_from_on a xs ≡ p ∷ ports_from_on (p + 1) xs
+from-reach low zero a p xs is r here none =
+    let same : a ≡ p = omega (arith, is) in ap (λ (m : ℕ). ports_from_on m xs) same ∙ from-take low p xs r here
+from-reach low (suc n) a p xs is r here none =
+    from-skip a xs (none a (omega arith) (omega (arith, is))) ∙ from-reach low n (a + 1) p xs (omega (arith, is)) r here (λ q from to. none q (omega (arith, from)) to)
+
+pub found-owned : (r : Range) (a : ℕ) (answer : Option Port) → IfSome answer (λ p. IsFirstFrom (is_owned r) a p.0) → IfSome answer (λ p. is_owned r p.0 ≡ true)
+found-owned r a None is = tt
+found-owned r a (Some p) is = is.passes
+
+pub found-some : (r : Range) (a : ℕ) (answer : Option Port) → IsRange r → IfSome answer (λ p. IsFirstFrom (is_owned r) a p.0) → IfSome answer (λ p. ports_from_on a r.owned ≡ p.0 ∷ ports_from_on (p.0 + 1) r.owned)
+found-some r a None range is = tt
+found-some r a (Some p) range is = from-reach 0 (p.0 - a) a p.0 r.owned (let from = is.from in omega (arith, from)) range.rising is.passes is.first
+
+pub found-none : (r : Range) (a : ℕ) (answer : Option Port) → IfNone answer ((q : ℕ) → a ≤ q → is_owned r q ≡ false) → IfNone answer (ports_from_on a r.owned ≡ [])
+found-none r a None none =
+    from-none a r.owned (λ q there. elim (cases_lt q a) [
+      | inl below ↦ below
+      | inr from ↦ absurd (both_ways (is_listed q r.owned) (none q from) there)
+    ])
+found-none r a (Some p) none = tt
+
+-- ---- the end of a run
+
+-- a run goes on over ports that are all owned, so many
+run-along : (low first n last end : ℕ) (xs : List ℕ) → end ≡ last + n → RiseAbove low xs → ((q : ℕ) → last < q → q ≤ end → is_listed q xs ≡ true)
+    → runs_on first last (ports_from_on (last + 1) xs) ≡ runs_on first end (ports_from_on (end + 1) xs)
+run-along low first zero last end xs is r owned =
+    let same : last ≡ end = omega (arith, is) in ap (λ (m : ℕ). runs_on first m (ports_from_on (m + 1) xs)) same
+run-along low first (suc n) last end xs is r owned =
+    run-goes low first last (last + 1) xs refl r (owned (last + 1) (omega arith) (omega (arith, is)))
+    ∙ run-along low first n (last + 1) end xs (omega (arith, is)) r (λ q past to. owned q (omega (arith, past)) to)
+
+-- and ends before one that isn't
+run-ends : (r : Range) (first end : ℕ) → IsRange r → first ≤ end → ((q : ℕ) → first ≤ q → q ≤ end → is_listed q r.owned ≡ true) → is_listed (end + 1) r.owned ≡ false
+    → first_of (runs_on first first (ports_from_on (first + 1) r.owned)) ≡ Some (run_of first end)
+run-ends r first end is order owned stops =
+    ap first_of (run-along 0 first (end - first) first end r.owned (omega (arith, order)) is.rising (λ q past to. owned q (omega (arith, past)) to))
+    ∙ run-stops first end (end + 1) r.owned refl stops
+
+not-false : (b : Bool) → not b ≡ false → b ≡ true
+not-false true h = refl
+not-false false h = cc
+
+not-true : (b : Bool) → not b ≡ true → b ≡ false
+not-true true h = cc
+not-true false h = refl
+
+-- the first port that isn't owned is behind one that is
+pub behind-first : (r : Range) (first port : ℕ) → is_listed first r.owned ≡ true → IsFirstFrom (λ q. not (is_owned r q)) first port → first < port
+behind-first r first port owned is =
+    elim (cases_eq port first) [
+      | inl same ↦ absurd (both_ways (is_listed first r.owned) (ap (λ (n : ℕ). is_listed n r.owned) (sym same) ∙ not-true (is_owned r port) is.passes) owned)
+      | inr other ↦ (let from = is.from in omega (arith, from, other))
+    ]
+
+pub run-before : (r : Range) (first port end : ℕ) → IsRange r → is_listed first r.owned ≡ true → IsFirstFrom (λ q. not (is_owned r q)) first port → end + 1 ≡ port
+    → first_of (runs_on first first (ports_from_on (first + 1) r.owned)) ≡ Some (run_of first end)
+run-before r first port end range owned is next =
+    let past = behind-first r first port owned is in
+    run-ends r first end range (omega (arith, past, next)) (λ q from to. not-false (is_owned r q) (is.first q from (omega (arith, to, next))))
+    (ap (λ (n : ℕ). is_listed n r.owned) next ∙ not-true (is_owned r port) is.passes)
+
+-- where none isn't owned, it ends with the range
+pub run-whole : (r : Range) (first highest : ℕ) → r.highest ≡ highest → IsRange r → is_listed first r.owned ≡ true → ((q : ℕ) → first ≤ q → q < 65536 → is_owned r q ≡ true)
+    → first_of (runs_on first first (ports_from_on (first + 1) r.owned)) ≡ Some (run_of first highest)
+run-whole r first highest end range owned all =
+    let low = owned-high r first range owned in
+    let top = range.high in
+    run-ends r first highest range (omega (arith, low, end)) (λ q from to. all q from (omega (arith, to, end, top))) (not-owned r (highest + 1) range (omega (arith, end)))

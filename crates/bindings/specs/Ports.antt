@@ -73,6 +73,11 @@ range_of ports Udp = ports.udp
 abbrev pub is_free_at : Ports → Key → Bool
 is_free_at ports key = is_free (range_of ports key.protocol) key.port.0
 
+-- a port is owned, and free for each protocol
+abbrev pub is_spare_in : Ports → ℕ → Bool
+is_spare_in ports port =
+    ((is_owned ports.tcp port && is_free ports.icmp port) && is_free ports.tcp port) && is_free ports.udp port
+
 -- a range goes from the one port to the other, and the same ports are owned as in this one
 pub record IsLike (first : Range) (lowest highest : ℕ) (range : Range) : Type 0 where
   pub low : range.lowest ≡ lowest

@@ -1,17 +1,19 @@
 //! The free and owned ports of a table, for each protocol.
-ghost use Rattle.std.specs.Prelude.{◌≡◌, ℕ, [], true, false, IfOk, if◌then◌else◌, ◌&&◌, ◌||◌, ◌==◌, nat_lt, map};
+ghost use Rattle.std.specs.Prelude.{◌≡◌, ℕ, [], true, false, IfOk, IfSome, IfNone, if◌then◌else◌, ◌&&◌, ◌||◌, ◌==◌, ◌+◌, ◌*◌, ◌<◌, ◌≤◌, nat_lt, map};
 ghost use Rattle.addresses.specs.declared.transport.Protocol.{Protocol as Transport};
 ghost use Rattle.nat_types.specs.declared.pairs.Key.{Key as OutsidePort};
 ghost use Rattle.nat_types.specs.Same.{same_key};
 ghost use Rattle.port_range.specs.Ports.{is_bad, is_within, is_free, is_owned, IsRange, chosen_port};
-ghost use Rattle.bindings.specs.Ports.{range_of, is_free_at, in_either, lowest_of, highest_of, AreAlike, SameBounds, SameOwned, SameFree};
+ghost use Rattle.port_range.specs.Searches.{IsLastBelow};
+ghost use Rattle.port_range.specs.Words.{is_set};
+ghost use Rattle.bindings.specs.Ports.{range_of, is_free_at, is_spare_in, in_bounds, in_either, lowest_of, highest_of, AreAlike, SameBounds, SameOwned, SameFree};
 ghost use Rattle.bindings.specs.Runs.{own_in, without_port, all_ports, first_run, port_at};
 
 use crate::PortBounds;
 use crate::runs::{find_run, list_owned};
 use addresses::{Parity, Port, Protocol};
 use nat_types::Key;
-use port_range::{Range, RangeFault};
+use port_range::{Range, RangeFault, highest_below};
 use std::alloc::{AllocError, Global};
 
 /// A range of ports for each protocol.
@@ -46,12 +48,6 @@ pub(crate) fn highest_port(zero: PortBounds, one: PortBounds) -> Port
     ensures { result.0 ≡ highest_of zero one }
 {
     higher(zero.highest, one.highest)
-}
-
-fn lies_in_either(zero: PortBounds, one: PortBounds, port: Port) -> bool
-    ensures { result ≡ in_either zero one port.0 }
-{
-    zero.holds(port) || one.holds(port)
 }
 
 fn unowned(alloc: Global, lowest: Port, highest: Port) -> Result<Range, AllocError>
@@ -165,17 +161,20 @@ impl Ports {
         self.tcp.recall();
     }
 
-    /// Makes a port an owned one if it lies in one of the ranges.
-    fn own_inside(&mut self, zero: PortBounds, one: PortBounds, port: Port)
-        requires { AreAlike (lowest_of zero one) (highest_of zero one) self.old }
+    /// Makes the ports of a range that lies in these owned ones.
+    fn own_range(&mut self, bounds: PortBounds)
+        requires alike { AreAlike self.old.tcp.lowest self.old.tcp.highest self.old }
+        requires low { self.old.tcp.lowest ≤ bounds.lowest.0 }
+        requires high { bounds.highest.0 ≤ self.old.tcp.highest }
         ensures tcp { (p : ℕ) → is_owned self.new.tcp p ≡ (is_owned self.old.tcp p
-            || (p == port.0 && in_either zero one p)) }
-        ensures alike { AreAlike (lowest_of zero one) (highest_of zero one) self.new }
+            || in_bounds bounds p) }
+        ensures alike { AreAlike self.old.tcp.lowest self.old.tcp.highest self.new }
         ensures free { SameFree self.old self.new }
     {
-        if lies_in_either(zero, one, port) && !self.owns(port) {
-            self.own(port);
-        }
+        let PortBounds { lowest, highest } = bounds;
+        self.icmp.own_between(lowest, highest);
+        self.tcp.own_between(lowest, highest);
+        self.udp.own_between(lowest, highest);
     }
 
     /// Makes all ports of the ranges owned ones. No other port was.
@@ -188,11 +187,8 @@ impl Ports {
         ensures free { SameFree self.old self.new }
     {
         self.tcp.recall();
-        let lowest = lowest_port(zero, one);
-        let highest = highest_port(zero, one);
-        for port in lowest.0..=highest.0 {
-            self.own_inside(zero, one, Port(port));
-        }
+        self.own_range(zero);
+        self.own_range(one);
         self.tcp.recall();
     }
 
@@ -238,6 +234,35 @@ impl Ports {
         ensures { IsRange self.now.tcp }
     {
         self.tcp.recall();
+    }
+
+    /// Of 64 ports, the first of which is 64 times a number, those that are owned, and free for each protocol, as bits.
+    fn spare_word(&self, index: usize) -> u64
+        requires { index < 1024 }
+        ensures { (i : ℕ) → i < 64 → is_set result i ≡ is_spare_in self.now (index * 64 + i) }
+    {
+        self.tcp.owned_word(index)
+            & self.icmp.free_word(index)
+            & self.tcp.free_word(index)
+            & self.udp.free_word(index)
+    }
+
+    /// The greatest port below a number that is owned, and free for each protocol.
+    pub(crate) fn spare_below(&self, end: usize) -> Option<Port>
+        requires { end ≤ 65536 }
+        ensures some { IfSome result (λ port. IsLastBelow (is_spare_in self.now) end port.0) }
+        ensures none { IfNone result ((port : ℕ) → port < end
+            → is_spare_in self.now port ≡ false) }
+    {
+        let mut rest = end;
+        while 0 < rest {
+            let index = (rest - 1) / 64;
+            if let Some(bit) = highest_below(self.spare_word(index), rest - index * 64) {
+                return Some(Port((index * 64 + bit) as u16));
+            }
+            rest = index * 64;
+        }
+        None
     }
 
     /// The first unbroken run of the owned ports from one on.

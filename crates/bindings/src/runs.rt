@@ -9,20 +9,14 @@ use port_range::Range;
 use std::alloc::{AllocError, Global};
 
 /// The first owned port from one on.
-fn first_owned(range: &Range, from: Port, highest: Port) -> Option<Port>
-    requires { range.now.highest ≡ highest.0 }
+fn first_owned(range: &Range, from: Port) -> Option<Port>
     ensures owned { IfSome result (λ p. is_owned range.now p.0 ≡ true) }
     ensures some { IfSome result (λ p. ports_from_on from.0 range.now.owned
         ≡ p.0 ∷ ports_from_on (p.0 + 1) range.now.owned) }
     ensures none { IfNone result (ports_from_on from.0 range.now.owned ≡ []) }
 {
     range.recall();
-    for port in from.0..=highest.0 {
-        if range.owns(Port(port)) {
-            return Some(Port(port));
-        }
-    }
-    None
+    range.next_owned(from)
 }
 
 /// The last port of the unbroken run that begins with an owned one.
@@ -33,12 +27,10 @@ fn end_of_run(range: &Range, first: Port, highest: Port) -> Port
         ≡ Some (run_of first.0 result.0) }
 {
     range.recall();
-    for port in first.0..highest.0 {
-        if !range.owns(Port(port + 1)) {
-            return Port(port);
-        }
+    match range.next_unowned(first) {
+        Some(port) => Port(port.0 - 1),
+        None => highest,
     }
-    highest
 }
 
 /// The first unbroken run of the owned ports from one on.
@@ -46,7 +38,7 @@ pub(crate) fn find_run(range: &Range, from: Port, highest: Port) -> Option<PortB
     requires { range.now.highest ≡ highest.0 }
     ensures { result ≡ first_run from.0 range.now.owned }
 {
-    match first_owned(range, from, highest) {
+    match first_owned(range, from) {
         Some(first) => Some(PortBounds {
             lowest: first,
             highest: end_of_run(range, first, highest),

@@ -16,6 +16,7 @@ ghost use Rattle.bindings.specs.Lives.{lives_with};
 ghost use Rattle.bindings.specs.Lists.{place_in};
 ghost use Rattle.std.specs.List.{insert};
 ghost use Rattle.port_range.specs.Ports.{IsChosen};
+ghost use Rattle.port_range.specs.Searches.{IsLastBelow};
 ghost use Rattle.activity.specs.Lives.{life_begun, life_carried, life_renewed};
 
 use crate::entries::key_of;
@@ -369,6 +370,17 @@ impl Table {
         ensures { result ≡ is_spare self.now.entries self.now.owned port.0 }
     {
         self.owns(port) && self.is_vacant(port)
+    }
+
+    /// The greatest port below a number that may be given away.
+    pub fn spare_below(&self, end: usize) -> Option<Port>
+        requires { end ≤ 65536 }
+        ensures some { IfSome result (λ port. IsLastBelow (is_spare self.now.entries
+            self.now.owned) end port.0) }
+        ensures none { IfNone result ((port : ℕ) → port < end
+            → is_spare self.now.entries self.now.owned port ≡ false) }
+    {
+        self.ports.spare_below(end)
     }
 
     /// The pair of a key carried a packet, to or from a remote host. The flags of a UDP packet aren't read. A key without

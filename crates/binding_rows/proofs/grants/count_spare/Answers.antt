@@ -1,10 +1,21 @@
-use Rattle.std.proofs.Common.{refl, arith}
-use Rattle.bindings.specs.Ports.{is_spare}
-use Rattle.binding_rows.proofs.Granting.{counted-more}
+use Rattle.std.proofs.Common.{length, ap, arith, refl}
+use Rattle.binding_rows.specs.Grants.{spares_between}
 use Rattle.binding_rows.proofs.grants.count_spare.Goals as goal
 
-pub loop-i-preserved : goal.loop-i-preserved
-loop-i-preserved c = record {
-  exact = counted-more (is_spare c.args.table.now.entries c.args.table.now.owned) c.args.highest c.loop-i.i _ c.loop-i.spare _ refl c.loop-i.invariant.exact c.count_at-spare.ensures.exact;
-  few = let a = c.loop-i.invariant.few in let b = c.count_at-spare.ensures.most in omega (arith, a, b);
-}
+pub loop-count-preserved : goal.loop-count-preserved
+loop-count-preserved c =
+    let first = c.in-Some.ensures.first in
+    let one = ap length first in
+    let was = c.loop-count.invariant.counted in
+    record { end = omega arith; counted = omega (arith, one, was) }
+
+pub returns-in-None : goal.returns-in-None
+returns-in-None c =
+    let none = ap length c.in-None.ensures.none in
+    let was = c.loop-count.invariant.counted in
+    omega (arith, none, was)
+
+pub returns : goal.returns
+returns c =
+    let was = c.loop-count.invariant.counted in
+    omega (arith, was)

@@ -1,12 +1,10 @@
-use Rattle.std.proofs.Common.{◌≡◌, ◌≤◌, length}
-use Rattle.std.specs.List.{filter}
-use Rattle.bindings.specs.Ports.{is_spare}
-use Rattle.spec_binding.specs.Rows.{falling}
+use Rattle.std.proofs.Common.{◌≡◌, ◌+◌, ◌≤◌, length}
+use Rattle.binding_rows.specs.Grants.{spares_between}
 use Rattle.binding_rows.proofs.grants.count_spare.Given as goal
 
-pub record Counted (l : goal.Live-loop-i) : Type 0 where
-  pub exact : l.spare ≡ length (filter (is_spare l.table.entries l.table.owned) (falling l.highest l.i))
-  pub few : l.spare ≤ l.i
-
-abbrev pub invariant-loop-i : goal.invariant-loop-i
-invariant-loop-i l = Counted l
+-- so many so far, and those that are left
+abbrev pub invariant-loop-count : goal.invariant-loop-count
+invariant-loop-count l = record {
+  end : l.below ≤ 65536;
+  counted : length (spares_between l.table.entries l.table.owned l.lowest.0 l.fn.end) ≡ l.count + length (spares_between l.table.entries l.table.owned l.lowest.0 l.below);
+}

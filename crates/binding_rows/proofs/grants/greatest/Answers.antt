@@ -1,10 +1,31 @@
-use Rattle.std.proofs.Common.{refl}
-use Rattle.bindings.specs.Ports.{is_spare}
-use Rattle.binding_rows.proofs.Granting.{chosen-more, few-chosen}
+use Rattle.std.proofs.Common.{ℕ, ◌≡◌, ◌-◌, ◌+◌, suc, ◌∷◌, [], List, length, take, refl, sym, ap, ◌∙◌, arith}
+use Rattle.std.proofs.lemmas.List.{length-append}
+use Rattle.addresses.specs.declared.transport.Port.{Port}
+use Rattle.nat_types.specs.Granted.{Granted}
+use Rattle.spec_binding.specs.Rows.{as_ports}
+use Rattle.binding_rows.specs.Grants.{spares_between}
+use Rattle.binding_rows.proofs.Granting.{chosen-next, chosen-all, chosen-enough}
 use Rattle.binding_rows.proofs.grants.greatest.Goals as goal
 
-pub put_if-requires-clause-within : goal.put_if-requires-clause-within
-put_if-requires-clause-within c = few-chosen c.args.most _ c.loop-i.granted.ports c.loop-i.invariant
+pub loop-taken-preserved : goal.loop-taken-preserved
+loop-taken-preserved c =
+    let t = c.args.table.now in
+    let first = c.in-Some.ensures.first in
+    let more = length-append c.loop-taken.granted.ports (c.in-Some.port ∷ []) in
+    let longer = ap length c.push.ensures in
+    let few = c.loop-taken.invariant.few in
+    record {
+      end = omega arith;
+      few = omega (arith, more, longer, few);
+      chosen = chosen-next (c.args.most - c.loop-taken.taken) (c.args.most - (c.loop-taken.taken + 1)) c.in-Some.port _ c.loop-taken.granted.ports c.push.new.self.ports _ _ (omega arith) first c.push.ensures c.loop-taken.invariant.chosen;
+    }
 
-pub loop-i-preserved : goal.loop-i-preserved
-loop-i-preserved c = chosen-more (is_spare c.args.table.now.entries c.args.table.now.owned) c.args.most c.args.highest c.loop-i.i _ _ c.loop-i.granted.ports c.put_if.new.granted.ports refl c.is_spare-is_spare.ensures c.loop-i.invariant c.put_if.ensures
+pub returns-in-None : goal.returns-in-None
+returns-in-None c =
+    let none = c.in-None.ensures.none in
+    ap (λ (ps : List Port). let g : Granted = record { ports = ps } in g) (chosen-all _ _ c.loop-taken.granted.ports _ none c.loop-taken.invariant.chosen)
+
+pub returns : goal.returns
+returns c =
+    let over : c.args.most - c.loop-taken.taken ≡ 0 = omega arith in
+    ap (λ (ps : List Port). let g : Granted = record { ports = ps } in g) (chosen-enough _ _ c.loop-taken.granted.ports _ over c.loop-taken.invariant.chosen)

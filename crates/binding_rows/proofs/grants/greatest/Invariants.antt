@@ -1,8 +1,13 @@
-use Rattle.std.proofs.Common.{◌≡◌, take}
-use Rattle.std.specs.List.{filter}
-use Rattle.bindings.specs.Ports.{is_spare}
-use Rattle.spec_binding.specs.Rows.{falling, as_ports}
+use Rattle.std.proofs.Common.{◌≡◌, ◌-◌, ◌≤◌, ◌++◌, length, take}
+use Rattle.spec_binding.specs.Rows.{as_ports}
+use Rattle.binding_rows.specs.Grants.{spares_between}
 use Rattle.binding_rows.proofs.grants.greatest.Given as goal
 
-abbrev pub invariant-loop-i : goal.invariant-loop-i
-invariant-loop-i l = l.granted.ports ≡ (as_ports (take l.most (filter (is_spare l.table.entries l.table.owned) (falling l.highest l.i)))).ports
+-- those so far, and the first of what is left
+abbrev pub invariant-loop-taken : goal.invariant-loop-taken
+invariant-loop-taken l = record {
+  end : l.below ≤ 65536;
+  few : length l.granted.ports ≡ l.taken;
+  chosen : (as_ports (take l.most (spares_between l.table.entries l.table.owned l.lowest.0 l.fn.end))).ports
+      ≡ l.granted.ports ++ (as_ports (take (l.most - l.taken) (spares_between l.table.entries l.table.owned l.lowest.0 l.below))).ports;
+}

@@ -1,23 +1,19 @@
-use Rattle.std.proofs.Common.{◌≡◌, refl, sym, ap, ◌∙◌, arith, ◌+◌, Some}
-use Rattle.bindings.specs.Runs.{first_of, run_of}
-use Rattle.bindings.proofs.Unbroken.{run-stops, run-goes, not-owned, owned-high}
+use Rattle.std.proofs.Common.{ℕ, ◌≡◌, ◌<◌, ◌≤◌, ◌-◌, ap, ◌∙◌, arith}
+use Rattle.bindings.proofs.Unbroken.{behind-first, run-before, run-whole}
 use Rattle.bindings.proofs.runs.end_of_run.Goals as goal
 
-pub returns-then-not-owns : goal.returns-then-not-owns
-returns-then-not-owns c =
-    ap first_of c.loop-port.invariant
-    ∙ run-stops c.args.first.0 c.loop-port.port (c.loop-port.port + 1) c.args.range.now.owned refl (sym c.owns.ensures ∙ c.if-not-owns.true)
+pub overflow_sub-result : goal.overflow_sub-result
+overflow_sub-result c =
+    let is = c.in-Some.ensures.some in
+    let past = behind-first c.args.range.now c.args.first.0 c.in-Some.port.0 c.requires.owned is in
+    omega (arith, past)
 
-pub loop-port-preserved : goal.loop-port-preserved
-loop-port-preserved c =
-    c.loop-port.invariant
-    ∙ run-goes 0 c.args.first.0 c.loop-port.port (c.loop-port.port + 1) c.args.range.now.owned refl c.recall.ensures.rising (sym c.owns.ensures ∙ c.if-not-owns.false)
+pub returns-in-Some : goal.returns-in-Some
+returns-in-Some c =
+    let is = c.in-Some.ensures.some in
+    run-before c.args.range.now c.args.first.0 c.in-Some.port.0 (c.in-Some.port.0 - 1) c.recall.ensures c.requires.owned is (omega (arith, behind-first c.args.range.now c.args.first.0 c.in-Some.port.0 c.requires.owned is))
 
-pub returns : goal.returns
-returns c =
-    let end = c.requires.highest in
-    let low = owned-high c.args.range.now c.args.first.0 c.recall.ensures c.requires.owned in
-    let at : c.loop-port.port ≡ c.args.highest.0 = omega (arith, low) in
-    ap first_of c.loop-port.invariant
-    ∙ run-stops c.args.first.0 c.loop-port.port (c.loop-port.port + 1) c.args.range.now.owned refl (not-owned c.args.range.now (c.loop-port.port + 1) c.recall.ensures (omega arith))
-    ∙ ap (λ n. Some (run_of c.args.first.0 n)) at
+pub returns-in-None : goal.returns-in-None
+returns-in-None c =
+    let all = c.in-None.ensures.none in
+    run-whole c.args.range.now c.args.first.0 c.args.highest.0 c.requires.highest c.recall.ensures c.requires.owned all
