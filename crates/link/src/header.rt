@@ -39,14 +39,14 @@
 //! ```
 ghost use Rattle.std.specs.Prelude.{◌≡◌, ◌+◌, ◌≤◌, true, length, drop, IfOk, OnOk};
 ghost use Rattle.byteorder.specs.Endian.{big_number};
-ghost use Rattle.link.specs.Grammar.{header_bytes, gateway_number, status_number};
-ghost use Rattle.link.specs.Reading.{Gives, header_at, header};
+ghost use Rattle.link.specs.Grammar.{gateway_number, status_number};
+ghost use Rattle.link.specs.Reading.{Gives, header_at, header, header_spelling};
 ghost use Rattle.link.specs.Reading.{gateway_numbered as gateway_of};
 ghost use Rattle.link.specs.Reading.{is_ours as is_datagram_of_ours};
 ghost use Rattle.link.specs.Reading.{is_sender as names_sender, is_in_range as fields_are_in_range};
 
-use crate::writing::{Bytes, put};
-use crate::{Datagram, LinkFault, RECORDS_IN_A_DATAGRAM};
+use crate::writing::{Part, put};
+use crate::{LinkFault, RECORDS_IN_A_DATAGRAM};
 use byteorder::{BigEndian, ByteOrder};
 use nat_types::GatewayId;
 use std::ops::Range;
@@ -200,17 +200,15 @@ fn status_of(serves: bool) -> u8
 }
 
 /// Writes the header.
-pub(crate) fn put_header(out: &mut Bytes, d: &Datagram)
+pub(crate) fn put_header(out: &mut Part, header: &Header)
     requires { length out.old.items ≡ 0 }
-    ensures { out.new.items
-        ≡ header_bytes d.now.sender d.now.boot d.now.receiver_boot d.now.serves
-        d.now.delivered d.now.first (length d.now.records.items) }
+    ensures { out.new.items ≡ header_spelling header.now }
 {
-    put(out, &[b'N', b'P', VERSION, number_of(d.sender)]);
-    put(out, &d.boot.to_be_bytes());
-    put(out, &d.receiver_boot.to_be_bytes());
-    put(out, &[status_of(d.serves)]);
-    put(out, &d.delivered.to_be_bytes());
-    put(out, &d.first.to_be_bytes());
-    put(out, &[d.records.len() as u8]);
+    put(out, &[b'N', b'P', VERSION, number_of(header.sender)]);
+    put(out, &header.boot.to_be_bytes());
+    put(out, &header.receiver_boot.to_be_bytes());
+    put(out, &[status_of(header.serves)]);
+    put(out, &header.delivered.to_be_bytes());
+    put(out, &header.first.to_be_bytes());
+    put(out, &[header.count]);
 }
