@@ -13,6 +13,7 @@ ghost use Rattle.forwarder.specs.Room.{HasRoomFor, Spends, places_for_answers};
 ghost use Rattle.gateway.specs.Rooms.{datagram_needs, waiting_needs};
 
 use crate::records::take_records;
+use arrayvec::ArrayVec;
 use forwarder::Forwarder;
 use link::limits_law;
 use output::OutputBuffer;
@@ -94,10 +95,11 @@ pub(crate) fn take_datagram(
     ensures datagrams { page.new.room.datagrams ≡ page.old.room.datagrams }
 {
     let now = forwarder.moment;
-    match forwarder.link.take(bytes, now) {
-        Ok(taken) => {
-            reset_where(forwarder, page, taken.restarted, list);
-            take_records(forwarder, page, taken.records.as_slice());
+    let mut records = ArrayVec::new();
+    match forwarder.link.take_into(bytes, now, &mut records) {
+        Ok(restarted) => {
+            reset_where(forwarder, page, restarted, list);
+            take_records(forwarder, page, records.as_slice());
             Outcome::Done
         }
         Err(_fault) => Outcome::Dropped(Reason::BadDatagram),

@@ -2,43 +2,44 @@
 ghost use Rattle.std.specs.Prelude.{◌≡◌, ◌≤◌, length, ⊤};
 ghost use Rattle.link.specs.declared.writing.TheConstants.{LONGEST_DATAGRAM};
 ghost use Rattle.link.specs.Grammar.{spelling};
-ghost use Rattle.link.specs.Link.{wanted};
-ghost use Rattle.spec_step.specs.Parts.{answer_sent, link_answered, link_ticked};
+ghost use Rattle.link.specs.Link.{datagram_of};
+ghost use Rattle.output.specs.Output.{with_datagram};
+ghost use Rattle.spec_step.specs.Parts.{datagram_in, link_answered, link_ticked};
 ghost use Rattle.forwarder.specs.Forwarder.{scene_on, shown_of};
-ghost use Rattle.gateway.specs.Ends.{with_letter};
 
 use crate::turns::serves;
 use forwarder::Forwarder;
-use link::Datagram;
+use link::Link;
 use output::{OutputBuffer, WriteBytes};
 
-/// A datagram as its bytes.
+/// The next datagram of a link, as its bytes.
 #[derive(Drop)]
-struct DatagramBytes<'a>(&'a Datagram);
+struct NextDatagram<'a> {
+    link: &'a Link,
+    serves: bool,
+}
 
-impl WriteBytes for DatagramBytes<'_> {
+impl WriteBytes for NextDatagram<'_> {
     ghost can_write = { λ _. ⊤ };
 
-    ghost bytes = { λ l. spelling l.0.now };
+    ghost bytes = { λ n. spelling (datagram_of n.serves n.link.now) };
 
     ghost room = { λ _. LONGEST_DATAGRAM };
 
     fn write_to(&self, list: &mut Vec<u8>) {
-        match link::write(self.0, list) {
-            Ok(()) => {}
-            Err(_full) => unreachable!(),
-        }
+        self.link.write_next(self.serves, list);
     }
 }
 
-/// Sends a datagram, where one is due.
-fn send(page: &mut OutputBuffer, datagram: Option<Datagram>)
+/// Sends the next datagram.
+fn send(forwarder: &Forwarder, page: &mut OutputBuffer)
     requires { 1 ≤ page.old.room.datagrams }
-    ensures { page.new.told ≡ with_letter page.old.told datagram }
+    ensures { page.new.told
+        ≡ with_datagram page.old.told (datagram_in (shown_of forwarder.now)) }
 {
-    if let Some(datagram) = datagram {
-        page.make_datagram(&DatagramBytes(&datagram));
-    }
+    let link = &forwarder.link;
+    let serves = serves(forwarder);
+    page.make_datagram(&NextDatagram { link, serves });
 }
 
 /// Sends the datagram that is due at the end of a tick.
@@ -48,23 +49,12 @@ pub(crate) fn end_tick(forwarder: &mut Forwarder, page: &mut OutputBuffer)
     requires datagrams { 1 ≤ page.old.room.datagrams }
     ensures { scene_on forwarder.new page.new ≡ link_ticked (scene_on forwarder.old page.old) }
 {
-    let serves = serves(forwarder);
     forwarder.core.hand_in(&mut forwarder.link);
-    let datagram = forwarder.link.tick(forwarder.moment, serves);
-    send(page, datagram);
-}
-
-/// Sends the datagram that is due now. It stands apart, so that a step that sends none makes no room
-/// for a datagram's 64 records.
-#[inline(never)]
-fn answer(forwarder: &mut Forwarder, page: &mut OutputBuffer)
-    requires fed { wanted forwarder.old.link ≡ 0 }
-    requires datagrams { 1 ≤ page.old.room.datagrams }
-    ensures { scene_on forwarder.new page.new
-        ≡ answer_sent (shown_of forwarder.old) page.old.told }
-{
-    let serves = serves(forwarder);
-    send(page, forwarder.link.answer(serves));
+    let now = forwarder.moment;
+    if forwarder.link.is_due_on_tick(now) {
+        send(forwarder, page);
+        forwarder.link.sent_on_tick(now);
+    }
 }
 
 /// Sends the datagram that is due at the end of any other step.
@@ -75,6 +65,7 @@ pub(crate) fn end_other(forwarder: &mut Forwarder, page: &mut OutputBuffer)
 {
     forwarder.core.hand_in(&mut forwarder.link);
     if forwarder.link.is_due() {
-        answer(forwarder, page);
+        send(forwarder, page);
+        forwarder.link.sent_on_answer();
     }
 }
