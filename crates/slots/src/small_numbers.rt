@@ -41,9 +41,9 @@ impl SmallNumber {
     pub(crate) fn number(&self) -> Option<SlotNumber>
         ensures { result ≡ self.now }
     {
-        match self.0.checked_sub(1) {
-            Some(number) => Some(SlotNumber(number as usize)),
-            None => None,
+        match self.0 {
+            0 => None,
+            code => Some(SlotNumber(code as usize - 1)),
         }
     }
 
