@@ -546,7 +546,9 @@ impl Core {
 
     /// The ports that it owns, rising; none where it isn't synced.
     pub fn owned(&self) -> Result<Vec<Port>, AllocError>
-        ensures { IfOk result (λ v. v.items ≡ owned_of self.now) }
+        ensures ports { IfOk result (λ v. v.items ≡ owned_of self.now) }
+        // Where there is none to list, no memory is taken.
+        ensures none { is_synced_at self.now.stage ≡ false → IsOk result }
     {
         if is_synced(self.stage) {
             self.table.owned()
