@@ -4,6 +4,7 @@ ghost use Rattle.waiting.specs.declared.waits.Ended.TheVariants.{One, AllPairs};
 ghost use Rattle.spec_binding.specs.WellFormed.{IsWellFormedEndpoint};
 ghost use Rattle.packet_rules.specs.Flows.{packet_in, source_of};
 ghost use Rattle.packet_rules.specs.Steps.{IsForwardable};
+ghost use Rattle.spec_step.specs.declared.events.Outcome.TheVariants.{Waiting};
 ghost use Rattle.spec_step.specs.Parts.{flow_taken, released, taken_again};
 ghost use Rattle.spec_step.specs.Verdict.{outcome_by, plan_of};
 ghost use Rattle.forwarder.specs.Forwarder.{scene_on, shown_of};
@@ -31,7 +32,7 @@ fn recall_source(bytes: &[u8], packet: Packet)
 
 impl Forwarder {
     /// Takes a packet: it goes on, waits, or is dropped. One that has to wait is copied. An `Err`
-    /// stands for a refused copy; nothing has changed then.
+    /// stands for a refused copy of such a one; nothing has changed then.
     #[inline(always)]
     pub fn take_packet(
         &mut self,
@@ -49,6 +50,9 @@ impl Forwarder {
         ensures scene { OnOk result (scene_on self.new page.new
             ≡ flow_taken (scene_on self.old page.old) side bytes.now packet.flow) }
         ensures err { OnErr result (scene_on self.new page.new ≡ scene_on self.old page.old) }
+        ensures waits { OnErr result
+            (outcome_by (plan_of (shown_of self.old) side packet.flow packet.length)
+            ≡ Waiting) }
         ensures spends { Spends a_packet self.old page.old self.new page.new }
         ensures places { LeavesPlaces self.old self.new }
     {
