@@ -1,5 +1,5 @@
 -- For how much there is to be room.
-use Rattle.std.specs.Prelude.{ℕ, ◌+◌, ◌*◌, length, if◌then◌else◌}
+use Rattle.std.specs.Prelude.{ℕ, ◌+◌, ◌*◌, Bool, true, false, length, if◌then◌else◌}
 use Rattle.nat_types.specs.declared.records.Record.{Record}
 use Rattle.link.specs.declared.datagrams.TheConstants.{RECORDS_IN_A_DATAGRAM}
 use Rattle.link.specs.Link.{needs_answer}
@@ -12,6 +12,15 @@ use Rattle.forwarder.specs.Room.{Needs, all_for_pairs, frames_alone, notes_alone
 -- how many places of the link the answer to a record takes
 abbrev pub answers_to : Record → ℕ
 answers_to r = if needs_answer r then 1 else 0
+
+-- the word that the cable of a side is in or out: it takes no memory
+abbrev pub is_of_side : Event → Bool
+is_of_side (Frame side bytes) = false
+is_of_side (Datagram bytes) = false
+is_of_side (Tick now) = false
+is_of_side Stop = false
+is_of_side (PeerOff boot) = false
+is_of_side (Side side up) = true
 
 -- how many datagrams the end of a step may send
 abbrev pub most_datagrams : Event → ℕ

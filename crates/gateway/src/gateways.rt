@@ -1,5 +1,5 @@
 //! One gateway of the pair, and its step.
-ghost use Rattle.std.specs.Prelude.{◌≡◌, ◌<◌, ◌≤◌, ◌^◌, ◌∷◌, [], Some, IsTrue, IfOk, IfSome, IfNone, OnOk, OnErr, length, map, if◌then◌else◌};
+ghost use Rattle.std.specs.Prelude.{◌≡◌, ◌<◌, ◌≤◌, ◌^◌, ◌∷◌, [], Some, IsTrue, IsOk, IfOk, IfSome, IfNone, OnOk, OnErr, length, map, if◌then◌else◌, true, false};
 ghost use Rattle.nat_types.specs.declared.gateways.GatewayId.TheVariants.{Zero};
 ghost use Rattle.bindings.specs.Entries.{is_pair, pairs_in, slot_of, translates};
 ghost use Rattle.bindings.specs.Lists.{after_key};
@@ -19,6 +19,7 @@ ghost use Rattle.waiting.specs.Packets.{hop_count as hops_in, pair_count as pair
 ghost use Rattle.spec_step.specs.Rests.{most_notes};
 ghost use Rattle.gateway.specs.Entries.{behind};
 ghost use Rattle.gateway.specs.Gateway.{IsGateway};
+ghost use Rattle.gateway.specs.Rooms.{is_of_side};
 
 use crate::begins::begin;
 use crate::entries::{self, hop_count, pair_count};
@@ -247,16 +248,18 @@ impl Gateway {
 
     /// The ports that it owns, rising; none where it isn't synced.
     pub fn owned(&self) -> Result<Vec<Port>, NoMemory>
-        ensures { IfOk result (λ v. v.items
+        ensures ports { IfOk result (λ v. v.items
             ≡ (if is_synced self.now.ledger.book.stage
             then map port_at self.now.ledger.book.owned else [])) }
+        // Where there is none to list, no memory is taken.
+        ensures none { is_synced self.now.ledger.book.stage ≡ false → IsOk result }
     {
         let ports = self.forwarder.core.owned()?;
         Ok(ports)
     }
 
     /// One step: takes an event, and appends to `out` what is sent and noted with it. An `Err`
-    /// stands for a refused growth; nothing has changed then.
+    /// stands for a refused growth; nothing has changed then. The word of a side is never refused.
     pub fn step(&mut self, event: Event<'_>, out: &mut Out) -> Result<Outcome, NoMemory>
         ensures outcome { IfOk result (λ o. o ≡ outcome_on self.old event.entry) }
         ensures step { OnOk result (IsStepOn (scene self.old out.old) event.entry
@@ -265,6 +268,8 @@ impl Gateway {
         ensures bytes { HasBytes event.entry }
         ensures err { OnErr result (self.new ≡ self.old) }
         ensures untold { OnErr result (out.new ≡ out.old) }
+        // The word of a side takes no memory.
+        ensures plugged { is_of_side event.entry ≡ true → IsOk result }
     {
         steps::step(self.alloc, &mut self.forwarder, &mut out.page, event)
     }

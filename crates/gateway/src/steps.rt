@@ -1,5 +1,5 @@
 //! A whole step: the memory that it takes, its event's own parts, and the datagram at its end.
-ghost use Rattle.std.specs.Prelude.{◌≡◌, ◌≤◌, IfOk, OnErr, OnOk, length};
+ghost use Rattle.std.specs.Prelude.{◌≡◌, ◌≤◌, IfOk, IsOk, OnErr, OnOk, length, true};
 ghost use Rattle.link.specs.Link.{taking};
 ghost use Rattle.link.specs.Reading.{reading};
 ghost use Rattle.vrrp_states.specs.Table.{IsMoment};
@@ -14,7 +14,7 @@ ghost use Rattle.spec_step.specs.Steps.{outcome_on, outcome_word, word_by, word_
 ghost use Rattle.spec_step.specs.Verdict.{reading_on, verdict};
 ghost use Rattle.forwarder.specs.Forwarder.{scene_on, shown_of};
 ghost use Rattle.gateway.specs.Gateway.{IsGateway};
-ghost use Rattle.gateway.specs.Rooms.{most_datagrams};
+ghost use Rattle.gateway.specs.Rooms.{is_of_side, most_datagrams};
 
 use crate::NoMemory;
 use crate::arrivals::take_reading;
@@ -171,6 +171,7 @@ fn take_event(
     ensures datagrams { OnOk result (most_datagrams event.entry ≤ page.new.room.datagrams) }
     ensures err { OnErr result (scene_on forwarder.new page.new
         ≡ scene_on forwarder.old page.old) }
+    ensures plugged { is_of_side event.entry ≡ true → IsOk result }
 {
     match event {
         Event::Frame(side, bytes) => frame_came(alloc, forwarder, page, side, bytes),
@@ -232,6 +233,7 @@ pub(crate) fn step(
     ensures gateway { IsGateway (shown_of forwarder.new) }
     ensures err { OnErr result (scene_on forwarder.new page.new
         ≡ scene_on forwarder.old page.old) }
+    ensures plugged { is_of_side event.entry ≡ true → IsOk result }
 {
     steps_go();
     steps_keep();
