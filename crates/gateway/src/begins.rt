@@ -149,6 +149,7 @@ fn joined(settings: &Settings, id: GatewayId, parts: Parts, core: Core) -> Forwa
     ensures inside { (shown_of result).inside ≡ parts.inside }
     ensures outside { (shown_of result).outside ≡ parts.outside }
     ensures kept { (shown_of result).kept ≡ parts.kept }
+    ensures core { result.core ≡ core }
 {
     Forwarder {
         networks: Networks::of_gateway(settings, id),
@@ -173,7 +174,8 @@ fn begin_unsynced(
     hashers: Hashers,
 ) -> Result<Forwarder, NoMemory>
     requires { 0 < boot }
-    ensures { IfOk result (λ f. shown_of f ≡ begun settings.now id boot) }
+    ensures shown { IfOk result (λ f. shown_of f ≡ begun settings.now id boot) }
+    ensures hashers { IfOk result (λ f. f.core.table.hashers ≡ hashers) }
 {
     recall_ranges(settings);
     let zero = bounds_of(settings.ports.zero);
@@ -193,7 +195,8 @@ fn begin_founded(
     hashers: Hashers,
 ) -> Result<Forwarder, NoMemory>
     requires { 0 < boot }
-    ensures { IfOk result (λ f. shown_of f ≡ founded settings.now boot) }
+    ensures shown { IfOk result (λ f. shown_of f ≡ founded settings.now boot) }
+    ensures hashers { IfOk result (λ f. f.core.table.hashers ≡ hashers) }
 {
     recall_ranges(settings);
     let zero = bounds_of(settings.ports.zero);
@@ -222,6 +225,7 @@ pub(crate) fn begin(
     ensures first { IsPlaced (networks_of settings.now Zero) }
     ensures shown { IfOk result (λ f. shown_of f
         ≡ (if found then founded settings.now boot else begun settings.now id boot)) }
+    ensures hashers { IfOk result (λ f. f.core.table.hashers ≡ hashers) }
 {
     recall_ranges(settings);
     recall_places(settings, id);
