@@ -1,5 +1,5 @@
 //! One of the two gateways, with all that it sent.
-ghost use Rattle.std.specs.Prelude.{◌≡◌, ◌<◌, ◌≤◌, ◌+◌, ◌++◌, ℕ, List, [], Some, None, drop, length, option_map, slice_get, vec_len, vec_capacity, IfOk, IfErr, OnOk, OnErr, is_some};
+ghost use Rattle.std.specs.Prelude.{◌≡◌, ◌<◌, ◌≤◌, ◌+◌, ◌++◌, ℕ, List, [], Some, None, drop, length, option_map, slice_get, vec_len, vec_capacity, IfOk, IfErr, IsOk, IsTrue, OnOk, OnErr, is_some};
 ghost use Rattle.bindings.specs.Entries.{is_pair, translates};
 ghost use Rattle.link.specs.Link.{IsLink};
 ghost use Rattle.spec_step.specs.Machine.{HasBytes};
@@ -160,6 +160,8 @@ impl Half {
         ensures err { OnErr result (self.new ≡ self.old) }
         ensures unnoted { OnErr result (trace.new.items ≡ trace.old.items) }
         ensures untold { OnErr result (out.new ≡ out.old) }
+        // One that is down takes no memory.
+        ensures down { self.old.gateway ≡ None → IsOk result }
     {
         match &mut self.gateway {
             Some(gateway) => {
@@ -212,6 +214,8 @@ impl Half {
         ensures err { OnErr result (self.new ≡ self.old) }
         ensures unnoted { OnErr result (trace.new.items ≡ trace.old.items) }
         ensures untold { OnErr result (out.new ≡ out.old) }
+        ensures down { self.old.gateway ≡ None
+            → IsTrue (is_some (kth number other.now.sent)) → IsOk result }
     {
         let Some(bytes) = other.datagram(number) else {
             return Err(WorldFault::NoSuchDatagram);
@@ -244,7 +248,8 @@ impl Half {
 
     /// The pairs of its table, none while it is down.
     pub(crate) fn pairs(&self, alloc: Global) -> Result<Vec<Pair>, NoMemory>
-        ensures { IfOk result (λ v. v.items ≡ pairs_of is_pair self.now.gateway) }
+        ensures pairs { IfOk result (λ v. v.items ≡ pairs_of is_pair self.now.gateway) }
+        ensures down { self.now.gateway ≡ None → IsOk result }
     {
         match &self.gateway {
             Some(gateway) => gateway.pairs(),
@@ -254,7 +259,8 @@ impl Half {
 
     /// The pairs that translate.
     pub(crate) fn translating(&self, alloc: Global) -> Result<Vec<Pair>, NoMemory>
-        ensures { IfOk result (λ v. v.items ≡ pairs_of translates self.now.gateway) }
+        ensures pairs { IfOk result (λ v. v.items ≡ pairs_of translates self.now.gateway) }
+        ensures down { self.now.gateway ≡ None → IsOk result }
     {
         match &self.gateway {
             Some(gateway) => gateway.translating(),
@@ -264,7 +270,8 @@ impl Half {
 
     /// The ports that it owns.
     pub(crate) fn owned(&self, alloc: Global) -> Result<Vec<Port>, NoMemory>
-        ensures { IfOk result (λ v. v.items ≡ owned_by self.now.gateway) }
+        ensures ports { IfOk result (λ v. v.items ≡ owned_by self.now.gateway) }
+        ensures down { self.now.gateway ≡ None → IsOk result }
     {
         match &self.gateway {
             Some(gateway) => gateway.owned(),

@@ -1,12 +1,12 @@
 //! The world of a script: two gateways, what happens to them, and the trace of their notes.
-ghost use Rattle.std.specs.Prelude.{◌≡◌, ◌<◌, ◌++◌, ◌∷◌, [], true, option_map, vec_len, vec_capacity, IfOk, OnOk, OnErr};
+ghost use Rattle.std.specs.Prelude.{◌≡◌, ◌<◌, ◌++◌, ◌∷◌, [], true, None, option_map, is_some, vec_len, vec_capacity, IfOk, IsOk, IsTrue, OnOk, OnErr};
 ghost use Rattle.bindings.specs.Entries.{is_pair, translates};
 ghost use Rattle.spec_trace.specs.OneBox.{IsOneBox};
 ghost use Rattle.spec_trace.specs.Trace.{Fits, GoesOn, Idle, Kept, Silent};
 ghost use Rattle.output.specs.Output.{none_told, with_note};
 ghost use Rattle.nat_types.specs.declared.events.WorldEvent.TheVariants as events;
 ghost use Rattle.frame_sim.specs.declared.events.WorldFault.TheVariants as faults;
-ghost use Rattle.frame_sim.specs.Events.{TakesAt, datagram_for, may_be_told, may_boot, may_crash};
+ghost use Rattle.frame_sim.specs.Events.{IsHandedDown, TakesAt, datagram_for, may_be_told, may_boot, may_crash};
 ghost use Rattle.frame_sim.specs.Runs.{Answers, AreSteps, fault_of};
 ghost use Rattle.frame_sim.specs.Scene.{IsHanded};
 ghost use Rattle.frame_sim.specs.World.{Holds, IsOwned, ShowsSynced, Translates, founding, gateway_at, half, is_up, owned_by, pairs_of, synced_at};
@@ -168,21 +168,26 @@ impl<'a> World<'a> {
     /// The pairs of a gateway's table by protocol (icmp first) and port, without proposals given up;
     /// none while it is down.
     pub fn table(&self, id: GatewayId) -> Result<Vec<Pair>, NoMemory>
-        ensures { IfOk result (λ v. v.items ≡ pairs_of is_pair (gateway_at self.now id)) }
+        ensures pairs { IfOk result (λ v. v.items ≡ pairs_of is_pair (gateway_at self.now id)) }
+        // Of one that is down there is none to list, and no memory is taken.
+        ensures down { gateway_at self.now id ≡ None → IsOk result }
     {
         self.half(id).pairs(self.alloc)
     }
 
     /// The pairs with which a gateway translates, in the same order.
     pub fn translating(&self, id: GatewayId) -> Result<Vec<Pair>, NoMemory>
-        ensures { IfOk result (λ v. v.items ≡ pairs_of translates (gateway_at self.now id)) }
+        ensures pairs { IfOk result (λ v. v.items
+            ≡ pairs_of translates (gateway_at self.now id)) }
+        ensures down { gateway_at self.now id ≡ None → IsOk result }
     {
         self.half(id).translating(self.alloc)
     }
 
     /// The ports that a gateway owns, rising; none where it isn't synced.
     pub fn owned(&self, id: GatewayId) -> Result<Vec<Port>, NoMemory>
-        ensures { IfOk result (λ v. v.items ≡ owned_by (gateway_at self.now id)) }
+        ensures ports { IfOk result (λ v. v.items ≡ owned_by (gateway_at self.now id)) }
+        ensures down { gateway_at self.now id ≡ None → IsOk result }
     {
         self.half(id).owned(self.alloc)
     }
@@ -210,7 +215,9 @@ impl<'a> World<'a> {
 
     /// Takes one event. What the gateway sends and notes is appended to `out`.
     pub fn apply(&mut self, event: &WorldEvent, out: &mut Out) -> Result<Outcome, WorldFault>
-        ensures { Answers self.old event.now out.old result out.new self.new }
+        ensures answers { Answers self.old event.now out.old result out.new self.new }
+        // A gateway that is down takes nothing, and no memory.
+        ensures down { IsHandedDown self.old event.now → IsOk result }
     {
         match event {
             WorldEvent::Frame(id, side, bytes) => {
@@ -266,6 +273,7 @@ impl<'a> World<'a> {
             out.old o out.new self.new) }
         ensures err { OnErr result (self.new ≡ self.old) }
         ensures untold { OnErr result (out.new ≡ out.old) }
+        ensures down { gateway_at self.old id ≡ None → IsOk result }
     {
         steps_go();
         one_spelling();
@@ -281,7 +289,10 @@ impl<'a> World<'a> {
 
     /// One of the two takes a datagram that the other sent.
     fn deliver(&mut self, id: GatewayId, number: u64, out: &mut Out) -> Result<Outcome, WorldFault>
-        ensures { Answers self.old (events.Deliver id number) out.old result out.new self.new }
+        ensures answers { Answers self.old (events.Deliver id number) out.old result
+            out.new self.new }
+        ensures down { gateway_at self.old id ≡ None
+            → IsTrue (is_some (datagram_for self.old id number)) → IsOk result }
     {
         steps_go();
         one_spelling();
