@@ -1,7 +1,8 @@
 //! What is done at a box: its boot file and its rounds.
-ghost use Rattle.std.specs.Prelude.{◌≡◌, ◌⊎◌, ◌<◌, ◌↔◌, [], IfErr, IfOk, IsTrue, None, Ok, OnOk, Some, codes};
+ghost use Rattle.std.specs.Prelude.{◌≡◌, ◌⊎◌, ◌<◌, ◌↔◌, [], IfErr, IfOk, IsTrue, None, Ok, OnOk, Some, codes, true};
 ghost use Rattle.std.specs.Io.KnownBytes.{Appends};
 ghost use Rattle.nat_types.specs.declared.gateways.GatewayId.TheVariants.{Zero};
+ghost use Rattle.slots.specs.Hashers.{is_drawn};
 ghost use Rattle.boot_store.specs.Crash.{Decides, Keeps, Rises, Since};
 ghost use Rattle.settings_file.specs.Clashes.{clash_of_one};
 ghost use Rattle.settings_file.specs.declared.keys.Key.{Key};
@@ -518,6 +519,7 @@ fn rounds_of<R: Clock + Input + AllocGlobal, W: Wire, O: Write, L: Journal>(
 /// The hashers of a seed that is drawn now. Where the system refuses a seed, that is told as memory
 /// that it refuses.
 fn drawn<R: RandomSource>(rt: &R) -> Result<Hashers, BoxFault>
+    ensures drawn { IfOk result (λ hashers. is_drawn hashers ≡ true) }
     ensures err { IfErr result IsOfRun }
 {
     match Hashers::drawn(rt) {
