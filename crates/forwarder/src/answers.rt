@@ -199,7 +199,7 @@ impl Forwarder {
             }
             Ok(Reply::Ask { hop }) => {
                 let wait = WaitsFor::Hop(side, hop);
-                let copy = HeldPacket::copy_of(alloc, side, bytes, self.moment, wait)?;
+                let copy = self.kept.copy(alloc, side, bytes, self.moment, wait)?;
                 self.ask_for_reply(page, side, hop, copy);
                 Ok(Outcome::Waiting)
             }
@@ -233,6 +233,7 @@ impl Forwarder {
         match self.plan_reply(side, echo) {
             Ok(Reply::Send { next }) => {
                 self.reply(page, side, &packet.bytes, echo.source, next);
+                self.kept.reuse(packet);
             }
             Ok(Reply::Ask { hop }) => {
                 let copy = packet.again(self.moment, WaitsFor::Hop(side, hop));

@@ -185,7 +185,7 @@ impl Forwarder {
             }
             Ok(Plan::Ask { by, hop }) => {
                 let wait = WaitsFor::Hop(by.direction().exit(), hop);
-                let copy = HeldPacket::copy_of(alloc, side, bytes, self.moment, wait)?;
+                let copy = self.kept.copy(alloc, side, bytes, self.moment, wait)?;
                 self.ask_for_error(page, packet.flow, by, hop, copy);
                 Ok(Outcome::Waiting)
             }
@@ -214,7 +214,10 @@ impl Forwarder {
         ensures spends { Spends (frames_alone 2) self.old page.old self.new page.new }
     {
         match self.plan_error(packet.side, reading) {
-            Ok(Plan::Send { by, next }) => self.pass(page, &packet.bytes, reading, by, next),
+            Ok(Plan::Send { by, next }) => {
+                self.pass(page, &packet.bytes, reading, by, next);
+                self.kept.reuse(packet);
+            }
             Ok(Plan::Ask { by, hop }) => {
                 let wait = WaitsFor::Hop(by.direction().exit(), hop);
                 let copy = packet.again(self.moment, wait);

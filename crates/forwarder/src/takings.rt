@@ -64,7 +64,7 @@ impl Forwarder {
             }
             Ok(Plan::Ask { by, hop }) => {
                 let wait = WaitsFor::Hop(by.direction().exit(), hop);
-                let copy = HeldPacket::copy_of(alloc, side, bytes, self.moment, wait)?;
+                let copy = self.kept.copy(alloc, side, bytes, self.moment, wait)?;
                 self.ask(page, packet.flow, by, hop, copy);
                 Ok(Outcome::Waiting)
             }
@@ -74,7 +74,7 @@ impl Forwarder {
             }
             Ok(Plan::Wait(endpoint)) => {
                 let wait = WaitsFor::Pair(endpoint);
-                let copy = HeldPacket::copy_of(alloc, side, bytes, self.moment, wait)?;
+                let copy = self.kept.copy(alloc, side, bytes, self.moment, wait)?;
                 self.wait(page, packet.flow, copy);
                 Ok(Outcome::Waiting)
             }
@@ -98,7 +98,10 @@ impl Forwarder {
         recall_source(&packet.bytes, reading);
         let flow = reading.flow;
         match self.plan(packet.side, reading) {
-            Ok(Plan::Send { by, next }) => self.send(page, &packet.bytes, reading, by, next),
+            Ok(Plan::Send { by, next }) => {
+                self.send(page, &packet.bytes, reading, by, next);
+                self.kept.reuse(packet);
+            }
             Ok(Plan::Ask { by, hop }) => {
                 let wait = WaitsFor::Hop(by.direction().exit(), hop);
                 let copy = packet.again(self.moment, wait);

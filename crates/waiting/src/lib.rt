@@ -2,6 +2,7 @@
 //! next hop.
 #![tactic(auto)]
 
+mod buffers;
 mod list;
 mod waits;
 

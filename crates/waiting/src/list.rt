@@ -8,6 +8,7 @@ ghost use Rattle.waiting.specs.Packets.{is_young, has_place, has_room, pair_coun
 ghost use Rattle.waiting.specs.Packets.{without_first_hop, with_room, asks_again, with_asked};
 ghost use Rattle.waiting.specs.Packets.{AreApart, listed};
 
+use crate::buffers::SpareBuffers;
 use crate::{Ended, WaitsFor};
 use nat_types::Side;
 use std::alloc::{AllocError, Global};
@@ -52,34 +53,6 @@ impl Model for HeldPacket {
 }
 
 impl HeldPacket {
-    /// A packet that waits from now on; its next hop is asked for now. It takes memory for the copy
-    /// of its bytes.
-    pub fn copy_of(
-        alloc: Global,
-        side: Side,
-        bytes: &[u8],
-        since: u64,
-        wait: WaitsFor,
-    ) -> Result<HeldPacket, AllocError>
-        ensures { IfOk result (λ w. w
-            ≡ record {
-              side = side;
-              bytes = bytes.now;
-              since = since;
-              wait = wait;
-              asked = since;
-            }) }
-    {
-        let bytes = Vec::from_slice(alloc, bytes)?;
-        Ok(HeldPacket {
-            side,
-            bytes,
-            since,
-            wait,
-            asked: since,
-        })
-    }
-
     /// The same packet, which waits from now on for something else; a next hop is asked for now.
     pub fn again(self, since: u64, wait: WaitsFor) -> HeldPacket
         ensures { result ≡ record self { since = since; wait = wait; asked = since } }
@@ -116,10 +89,12 @@ impl HeldPacket {
 }
 
 /// The packets that wait, in the order of keeping: at most 64 for pairs, one an endpoint, and at
-/// most 64 for next hops, one a side and address.
+/// most 64 for next hops, one a side and address. The buffers of packets that wait no more serve
+/// those to come.
 #[derive(Debug, Drop)]
 pub struct WaitingPackets {
     packets: Vec<HeldPacket>,
+    spare: SpareBuffers,
 }
 
 impl Model for WaitingPackets {
@@ -275,7 +250,52 @@ impl WaitingPackets {
         ensures { IfOk result (λ k. k ≡ []) }
     {
         let packets = Vec::with_capacity(alloc, 2 * PLACES)?;
-        Ok(WaitingPackets { packets })
+        let spare = SpareBuffers::new(alloc)?;
+        Ok(WaitingPackets { packets, spare })
+    }
+
+    /// A packet that waits from now on; its next hop is asked for now. The copy of its bytes lies in
+    /// a buffer of a packet that waits no more, or takes memory.
+    pub fn copy(
+        &mut self,
+        alloc: Global,
+        side: Side,
+        bytes: &[u8],
+        since: u64,
+        wait: WaitsFor,
+    ) -> Result<HeldPacket, AllocError>
+        ensures packet { IfOk result (λ w. w
+            ≡ record {
+              side = side;
+              bytes = bytes.now;
+              since = since;
+              wait = wait;
+              asked = since;
+            }) }
+        ensures same { self.new ≡ self.old }
+    {
+        let bytes = self.spare.copy_of(alloc, bytes)?;
+        Ok(HeldPacket {
+            side,
+            bytes,
+            since,
+            wait,
+            asked: since,
+        })
+    }
+
+    /// Keeps the buffer of a packet that waits no more for one to come.
+    pub fn reuse(&mut self, packet: HeldPacket)
+        ensures same { self.new ≡ self.old }
+    {
+        let HeldPacket {
+            side: _,
+            bytes,
+            since: _,
+            wait: _,
+            asked: _,
+        } = packet;
+        self.spare.put(bytes);
     }
 
     /// The packets, in the order of keeping.

@@ -1,0 +1,56 @@
+//! Buffers of packets that wait no more, for those to come.
+ghost use Rattle.std.specs.Prelude.{◌≡◌, IfOk};
+
+use std::alloc::{AllocError, Global};
+use std::marker::Model;
+
+/// How many buffers are kept at most.
+const SPARE: usize = 64;
+
+/// The bytes of the longest frame that comes in.
+const LONGEST_FRAME: usize = 1514;
+
+/// Empty buffers, whose memory serves again.
+#[derive(Debug, Drop)]
+pub(crate) struct SpareBuffers {
+    buffers: Vec<Vec<u8>>,
+}
+
+impl Model for SpareBuffers {
+    ghost use Rattle.std.specs.Prelude.{ℕ, ◌≤◌, vec_capacity, length};
+
+    // How many there are.
+    ghost Value = { ℕ };
+
+    ghost view = { λ s. length s.buffers.items };
+
+    ghost invariant = { λ s. 64 ≤ vec_capacity s.buffers };
+}
+
+impl SpareBuffers {
+    /// None yet. The list of them takes its memory here.
+    pub(crate) fn new(alloc: Global) -> Result<SpareBuffers, AllocError> {
+        let buffers = Vec::with_capacity(alloc, SPARE)?;
+        Ok(SpareBuffers { buffers })
+    }
+
+    /// A buffer with these bytes: a spare one, or a new one, which takes memory.
+    pub(crate) fn copy_of(&mut self, alloc: Global, bytes: &[u8]) -> Result<Vec<u8>, AllocError>
+        ensures { IfOk result (λ v. v.items ≡ bytes.now) }
+    {
+        let mut buffer = match self.buffers.pop() {
+            Some(spare) => spare,
+            None => Vec::with_capacity(alloc, LONGEST_FRAME)?,
+        };
+        buffer.clear();
+        buffer.extend_from_slice(bytes)?;
+        Ok(buffer)
+    }
+
+    /// Keeps a buffer for a packet to come, unless there are 64 already.
+    pub(crate) fn put(&mut self, buffer: Vec<u8>) {
+        if self.buffers.len() < SPARE {
+            self.buffers.push_reserved(buffer);
+        }
+    }
+}
