@@ -34,7 +34,7 @@ pub record HasLoop (before after : Option (List ℕ)) (status : ℕ) : Type 0 wh
 
 -- the line that tells the version
 abbrev pub version_line : List ℕ
-version_line = codes "natpair 0.1.0 (rattle-kit-13f logic dac8208d650f15bf)\n"
+version_line = codes "natpair 0.1.0 (rattle-kit-13 logic dac8208d650f15bf)\n"
 
 -- The status with which a task is done, and what was printed until then: that of such a run for `sim` and `loop`, 0 for
 -- the others; for `gate` there are a start and its rounds, and of the version just its line is printed.
