@@ -1,5 +1,4 @@
 mod Items
-mod Packing
 mod Segments
 mod Pasts
 mod Resting

@@ -5,4 +5,3 @@ pub mod Kept
 pub mod Lives
 pub mod Rests
 pub mod Dues
-pub mod Packed

@@ -4,7 +4,6 @@
 
 mod laws;
 mod life;
-mod packed;
 mod packets;
 mod places;
 mod sessions;
