@@ -1,6 +1,6 @@
 -- Lists of which one item is changed, and their images.
 use Rattle.std.proofs.Common.{◌≡◌, ℕ, zero, suc, ◌+◌, ◌<◌, Bool, true, false, cond, not, nat_lt, Option, Some, None, List, [], ◌∷◌, length, map, get_or, set, position, refl, ap, ◌∙◌, sym, arith}
-use Rattle.std.specs.List.{position_or_len, prefix_len, refill}
+use Rattle.std.specs.List.{position_or_len, prefix_len}
 use Rattle.std.proofs.lemmas.List.{length-map, map_push}
 use Rattle.std.proofs.lemmas.List.Quantifiers.{position-Some}
 use Rattle.activity.specs.declared.TheConstants.{MAX_SESSIONS}
@@ -48,14 +48,6 @@ place-map f p q xs =
     ap (λ o. placed o (nat_lt (length (map f xs)) MAX_SESSIONS) (position q (map f xs))) (position-map f p xs)
     ∙ ap (λ n. placed (position (λ x. p (f x)) xs) (nat_lt n MAX_SESSIONS) (position q (map f xs))) (length-map xs f)
     ∙ ap (placed (position (λ x. p (f x)) xs) (nat_lt (length xs) MAX_SESSIONS)) (position-map f q xs)
-
--- ---- a list that is written through a slice
-
-pub refilled : {A : Type 0} (xs ys : List A) → length ys ≡ length xs → refill (length xs) xs ys ≡ ys
-refilled [] [] e = refl
-refilled [] (y ∷ ys) e = absurd (omega (arith, e))
-refilled (x ∷ xs) [] e = absurd (omega (arith, e))
-refilled (x ∷ xs) (y ∷ ys) e = ap (λ zs. y ∷ zs) (refilled xs ys (omega (arith, e)))
 
 -- ---- what a place says of the list
 

@@ -1,4 +1,5 @@
 mod Items
+mod Packing
 mod Segments
 mod Pasts
 mod Resting

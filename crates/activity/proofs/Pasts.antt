@@ -1,7 +1,5 @@
 -- What is kept of a life agrees with its past.
-use Rattle.std.proofs.Common.{◌≡◌, ℕ, ◌<◌, length, get_or, set, Bool, true, false, cond, ◌&&◌, ◌||◌, List, [], ◌∷◌, map, refl, ap, ◌∙◌}
-use Rattle.std.specs.List.{refill}
-use Rattle.std.proofs.lemmas.List.{length-set}
+use Rattle.std.proofs.Common.{◌≡◌, ℕ, Bool, true, false, cond, ◌&&◌, ◌||◌, List, [], ◌∷◌, map, refl, ap, ◌∙◌}
 use Rattle.std.proofs.lemmas.List.Folds.{list_all-map}
 use Rattle.addresses.specs.declared.transport.Protocol.{Protocol}
 use Rattle.addresses.specs.declared.transport.Protocol.TheVariants.{Tcp}
@@ -13,8 +11,7 @@ use Rattle.activity.specs.Sessions.{stepped, begun_session, has_passed_by, has_r
 use Rattle.activity.specs.Places.{put_at, is_nowhere}
 use Rattle.activity.specs.Kept.{session_place, with_session, all_passed}
 use Rattle.activity.specs.Lives.{Course, History, Activity, Agrees, with_packet, last_of, courses, course_place, is_crowded, is_empty, is_idle, looks_idle, first_course, longer, session_of, least_rest}
-use Rattle.activity.specs.declared.places.Place.TheVariants.{Known, Passed}
-use Rattle.activity.proofs.Items.{put-map, place-map, refilled, known-within, passed-within, set-changed, set-new}
+use Rattle.activity.proofs.Items.{put-map, place-map}
 use Rattle.activity.proofs.Segments.{stepped-is, begun-is}
 
 -- a packet's place among what is kept
@@ -69,22 +66,3 @@ idle-tcp past life now a =
 pub looks-is : (protocol : Protocol) (past : History) (life : Activity) (now : ℕ) → Agrees protocol past life → looks_idle protocol life now ≡ is_idle protocol past now
 looks-is Tcp past life now a = idle-tcp past life now a
 looks-is protocol past life now a = ap (λ n. has_rested (least_rest protocol) n now) a.last
-
--- ---- what is written
-
-pub known-written : (p : Packet) (xs there seen written : List Session) (i : ℕ) (d y : Session) → there ≡ xs → seen ≡ xs → written ≡ xs → Known i ≡ session_place p there → y ≡ stepped (get_or seen i d) p → refill (length xs) xs (set written i y) ≡ with_session p xs
-known-written p xs there seen written i d y e1 e2 e3 place is =
-    let here : Known i ≡ session_place p xs = place ∙ ap (session_place p) e1 in
-    let low : i < length xs = known-within (λ (x : Session). same_remote x.remote p.remote) (has_passed_by p.at) xs i d here in
-    let new : y ≡ stepped (get_or xs i d) p = is ∙ ap (λ zs. stepped (get_or zs i d) p) e2 in
-    ap (λ zs. refill (length xs) xs (set zs i y)) e3 ∙ refilled xs (set xs i y) (simp length-set)
-    ∙ ap (set xs i) new ∙ set-changed (λ x. stepped x p) xs i d low
-    ∙ ap (λ place. put_at place (λ x. stepped x p) (begun_session p) xs) here
-
-pub passed-written : (p : Packet) (xs there written : List Session) (i : ℕ) (d y : Session) → there ≡ xs → written ≡ xs → Passed i ≡ session_place p there → y ≡ begun_session p → refill (length xs) xs (set written i y) ≡ with_session p xs
-passed-written p xs there written i d y e1 e3 place is =
-    let here : Passed i ≡ session_place p xs = place ∙ ap (session_place p) e1 in
-    let low : i < length xs = passed-within (λ (x : Session). same_remote x.remote p.remote) (has_passed_by p.at) xs i d here in
-    ap (λ zs. refill (length xs) xs (set zs i y)) e3 ∙ refilled xs (set xs i y) (simp length-set)
-    ∙ ap (set xs i) is ∙ set-new (begun_session p) xs i low
-    ∙ ap (λ place. put_at place (λ x. stepped x p) (begun_session p) xs) here

@@ -5,3 +5,4 @@ pub mod Kept
 pub mod Lives
 pub mod Rests
 pub mod Dues
+pub mod Packed

@@ -4,6 +4,7 @@
 
 mod laws;
 mod life;
+mod packed;
 mod packets;
 mod places;
 mod sessions;

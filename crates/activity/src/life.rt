@@ -4,38 +4,42 @@ ghost use Rattle.addresses.specs.declared.transport.Protocol.{Protocol as Transp
 ghost use Rattle.activity.specs.Lives.{History, Agrees, came, with_packet, renewed, is_idle, looks_idle, is_unused, is_empty, life_begun, life_carried, life_renewed};
 ghost use Rattle.activity.specs.Lives.{least_rest};
 ghost use Rattle.activity.specs.Sessions.{has_rested};
-ghost use Rattle.activity.specs.Kept.{all_passed};
-ghost use Rattle.activity.specs.Dues.{last_end, due_moment, clipped};
+ghost use Rattle.activity.specs.Packed.{have_passed, end_of};
+ghost use Rattle.activity.specs.Dues.{due_moment, clipped};
 
+use crate::packed::{Moment, PackedSession};
 use crate::places::{end_of_all, follow, have_all_passed};
 use crate::sessions::has_rested_since;
-use crate::{
-    ESTABLISHED_REST, MAX_SESSIONS, Packet, QUERY_REST, Session, TRANSITORY_REST, UDP_REST,
-};
+use crate::{ESTABLISHED_REST, MAX_SESSIONS, Packet, QUERY_REST, TRANSITORY_REST, UDP_REST};
 use addresses::Protocol;
-use arrayvec::ArrayVec;
 use std::marker::Model;
 
 /// What a pair's entry keeps of the packets that the pair carried: four sessions at most, and three facts beside.
 #[derive(Drop)]
 pub struct Activity {
-    last: u64,
+    last: Moment,
+    // The first so many have sessions.
+    places: [PackedSession; MAX_SESSIONS],
+    count: u8,
     is_unused: bool,
     is_crowded: bool,
-    sessions: ArrayVec<Session, MAX_SESSIONS>,
 }
 
 impl Model for Activity {
+    ghost use Rattle.std.specs.Prelude.{◌≤◌};
     ghost use Rattle.activity.specs.Lives.{Activity as Seen};
+    ghost use Rattle.activity.specs.Packed.{moment_in, sessions_in};
 
     ghost Value = { Seen };
 
     ghost view = { λ l. record {
-      last = l.last;
+      last = moment_in l.last;
       is_unused = l.is_unused;
       is_crowded = l.is_crowded;
-      sessions = l.sessions.items;
+      sessions = sessions_in l.count l.places;
     } };
+
+    ghost invariant = { λ l. l.count ≤ 4 };
 }
 
 /// How long a pair of a protocol rests at least before it is idle; one without sessions just so long.
@@ -50,28 +54,26 @@ fn least_rest(protocol: Protocol) -> u64
 }
 
 /// Whether a TCP pair with these sessions is idle.
-fn is_tcp_idle(sessions: &[Session], is_crowded: bool, last: u64, now: u64) -> bool
-    ensures { result ≡ (if is_crowded || is_empty sessions.now
-        then has_rested ESTABLISHED_REST last
-        now else all_passed now sessions.now) }
+fn is_tcp_idle(kept: &[PackedSession], is_crowded: bool, last: u64, now: u64) -> bool
+    ensures { result ≡ (if is_crowded || is_empty kept.now
+        then has_rested ESTABLISHED_REST last now else have_passed now kept.now) }
 {
-    if is_crowded || sessions.is_empty() {
+    if is_crowded || kept.is_empty() {
         has_rested_since(ESTABLISHED_REST, last, now)
     } else {
-        have_all_passed(sessions, now)
+        have_all_passed(kept, now)
     }
 }
 
 /// The moment from which a TCP pair with these sessions is idle, or the last moment of all.
-fn tcp_due(sessions: &[Session], is_crowded: bool, last: u64) -> u64
+fn tcp_due(kept: &[PackedSession], is_crowded: bool, last: u64) -> u64
     ensures { result ≡ clipped
-        (if is_crowded || is_empty sessions.now then last + ESTABLISHED_REST
-        else last_end sessions.now) }
+        (if is_crowded || is_empty kept.now then last + ESTABLISHED_REST else end_of kept.now) }
 {
-    if is_crowded || sessions.is_empty() {
+    if is_crowded || kept.is_empty() {
         last.saturating_add(ESTABLISHED_REST)
     } else {
-        end_of_all(sessions)
+        end_of_all(kept)
     }
 }
 
@@ -82,10 +84,11 @@ impl Activity {
         ensures exact { result ≡ life_begun by_install now }
     {
         Activity {
-            last: now,
+            last: Moment::of(now),
+            places: [PackedSession::NONE; MAX_SESSIONS],
+            count: 0,
             is_unused: by_install,
             is_crowded: false,
-            sessions: ArrayVec::new(),
         }
     }
 
@@ -95,12 +98,12 @@ impl Activity {
             → Agrees protocol (with_packet packet past) self.new }
         ensures exact { self.new ≡ life_carried protocol packet self.old }
     {
-        self.last = packet.at;
+        self.last = Moment::of(packet.at);
         self.is_unused = false;
         match protocol {
             Protocol::Icmp | Protocol::Udp => {}
             Protocol::Tcp => {
-                let nowhere = follow(&mut self.sessions, packet);
+                let nowhere = follow(&mut self.places, &mut self.count, packet);
                 self.is_crowded |= nowhere;
             }
         }
@@ -112,9 +115,9 @@ impl Activity {
             → Agrees protocol (renewed now past) self.new }
         ensures exact { self.new ≡ life_renewed now self.old }
     {
-        self.last = now;
+        self.last = Moment::of(now);
+        self.count = 0;
         self.is_crowded = false;
-        self.sessions.clear();
     }
 
     /// Whether the pair is idle at a moment.
@@ -123,11 +126,11 @@ impl Activity {
             ≡ is_idle protocol past now }
         ensures exact { result ≡ looks_idle protocol self.now now }
     {
+        let last = self.last.centiseconds();
+        let kept = &self.places[..usize::from(self.count)];
         match protocol {
-            Protocol::Icmp | Protocol::Udp => {
-                has_rested_since(least_rest(protocol), self.last, now)
-            }
-            Protocol::Tcp => is_tcp_idle(self.sessions.as_slice(), self.is_crowded, self.last, now),
+            Protocol::Icmp | Protocol::Udp => has_rested_since(least_rest(protocol), last, now),
+            Protocol::Tcp => is_tcp_idle(kept, self.is_crowded, last, now),
         }
     }
 
@@ -135,9 +138,11 @@ impl Activity {
     pub fn due(&self, protocol: Protocol) -> u64
         ensures { result ≡ clipped (due_moment protocol self.now) }
     {
+        let last = self.last.centiseconds();
+        let kept = &self.places[..usize::from(self.count)];
         match protocol {
-            Protocol::Icmp | Protocol::Udp => self.last.saturating_add(least_rest(protocol)),
-            Protocol::Tcp => tcp_due(self.sessions.as_slice(), self.is_crowded, self.last),
+            Protocol::Icmp | Protocol::Udp => last.saturating_add(least_rest(protocol)),
+            Protocol::Tcp => tcp_due(kept, self.is_crowded, last),
         }
     }
 

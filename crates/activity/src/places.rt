@@ -1,15 +1,15 @@
 //! The sessions that a pair keeps, and where a packet's session stands among them.
-ghost use Rattle.std.specs.Prelude.{◌≡◌, ◌<◌, ◌≤◌, length, nat_lt, position};
-ghost use Rattle.arrayvec.specs.ArrayVec.{array_vec_len};
+ghost use Rattle.std.specs.Prelude.{◌≡◌, ◌+◌, ◌<◌, ◌≤◌, ◌++◌, ◌∷◌, [], ℕ, length, position, slice_set, IfSome};
 ghost use Rattle.activity.specs.Packets.{same_remote};
-ghost use Rattle.activity.specs.Places.{place_by, is_nowhere};
+ghost use Rattle.activity.specs.Places.{is_nowhere};
 ghost use Rattle.activity.specs.Sessions.{has_passed_by};
-ghost use Rattle.activity.specs.Kept.{session_place, with_session, all_passed};
-ghost use Rattle.activity.specs.Dues.{last_end, clipped};
+ghost use Rattle.activity.specs.Kept.{session_place, with_session};
+ghost use Rattle.activity.specs.Dues.{clipped};
+ghost use Rattle.activity.specs.Packed.{session_in, sessions_in, place_among, FitsAmong, have_passed, end_of};
 
+use crate::packed::PackedSession;
 use crate::packets::is_that_remote;
 use crate::{MAX_SESSIONS, Packet, Session};
-use arrayvec::ArrayVec;
 
 /// Where a packet's session stands.
 #[derive(Clone, Copy, Debug, PartialEq, Eq)]
@@ -24,52 +24,76 @@ pub(crate) enum Place {
     Nowhere,
 }
 
-fn known(sessions: &[Session], packet: Packet) -> Option<usize>
-    ensures { result ≡ position (λ s. same_remote s.remote packet.remote) sessions.now }
+fn known(kept: &[PackedSession], packet: Packet) -> Option<usize>
+    ensures first { result ≡ position (λ k. same_remote (session_in k).remote packet.remote)
+        kept.now }
+    ensures within { IfSome result (λ i. i < length kept.now) }
 {
-    sessions
-        .iter()
-        .position(|session| is_that_remote(session.remote, packet.remote))
+    kept.iter()
+        .position(|session| is_that_remote(session.remote(), packet.remote))
 }
 
-fn passed(sessions: &[Session], now: u64) -> Option<usize>
-    ensures { result ≡ position (has_passed_by now) sessions.now }
+fn passed(kept: &[PackedSession], now: u64) -> Option<usize>
+    ensures first { result ≡ position (λ k. has_passed_by now (session_in k)) kept.now }
+    ensures within { IfSome result (λ i. i < length kept.now) }
 {
-    sessions.iter().position(|session| session.has_passed(now))
+    kept.iter().position(|session| session.has_passed(now))
 }
 
-fn place_among(sessions: &[Session], packet: Packet) -> Place
-    ensures { result ≡ session_place packet sessions.now }
+fn place_among(kept: &[PackedSession], packet: Packet) -> Place
+    ensures place { result ≡ place_among packet kept.now }
+    ensures within { FitsAmong (length kept.now) result }
 {
-    if let Some(i) = known(sessions, packet) {
+    if let Some(i) = known(kept, packet) {
         return Place::Known(i);
     }
-    if sessions.len() < MAX_SESSIONS {
+    if kept.len() < MAX_SESSIONS {
         return Place::Free;
     }
-    match passed(sessions, packet.at) {
+    match passed(kept, packet.at) {
         Some(i) => Place::Passed(i),
         None => Place::Nowhere,
     }
 }
 
-/// Takes a packet into its session, and tells whether there was no place for it.
-pub(crate) fn follow(sessions: &mut ArrayVec<Session, MAX_SESSIONS>, packet: Packet) -> bool
-    ensures sessions { sessions.new.items ≡ with_session packet sessions.old.items }
-    ensures nowhere { result ≡ is_nowhere (session_place packet sessions.old.items) }
+/// Keeps a session in a place.
+fn put(places: &mut [PackedSession; MAX_SESSIONS], place: usize, session: Session)
+    requires { place < length places.old }
+    ensures kept { (count : ℕ) → place < count → sessions_in count places.new
+        ≡ slice_set (sessions_in count places.old) place session }
+    ensures more { sessions_in (place + 1) places.new
+        ≡ sessions_in place places.old ++ session ∷ [] }
 {
-    match place_among(sessions.as_slice(), packet) {
+    places[place] = PackedSession::of(session);
+}
+
+/// Takes a packet into its session, and tells whether there was no place for it.
+pub(crate) fn follow(
+    places: &mut [PackedSession; MAX_SESSIONS],
+    count: &mut u8,
+    packet: Packet,
+) -> bool
+    requires few { count.old ≤ 4 }
+    ensures few { count.new ≤ 4 }
+    ensures sessions { sessions_in count.new places.new
+        ≡ with_session packet (sessions_in count.old places.old) }
+    ensures nowhere { result
+        ≡ is_nowhere (session_place packet (sessions_in count.old places.old)) }
+{
+    let kept = usize::from(*count);
+    match place_among(&places[..kept], packet) {
         Place::Known(i) => {
-            let session = sessions[i];
-            sessions[i] = session.stepped(packet);
+            let session = places[i].session();
+            put(places, i, session.stepped(packet));
             false
         }
         Place::Free => {
-            sessions.push(Session::begun(packet));
+            put(places, kept, Session::begun(packet));
+            *count += 1;
             false
         }
         Place::Passed(i) => {
-            sessions[i] = Session::begun(packet);
+            put(places, i, Session::begun(packet));
             false
         }
         Place::Nowhere => true,
@@ -77,18 +101,18 @@ pub(crate) fn follow(sessions: &mut ArrayVec<Session, MAX_SESSIONS>, packet: Pac
 }
 
 /// Whether the limit of every session has passed.
-pub(crate) fn have_all_passed(sessions: &[Session], now: u64) -> bool
-    ensures { result ≡ all_passed now sessions.now }
+pub(crate) fn have_all_passed(kept: &[PackedSession], now: u64) -> bool
+    ensures { result ≡ have_passed now kept.now }
 {
-    sessions.iter().all(|session| session.has_passed(now))
+    kept.iter().all(|session| session.has_passed(now))
 }
 
 /// The moment at which the last of the sessions passes its limit, or the last moment of all.
-pub(crate) fn end_of_all(sessions: &[Session]) -> u64
-    ensures { result ≡ clipped (last_end sessions.now) }
+pub(crate) fn end_of_all(kept: &[PackedSession]) -> u64
+    ensures { result ≡ clipped (end_of kept.now) }
 {
     let mut end = 0u64;
-    for session in sessions.iter() {
+    for session in kept.iter() {
         end = end.max(session.end());
     }
     end

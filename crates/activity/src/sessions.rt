@@ -1,11 +1,10 @@
 //! One session of a TCP pair: what its segments so far come to.
 ghost use Rattle.std.specs.Prelude.{◌≡◌, ◌&&◌, ◌||◌, nat_le, ◌+◌, ◌-◌};
-ghost use Rattle.activity.specs.Dues.{clipped};
 ghost use Rattle.activity.specs.Sessions.{is_closed, is_opening, first_class, rest_of, marked_if, are_both, noted, begun_session, stepped, has_rested};
 
 use crate::packets::is_plain_segment;
 use crate::{ESTABLISHED_REST, Packet, Remote, TRANSITORY_REST, Way};
-use addresses::{Ip, Port, TcpFlags};
+use addresses::TcpFlags;
 
 /// The class of a session (RFC 5382, section 2).
 #[derive(Clone, Copy, Debug, PartialEq, Eq)]
@@ -33,21 +32,6 @@ pub struct Session {
     pub fin: Marks,
     pub plain: Marks,
     pub last: u64,
-}
-
-impl Default for Session {
-    fn default() -> Session {
-        Session {
-            remote: Remote {
-                address: Ip(0),
-                port: Port(0),
-            },
-            class: Class::Closed,
-            fin: Marks::NONE,
-            plain: Marks::NONE,
-            last: 0,
-        }
-    }
 }
 
 impl Marks {
@@ -188,19 +172,5 @@ impl Session {
         } else {
             noted
         }
-    }
-
-    /// Whether the session's limit has passed.
-    pub(crate) fn has_passed(self, now: u64) -> bool
-        ensures { result ≡ has_rested (rest_of self.class) self.last now }
-    {
-        has_rested_since(self.class.rest(), self.last, now)
-    }
-
-    /// The moment at which the session's limit passes, or the last moment of all.
-    pub(crate) fn end(self) -> u64
-        ensures { result ≡ clipped (self.last + rest_of self.class) }
-    {
-        self.last.saturating_add(self.class.rest())
     }
 }

@@ -1,7 +1,8 @@
 use Rattle.std.proofs.Common.{◌≡◌, max, drop}
-use Rattle.activity.specs.Dues.{last_end, clipped}
+use Rattle.activity.specs.Dues.{clipped}
+use Rattle.activity.specs.Packed.{end_of}
 use Rattle.activity.proofs.places.end_of_all.Given as goal
 
 -- so far, and what is left
 abbrev pub invariant-loop-session : goal.invariant-loop-session
-invariant-loop-session l = max l.end (clipped (last_end (drop l.session-index l.sessions))) ≡ clipped (last_end l.sessions)
+invariant-loop-session l = max l.end (clipped (end_of (drop l.session-index l.kept))) ≡ clipped (end_of l.kept)
