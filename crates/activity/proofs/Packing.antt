@@ -1,6 +1,6 @@
 -- Packed sessions, as the sessions that they stand for.
-use Rattle.std.proofs.Common.{◌≡◌, ℕ, zero, suc, ◌+◌, ◌*◌, ◌<◌, ◌≤◌, Bool, true, false, cond, ◌||◌, List, [], ◌∷◌, ◌++◌, length, map, max, take, get_or, set, refl, ap, ◌∙◌, sym, arith}
-use Rattle.std.proofs.lemmas.List.{length-map, map-set, map_push, take_more_set}
+use Rattle.std.proofs.Common.{◌≡◌, ℕ, zero, suc, ◌+◌, ◌<◌, Bool, false, cond, ◌||◌, List, [], ◌∷◌, ◌++◌, length, max, take, get_or, set, refl, ap, ◌∙◌, sym, arith}
+use Rattle.std.proofs.lemmas.List.{map-set, map_push, take_more_set}
 use Rattle.std.proofs.lemmas.List.Folds.{list_all-map}
 use Rattle.std.proofs.Math.Seq.{take-set-lt}
 use Rattle.activity.specs.declared.TheConstants.{ESTABLISHED_REST}

@@ -25,6 +25,9 @@ pub struct Activity {
     is_crowded: bool,
 }
 
+// Each entry of a table has one.
+const _: () = prove!(size_of::<Activity>() == 76);
+
 impl Model for Activity {
     ghost use Rattle.std.specs.Prelude.{◌≤◌};
     ghost use Rattle.activity.specs.Lives.{Activity as Seen};

@@ -47,6 +47,8 @@ pub(crate) struct PackedSession {
     marks: u8,
 }
 
+const _: () = prove!(size_of::<PackedSession>() == 16);
+
 /// The number that stands for these marks.
 fn number_of(marks: Marks) -> u8
     ensures value { marks_in result ≡ marks }

@@ -19,7 +19,7 @@ use Rattle.addresses.proofs.Offered.{protocol-eq, protocol-self}
 use Rattle.bindings.specs.declared.entries.Entry.{Entry}
 use Rattle.bindings.specs.declared.entries.PortBounds.{PortBounds}
 use Rattle.bindings.specs.Entries.{slot_of, set_at}
-use Rattle.bindings.specs.Ports.{range_of, is_free_at, is_free_in, is_open_in, is_spare, is_spare_in, lowest_of, highest_of, chosen_port, IsLike, AreAlike, SameEnds, SameBounds, SameOwned, SameFree, AreFree, key_of}
+use Rattle.bindings.specs.Ports.{range_of, is_free_at, is_free_in, is_open_in, is_spare, is_spare_in, lowest_of, highest_of, chosen_port, IsLike, AreAlike, SameEnds, SameBounds, SameOwned, AreFree, key_of}
 
 -- a test of ports that is written at one of them
 abbrev pub IsSetAt : (ℕ → Bool) → (ℕ → Bool) → ℕ → Bool → Type 0
@@ -209,22 +209,6 @@ alike-more low high old new more a b icmp tcp udp = record {
       high = e.high ∙ l.high;
       owned = λ port. owns port ∙ ap (λ b. b || more port) (l.owned port) ∙ sym (tcp port);
     }
-
--- the same said of the bounds that they have
-pub alike-own : (low high : ℕ) (ports : Ports) → AreAlike low high ports → AreAlike ports.tcp.lowest ports.tcp.highest ports
-alike-own low high ports a = record { icmp = own ports.icmp a.icmp; tcp = own ports.tcp a.tcp; udp = own ports.udp a.udp }
-  where
-    own : (range : Range) → IsLike ports.tcp low high range → IsLike ports.tcp ports.tcp.lowest ports.tcp.highest range
-    own range l = record { low = l.low ∙ sym a.tcp.low; high = l.high ∙ sym a.tcp.high; owned = l.owned }
-
-pub alike-ends : (low high : ℕ) (old new : Ports) → AreAlike low high old → AreAlike old.tcp.lowest old.tcp.highest new → AreAlike low high new
-alike-ends low high old new a n = record { icmp = ends new.icmp n.icmp; tcp = ends new.tcp n.tcp; udp = ends new.udp n.udp }
-  where
-    ends : (range : Range) → IsLike new.tcp old.tcp.lowest old.tcp.highest range → IsLike new.tcp low high range
-    ends range l = record { low = l.low ∙ a.tcp.low; high = l.high ∙ a.tcp.high; owned = l.owned }
-
-pub free-trans : (first second third : Ports) → SameFree first second → SameFree second third → SameFree first third
-free-trans first second third a b = record { icmp = b.icmp ∙ a.icmp; tcp = b.tcp ∙ a.tcp; udp = b.udp ∙ a.udp }
 
 -- ---- spare ports
 

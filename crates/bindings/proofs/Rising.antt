@@ -1,7 +1,7 @@
 -- Rising lists of ports: what is listed settles them.
 use Rattle.std.proofs.Common.{◌≡◌, ℕ, zero, suc, ◌+◌, ◌-◌, ◌<◌, ◌≤◌, ◌==◌, nat_le, nat_lt, Bool, true, false, cond, ◌&&◌, ◌||◌, not, inl, inr, List, [], ◌∷◌, refl, sym, ap, ◌∙◌, arith}
 use Rattle.std.specs.List.{filter, range_with_len}
-use Rattle.std.proofs.lemmas.Bool.{both_ways, cases_lt, cases_eq, or_from, or_left, or_right, and_from, and_left, and_right, and_parts, eq-eqb, ne_eqb, false_from_ne_true, ltb-true, ltb-false, lt-ltb, le-ltb, leb-true}
+use Rattle.std.proofs.lemmas.Bool.{both_ways, cases_lt, cases_eq, or_from, or_left, or_right, and_from, and_left, and_parts, eq-eqb, ne_eqb, false_from_ne_true, ltb-true, ltb-false, leb-true}
 use Rattle.port_range.specs.Ports.{is_listed, is_within, RiseAbove, AreRising}
 use Rattle.bindings.specs.declared.entries.PortBounds.{PortBounds}
 use Rattle.bindings.specs.Ports.{in_either, lowest_of, highest_of}

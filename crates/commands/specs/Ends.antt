@@ -36,7 +36,7 @@ pub record HasLoop (before after : Option (List ℕ)) (status : ℕ) : Type 0 wh
 
 -- the line that tells the version
 abbrev pub version_line : List ℕ
-version_line = codes "natpair 0.1.0 (rattle-kit-13f logic dac8208d650f15bf)\n"
+version_line = codes "natpair 0.1.0 (rattle-kit-13 logic dac8208d650f15bf)\n"
 
 -- what was looked at is good, or, where it is strict, clean; what was compared is alike. Of some text, or some two settings
 abbrev pub IsChecked : CheckWords → Type 0

@@ -1,8 +1,8 @@
 //! The datagram at the end of a step.
-ghost use Rattle.std.specs.Prelude.{◌≡◌, ◌≤◌, length, ⊤};
+ghost use Rattle.std.specs.Prelude.{◌≡◌, ◌≤◌, length};
 ghost use Rattle.link.specs.declared.writing.TheConstants.{LONGEST_DATAGRAM};
 ghost use Rattle.link.specs.Grammar.{spelling};
-ghost use Rattle.link.specs.Link.{datagram_of};
+ghost use Rattle.link.specs.Link.{datagram_of, wanted};
 ghost use Rattle.output.specs.Output.{with_datagram};
 ghost use Rattle.spec_step.specs.Parts.{datagram_in, link_answered, link_ticked};
 ghost use Rattle.forwarder.specs.Forwarder.{scene_on, shown_of};
@@ -20,7 +20,7 @@ struct NextDatagram<'a> {
 }
 
 impl WriteBytes for NextDatagram<'_> {
-    ghost can_write = { λ _. ⊤ };
+    ghost can_write = { λ n. wanted n.link.now ≡ 0 };
 
     ghost bytes = { λ n. spelling (datagram_of n.serves n.link.now) };
 
@@ -33,7 +33,8 @@ impl WriteBytes for NextDatagram<'_> {
 
 /// Sends the next datagram.
 fn send(forwarder: &Forwarder, page: &mut OutputBuffer)
-    requires { 1 ≤ page.old.room.datagrams }
+    requires fed { wanted forwarder.now.link ≡ 0 }
+    requires datagrams { 1 ≤ page.old.room.datagrams }
     ensures { page.new.told
         ≡ with_datagram page.old.told (datagram_in (shown_of forwarder.now)) }
 {

@@ -18,17 +18,13 @@ use Rattle.slots.specs.Counts.{AddressCounts, is_address, count_at, one_at}
 use Rattle.slots.specs.Endpoints.{is_of, look_up, AreCounted}
 use Rattle.slots.proofs.LookUps.{looked-up}
 
-right : (a b : Bool) → (a && b) ≡ true → b ≡ true
-right true b h = h
-right false b h = cc
-
 left : (a b : Bool) → (a && b) ≡ true → a ≡ true
 left true b h = refl
 left false b h = h
 
 -- equal endpoints have one address
 same-address : (x y : Endpoint) → endpoint_eq.it x y ≡ true → x.address.0 ≡ y.address.0
-same-address x y h = eqb-true x.address.0 y.address.0 (left (x.address.0 == y.address.0) (x.port.0 == y.port.0) (right (protocol_eq.it x.protocol y.protocol) ((x.address.0 == y.address.0) && (x.port.0 == y.port.0)) h))
+same-address x y h = eqb-true x.address.0 y.address.0 (left (x.address.0 == y.address.0) ((x.port.0 == y.port.0) && protocol_eq.it x.protocol y.protocol) h)
 
 module _ (a : Ip) where
   abbrev one : Endpoint × SlotNumber → ℕ

@@ -1,6 +1,7 @@
 -- What a look-up by the equality of endpoints gives.
-use Rattle.std.proofs.Common.{◌≡◌, cond, Option, Some, List, [], ◌∷◌, ◌&&◌, ◌==◌, refl, ap, sym, ◌∙◌}
+use Rattle.std.proofs.Common.{◌≡◌, Bool, cond, Option, Some, List, [], ◌∷◌, ◌&&◌, ◌==◌, refl, ap, sym, ◌∙◌}
 use Rattle.std.specs.Map.{lookup}
+use Rattle.std.proofs.Math.Bool.{and_assoc, and_comm}
 use Rattle.addresses.specs.declared.transport.Protocol.{Protocol}
 use Rattle.addresses.specs.declared.transport.Protocol.TheVariants.{Icmp, Tcp, Udp}
 use Rattle.nat_types.specs.declared.pairs.Endpoint.{Endpoint}
@@ -22,10 +23,15 @@ protocols Udp Icmp = refl
 protocols Udp Tcp = refl
 protocols Udp Udp = refl
 
+last-first : (a b c : Bool) → (a && (b && c)) ≡ (c && (a && b))
+last-first a b c = sym (and_assoc a b c) ∙ and_comm (a && b) c
+
 -- equality of endpoints is that of their parts
 pub equal : (x y : Endpoint) → endpoint_eq.it x y ≡ same_endpoint x y
 unfolding same_endpoint
-equal x y = ap (λ b. b && ((x.address.0 == y.address.0) && (x.port.0 == y.port.0))) (protocols x.protocol y.protocol)
+equal x y =
+    ap (λ b. (x.address.0 == y.address.0) && ((x.port.0 == y.port.0) && b)) (protocols x.protocol y.protocol)
+    ∙ last-first (x.address.0 == y.address.0) (x.port.0 == y.port.0) (same_protocol x.protocol y.protocol)
 
 pub looked-up : (es : List (Endpoint × SlotNumber)) (x : Endpoint) → lookup (endpoint_eq.it x) es ≡ look_up es x
 looked-up [] x = refl

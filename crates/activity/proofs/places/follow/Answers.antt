@@ -1,4 +1,4 @@
-use Rattle.std.proofs.Common.{◌≡◌, ◌<◌, ap, ◌∙◌, arith}
+use Rattle.std.proofs.Common.{◌<◌, ap, ◌∙◌, arith}
 use Rattle.std.proofs.lemmas.List.{length-take}
 use Rattle.activity.specs.Sessions.{stepped}
 use Rattle.activity.proofs.Packing.{known_followed, passed_followed, free_followed, nowhere_followed, nowhere_seen}

@@ -1,4 +1,4 @@
-use Rattle.std.proofs.Common.{ℕ, ◌≡◌, ◌<◌, ◌≤◌, ◌-◌, ap, ◌∙◌, arith}
+use Rattle.std.proofs.Common.{◌-◌, arith}
 use Rattle.bindings.proofs.Unbroken.{behind-first, run-before, run-whole}
 use Rattle.bindings.proofs.runs.end_of_run.Goals as goal
 

@@ -21,4 +21,4 @@ pub returns-clause-items : goal.returns-clause-items
 returns-clause-items c =
     c.loop-i.invariant.so_far
     ∙ ap (λ (rs : List Record). c.args.out.now.items ++ flat_map record_bytes rs)
-    (taken_whole c.args.fed.now.items c.args.queue.now.items c.loop-i.i (omega (arith, c.loop-i-test.false, c.loop-i.auto.i-end, c.front_count.ensures)))
+    (taken_whole c.args.fed.now.items c.args.queue.now.items c.loop-i.i (omega (arith, c.loop-i-test.false, c.loop-i.auto.i-end, c.front_count-i-end.ensures)))

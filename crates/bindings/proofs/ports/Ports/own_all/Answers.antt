@@ -1,8 +1,6 @@
 use Rattle.std.proofs.Common.{◌<◌, ◌≤◌, ◌||◌, ap, ◌∙◌, arith}
 use Rattle.port_range.specs.Ports.{is_owned}
-use Rattle.bindings.specs.Ports.{in_bounds, lowest_of, highest_of}
-use Rattle.bindings.proofs.Holding.{lowest-low, highest-high}
-use Rattle.bindings.proofs.Owning.{alike-own, alike-ends, free-trans}
+use Rattle.bindings.specs.Ports.{in_bounds, lowest_of}
 use Rattle.bindings.proofs.Rising.{both-owned, owned-all}
 use Rattle.bindings.proofs.ports.Ports.own_all.Goals as goal
 

@@ -1,4 +1,3 @@
-use Rattle.std.proofs.Common.{refl}
 use Rattle.bindings.specs.Ports.{in_bounds}
 use Rattle.bindings.proofs.Owning.{alike-more}
 use Rattle.bindings.proofs.ports.Ports.own_range.Goals as goal

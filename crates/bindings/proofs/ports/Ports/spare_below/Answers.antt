@@ -1,4 +1,4 @@
-use Rattle.std.proofs.Common.{ℕ, ◌≡◌, ◌<◌, ◌≤◌, ◌+◌, ◌-◌, ◌*◌, ◌/◌, arith}
+use Rattle.std.proofs.Common.{◌-◌, ◌/◌, arith}
 use Rattle.bindings.specs.Ports.{is_spare_in}
 use Rattle.bindings.proofs.Owning.{last-here, last-earlier}
 use Rattle.bindings.proofs.ports.Ports.spare_below.Goals as goal

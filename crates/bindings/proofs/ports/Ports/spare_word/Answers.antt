@@ -1,5 +1,3 @@
-use Rattle.std.proofs.Common.{◌+◌, ◌*◌}
-use Rattle.port_range.specs.Ports.{is_free, is_owned}
 use Rattle.bindings.proofs.Owning.{four-bits}
 use Rattle.bindings.proofs.ports.Ports.spare_word.Goals as goal
 

@@ -1,4 +1,3 @@
-use Rattle.std.proofs.Common.{ℕ, ◌≡◌, ap, ◌∙◌}
 use Rattle.bindings.specs.Ports.{is_spare, is_spare_in, lowest_of, highest_of}
 use Rattle.bindings.proofs.Holding.{in-both}
 use Rattle.bindings.proofs.Owning.{spare-is, some-last, none-last}
