@@ -1,5 +1,5 @@
 //! A gateway's report.
-ghost use Rattle.std.specs.Prelude.{◌≡◌, IfOk, is_none, length};
+ghost use Rattle.std.specs.Prelude.{◌≡◌, false, IfOk, IsOk, is_none, length};
 ghost use Rattle.addresses.specs.declared.transport.Protocol.TheVariants.{Icmp, Tcp, Udp};
 ghost use Rattle.bindings.specs.Ports.{is_free_in};
 ghost use Rattle.link.specs.Hearing.{peer_serves};
@@ -115,6 +115,8 @@ pub fn gateway_report(gateway: &Gateway) -> Result<GatewayReport, NoMemory>
         ≡ free_among (owned_by gateway.now) Udp gateway.now.ledger.book.entries) }
     ensures waiting_pair { IfOk result (λ r. r.waiting.pair ≡ pair_count gateway.now.kept) }
     ensures waiting_hop { IfOk result (λ r. r.waiting.next_hop ≡ hop_count gateway.now.kept) }
+    // Where it owns none, no memory is taken.
+    ensures unsynced { is_synced gateway.now.ledger.book.stage ≡ false → IsOk result }
 {
     let owned = gateway.owned()?;
     Ok(report_with(gateway, owned.as_slice()))

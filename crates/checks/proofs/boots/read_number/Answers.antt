@@ -1,3 +1,4 @@
+use Rattle.std.proofs.Common.{arith}
 use Rattle.checks.proofs.Numbers.{number_found}
 use Rattle.checks.proofs.boots.read_number.Goals as goal
 
