@@ -1,5 +1,5 @@
 -- Ports that are counted and chosen from the highest down.
-use Rattle.std.proofs.Common.{◌≡◌, ℕ, zero, suc, ◌+◌, ◌-◌, ◌/◌, ◌<◌, ◌≤◌, Bool, true, false, cond, inl, inr, List, [], ◌∷◌, ◌++◌, length, min, take, refl, sym, ap, ◌∙◌, append_assoc, append-nil, arith}
+use Rattle.std.proofs.Common.{◌≡◌, ℕ, zero, suc, ◌+◌, ◌-◌, ◌<◌, ◌≤◌, Bool, true, false, inl, inr, List, [], ◌∷◌, ◌++◌, length, min, take, refl, sym, ap, ◌∙◌, append_assoc, append-nil, arith}
 use Rattle.std.specs.List.{filter}
 use Rattle.std.proofs.lemmas.Bool.{cases_eq, cond-true, cond-false}
 use Rattle.addresses.specs.declared.transport.Port.{Port}
@@ -47,6 +47,16 @@ first-between f low end p from is =
 -- where the last that passes lies below, there is none
 pub none-above : (f : ℕ → Bool) (low end p : ℕ) → p < low → IsLastBelow f end p → those_between f low end ≡ []
 none-above f low end p below is = none-between f low end (λ q from under. is.last q (omega (arith, below, from)) under)
+
+-- ---- the count
+
+-- one more is counted
+pub counted-next : (whole count p : ℕ) (xs ys : List ℕ) → xs ≡ p ∷ ys → whole ≡ count + length xs → whole ≡ count + 1 + length ys
+counted-next whole count p xs ys is was = let one = ap length is in omega (arith, was, one)
+
+-- the count ends where none is left
+pub counted-all : (whole count : ℕ) (xs : List ℕ) → count < 32 → xs ≡ [] → whole ≡ count + length xs → count ≡ min 32 whole
+counted-all whole count xs below none was = let left = ap length none in omega (arith, was, left, below)
 
 -- ---- the choice
 

@@ -1,19 +1,15 @@
-use Rattle.std.proofs.Common.{length, ap, arith, refl}
-use Rattle.binding_rows.specs.Grants.{spares_between}
+use Rattle.std.proofs.Common.{arith}
+use Rattle.binding_rows.proofs.Granting.{counted-next, counted-all}
 use Rattle.binding_rows.proofs.grants.count_spare.Goals as goal
 
 pub loop-count-preserved : goal.loop-count-preserved
-loop-count-preserved c =
-    let first = c.in-Some.ensures.first in
-    let one = ap length first in
-    let was = c.loop-count.invariant.counted in
-    record { end = omega arith; counted = omega (arith, one, was) }
+loop-count-preserved c = record {
+  end = omega arith;
+  counted = rw c.from-below.ensures (counted-next _ c.loop-count.count c.in-Some.port.0 _ _ c.in-Some.ensures.first c.loop-count.invariant.counted);
+}
 
 pub returns-in-None : goal.returns-in-None
-returns-in-None c =
-    let none = ap length c.in-None.ensures.none in
-    let was = c.loop-count.invariant.counted in
-    omega (arith, none, was)
+returns-in-None c = counted-all _ c.loop-count.count _ c.loop-count-test.true c.in-None.ensures.none c.loop-count.invariant.counted
 
 pub returns : goal.returns
 returns c =

@@ -1,9 +1,7 @@
-use Rattle.std.proofs.Common.{ℕ, ◌≡◌, ◌-◌, ◌+◌, suc, ◌∷◌, [], List, length, take, refl, sym, ap, ◌∙◌, arith}
+use Rattle.std.proofs.Common.{◌≡◌, ◌-◌, ◌+◌, ◌∷◌, [], List, length, ap, arith}
 use Rattle.std.proofs.lemmas.List.{length-append}
 use Rattle.addresses.specs.declared.transport.Port.{Port}
 use Rattle.nat_types.specs.Granted.{Granted}
-use Rattle.spec_binding.specs.Rows.{as_ports}
-use Rattle.binding_rows.specs.Grants.{spares_between}
 use Rattle.binding_rows.proofs.Granting.{chosen-next, chosen-all, chosen-enough}
 use Rattle.binding_rows.proofs.grants.greatest.Goals as goal
 
@@ -17,7 +15,7 @@ loop-taken-preserved c =
     record {
       end = omega arith;
       few = omega (arith, more, longer, few);
-      chosen = chosen-next (c.args.most - c.loop-taken.taken) (c.args.most - (c.loop-taken.taken + 1)) c.in-Some.port _ c.loop-taken.granted.ports c.push.new.self.ports _ _ (omega arith) first c.push.ensures c.loop-taken.invariant.chosen;
+      chosen = rw c.from-below.ensures (chosen-next (c.args.most - c.loop-taken._taken) (c.args.most - (c.loop-taken._taken + 1)) c.in-Some.port _ c.loop-taken.granted.ports c.push.new.self.ports _ _ (omega arith) first c.push.ensures c.loop-taken.invariant.chosen);
     }
 
 pub returns-in-None : goal.returns-in-None
@@ -27,5 +25,5 @@ returns-in-None c =
 
 pub returns : goal.returns
 returns c =
-    let over : c.args.most - c.loop-taken.taken ≡ 0 = omega arith in
+    let over : c.args.most - c.loop-taken._taken ≡ 0 = omega arith in
     ap (λ (ps : List Port). let g : Granted = record { ports = ps } in g) (chosen-enough _ _ c.loop-taken.granted.ports _ over c.loop-taken.invariant.chosen)

@@ -7,7 +7,7 @@ use Rattle.binding_rows.proofs.grants.greatest.Given as goal
 abbrev pub invariant-loop-taken : goal.invariant-loop-taken
 invariant-loop-taken l = record {
   end : l.below ≤ 65536;
-  few : length l.granted.ports ≡ l.taken;
+  few : length l.granted.ports ≡ l._taken;
   chosen : (as_ports (take l.most (spares_between l.table.entries l.table.owned l.lowest.0 l.fn.end))).ports
-      ≡ l.granted.ports ++ (as_ports (take (l.most - l.taken) (spares_between l.table.entries l.table.owned l.lowest.0 l.below))).ports;
+      ≡ l.granted.ports ++ (as_ports (take (l.most - l._taken) (spares_between l.table.entries l.table.owned l.lowest.0 l.below))).ports;
 }
