@@ -13,7 +13,8 @@ contracts change.
 An edit is refused by a clause where the prover's search leaves that clause open, or where, with the proof text of the
 functions that failed set aside, it is open at the wrong body and proved at the right one. What is open at both has to be
 decided by hand: by an input at which the clause's two sides differ. Behaviour is that of the unproved program (`rt try`).
-All is done in a copy of the repository, one edit after another: from a minute to ten for each.
+All is done in a copy of the repository, one edit after another, over what earlier checks kept in out/ of the crates that
+are looked at and of those below: so prove these first. An edit takes from half a minute to ten.
 """
 import argparse
 import pathlib
@@ -135,6 +136,16 @@ def stands_on(top):
     return {name: below(name, set()) for name in direct}
 
 
+def copy_of(top, folder, crates):
+    """The repository's files in a folder, with what was proved of these crates and of those below them."""
+    shutil.copytree(top, folder, ignore=shutil.ignore_patterns("out", ".git"))
+    below = stands_on(top)
+    for crate in set(crates).union(*(below[it] for it in crates)):
+        kept = top / "crates" / crate / "out"
+        if kept.is_dir():
+            shutil.copytree(kept, folder / "crates" / crate / "out")
+
+
 def printed(folder):
     """What a program of cases prints, unproved, on its data."""
     data = sorted((folder / "data").glob("*")) if (folder / "data").is_dir() else []
@@ -178,7 +189,7 @@ def main():
         return 0 if found else 1
     with tempfile.TemporaryDirectory(prefix="edits-") as folder:
         top = pathlib.Path(folder) / "copy"
-        shutil.copytree(TOP, top, ignore=shutil.ignore_patterns("out", ".git"))
+        copy_of(TOP, top, {it.crate for it in found})
         if words.part == "refused":
             return tried(top, [it for it in found if not it.is_gated])
         bad = 0
