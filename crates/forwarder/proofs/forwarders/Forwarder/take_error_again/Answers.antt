@@ -34,6 +34,7 @@ returns-in-Ok-Send-clause-scene c =
     let made : c.plan_error.result ≡ Ok (Send c.in-Ok-Send.by c.in-Ok-Send.next) = c.in-Ok-Send.is ∙ ap (λ (p : Plan). let r : Result Plan Reason = Ok p in r) c.in-Ok-Send.field-0-is in
     let side : c.packet.inside.side ≡ c.args.packet.side = ap (λ (w : HeldPacket). w.side) c.packet.view_is in
     let bytes : c.deref.result.now ≡ c.args.packet.bytes = c.deref.ensures.value ∙ ap (λ (w : HeldPacket). w.bytes) c.packet.view_is in
-    c.pass.ensures.scene c.args.packet.side
+    ap (λ (k : List HeldPacket). scene_on (record c.pass.new.self { kept = k }) c.pass.new.page) c.reuse.ensures.same
+    ∙ c.pass.ensures.scene c.args.packet.side
     ∙ ap (λ (bs : List ℕ). by_error_plan s c.args.packet.side bs c.args.reading.flow (Send c.in-Ok-Send.by c.in-Ok-Send.next)) bytes
     ∙ error-taken-as s c.args.packet.side c.args.packet.bytes c.args.reading (Ok (Send c.in-Ok-Send.by c.in-Ok-Send.next)) c.requires.read (sym made ∙ c.plan_error.ensures ∙ ap (λ (x : Side). error_plan (shown_of c.args.self.now) x c.args.reading.flow c.args.reading.length) side)

@@ -1,4 +1,4 @@
-use Rattle.std.proofs.Common.{◌≡◌, Result, Ok, ap, sym, ◌∙◌}
+use Rattle.std.proofs.Common.{◌≡◌, List, Result, Ok, ap, sym, ◌∙◌}
 use Rattle.nat_types.specs.declared.gateways.Side.{Side}
 use Rattle.nat_types.specs.declared.pairs.Endpoint.{Endpoint}
 use Rattle.waiting.specs.declared.waits.WaitsFor.TheVariants.{Hop}
@@ -31,7 +31,8 @@ ask-requires-clause-place c =
     let made : c.plan.result ≡ Ok (Ask c.in-Ok-Ask.by c.in-Ok-Ask.hop) = c.in-Ok-Ask.is ∙ ap (λ (p : Plan). let r : Result Plan Reason = Ok p in r) c.in-Ok-Ask.field-0-is in
     let holds = plan-holds (shown_of c.args.self.now) c.args.side c.args.packet.flow c.args.packet.length (Ok (Ask c.in-Ok-Ask.by c.in-Ok-Ask.hop)) (sym made ∙ c.plan.ensures) in
     let exit : c.exit.result ≡ exit_by c.in-Ok-Ask.by = c.exit.ensures ∙ ap exit_of c.direction.ensures in
-    ap (λ (w : HeldPacket). has_place c.args.self.now.kept w.wait) c.in_ok-copy-in-Ok-Ask.ensures
+    ap (λ (k : List HeldPacket). has_place k c.in_ok-copy-in-Ok-Ask.copy.wait) c.in_ok-copy-in-Ok-Ask.ensures.same
+    ∙ ap (λ (w : HeldPacket). has_place c.args.self.now.kept w.wait) c.in_ok-copy-in-Ok-Ask.ensures.packet
     ∙ ap (λ (s : Side). has_place c.args.self.now.kept (Hop s c.in-Ok-Ask.hop)) exit
     ∙ holds.1
 
@@ -39,7 +40,8 @@ pub wait-requires-clause-place : goal.wait-requires-clause-place
 wait-requires-clause-place c =
     let made : c.plan.result ≡ Ok (WaitFor c.in-Ok-Wait.endpoint) = c.in-Ok-Wait.is ∙ ap (λ (p : Plan). let r : Result Plan Reason = Ok p in r) c.in-Ok-Wait.field-0-is in
     let holds = plan-holds (shown_of c.args.self.now) c.args.side c.args.packet.flow c.args.packet.length (Ok (WaitFor c.in-Ok-Wait.endpoint)) (sym made ∙ c.plan.ensures) in
-    ap (λ (w : HeldPacket). has_place c.args.self.now.kept w.wait) c.in_ok-copy-in-Ok-Wait.ensures ∙ holds.0
+    ap (λ (k : List HeldPacket). has_place k c.in_ok-copy-in-Ok-Wait.copy.wait) c.in_ok-copy-in-Ok-Wait.ensures.same
+    ∙ ap (λ (w : HeldPacket). has_place c.args.self.now.kept w.wait) c.in_ok-copy-in-Ok-Wait.ensures.packet ∙ holds.0
 
 pub returns-in-Ok-Send-clause-scene : goal.returns-in-Ok-Send-clause-scene
 returns-in-Ok-Send-clause-scene c =
@@ -53,6 +55,7 @@ returns-in_ok-copy-in-Ok-Wait-clause-scene c =
     let made : c.plan.result ≡ Ok (WaitFor e) = c.in-Ok-Wait.is ∙ ap (λ (p : Plan). let r : Result Plan Reason = Ok p in r) c.in-Ok-Wait.field-0-is in
     let holds = plan-holds (shown_of c.args.self.now) c.args.side c.args.packet.flow c.args.packet.length (Ok (WaitFor e)) (sym made ∙ c.plan.ensures) in
     c.wait.ensures.scene
-    ∙ ap (λ (w : HeldPacket). by_plan s w.side w.bytes c.args.packet.flow (WaitFor (source_of c.args.packet.flow))) c.in_ok-copy-in-Ok-Wait.ensures
+    ∙ ap (λ (k : List HeldPacket). (let w = c.in_ok-copy-in-Ok-Wait.copy in by_plan (scene_on (record c.args.self.now { kept = k }) c.args.page.now) w.side w.bytes c.args.packet.flow (WaitFor (source_of c.args.packet.flow)))) c.in_ok-copy-in-Ok-Wait.ensures.same
+    ∙ ap (λ (w : HeldPacket). by_plan s w.side w.bytes c.args.packet.flow (WaitFor (source_of c.args.packet.flow))) c.in_ok-copy-in-Ok-Wait.ensures.packet
     ∙ ap (λ (x : Endpoint). by_plan s c.args.side c.args.bytes.now c.args.packet.flow (WaitFor x)) (sym holds.1)
     ∙ taken-as s c.args.side c.args.bytes.now c.args.packet (Ok (WaitFor e)) c.requires.read (sym made ∙ c.plan.ensures)
