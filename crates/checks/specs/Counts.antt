@@ -1,5 +1,5 @@
 -- How many faults a look finds, and when there is none.
-use Rattle.std.specs.Prelude.{◌≡◌, ℕ, ◌+◌, ◌-◌, ◌^◌, ◌==◌, ◌&&◌, min, not, Bool, true, false, if◌then◌else◌, List, [], length, filter, Option, Some, None, Result, Ok, Err}
+use Rattle.std.specs.Prelude.{◌≡◌, ℕ, ◌+◌, ◌-◌, ◌^◌, ◌==◌, ◌&&◌, ◌||◌, min, nat_lt, not, Bool, true, false, if◌then◌else◌, List, [], length, filter, Option, Some, None, Result, Ok, Err}
 use Rattle.toml.specs.Data.{Members}
 use Rattle.toml.specs.Parse.{parse_document}
 use Rattle.boot_store.specs.declared.faults.BootFault.{BootFault}
@@ -27,6 +27,10 @@ capped n = min n (2 ^ 64 - 1)
 -- a count of 64 bits has grown by so many, as far as it goes
 abbrev pub Grows : ℕ → ℕ → ℕ → Type 0
 Grows old new more = capped new ≡ capped (old + more)
+
+-- the exit status: 1 where there is a fault, or, where it is strict, a warning
+abbrev pub status_of : ℕ → ℕ → Bool → ℕ
+status_of faults warnings strict = if nat_lt 0 faults || (strict && nat_lt 0 warnings) then 1 else 0
 
 abbrev pub at_least_one : ℕ → ℕ
 at_least_one n = if n == 0 then 1 else n

@@ -1,5 +1,5 @@
 -- In what two settings differ, and what the two boxes may have different.
-use Rattle.std.specs.Prelude.{ℕ, ◌==◌, ◌&&◌, Bool, true, false, List, [], ◌∷◌, ◌++◌, Option, Some, None, string_bytes}
+use Rattle.std.specs.Prelude.{ℕ, ◌==◌, ◌&&◌, Bool, true, false, List, [], ◌∷◌, ◌++◌, Option, Some, None, codes, if◌then◌else◌, string_bytes}
 use Rattle.std.specs.Str.{bytes_eq}
 use Rattle.settings.specs.declared.whole.Settings.{Settings}
 use Rattle.settings.specs.declared.ranges.PortRange.{PortRange}
@@ -121,3 +121,7 @@ may_differ (Some Link) = true
 may_differ (Some InsidePort) = true
 may_differ (Some OutsidePort) = true
 may_differ _ = false
+
+-- the same in a word
+abbrev pub word_of : Option Name → List ℕ
+word_of name = if may_differ name then codes "may" else codes "must not"

@@ -1,7 +1,9 @@
 //! Looks at a box's boot file, and changes nothing of it.
-ghost use Rattle.std.specs.Prelude.{◌≡◌, ◌≤◌, false, length, take, IfSome, None, OnOk, Some};
+ghost use Rattle.std.specs.Prelude.{◌≡◌, ◌≤◌, ◌+◌, false, true, length, string_bytes, take, IfSome, None, OnOk, Some};
 ghost use Rattle.boot_store.specs.BootFile.{slot_number, greater, number_of, boot_answer};
-ghost use Rattle.checks.specs.Counts.{Grows, faults_of_start};
+ghost use Rattle.settings.specs.Parts.{gateway_of};
+ghost use Rattle.checks.specs.BootFiles.{found_in, is_file, is_open_to_others, key_of};
+ghost use Rattle.checks.specs.Counts.{Grows, capped, faults_of_start};
 
 use crate::tallies::Tally;
 use boot_file::Lockable;
@@ -54,13 +56,23 @@ fn read_number<F: Read>(file: &mut F) -> Option<u64>
         IfSome result (λ number. number_of (take 32 bytes) ≡ Some number)) }
 {
     let mut bytes = [0; 32];
-    match file.read_exact(&mut bytes) {
-        Ok(()) => number_of(&bytes),
+    let read = file.read_exact(&mut bytes);
+    found_in(read, &bytes)
+}
+
+/// The number in the first 32 bytes of a boot file; none where they couldn't be read.
+fn found_in(read: io::Result<()>, bytes: &[u8; 32]) -> Option<u64>
+    ensures { result ≡ found_in read bytes.now }
+{
+    match read {
+        Ok(()) => number_of(bytes),
         Err(_) => None,
     }
 }
 
-fn key_of(id: GatewayId) -> Key {
+fn key_of(id: GatewayId) -> Key
+    ensures { result ≡ key_of id }
+{
     let section = match id {
         GatewayId::Zero => Section::GatewayZero,
         GatewayId::One => Section::GatewayOne,
@@ -95,6 +107,37 @@ fn say_number<O: Write>(
     Ok(())
 }
 
+/// Whether others than its owner may use a file of this mode: its last six bits are theirs.
+fn is_open_to_others(mode: u32) -> bool
+    ensures { result ≡ is_open_to_others mode }
+{
+    mode % 0o100 != 0
+}
+
+/// Says who else may use a file of this mode.
+fn say_mode<O: Write>(
+    mode: u32,
+    key: Key,
+    output: &mut O,
+    tally: &mut Tally,
+) -> Result<(), Fault>
+    ensures warned { is_open_to_others mode ≡ true
+        → OnOk result (tally.new.warnings ≡ capped (tally.old.warnings + 1)) }
+    ensures none { is_open_to_others mode ≡ false → tally.new.warnings ≡ tally.old.warnings }
+    ensures faults { tally.new.faults ≡ tally.old.faults }
+    ensures no_fewer { tally.old.warnings ≤ tally.new.warnings }
+{
+    if is_open_to_others(mode) {
+        let mode = mode % 0o1000;
+        writeln!(
+            output,
+            "warning: {key}: its mode is {mode:o}, and 600 keeps others from it"
+        )?;
+        tally.warning();
+    }
+    Ok(())
+}
+
 /// Says who else may use the file, and whether a box runs on it.
 fn say_use<F: OpenFile + Lockable, O: Write>(
     file: &F,
@@ -106,14 +149,7 @@ fn say_use<F: OpenFile + Lockable, O: Write>(
     ensures no_fewer { tally.old.warnings ≤ tally.new.warnings }
 {
     if let Ok(metadata) = file.metadata() {
-        let mode = metadata.permissions().mode() & 0o777;
-        if mode & 0o077 != 0 {
-            writeln!(
-                output,
-                "warning: {key}: its mode is {mode:o}, and 600 keeps others from it"
-            )?;
-            tally.warning();
-        }
+        say_mode(metadata.permissions().mode(), key, output, tally)?;
     }
     if file.try_lock().is_err() {
         writeln!(output, "note: {key}: a gate runs on it")?;
@@ -147,8 +183,29 @@ where
     let Some(id) = id else {
         return Ok(());
     };
-    let key = key_of(id);
-    match opened(rt, settings.gateway(id).boot_file.as_str()) {
+    let found = opened(rt, path_of(settings, id));
+    say_opened(found, key_of(id), output, tally)
+}
+
+/// The path of a box's boot file.
+fn path_of(settings: &Settings, id: GatewayId) -> &str
+    ensures { result.now ≡ string_bytes (gateway_of settings.now id).boot_file }
+{
+    settings.gateway(id).boot_file.as_str()
+}
+
+/// Says what there is of a boot file. It is a fault where there is none, or it is no regular file.
+fn say_opened<F: Read + OpenFile + Lockable + Drop, O: Write>(
+    found: io::Result<Option<F>>,
+    key: Key,
+    output: &mut O,
+    tally: &mut Tally,
+) -> Result<(), Fault>
+    ensures none { is_file found ≡ false → OnOk result (Grows tally.old.faults tally.new.faults 1) }
+    ensures faults { tally.old.faults ≤ tally.new.faults }
+    ensures warnings { tally.old.warnings ≤ tally.new.warnings }
+{
+    match found {
         Err(_) => {
             writeln!(output, "fault: file 1 NoFile {key}")?;
             tally.fault();

@@ -1,9 +1,9 @@
 //! Says every fault and every warning of a settings file.
-ghost use Rattle.std.specs.Prelude.{◌≡◌, ◌⊎◌, ◌↔◌, IfOk, OnOk, None, [], true};
+ghost use Rattle.std.specs.Prelude.{◌≡◌, ◌⊎◌, ◌↔◌, IfOk, MatchResult, OnOk, None, [], true};
 ghost use Rattle.toml.specs.Parse.{parse_document};
 ghost use Rattle.settings_file.specs.Listing.{HasNoFault, IsGood};
 ghost use Rattle.checks.specs.Doubts.{warnings_of};
-ghost use Rattle.checks.specs.Counts.{IsClean, IsSomeClean, IsSomeGood, IsUndoubted};
+ghost use Rattle.checks.specs.Counts.{IsClean, IsSomeClean, IsSomeGood, IsUndoubted, status_of};
 
 use crate::Request;
 use crate::boots::say_boot_file;
@@ -33,8 +33,16 @@ where
     ensures accepts { result ≡ 0 → IsSomeGood }
     ensures strict { request.now.strict ≡ true → result ≡ 0 → IsSomeClean }
 {
-    match checked(rt, request, output) {
-        Ok(tally) => tally.status(request.strict),
+    status_of(checked(rt, request, output), request.strict, errors)
+}
+
+/// The exit status of a look; why there was none is told on `errors`.
+fn status_of<E: Write>(checked: Result<Tally, Fault>, strict: bool, errors: &mut E) -> u8
+    ensures { MatchResult checked
+        (λ tally. result ≡ status_of tally.faults tally.warnings strict) (λ _. result ≡ 1) }
+{
+    match checked {
+        Ok(tally) => tally.status(strict),
         Err(fault) => {
             let _untold = writeln!(errors, "natpair: {fault}");
             1

@@ -2,7 +2,7 @@
 ghost use Rattle.std.specs.Prelude.{◌≡◌, ◌⊎◌, IfOk, IfSome};
 ghost use Rattle.toml.specs.Parse.{parse_document};
 ghost use Rattle.settings_file.specs.Settings.{IsReadFrom};
-ghost use Rattle.checks.specs.Differences.{differing};
+ghost use Rattle.checks.specs.Differences.{differing, word_of};
 ghost use Rattle.checks.specs.Counts.{must_not, AreSomeAlike, DifferIn};
 
 use crate::{differing_keys, may_differ};
@@ -134,10 +134,17 @@ fn counted(alloc: Global, one: &Settings, other: &Settings) -> Result<(Vec<Key>,
 
 fn say_keys<O: Write>(keys: &[Key], output: &mut O) -> io::Result<()> {
     for key in keys {
-        let word = if may_differ(*key) { "may" } else { "must not" };
+        let word = word_of(*key);
         writeln!(output, "{word} differ: {key}")?;
     }
     Ok(())
+}
+
+/// Whether a key may differ, in a word.
+fn word_of(key: Key) -> &'static str
+    ensures { result.now ≡ word_of key.name }
+{
+    if may_differ(key) { "may" } else { "must not" }
 }
 
 /// Says in what settings differ, and in how many keys of these they must not.

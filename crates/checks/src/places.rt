@@ -1,8 +1,9 @@
 //! Says what is wrong with the places of a box: its interfaces, and its address on the link.
-ghost use Rattle.std.specs.Prelude.{◌≡◌, ◌≤◌, ◌+◌, None, OnOk};
+ghost use Rattle.std.specs.Prelude.{◌≡◌, ◌≤◌, ◌+◌, false, nat_lt, true, None, OnOk};
 ghost use Rattle.addresses.specs.Address.{IsIn};
 ghost use Rattle.settings.specs.Parts.{interface_of};
 ghost use Rattle.checks.specs.Counts.{capped};
+ghost use Rattle.checks.specs.Interfaces.{is_short};
 
 use crate::Request;
 use crate::tallies::Tally;
@@ -41,8 +42,32 @@ pub(crate) fn say_interface<R: Files + AllocGlobal, O: Write>(
     let Some(name) = name else {
         return Ok(());
     };
-    match mtu_of(rt, name)? {
-        Some(mtu) if mtu < LEAST_MTU => {
+    say_mtu(side, name, mtu_of(rt, name)?, output, tally)
+}
+
+/// Whether frames are too long for an interface.
+fn is_short(mtu: u32) -> bool
+    ensures { result ≡ nat_lt mtu 1500 }
+{
+    mtu < LEAST_MTU
+}
+
+/// Looks at the MTU of an interface; where it has none there is no such interface.
+fn say_mtu<O: Write>(
+    side: Side,
+    name: &str,
+    mtu: Option<u32>,
+    output: &mut O,
+    tally: &mut Tally,
+) -> Result<(), Fault>
+    ensures warned { is_short mtu ≡ true
+        → OnOk result (tally.new.warnings ≡ capped (tally.old.warnings + 1)) }
+    ensures none { is_short mtu ≡ false → tally.new.warnings ≡ tally.old.warnings }
+    ensures faults { tally.new.faults ≡ tally.old.faults }
+    ensures no_fewer { tally.old.warnings ≤ tally.new.warnings }
+{
+    match mtu {
+        Some(mtu) if is_short(mtu) => {
             writeln!(
                 output,
                 "warning: {side} {name}: its MTU is {mtu}, and frames need 1500"

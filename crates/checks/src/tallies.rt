@@ -1,6 +1,6 @@
 //! How many faults and warnings there are.
 ghost use Rattle.std.specs.Prelude.{◌≡◌, ◌≤◌, ◌+◌, ◌⊎◌, false, true};
-ghost use Rattle.checks.specs.Counts.{capped};
+ghost use Rattle.checks.specs.Counts.{capped, status_of};
 
 /// How many faults and warnings were said.
 #[derive(Clone, Copy, Debug, PartialEq, Eq)]
@@ -46,6 +46,7 @@ impl Tally {
         ensures warned { strict ≡ true → result ≡ 0 → self.warnings ≡ 0 }
         ensures good { self.faults ≡ 0 → self.warnings ≡ 0 → result ≡ 0 }
         ensures lenient { strict ≡ false → self.faults ≡ 0 → result ≡ 0 }
+        ensures exact { result ≡ status_of self.faults self.warnings strict }
     {
         if self.faults > 0 || (strict && self.warnings > 0) {
             1

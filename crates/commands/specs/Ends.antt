@@ -1,9 +1,11 @@
 -- What an exit status says of what was done.
-use Rattle.std.specs.Prelude.{◌≡◌, ℕ, List, Option, codes}
+use Rattle.std.specs.Prelude.{◌≡◌, ℕ, true, List, Option, MatchOption, codes}
 use Rattle.std.specs.Io.KnownBytes.{Appends}
 use Rattle.command_line.specs.Tasks.{IsAnswer}
+use Rattle.checks.specs.Counts.{AreSomeAlike, IsSomeClean, IsSomeGood}
 use Rattle.command_line.specs.declared.tasks.Task.{Task}
 use Rattle.command_line.specs.declared.tasks.Task.TheVariants as task
+use Rattle.command_line.specs.declared.words.CheckWords.{CheckWords}
 use Rattle.settings.specs.declared.whole.Settings.{Settings}
 use Rattle.gate.specs.Served.{HasServed}
 use Rattle.simulation.specs.Status.{RunsScript}
@@ -36,11 +38,15 @@ pub record HasLoop (before after : Option (List ℕ)) (status : ℕ) : Type 0 wh
 abbrev pub version_line : List ℕ
 version_line = codes "natpair 0.1.0 (rattle-kit-13 logic dac8208d650f15bf)\n"
 
+-- what was looked at is good, or, where it is strict, clean; what was compared is alike. Of some text, or some two settings
+abbrev pub IsChecked : CheckWords → Type 0
+IsChecked words = MatchOption words.other (IsSomeGood × (words.strict ≡ true → IsSomeClean)) (λ other. AreSomeAlike)
+
 -- The status with which a task is done, and what was printed until then: that of such a run for `sim` and `loop`, 0 for
--- the others; for `gate` there are a start and its rounds, and of the version just its line is printed.
+-- the others; for `check` what was looked at is as it was asked; for `gate` there are a start and its rounds, and of the version just its line is printed.
 abbrev pub Ends : Option (List ℕ) → Option (List ℕ) → Task → ℕ → Type 0
 Ends before after (task.Init file) status = status ≡ 0
-Ends before after (task.Check words) status = status ≡ 0
+Ends before after (task.Check words) status = (status ≡ 0) × IsChecked words
 Ends before after (task.Gate gate) status = (status ≡ 0) × HasServed gate.id gate.rounds gate.found gate.track gate.until_eof before after
 Ends before after (task.Status words) status = status ≡ 0
 Ends before after (task.Pairs words) status = status ≡ 0

@@ -1,16 +1,16 @@
 //! The file of a capture.
-ghost use Rattle.std.specs.Prelude.{◌≡◌, ◌⊎◌, Ok, IfErr, IfOk};
+ghost use Rattle.std.specs.Prelude.{◌≡◌, ◌⊎◌, is_err, true, Ok, IfErr, IfOk};
 ghost use Rattle.faults.specs.Faults.{status_of};
 
 use captures::{Reader, open};
-use faults::{Fault, Refusal};
+use faults::{Fault, Job, Refusal};
 use recording::Capture;
 use std::alloc::Global;
 use std::fs::Files;
 use std::io::{self, BufWriter, ErrorKind, Write};
 
-/// Begins a capture in the file at a path. One that is there loses what it has, where that is a capture. The reader of a named
-/// pipe is waited for.
+/// Begins a capture of a job in the file at a path: the job's texts are read by then. One that is there loses what it has,
+/// where that is a capture. The reader of a named pipe is waited for.
 ///
 /// # Errors
 ///
@@ -18,6 +18,7 @@ use std::io::{self, BufWriter, ErrorKind, Write};
 pub(crate) fn capture_at<R: Files + AllocGlobal>(
     rt: &R,
     path: &str,
+    _job: &Job,
 ) -> io::Result<Capture<BufWriter<R::File>>> {
     let file = open(rt, path, Reader::Awaited)?.clear()?;
     Capture::begin(BufWriter::new(rt.alloc(), file)?)
@@ -47,6 +48,7 @@ pub(crate) fn ended<E: Write>(
     requires known { IfErr run (λ fault. status_of fault ≡ 1) }
     ensures status { (result ≡ 0) ⊎ ((result ≡ 1) ⊎ (result ≡ 3)) }
     ensures run { (result ≡ 0) ⊎ (result ≡ 3) → run ≡ Ok result }
+    ensures written { is_err written ≡ true → result ≡ 1 }
 {
     if let Err(error) = written {
         return unmade(alloc, &error, path, errors);

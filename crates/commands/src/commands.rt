@@ -1,8 +1,9 @@
 //! The commands.
-ghost use Rattle.std.specs.Prelude.{◌≡◌, ◌⊎◌, ◌≤◌, map, string_bytes};
+ghost use Rattle.std.specs.Prelude.{◌≡◌, ◌⊎◌, ◌≤◌, map, option_map, string_bytes};
 ghost use Rattle.command_line.specs.Line.{AskVersion, MayAskVersion};
 ghost use Rattle.command_line.specs.Tasks.{FoundsAtZero};
 ghost use Rattle.commands.specs.Words.{AreRefused};
+ghost use Rattle.commands.specs.Asked.{format_of};
 ghost use Rattle.commands.specs.Ends.{AreDone, Ends};
 
 use crate::asking::{look_at, pairs_of, state_of};
@@ -93,6 +94,16 @@ fn start_of(words: &GateWords) -> Start<'_>
     ensures found { result.found ≡ words.now.found }
     ensures track { result.track ≡ words.now.track }
     ensures until_eof { result.until_eof ≡ words.now.until_eof }
+    ensures settings { result.settings.now ≡ string_bytes words.now.settings }
+    ensures inside { result.ways.inside.now ≡ string_bytes words.now.ways.inside }
+    ensures outside { result.ways.outside.now ≡ string_bytes words.now.ways.outside }
+    ensures link { result.ways.link.now ≡ string_bytes words.now.ways.link }
+    ensures log { option_map (λ t. t.now) result.log ≡ option_map string_bytes words.now.log }
+    ensures format { result.format ≡ format_of words.now.pairs }
+    ensures capture { option_map (λ t. t.now) result.capture
+        ≡ option_map string_bytes words.now.capture }
+    ensures notify { option_map (λ t. t.now) result.notify
+        ≡ option_map string_bytes words.now.notify }
 {
     Start {
         settings: words.settings.as_str(),
@@ -110,7 +121,9 @@ fn start_of(words: &GateWords) -> Start<'_>
 }
 
 /// The text of an option, where it has one.
-pub(crate) fn text_of(option: &Option<String>) -> Option<&str> {
+pub(crate) fn text_of(option: &Option<String>) -> Option<&str>
+    ensures { option_map (λ text. text.now) result ≡ option_map string_bytes option.now }
+{
     match option {
         Some(text) => Some(text.as_str()),
         None => None,
@@ -118,12 +131,18 @@ pub(crate) fn text_of(option: &Option<String>) -> Option<&str> {
 }
 
 /// How records are written.
-fn format_of(pairs: bool) -> Format {
+fn format_of(pairs: bool) -> Format
+    ensures { result ≡ format_of pairs }
+{
     if pairs { Format::Pairs } else { Format::Text }
 }
 
 /// The texts of ways.
-fn texts_of(words: &WayWords) -> WayTexts<'_> {
+fn texts_of(words: &WayWords) -> WayTexts<'_>
+    ensures inside { result.inside.now ≡ string_bytes words.now.inside }
+    ensures outside { result.outside.now ≡ string_bytes words.now.outside }
+    ensures link { result.link.now ≡ string_bytes words.now.link }
+{
     WayTexts {
         inside: words.inside.as_str(),
         outside: words.outside.as_str(),

@@ -103,7 +103,7 @@ fn sim_captured<R: Files + Clock + AllocGlobal, O: Write, E: Write>(
         (O.contents output.old) (O.contents output.new) result }
 {
     match job_of(rt.alloc(), settings, script) {
-        Ok(job) => match capture_at(rt, path) {
+        Ok(job) => match capture_at(rt, path, &job) {
             Ok(mut capture) => {
                 let run = taped(rt, &job, is_watched, &mut capture, output, errors);
                 ended(rt.alloc(), run, capture.end(), path, errors)
@@ -193,7 +193,7 @@ fn repeat_captured<R: Files + Net + Clock + AllocGlobal, O: Write, E: Write>(
 {
     let mut passage = Loopback::new(rt);
     match opened(rt.alloc(), settings, script, &mut passage) {
-        Ok(job) => match capture_at(rt, path) {
+        Ok(job) => match capture_at(rt, path, &job) {
             Ok(mut capture) => {
                 let run = looped(rt.alloc(), &job, &mut passage, &mut capture, output);
                 ended(rt.alloc(), run, capture.end(), path, errors)

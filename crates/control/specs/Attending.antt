@@ -1,8 +1,21 @@
 -- Whom a box attends to at its control socket.
-use Rattle.std.specs.Prelude.{ℕ, Bool}
+use Rattle.std.specs.Prelude.{ℕ, Bool, ◌+◌, ◌-◌, ◌^◌, ◌==◌, min, nat_le, List, length, drop, Result, Ok, Err, if◌then◌else◌}
 
 -- somebody whose word was handed on waits for its answer; how many callers were refused, and how many went unanswered
 pub record Attending : Type 0 where
   pub awaits : Bool
   pub refused : ℕ
   pub unanswered : ℕ
+
+-- a count stays at its greatest number
+abbrev pub with_more : ℕ → ℕ → ℕ
+with_more count more = min (count + more) (2 ^ 64 - 1)
+
+-- an answer of so many bytes was written so: who has it whole is answered
+abbrev pub unanswered_after : {E : Type 0} → Result ℕ E → ℕ → ℕ → ℕ
+unanswered_after (Ok count) whole before = if count == whole then before else with_more before 1
+unanswered_after (Err error) whole before = with_more before 1
+
+-- eight are waited for at most: where there are as many, the one that was waited for longest makes room
+abbrev pub with_room : {T : Type 0} → List T → List T
+with_room callers = if nat_le 8 (length callers) then drop 1 callers else callers

@@ -1,6 +1,7 @@
 //! The end at which words are heard.
-ghost use Rattle.std.specs.Prelude.{◌≡◌, ◌≤◌, ◌<◌, ◌||◌, true, false, length, vec_len, is_some, IfOk, IfSome, IsNone};
-ghost use Rattle.control.specs.Heard.{IsWord};
+ghost use Rattle.std.specs.Prelude.{◌≡◌, ◌-◌, ◌≤◌, ◌<◌, ◌||◌, ◌⊎◌, true, false, length, remove, vec_len, is_some, IfOk, IfSome, IsNone};
+ghost use Rattle.control.specs.Attending.{unanswered_after, with_more, with_room};
+ghost use Rattle.control.specs.Heard.{AreHeard, IsWord};
 ghost use Rattle.control.specs.Saying.{Says};
 
 use crate::{ControlPath, NoSocket, word_of};
@@ -50,6 +51,15 @@ enum Said {
     Word(usize),
     /// What is no word; or it has gone.
     NoWord,
+}
+
+/// What those who are waited for have said.
+#[derive(Clone, Copy)]
+enum Heard {
+    /// One of them a word: which one, and how many bytes it has.
+    Word(usize, usize),
+    /// None a word: so many have said nothing yet.
+    Silence(usize),
 }
 
 impl Control {
@@ -122,6 +132,8 @@ impl Control {
         ensures words { IfSome result (λ count. IsWord count room.new) }
         ensures one_by_one { self.old.awaits ≡ true → IsNone result }
         ensures awaits { self.new.awaits ≡ (is_some result || self.old.awaits) }
+        ensures refused { self.old.refused ≤ self.new.refused }
+        ensures unanswered { self.new.unanswered ≡ self.old.unanswered }
     {
         if !self.is_ready() {
             return None;
@@ -136,18 +148,16 @@ impl Control {
     /// Answers who awaits it, by one write that doesn't wait, and lets him go. One who isn't there any more, or has no
     /// room for the whole answer, is let go without it, and counted.
     pub fn answer(&mut self, bytes: &[u8])
-        ensures { self.new.awaits ≡ false }
+        ensures awaits { self.new.awaits ≡ false }
+        ensures refused { self.new.refused ≡ self.old.refused }
+        ensures counted { (self.new.unanswered ≡ self.old.unanswered)
+            ⊎ (self.new.unanswered ≡ with_more self.old.unanswered 1) }
+        ensures nobody { self.old.awaits ≡ false → self.new.unanswered ≡ self.old.unanswered }
     {
         let Some(mut speaker) = self.speaker.take() else {
             return;
         };
-        let is_told = match speaker.write(bytes) {
-            Ok(count) => count == bytes.len(),
-            Err(_) => false,
-        };
-        if !is_told {
-            self.unanswered = self.unanswered.saturating_add(1);
-        }
+        self.unanswered = unanswered_after(speaker.write(bytes), bytes.len(), self.unanswered);
     }
 
     /// A word of those who are waited for, one after the other. Who said it, who said something else and who has gone
@@ -156,33 +166,29 @@ impl Control {
         ensures within { IfSome result (λ count. count ≤ length room.new) }
         ensures words { IfSome result (λ count. IsWord count room.new) }
         ensures awaits { self.new.awaits ≡ (is_some result || self.old.awaits) }
+        ensures refused { self.old.refused ≤ self.new.refused }
+        ensures unanswered { self.new.unanswered ≡ self.old.unanswered }
     {
-        let mut at = 0;
-        for _ in 0..CALLERS {
-            let caller = self.callers.get_mut(at)?;
-            match asked(caller, room) {
-                Said::Nothing => at += 1,
-                Said::Word(count) => {
-                    self.speaker = Some(self.callers.remove(at));
-                    return Some(count);
-                }
-                Said::NoWord => refuse(&mut self.callers, at, &mut self.refused),
+        match word_among(&mut self.callers, &mut self.refused, room) {
+            Heard::Word(at, count) => {
+                self.speaker = Some(self.callers.remove(at));
+                Some(count)
             }
+            Heard::Silence(_) => None,
         }
-        None
     }
 
     /// Takes who calls next, and says whether somebody did. Where too many are waited for, who was waited for longest
     /// is refused.
     fn accept(&mut self, registry: &Registry, token: Token) -> bool
-        ensures { self.new.awaits ≡ self.old.awaits }
+        ensures awaits { self.new.awaits ≡ self.old.awaits }
+        ensures refused { self.old.refused ≤ self.new.refused }
+        ensures unanswered { self.new.unanswered ≡ self.old.unanswered }
     {
         let Ok((mut caller, _)) = self.listener.accept() else {
             return false;
         };
-        if self.callers.len() >= CALLERS {
-            refuse(&mut self.callers, 0, &mut self.refused);
-        }
+        make_room(&mut self.callers, &mut self.refused);
         let interest = Interest::READABLE;
         if registry.register(&mut caller, token, interest).is_ok() {
             let _is_kept = self.callers.push(caller);
@@ -191,12 +197,58 @@ impl Control {
     }
 }
 
+/// A word of those who are waited for, one after the other. Who said something else and who has gone is no longer waited
+/// for, and counted.
+fn word_among(callers: &mut Vec<UnixStream>, refused: &mut u64, room: &mut [u8]) -> Heard
+    ensures heard { AreHeard result (vec_len callers.new) room.new }
+    ensures fewer { vec_len callers.new ≤ vec_len callers.old }
+    ensures counted { refused.new
+        ≡ with_more refused.old (vec_len callers.old - vec_len callers.new) }
+    ensures more { refused.old ≤ refused.new }
+{
+    let _in_range = *refused;
+    let mut silent = 0;
+    for _turn in 0..callers.len() {
+        match asked(&mut callers[silent], room) {
+            Said::Nothing => silent += 1,
+            Said::Word(count) => return Heard::Word(silent, count),
+            Said::NoWord => refuse(callers, silent, refused),
+        }
+    }
+    Heard::Silence(silent)
+}
+
+/// Where as many are waited for as may be, who was waited for longest is refused.
+fn make_room(callers: &mut Vec<UnixStream>, refused: &mut u64)
+    ensures callers { callers.new.items ≡ with_room callers.old.items }
+    ensures counted { refused.new
+        ≡ with_more refused.old (vec_len callers.old - vec_len callers.new) }
+    ensures more { refused.old ≤ refused.new }
+{
+    let _in_range = *refused;
+    if callers.len() >= CALLERS {
+        refuse(callers, 0, refused);
+    }
+}
+
 /// A caller is no longer waited for, and has no answer.
 fn refuse(callers: &mut Vec<UnixStream>, at: usize, refused: &mut u64)
     requires { at < vec_len callers.old }
+    ensures others { callers.new.items ≡ remove callers.old.items at }
+    ensures counted { refused.new ≡ with_more refused.old 1 }
 {
     callers.remove(at);
     *refused = refused.saturating_add(1);
+}
+
+/// How many went unanswered, once an answer of so many bytes was written.
+fn unanswered_after(written: io::Result<usize>, length: usize, before: u64) -> u64
+    ensures { result ≡ unanswered_after written length before }
+{
+    match written {
+        Ok(count) if count == length => before,
+        Ok(_) | Err(_) => before.saturating_add(1),
+    }
 }
 
 /// What a caller has said by now.

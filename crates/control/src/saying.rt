@@ -1,7 +1,10 @@
 //! The end at which a word is said.
-ghost use Rattle.std.specs.Prelude.{◌≡◌, ◌≤◌, length, IfOk};
+ghost use Rattle.std.specs.Prelude.{◌≡◌, ◌<◌, ◌≤◌, length, take, IfOk, OnOk};
+ghost use Rattle.std.specs.Io.KnownBytes.{Consumes, IsAtEnd};
+ghost use Rattle.control.specs.Answers.{answer_of};
+ghost use Rattle.control.specs.Saying.{HasHeard, is_heard};
 
-use crate::{ControlPath, spelled_heard};
+use crate::{Answer, ControlPath};
 use std::io::{self, Read, Write};
 use std::net::Net;
 use std::os::unix::net::UnixStream;
@@ -33,14 +36,30 @@ impl From<io::Error> for NoSocket {
 /// `NoSocket` where no box listens there, the caller may not speak to it, or it doesn't answer in time that the word is
 /// taken. Whether it took the word isn't known then.
 pub fn say<R: Net>(rt: &R, path: &ControlPath, word: &[u8]) -> Result<(), NoSocket> {
-    let heard = spelled_heard();
-    let mut answer = [0; 5];
     let mut stream = said(rt, path, word)?;
+    await_heard(&mut stream)
+}
+
+/// Waits until a word that was said is taken.
+fn await_heard<S: Read>(stream: &mut S) -> Result<(), NoSocket>
+    ensures { OnOk result (HasHeard (S.remaining stream.old) (S.remaining stream.new)) }
+{
+    let mut answer = [0; 5];
     stream.read_exact(&mut answer)?;
-    if answer == heard {
+    if is_heard(&answer) {
         Ok(())
     } else {
         Err(NoSocket)
+    }
+}
+
+/// Whether bytes answer that a word is taken.
+fn is_heard(answer: &[u8]) -> bool
+    ensures { result ≡ is_heard (answer_of answer.now) }
+{
+    match Answer::read(answer) {
+        Some(Answer::Heard) => true,
+        _ => false,
     }
 }
 
@@ -77,11 +96,15 @@ fn said<R: Net>(rt: &R, path: &ControlPath, word: &[u8]) -> io::Result<UnixStrea
 }
 
 /// How much is said until the other end is closed, as far as there is room.
-fn whole(stream: &mut UnixStream, room: &mut [u8]) -> io::Result<usize>
-    ensures { IfOk result (λ count. count ≤ length room.new) }
+fn whole<S: Read>(stream: &mut S, room: &mut [u8]) -> io::Result<usize>
+    ensures within { IfOk result (λ count. count ≤ length room.new) }
+    ensures came { IfOk result (λ count. Consumes (S.remaining stream.old)
+        (S.remaining stream.new) (take count room.new)) }
+    ensures all { IfOk result (λ count. count < length room.new
+        → IsAtEnd (S.remaining stream.new)) }
 {
     let mut count = 0;
-    for _ in 0..room.len() {
+    for _turn in 0..room.len() {
         match stream.read(&mut room[count..])? {
             0 => return Ok(count),
             more => count += more,

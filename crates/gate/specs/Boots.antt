@@ -6,6 +6,8 @@ use Rattle.nat_types.specs.declared.gateways.GatewayId.{GatewayId}
 use Rattle.settings.specs.declared.whole.Settings.{Settings}
 use Rattle.spec_step.specs.Shown.{Shown}
 use Rattle.spec_step.specs.Founding.{begun, founded}
+use Rattle.checks.specs.Digests.{digest}
+use Rattle.rounds.specs.declared.desk.Identity.{Identity}
 
 -- its end of the link has this number for its own
 unfoldable pub HasBoot : ℕ → Shown → Type 0
@@ -26,3 +28,9 @@ pub record HasStarted (settings : Settings) (id : GatewayId) (found : Bool) (bef
   pub above_zero : 0 < boot
   pub start : IsStart settings id found boot g
   pub printed : Appends before after (boot_line boot)
+
+-- who a box is, to those who ask: its id, the boot that its gateway is in, and the digest of its settings
+pub record IsIdentity (settings : Settings) (id : GatewayId) (who : Identity) (g : Shown) : Type 0 where
+  pub own_id : who.id ≡ id
+  pub own_boot : HasBoot who.boot g
+  pub own_digest : who.digest ≡ digest settings

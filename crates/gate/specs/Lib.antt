@@ -3,3 +3,4 @@ pub mod Boots
 pub mod Faults
 pub mod Served
 pub mod Starts
+pub mod Said

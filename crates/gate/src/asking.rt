@@ -1,5 +1,5 @@
 //! What an operator asks of a running box.
-ghost use Rattle.std.specs.Prelude.{◌≡◌, ◌⊎◌, ◌≤◌, length, IfOk};
+ghost use Rattle.std.specs.Prelude.{◌≡◌, ◌⊎◌, ◌≤◌, length, true, IfOk};
 
 use crate::refusals::BoxFault;
 use crate::saying::{Line, line_to};
@@ -108,17 +108,20 @@ pub fn await_synced<R: Files + Net + Clock + AllocGlobal, E: Write>(
     ensures status { (result ≡ 0) ⊎ (result ≡ 1) }
 {
     match awaited(rt, settings, id, seconds) {
-        Ok(()) => 0,
+        Ok(_) => 0,
         Err(fault) => fault.tell(errors),
     }
 }
 
+/// The first report of a box, asked every 100 ms for so many seconds, that says that it is synced.
 fn awaited<R: Files + Net + Clock + AllocGlobal>(
     rt: &R,
     settings: &str,
     id: GatewayId,
     seconds: u32,
-) -> Result<(), BoxFault> {
+) -> Result<Report, BoxFault>
+    ensures { IfOk result (λ report. report.gateway.synced ≡ true) }
+{
     let line = line_to(rt, settings, id)?;
     let limit = u64::from(seconds) * 100;
     let mut clock = Stopwatch::start(rt);
@@ -127,16 +130,19 @@ fn awaited<R: Files + Net + Clock + AllocGlobal>(
         match synced(rt, &line) {
             Err(fault) if is_over => return Err(fault),
             Err(_) => thread::sleep(rt, Duration::from_millis(PAUSE)),
-            Ok(()) => return Ok(()),
+            Ok(report) => return Ok(report),
         }
     }
     Err(BoxFault::NotSynced)
 }
 
-/// Whether the box at a line's end is synced.
-fn synced<R: Net + AllocGlobal>(rt: &R, line: &Line) -> Result<(), BoxFault> {
-    if reported(rt, line)?.is_synced() {
-        Ok(())
+/// The report of the box at a line's end, where it says that it is synced.
+fn synced<R: Net + AllocGlobal>(rt: &R, line: &Line) -> Result<Report, BoxFault>
+    ensures { IfOk result (λ report. report.gateway.synced ≡ true) }
+{
+    let report = reported(rt, line)?;
+    if report.is_synced() {
+        Ok(report)
     } else {
         Err(BoxFault::NotSynced)
     }

@@ -7,7 +7,7 @@ ghost use Rattle.boot_store.specs.Crash.{Decides, Keeps, Rises, Since};
 ghost use Rattle.settings_file.specs.Clashes.{clash_of_one};
 ghost use Rattle.settings_file.specs.declared.keys.Key.{Key};
 ghost use Rattle.gate.specs.Asked.{IsManagerOf, is_loopback, on_loopback};
-ghost use Rattle.gate.specs.Boots.{HasBoot, HasStarted, IsStart, boot_line};
+ghost use Rattle.gate.specs.Boots.{HasBoot, HasStarted, IsIdentity, IsStart, boot_line};
 ghost use Rattle.gate.specs.Faults.{IsBeforeBoot, IsOfFilter, IsOfNoWay, IsOfRun, IsOfStart, of_clash};
 ghost use Rattle.gate.specs.Served.{AreHeld, HadRounds, HasRun, HasServed};
 ghost use Rattle.gate.specs.Starts.{Refuses};
@@ -17,7 +17,7 @@ use crate::ends::refused_end;
 use crate::refusals::BoxFault;
 use crate::saying::control_path;
 use crate::ways::{WayTexts, ways_of};
-use boot_file::{Blocks, Lockable};
+use boot_file::{Blocks, FileDisk, Lockable};
 use boot_store::{Disk, next_boot};
 use checks::digest;
 use control::{Control, ControlPath};
@@ -235,25 +235,22 @@ where
     }
 }
 
-/// Opens the control socket, and the sockets that the ways need. Nothing is asked of the disk before all is had that comes
-/// before its number.
-fn connected<
-    R: Files + Net + Clock + RandomSource + Eprint + Env + Input + AllocGlobal,
-    D: Disk,
-    O: Write,
->(
+/// Opens the control socket, and the sockets that the ways need, while the boot file is locked: no other box listens there.
+/// Nothing is asked of the disk before all is had that comes before its number.
+fn connected<R: Files + Net + Clock + RandomSource + Eprint + Env + Input + AllocGlobal, O: Write>(
     rt: &R,
     start: &Start<'_>,
     settings: &Settings,
     ways: &Ways,
     path: &ControlPath,
     manager: &Option<Manager>,
-    disk: &mut D,
+    disk: &mut FileDisk<R::File>,
     output: &mut O,
 ) -> Result<(), BoxFault>
 where
-    R::File: AsRawFd,
+    R::File: Blocks + Lockable + AsRawFd,
     requires found { IsTrue start.now.found → start.now.id ≡ Zero }
+    requires locked { ⟦<R::File as Lockable>⟧.locked disk.old.file }
     ensures ok { OnOk result (HasRun settings.now start.now.id start.now.rounds start.now.found
         start.now.track start.now.until_eof (O.contents output.old) (O.contents output.new)) }
     ensures err { IfErr result IsOfNoWay }
@@ -542,6 +539,7 @@ fn started<R: RandomSource + AllocGlobal, D: Disk, O: Write, L: Log>(
     requires found { IsTrue found → id ≡ Zero }
     ensures start { IfOk result (λ begun. HasStarted settings.now id found
         (O.contents output.old) (O.contents output.new) begun.1) }
+    ensures identity { IfOk result (λ begun. IsIdentity settings.now id begun.0 begun.1) }
     ensures err { IfErr result IsOfStart }
 {
     let digest = digest(rt.alloc(), settings)?;

@@ -1,6 +1,9 @@
 //! The words that an operator says to a running box.
-ghost use Rattle.std.specs.Prelude.{◌≡◌, ◌⊎◌, IfOk, string_bytes};
+ghost use Rattle.std.specs.Prelude.{◌≡◌, ◌⊎◌, IfOk, OnOk, Some, option_map, string_bytes};
+ghost use Rattle.control.specs.Answers.{content_of, heard};
 ghost use Rattle.control.specs.Paths.{IsBeside};
+ghost use Rattle.control.specs.Words.{word_of};
+ghost use Rattle.gate.specs.Said.{IsLineTo, off_bytes, said_off as meaning_off, said_side};
 ghost use Rattle.settings.specs.Parts.{gateway_of};
 
 use crate::asking::asked;
@@ -29,13 +32,40 @@ pub fn peer_off<R: Files + Net + AllocGlobal, E: Write>(
 ) -> u8
     ensures status { (result ≡ 0) ⊎ (result ≡ 1) }
 {
-    let taken = match boot {
-        Some(boot) => said_off(rt, settings, id, &spelled_off(boot, forced)),
-        None => said_off(rt, settings, id, &spelled_known_off()),
-    };
-    match taken {
+    let word = OffWord::of(boot, forced);
+    match said_off(rt, settings, id, word.bytes()) {
         Ok(()) => 0,
         Err(fault) => fault.tell(errors),
+    }
+}
+
+/// The word that a boot of the other box is off, as it is said.
+#[derive(Clone, Copy)]
+enum OffWord {
+    /// The one that the box knows.
+    Known([u8; 2]),
+    /// This one.
+    Boot([u8; 10]),
+}
+
+impl OffWord {
+    /// The word of this boot, or of the known one. Only a boot that is named is forced.
+    fn of(boot: Option<u64>, forced: bool) -> OffWord
+        ensures { word_of (off_bytes result) ≡ Some (meaning_off boot forced) }
+    {
+        match boot {
+            Some(boot) => OffWord::Boot(spelled_off(boot, forced)),
+            None => OffWord::Known(spelled_known_off()),
+        }
+    }
+
+    fn bytes(&self) -> &[u8]
+        ensures { result.now ≡ off_bytes self.now }
+    {
+        match self {
+            OffWord::Known(bytes) => bytes,
+            OffWord::Boot(bytes) => bytes,
+        }
     }
 }
 
@@ -49,10 +79,17 @@ fn said_off<R: Files + Net + AllocGlobal>(
     let line = line_to(rt, settings, id)?;
     let mut room = [0; 4_096];
     let count = asked(rt, &line, word, &mut room)?;
-    match Answer::read(&room[..count]) {
+    taken_by(rt.alloc(), &line, Answer::read(&room[..count]))
+}
+
+/// Whether a box has taken a word, by its answer; or why it doesn't.
+fn taken_by(alloc: Global, line: &Line, answer: Option<Answer<'_>>) -> Result<(), BoxFault>
+    ensures { OnOk result (option_map content_of answer.entry ≡ Some heard) }
+{
+    match answer {
         Some(Answer::Heard) => Ok(()),
         Some(Answer::Refused(refusal)) => Err(BoxFault::PeerOff(Explained(refusal))),
-        _ => Err(line.unheard(rt.alloc())),
+        _ => Err(line.unheard(alloc)),
     }
 }
 
@@ -84,10 +121,17 @@ pub fn side<R: Files + Net + AllocGlobal, E: Write>(
 ) -> u8
     ensures status { (result ≡ 0) ⊎ (result ≡ 1) }
 {
-    match said(rt, settings, id, &spelled_side(side, up, false)) {
+    match said(rt, settings, id, &side_word(side, up)) {
         Ok(()) => 0,
         Err(fault) => fault.tell(errors),
     }
+}
+
+/// The word of a side, as an operator says it.
+fn side_word(side: Side, up: bool) -> [u8; 5]
+    ensures { word_of result ≡ Some (said_side side up) }
+{
+    spelled_side(side, up, false)
 }
 
 /// Says a word at the gateway's control socket, and waits until it is heard.
@@ -123,7 +167,9 @@ pub(crate) fn line_to<R: Files + AllocGlobal>(
     rt: &R,
     settings: &str,
     id: GatewayId,
-) -> Result<Line, BoxFault> {
+) -> Result<Line, BoxFault>
+    ensures { IfOk result (IsLineTo id) }
+{
     let settings = settings_at(rt, settings)?;
     let path = control_path(rt.alloc(), &settings, id)?;
     let boot_file = String::from_str(rt.alloc(), settings.gateway(id).boot_file.as_str())?;

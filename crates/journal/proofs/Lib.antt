@@ -1,1 +1,3 @@
 mod Accounts
+mod Each
+mod Pairs

@@ -3,6 +3,7 @@ use Rattle.std.specs.Prelude.{ℕ, ◌≡◌, ⊤, List, [], Option, Some, None}
 use Rattle.std.specs.Borrow.{Bor}
 use Rattle.log.specs.Filter.{Rule, insert_directives, insert_rule, invalid_spec}
 use Rattle.log.specs.declared.level.LevelFilter.TheVariants.{Info}
+use Rattle.journal.specs.declared.filters.TheConstants.{VARIABLE}
 use Rattle.journal.specs.declared.filters.FilterFault.{FilterFault}
 use Rattle.journal.specs.declared.filters.FilterFault.TheVariants.{NoFilter, NoMemory}
 
@@ -20,3 +21,8 @@ rules_of text = insert_directives (insert_rule [] (None, Info)) text
 abbrev pub IsRefused : List ℕ → FilterFault → Type 0
 IsRefused text (NoFilter part) = invalid_spec text ≡ Some part.now
 IsRefused text NoMemory = ⊤
+
+-- a fault of the environment's variable names it
+abbrev pub IsOfVariable : FilterFault → Type 0
+IsOfVariable (NoFilter part) = part.now ≡ VARIABLE.now
+IsOfVariable NoMemory = ⊤

@@ -5,3 +5,5 @@ pub mod Texts
 pub mod Pairs
 pub mod Fates
 pub mod Filters
+pub mod Owed
+pub mod Each

@@ -1,7 +1,8 @@
 //! Which records pass.
-ghost use Rattle.std.specs.Prelude.{◌≡◌, IfOk, IfErr, None};
+ghost use Rattle.std.specs.Prelude.{◌≡◌, ◌≢◌, IfOk, IfErr, IsErr, None, Some, Ok, Err};
 ghost use Rattle.log.specs.Filter.{filter_rules, invalid_spec, or_errors};
-ghost use Rattle.journal.specs.Filters.{IsRefused, rules_of, text_of};
+ghost use Rattle.journal.specs.Filters.{IsOfVariable, IsRefused, rules_of, text_of};
+ghost use Rattle.journal.specs.declared.filters.FilterFault.TheVariants as faults;
 
 use log::LevelFilter;
 use log::filter::{Builder, Filter, ParseError};
@@ -61,7 +62,18 @@ pub fn filter_of<'a>(
 pub fn environment<R: Env + Alloc<A = Global>>(
     rt: &R,
 ) -> Result<Option<String>, FilterFault<'static>> {
-    match env::var(rt, VARIABLE) {
+    of_variable(env::var(rt, VARIABLE))
+}
+
+/// What a variable holds, if it is there.
+fn of_variable(found: Result<String, VarError>) -> Result<Option<String>, FilterFault<'static>>
+    ensures text { IfOk found (λ text. result ≡ Ok (Some text)) }
+    ensures none { found ≡ Err VarError.NotPresent → result ≡ Ok None }
+    ensures memory { found ≡ Err VarError.OutOfMemory → result ≡ Err faults.NoMemory }
+    ensures no_text { IfErr found (λ error. error ≢ VarError.NotPresent → IsErr result) }
+    ensures named { IfErr result IsOfVariable }
+{
+    match found {
         Ok(text) => Ok(Some(text)),
         Err(VarError::NotPresent) => Ok(None),
         Err(VarError::OutOfMemory) => Err(FilterFault::NoMemory),

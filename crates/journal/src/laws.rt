@@ -1,8 +1,11 @@
-//! What an account is of the drops so far.
+//! What an account is of the drops so far, and of which places and causes it tells.
 ghost use Rattle.std.specs.Prelude.{◌≡◌, ◌==◌, ◌≤◌, ◌-◌, ℕ, List, [], ◌∷◌};
+ghost use Rattle.journal.specs.Each.{HasEachCause, HasEachOrigin};
 ghost use Rattle.journal.specs.Tally.{Account, Noted, IsAccountOf, count, count_at, is_first, most, noted, opened, others, turned};
 ghost use Rattle.journal.specs.declared.origins.Origin.{Origin as Place};
 ghost use Rattle.journal.specs.declared.causes.Cause.{Cause as Why};
+ghost use Rattle.journal.specs.declared.causes.TheConstants.{CAUSES};
+ghost use Rattle.journal.specs.declared.origins.TheConstants.{ORIGINS};
 
 /// A tally that was opened, and has noted and turned since, is an account of all that was noted: the first of its second
 /// is told at once, and as many others at its end as there were.
@@ -20,4 +23,10 @@ pub fn account_law()
     ensures others { (all : List Noted) → (a : Account) → (origin : Place) → (cause : Why)
         → IsAccountOf all a → count all a.second origin cause ≤ most
         → count_at a origin cause - 1 ≡ others all a.second origin cause }
+{}
+
+/// What is owed of a second is told of each origin and each cause, once.
+pub fn tellings_law()
+    ensures origins { HasEachOrigin ORIGINS }
+    ensures causes { HasEachCause CAUSES }
 {}

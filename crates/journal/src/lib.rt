@@ -17,7 +17,7 @@ mod telling;
 pub use causes::Cause;
 pub use entries::{Entry, Role};
 pub use filters::{FilterFault, VARIABLE, environment, filter_of};
-pub use laws::account_law;
+pub use laws::{account_law, tellings_law};
 pub use lines::Format;
 pub use notes::Note;
 pub use origins::Origin;

@@ -1,5 +1,7 @@
 //! A record's text, and its keys and values.
 ghost use Rattle.std.specs.Prelude.{Some, OnOk, decimal};
+ghost use Rattle.std.specs.List.{FoldsTo};
+ghost use Rattle.journal.specs.Pairs.{cause_pairs, more_pairs, pairs_of};
 ghost use Rattle.journal.specs.Texts.{cause_text, role_name, text_of};
 
 use crate::Cause;
@@ -64,25 +66,38 @@ impl Display for Role {
 }
 
 impl Source for Note {
+    ghost pairs = { λ n. Some (pairs_of n.moment n.entry) };
+
     fn visit<V: VisitSource>(&self, visitor: &mut V) -> Result<(), Error> {
         visit_number(visitor, "at", self.moment)?;
         visit_word(visitor, "event", event_name(&self.entry))?;
-        match &self.entry {
-            Entry::First(_, cause) => visit_cause(visitor, cause),
-            Entry::Others(_, cause, number) => {
-                visit_cause(visitor, cause)?;
-                visit_number(visitor, "more", *number)
-            }
-            Entry::Role(_, role) => visit_word(visitor, "role", role_name(role)),
-            Entry::Boot(boot) => visit_number(visitor, "boot", *boot),
-            Entry::PeerBoot(boot) => visit_number(visitor, "boot", *boot),
-            _ => Ok(()),
+        visit_more(visitor, &self.entry)
+    }
+}
+
+/// What an entry has beside its moment and the event's name.
+fn visit_more<V: VisitSource>(visitor: &mut V, entry: &Entry) -> Result<(), Error>
+    ensures { OnOk result
+        (FoldsTo V.visit_pair_gives visitor.old (more_pairs entry.now) visitor.new) }
+{
+    match entry {
+        Entry::First(_, cause) => visit_cause(visitor, cause),
+        Entry::Others(_, cause, number) => {
+            visit_cause(visitor, cause)?;
+            visit_number(visitor, "more", *number)
         }
+        Entry::Role(_, role) => visit_word(visitor, "role", role_name(role)),
+        Entry::Boot(boot) => visit_number(visitor, "boot", *boot),
+        Entry::PeerBoot(boot) => visit_number(visitor, "boot", *boot),
+        _ => Ok(()),
     }
 }
 
 /// A reason, by number and name.
-fn visit_cause<V: VisitSource>(visitor: &mut V, cause: &Cause) -> Result<(), Error> {
+fn visit_cause<V: VisitSource>(visitor: &mut V, cause: &Cause) -> Result<(), Error>
+    ensures { OnOk result
+        (FoldsTo V.visit_pair_gives visitor.old (cause_pairs cause.now) visitor.new) }
+{
     match cause {
         Cause::Dropped(reason) => {
             visit_number(visitor, "number", u64::from(reason.number()))?;

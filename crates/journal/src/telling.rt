@@ -1,5 +1,6 @@
 //! The calls by which a box writes its records.
 ghost use Rattle.std.specs.Prelude.{◌≡◌};
+ghost use Rattle.journal.specs.Owed.{owed};
 ghost use Rattle.journal.specs.Tally.{noted, turned};
 
 use crate::causes::CAUSES;
@@ -57,9 +58,20 @@ fn tell_all_others<L: Log>(log: &L, moment: u64, ended: &Tally) {
 /// Writes how many others there were of a second, for each cause where there were any.
 fn tell_others<L: Log>(log: &L, moment: u64, origin: Origin, ended: &Tally) {
     for cause in CAUSES {
-        let others = ended.others(origin, cause);
-        if 0 < others {
-            tell(log, moment, Entry::Others(origin, cause, others));
+        if let Some(entry) = owed(ended, origin, cause) {
+            tell(log, moment, entry);
         }
+    }
+}
+
+/// How many others there were of an origin and a cause, where there were any.
+fn owed(ended: &Tally, origin: Origin, cause: Cause) -> Option<Entry>
+    ensures { result ≡ owed ended.now origin cause }
+{
+    let others = ended.others(origin, cause);
+    if 0 < others {
+        Some(Entry::Others(origin, cause, others))
+    } else {
+        None
     }
 }

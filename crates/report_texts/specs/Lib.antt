@@ -1,1 +1,4 @@
 pub mod Wanted
+pub mod Names
+pub mod Sums
+pub mod Lists

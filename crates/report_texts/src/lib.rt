@@ -2,6 +2,7 @@
 #![tactic(auto)]
 
 mod json;
+mod laws;
 mod metrics;
 mod names;
 mod pairs;
@@ -9,6 +10,7 @@ mod people;
 mod units;
 
 pub use json::write_json;
+pub use laws::names_law;
 pub use metrics::write_metrics;
 pub use pairs::{Filter, write_pairs};
 pub use people::write_people;

@@ -1,5 +1,8 @@
 //! A report as metrics in Prometheus' text format: of each family what it is, its kind, and its samples. No label has a
 //! character that would want escaping.
+ghost use Rattle.std.specs.Prelude.{◌≡◌};
+ghost use Rattle.reports.specs.Formats.{flag_number};
+ghost use Rattle.report_texts.specs.Sums.{is_heard};
 
 use crate::names::{ORIGINS, REASONS, dropped, left_out, origin_name, state_name};
 use crate::units::Seconds;
@@ -72,8 +75,20 @@ fn write_sum<O: Write>(output: &mut O, name: &str, help: &str, value: u64) -> io
 }
 
 /// 1 or 0.
-fn truth(is_so: bool) -> u64 {
+fn truth(is_so: bool) -> u64
+    ensures { result ≡ flag_number is_so }
+{
     u64::from(is_so)
+}
+
+/// Whether the other box was heard in the last 3 seconds.
+fn is_heard(heard: Option<u64>) -> bool
+    ensures { result ≡ is_heard heard }
+{
+    match heard {
+        Some(ago) => ago <= 300,
+        None => false,
+    }
 }
 
 fn write_box<O: Write>(output: &mut O, report: &Report) -> io::Result<()> {
@@ -165,12 +180,11 @@ fn write_peer<O: Write>(output: &mut O, report: &Report) -> io::Result<()> {
         "Number of the other box's start, or 0 where none is known.",
         peer.boot,
     )?;
-    let is_heard = matches!(peer.heard, Some(0..=300));
     write_gauge(
         output,
         "natpair_peer_heard",
         "Whether the other box was heard in the last 3 seconds.",
-        truth(is_heard),
+        truth(is_heard(peer.heard)),
     )?;
     if let Some(ago) = peer.heard {
         write_gauge(

@@ -1,4 +1,7 @@
 //! The names of things in texts, and what is counted of them.
+ghost use Rattle.std.specs.Prelude.{◌≡◌};
+ghost use Rattle.report_texts.specs.Names.{origin_name, state_name};
+ghost use Rattle.report_texts.specs.Sums.{dropped_at, left_out_in, lost_at};
 
 use journal::{Cause, Origin};
 use nat_types::EntryState;
@@ -37,7 +40,9 @@ pub(crate) const REASONS: [Reason; 20] = [
     Reason::TooMany,
 ];
 
-pub(crate) fn origin_name(origin: Origin) -> &'static str {
+pub(crate) fn origin_name(origin: Origin) -> &'static str
+    ensures { result.now ≡ origin_name origin }
+{
     match origin {
         Origin::Inside => "inside",
         Origin::Outside => "outside",
@@ -46,7 +51,9 @@ pub(crate) fn origin_name(origin: Origin) -> &'static str {
     }
 }
 
-pub(crate) fn state_name(state: EntryState) -> &'static str {
+pub(crate) fn state_name(state: EntryState) -> &'static str
+    ensures { result.now ≡ state_name state }
+{
     match state {
         EntryState::Pending => "pending",
         EntryState::Doomed => "doomed",
@@ -57,15 +64,24 @@ pub(crate) fn state_name(state: EntryState) -> &'static str {
 }
 
 /// How many were dropped there for that reason.
-pub(crate) fn dropped(counters: &Counters, origin: Origin, reason: Reason) -> u64 {
+pub(crate) fn dropped(counters: &Counters, origin: Origin, reason: Reason) -> u64
+    ensures { result ≡ dropped_at counters.now origin reason }
+{
     counters.of(origin, Count::Lost(Cause::Dropped(reason)))
 }
 
 /// How many events were left out for want of memory.
-pub(crate) fn left_out(counters: &Counters) -> u64 {
-    let mut sum = 0u64;
-    for origin in ORIGINS {
-        sum = sum.saturating_add(counters.of(origin, Count::Lost(Cause::NoMemory)));
-    }
-    sum
+pub(crate) fn left_out(counters: &Counters) -> u64
+    ensures { result ≡ left_out_in counters.now }
+{
+    let sides = lost_at(counters, Origin::Inside).saturating_add(lost_at(counters, Origin::Outside));
+    let others = lost_at(counters, Origin::Link).saturating_add(lost_at(counters, Origin::Own));
+    sides.saturating_add(others)
+}
+
+/// The same of one origin.
+fn lost_at(counters: &Counters, origin: Origin) -> u64
+    ensures { result ≡ lost_at counters.now origin }
+{
+    counters.of(origin, Count::Lost(Cause::NoMemory))
 }

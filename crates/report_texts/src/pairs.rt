@@ -1,5 +1,5 @@
 //! The lines of pairs.
-ghost use Rattle.std.specs.Prelude.{◌≡◌};
+ghost use Rattle.std.specs.Prelude.{◌≡◌, false};
 ghost use Rattle.report_texts.specs.Wanted.{passes, wants_address, wants_port, wants_protocol, wants_state};
 
 use crate::names::state_name;
@@ -84,9 +84,17 @@ impl Filter {
 /// Where output is refused.
 pub fn write_pairs<O: Write>(output: &mut O, page: &Page, filter: &Filter) -> io::Result<()> {
     for entry in page.entries() {
-        if filter.passes(entry) {
-            writeln!(output, "{} {}", entry.pair, state_name(entry.state))?;
-        }
+        write_pair(output, entry, filter)?;
+    }
+    Ok(())
+}
+
+/// Writes the line of an entry, if it is wanted.
+fn write_pair<O: Write>(output: &mut O, entry: &Entry, filter: &Filter) -> io::Result<()>
+    ensures unwanted { passes filter.now entry.now ≡ false → output.new ≡ output.old }
+{
+    if filter.passes(entry) {
+        writeln!(output, "{} {}", entry.pair, state_name(entry.state))?;
     }
     Ok(())
 }

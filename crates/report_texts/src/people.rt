@@ -1,4 +1,6 @@
 //! A report for people.
+ghost use Rattle.std.specs.Prelude.{◌≡◌};
+ghost use Rattle.report_texts.specs.Names.{cable_name, protocol_name, serving_name, synced_name, traffic_name};
 
 use crate::names::{ORIGINS, REASONS, dropped, left_out, origin_name, state_name};
 use crate::units::{Grouped, Seconds, Span};
@@ -38,11 +40,7 @@ pub fn write_people<O: Write>(output: &mut O, report: &Report) -> io::Result<()>
 
 fn write_head<O: Write>(output: &mut O, report: &Report) -> io::Result<()> {
     let (id, boot, up) = (report.id, report.boot, Span(report.gateway.moment));
-    let synced = if report.gateway.synced {
-        "synced"
-    } else {
-        "not synced"
-    };
+    let synced = synced_name(report.gateway.synced);
     let away = if report.gateway.away { ", away" } else { "" };
     writeln!(output, "box {id}, boot {boot}, up {up}, {synced}{away}")?;
     writeln!(output, "settings {:016x}", report.digest)
@@ -51,7 +49,7 @@ fn write_head<O: Write>(output: &mut O, report: &Report) -> io::Result<()> {
 fn write_side<O: Write>(output: &mut O, name: &str, side: &SideReport, now: u64) -> io::Result<()> {
     let role = side.role;
     let since = Span(now.saturating_sub(side.role_since));
-    let cable = if side.up { "in" } else { "out" };
+    let cable = cable_name(side.up);
     let plugged = Span(now.saturating_sub(side.up_since));
     writeln!(
         output,
@@ -60,11 +58,7 @@ fn write_side<O: Write>(output: &mut O, name: &str, side: &SideReport, now: u64)
 }
 
 fn write_peer<O: Write>(output: &mut O, peer: &PeerReport) -> io::Result<()> {
-    let serves = if peer.serves {
-        "serves"
-    } else {
-        "doesn't serve"
-    };
+    let serves = serving_name(peer.serves);
     if peer.boot == 0 {
         return writeln!(output, "peer     not known");
     }
@@ -79,8 +73,31 @@ fn write_peer<O: Write>(output: &mut O, peer: &PeerReport) -> io::Result<()> {
     }
 }
 
+/// Whether a table is loaded, in words.
+fn synced_name(is_synced: bool) -> &'static str
+    ensures { result.now ≡ synced_name is_synced }
+{
+    if is_synced { "synced" } else { "not synced" }
+}
+
+/// Whether a cable is in, in a word.
+fn cable_name(is_in: bool) -> &'static str
+    ensures { result.now ≡ cable_name is_in }
+{
+    if is_in { "in" } else { "out" }
+}
+
+/// Whether the other box serves, in words.
+fn serving_name(serves: bool) -> &'static str
+    ensures { result.now ≡ serving_name serves }
+{
+    if serves { "serves" } else { "doesn't serve" }
+}
+
 /// A protocol's name, as wide as all names.
-fn protocol_name(protocol: Protocol) -> &'static str {
+fn protocol_name(protocol: Protocol) -> &'static str
+    ensures { result.now ≡ protocol_name protocol }
+{
     match protocol {
         Protocol::Icmp => "icmp    ",
         Protocol::Tcp => "tcp     ",
@@ -115,7 +132,9 @@ fn write_traffic<O: Write>(output: &mut O, report: &Report) -> io::Result<()> {
     Ok(())
 }
 
-fn traffic_name(origin: Origin) -> &'static str {
+fn traffic_name(origin: Origin) -> &'static str
+    ensures { result.now ≡ traffic_name origin }
+{
     match origin {
         Origin::Inside => "frames   inside ",
         Origin::Outside => "frames   outside",

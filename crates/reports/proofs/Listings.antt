@@ -124,3 +124,8 @@ page-format = seen-format _ (λ r. (r.more, r.entries)) _ _ (λ x. refl) (λ r. 
 pub page-found : (bytes : List ℕ) (r : Result Page ReadFault) → IsBytes bytes → IfOk r (λ p. reading page bytes ≡ Ok p) → IfOk r (λ p. bytes ≡ spelling page p)
 page-found bytes (Ok p) fits read = one-spelling page PageFits page-format bytes p fits read
 page-found bytes (Err f) fits read = tt
+
+-- what is equal to an Ok is it
+pub ok-of : {X E : Type 0} (r s : Result X E) → r ≡ s → IfOk r (λ x. s ≡ Ok x)
+ok-of (Ok x) s same = sym same
+ok-of (Err e) s same = tt

@@ -6,3 +6,5 @@ pub mod Pages
 pub mod Reports
 pub mod Gateways
 pub mod Fitting
+pub mod Texts
+pub mod Lists

@@ -17,7 +17,7 @@ pub use counters::{COUNTS, Count, Counters};
 pub use faults::{ReadFault, VERSION};
 pub use fields::{Bytes, LONGEST};
 pub use gateways::{GatewayReport, PeerReport, PortCounts, WaitingCounts};
-pub use laws::counters_law;
+pub use laws::{counters_law, formats_law};
 pub use pages::{MOST_ENTRIES, Page};
 pub use pairs::{PAIR_COUNTS, PROTOCOLS, PairCounts, STATES};
 pub use reports::Report;

@@ -191,27 +191,27 @@ fn take_page<'a>(entries: &mut Vec<Entry>, bytes: &'a [u8]) -> Option<(bool, &'a
     Some((more, rest))
 }
 
-/// The page that all of the bytes are behind their version.
-fn alone(alloc: Global, bytes: &[u8]) -> Result<Page, ReadFault>
-    ensures ok { IfOk result (λ p. alone_in (page.read bytes.now) ≡ Ok p) }
-    ensures err { IfErr result
-        (λ f. (f ≡ OutOfMemory) ⊎ (alone_in (page.read bytes.now) ≡ Err f)) }
+/// The page that all of the bytes are behind their version, read into an empty list with room for 128 entries.
+fn alone(mut entries: Vec<Entry>, bytes: &[u8]) -> Result<Page, ReadFault>
+    requires empty { vec_len entries ≡ 0 }
+    requires room { MOST_ENTRIES ≤ vec_capacity entries }
+    ensures { result ≡ alone_in (page.read bytes.now) }
 {
-    let mut entries = Vec::with_capacity(alloc, MOST_ENTRIES)?;
     match take_page(&mut entries, bytes) {
         Some((more, [])) => Ok(Page { entries, more }),
         _ => Err(ReadFault::BadBytes),
     }
 }
 
-/// The page that all of the bytes are.
-fn read_whole(alloc: Global, bytes: &[u8]) -> Result<Page, ReadFault>
-    ensures ok { IfOk result (λ p. reading page bytes.now ≡ Ok p) }
-    ensures err { IfErr result (λ f. (f ≡ OutOfMemory) ⊎ (reading page bytes.now ≡ Err f)) }
+/// The page that all of the bytes are, read into an empty list with room for 128 entries.
+fn read_whole(entries: Vec<Entry>, bytes: &[u8]) -> Result<Page, ReadFault>
+    requires empty { vec_len entries ≡ 0 }
+    requires room { MOST_ENTRIES ≤ vec_capacity entries }
+    ensures { result ≡ reading page bytes.now }
 {
     match bytes {
         [] => Err(ReadFault::BadBytes),
-        [VERSION, rest @ ..] => alone(alloc, rest),
+        [VERSION, rest @ ..] => alone(entries, rest),
         [version, ..] => Err(ReadFault::OtherVersion(*version)),
     }
 }
@@ -274,6 +274,7 @@ impl Page {
         // No other bytes are read as that page.
         ensures found { IfOk result (λ p. bytes.now ≡ spelling page p) }
     {
-        read_whole(alloc, bytes)
+        let entries = Vec::with_capacity(alloc, MOST_ENTRIES)?;
+        read_whole(entries, bytes)
     }
 }

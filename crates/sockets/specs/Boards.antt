@@ -25,6 +25,13 @@ abbrev pub is_outside : Place → Bool
 is_outside (Side Outside) = true
 is_outside other = false
 
+-- the place that is asked next
+abbrev pub after : Place → Place
+after Link = Side Inside
+after (Side Inside) = Side Outside
+after (Side Outside) = Operator
+after Operator = Link
+
 -- what is told, where it is of the place; else nothing
 abbrev pub where_it_is : Bool → List (List ℕ) → List (List ℕ)
 where_it_is true told = told

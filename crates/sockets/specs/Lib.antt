@@ -12,3 +12,5 @@ pub mod Losses
 pub mod Hearing
 pub mod Bringing
 pub mod Boards
+pub mod Showing
+pub mod Doing

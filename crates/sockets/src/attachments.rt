@@ -1,11 +1,12 @@
 //! A place of a box, attached to what carries its bytes.
-ghost use Rattle.std.specs.Prelude.{◌≡◌, ◌≤◌, ◌++◌, ◌∷◌, [], false, take, is_err, IfOk, IfSome};
-ghost use Rattle.sockets.specs.Bringing.{IsHeardWithin, brought};
+ghost use Rattle.std.specs.Prelude.{◌≡◌, ◌<◌, ◌≤◌, ◌++◌, ◌∷◌, [], false, length, take, is_err, Err, IfOk, IfSome};
+ghost use Rattle.sockets.specs.Bringing.{IsHeardWithin, brought, ready_after};
 ghost use Rattle.sockets.specs.Hearing.{Hears, counted, failing_after, told};
 ghost use Rattle.sockets.specs.FarEnds.{all_heard, head_of, strangers_among};
 ghost use Rattle.sockets.specs.Losses.{none_lost, with_loss};
 ghost use Rattle.sockets.specs.Rooms.{arrival};
 ghost use Rattle.sockets.specs.Traffic.{handed_on};
+ghost use Rattle.sockets.specs.declared.losses.SendFault.TheVariants as faults;
 
 use crate::{Arrived, Conduit, FarEnd, LONGEST, Losses, SendFault, WireFault};
 use std::marker::Model;
@@ -123,6 +124,8 @@ impl<C: Conduit> Attachment<C> {
         ensures strangers { self.new.strangers ≡ self.old.strangers }
         ensures failing { self.new.failing ≡ is_err result }
         ensures losses { self.new.losses ≡ with_loss result self.old.losses }
+        ensures too_long { 4096 < length (head_of self.old.far ++ bytes.now)
+            → result ≡ Err faults.TooLong }
     {
         let result = self.hand_on(bytes);
         self.failing = result.is_err();
@@ -137,6 +140,8 @@ impl<C: Conduit> Attachment<C> {
         ensures far { self.new.far ≡ self.old.far }
         ensures strangers { self.new.strangers ≡ self.old.strangers }
         ensures losses { self.new.losses ≡ self.old.losses }
+        ensures too_long { 4096 < length (head_of self.old.far ++ bytes.now)
+            → result ≡ Err faults.TooLong }
     {
         match self.far.lay(bytes, &mut self.room) {
             Some(count) => self.conduit.send(&self.room, count),
@@ -192,16 +197,12 @@ impl<C: Conduit> Attachment<C> {
         if !self.ready {
             return Brought::Nothing;
         }
-        match self.conduit.receive(room) {
+        let found = self.conduit.receive(room);
+        self.ready = ready_after(found, self.failing);
+        match found {
             Ok(Some(arrived)) => self.judge(arrived, room),
-            Ok(None) => {
-                self.ready = false;
-                Brought::Nothing
-            }
-            Err(WireFault) => {
-                self.ready = !self.failing;
-                Brought::Failed
-            }
+            Ok(None) => Brought::Nothing,
+            Err(WireFault) => Brought::Failed,
         }
     }
 
@@ -226,5 +227,16 @@ impl<C: Conduit> Attachment<C> {
                 Brought::Stranger
             }
         }
+    }
+}
+
+/// Whether there may be more, once a conduit was asked for what came next.
+fn ready_after(found: Result<Option<Arrived>, WireFault>, failing: bool) -> bool
+    ensures { result ≡ ready_after found failing }
+{
+    match found {
+        Ok(Some(_)) => true,
+        Ok(None) => false,
+        Err(WireFault) => !failing,
     }
 }

@@ -1,5 +1,6 @@
 //! The system's sockets and inherited descriptors as conduits.
-ghost use Rattle.std.specs.Prelude.{◌≡◌, ◌≤◌, ◌++◌, IfOk, IfSome};
+ghost use Rattle.std.specs.Prelude.{◌≡◌, ◌≢◌, ◌≤◌, ◌++◌, ◌↔◌, length, IfErr, IfOk, IfSome, IsErr, IsOk, Some, None, Ok};
+ghost use Rattle.std.specs.IoError.{error_kind};
 ghost use Rattle.sockets.specs.Kept.{nothing_yet};
 
 use crate::traffic::Traffic;
@@ -90,7 +91,12 @@ fn fault_of(error: &io::Error) -> SendFault {
 /// What was received, where just nothing being there is no fault.
 fn settled(received: io::Result<Arrived>) -> Result<Option<Arrived>, WireFault>
     requires { IfOk received (λ arrived. arrived.count ≤ 4096) }
-    ensures { IfOk result (λ found. IfSome found (λ arrived. arrived.count ≤ 4096)) }
+    ensures within { IfOk result (λ found. IfSome found (λ arrived. arrived.count ≤ 4096)) }
+    ensures came { IfOk received (λ arrived. result ≡ Ok (Some arrived)) }
+    ensures nothing { IfErr received
+        (λ error. error_kind error ≡ ErrorKind.WouldBlock → result ≡ Ok None) }
+    ensures failed { IfErr received
+        (λ error. error_kind error ≢ ErrorKind.WouldBlock → IsErr result) }
 {
     match received {
         Ok(arrived) => Ok(Some(arrived)),
@@ -124,11 +130,7 @@ impl Socket {
             Socket::Open(socket, other) => socket.send_to(bytes, *other)?,
             Socket::Descriptor(descriptor) => write(*descriptor, bytes)?,
         };
-        if count == bytes.len() {
-            Ok(())
-        } else {
-            Err(io::Error::from(ErrorKind::WriteZero))
-        }
+        taken_whole(count, bytes)
     }
 
     fn receive(&mut self, room: &mut [u8; LONGEST]) -> io::Result<Arrived>
@@ -139,6 +141,17 @@ impl Socket {
             Socket::Open(socket, _) => receive_from(socket, room),
             Socket::Descriptor(descriptor) => read(*descriptor, room),
         }
+    }
+}
+
+/// Whether so many bytes are all of a datagram: a part of one isn't sent.
+fn taken_whole(count: usize, bytes: &[u8]) -> io::Result<()>
+    ensures { IsOk result ↔ (count ≡ length bytes.now) }
+{
+    if count == bytes.len() {
+        Ok(())
+    } else {
+        Err(io::Error::from(ErrorKind::WriteZero))
     }
 }
 

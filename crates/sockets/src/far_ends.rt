@@ -1,5 +1,5 @@
 //! Whom a place speaks with.
-ghost use Rattle.std.specs.Prelude.{◌≡◌, ◌≤◌, ◌++◌, take, IfSome};
+ghost use Rattle.std.specs.Prelude.{◌≡◌, ◌<◌, ◌≤◌, ◌++◌, length, take, IfNone, IfSome};
 ghost use Rattle.sockets.specs.FarEnds.{is_end, has_address, is_interface, head_of};
 ghost use Rattle.sockets.specs.Rooms.{Leaves};
 
@@ -84,6 +84,7 @@ impl FarEnd {
     pub(crate) fn lay(self, bytes: &[u8], room: &mut [u8; LONGEST]) -> Option<usize>
         ensures within { IfSome result (λ count. count ≤ 4096) }
         ensures laid { IfSome result (λ count. take count room.new ≡ head_of self ++ bytes.now) }
+        ensures none { IfNone result (4096 < length (head_of self ++ bytes.now)) }
     {
         let start = match self {
             FarEnd::Vxlan(_, network) => {

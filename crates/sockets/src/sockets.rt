@@ -1,8 +1,9 @@
 //! The sockets of a box, all waited for at once.
-ghost use Rattle.std.specs.Prelude.{◌≡◌, ◌≤◌, IfOk, IfSome, Ok};
-ghost use Rattle.sockets.specs.Boards.{HearsAt, IsAsBefore, IsNew, Opens, OpensPlaces, SendsAt, Tells};
+ghost use Rattle.std.specs.Prelude.{◌≡◌, ◌≤◌, IfOk, IfSome, Ok, option_map};
+ghost use Rattle.sockets.specs.Boards.{HearsAt, IsAsBefore, IsNew, Opens, OpensPlaces, SendsAt, Tells, after};
+ghost use Rattle.sockets.specs.Doing.{DoesAt};
 ghost use Rattle.sockets.specs.Hearing.{told};
-ghost use Rattle.sockets.specs.Letters.{AnyCall};
+ghost use Rattle.sockets.specs.Showing.{attached_at, failing_at, losses_at, strangers_at};
 
 use crate::channels::Channel;
 use crate::wire::{LONGEST, Wire, WireFault};
@@ -93,7 +94,9 @@ impl Board {
         })
     }
 
-    fn attachment(&self, place: Place) -> Option<&Attachment<Channel>> {
+    fn attachment(&self, place: Place) -> Option<&Attachment<Channel>>
+        ensures { option_map (λ a. a.now) result ≡ attached_at self.now place }
+    {
         match place {
             Place::Link => Some(&self.link),
             Place::Side(Side::Inside) => Some(&self.inside),
@@ -102,7 +105,9 @@ impl Board {
         }
     }
 
-    fn strangers(&self, place: Place) -> u64 {
+    fn strangers(&self, place: Place) -> u64
+        ensures { result ≡ strangers_at self.now place }
+    {
         match self.attachment(place) {
             Some(attachment) => attachment.strangers(),
             None => self.control.refused(),
@@ -298,7 +303,9 @@ fn attached<R: Net>(
 }
 
 /// The place that is asked next.
-fn after(place: Place) -> Place {
+fn after(place: Place) -> Place
+    ensures { result ≡ after place }
+{
     match place {
         Place::Link => Place::Side(Side::Inside),
         Place::Side(Side::Inside) => Place::Side(Side::Outside),
@@ -326,7 +333,9 @@ impl Sockets {
         ways: &Ways,
         ports: Ports,
         control: Control,
-    ) -> Result<Sockets, SocketFault> {
+    ) -> Result<Sockets, SocketFault>
+        ensures { IfOk result (λ sockets. Opens ways.now ports sockets.board) }
+    {
         Ok(Sockets {
             board: Board::open(net, alloc, ways, ports, control)?,
         })
@@ -334,18 +343,22 @@ impl Sockets {
 
     /// How much came to a place from others than those it hears, or was no frame of its network; of the operator's
     /// place, how many callers said no word. It stays at its greatest number.
-    pub fn strangers(&self, place: Place) -> u64 {
+    pub fn strangers(&self, place: Place) -> u64
+        ensures { result ≡ strangers_at self.now.board place }
+    {
         self.board.strangers(place)
     }
 
     /// How many callers weren't there any more for their answer, or had no room for it. It stays at its greatest number.
-    pub fn unanswered(&self) -> u64 {
+    pub fn unanswered(&self) -> u64
+        ensures { result ≡ self.now.board.control.unanswered }
+    {
         self.board.control.unanswered()
     }
 }
 
 impl Wire for Sockets {
-    ghost does = { AnyCall };
+    ghost does = { DoesAt };
 
     fn send(&mut self, to: Place, bytes: &[u8]) -> Result<(), WireFault> {
         self.board.send(to, bytes).map_err(|_| WireFault)
@@ -363,14 +376,18 @@ impl Wire for Sockets {
         self.board.receive(limit, room)
     }
 
-    fn is_failing(&self, place: Place) -> bool {
+    fn is_failing(&self, place: Place) -> bool
+        ensures { result ≡ failing_at self.now.board place }
+    {
         match self.board.attachment(place) {
             Some(attachment) => attachment.is_failing(),
             None => false,
         }
     }
 
-    fn losses(&self, place: Place) -> Losses {
+    fn losses(&self, place: Place) -> Losses
+        ensures { result ≡ losses_at self.now.board place }
+    {
         match self.board.attachment(place) {
             Some(attachment) => attachment.losses(),
             None => Losses {

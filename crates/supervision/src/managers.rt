@@ -1,5 +1,5 @@
 //! A service manager at the other end of a socket.
-ghost use Rattle.std.specs.Prelude.{◌≡◌, IfErr, MatchOption};
+ghost use Rattle.std.specs.Prelude.{◌≡◌, ◌↔◌, ◌<ℤ◌, pos, IfErr, IsTrue, MatchOption};
 ghost use Rattle.supervision.specs.Managers.{IsManagerText, IsNoManagerText, manager_of};
 
 use crate::Supervisor;
@@ -46,7 +46,7 @@ impl Manager {
     pub fn inherit(&self) -> Result<(), NotOpen>
         ensures { IfErr result (λ fault. fault.0 ≡ self.now.descriptor) }
     {
-        if os::set_nonblocking(RawFd::from(self.descriptor), true) < 0 {
+        if is_refused(os::set_nonblocking(RawFd::from(self.descriptor), true)) {
             return Err(NotOpen(self.descriptor));
         }
         Ok(())
@@ -58,6 +58,13 @@ impl Manager {
         let bytes = text.as_str().as_bytes();
         let _lost = os::sendv(RawFd::from(self.descriptor), [bytes, &[], &[], &[]]);
     }
+}
+
+/// Whether the system refused a call, by what it answered.
+fn is_refused(answer: i32) -> bool
+    ensures { IsTrue result ↔ (answer <ℤ pos 0) }
+{
+    answer < 0
 }
 
 impl Supervisor for Manager {

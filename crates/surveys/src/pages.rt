@@ -49,7 +49,19 @@ pub fn page_behind(alloc: Global, gateway: &Gateway, last: Option<Key>) -> Resul
     ensures more { IfOk result (λ p. p.more
         ≡ nat_lt MOST_ENTRIES (length (behind last gateway.now.ledger.book.entries))) }
 {
-    let mut entries = Vec::with_capacity(alloc, MOST_ENTRIES)?;
+    let entries = Vec::with_capacity(alloc, MOST_ENTRIES)?;
+    Ok(fill_page(entries, gateway, last))
+}
+
+/// The page behind a key, in an empty list with room for 128 entries.
+fn fill_page(mut entries: Vec<Entry>, gateway: &Gateway, last: Option<Key>) -> Page
+    requires empty { vec_len entries ≡ 0 }
+    requires room { MOST_ENTRIES ≤ vec_capacity entries }
+    ensures entries { result.entries
+        ≡ take MOST_ENTRIES (behind last gateway.now.ledger.book.entries) }
+    ensures more { result.more
+        ≡ nat_lt MOST_ENTRIES (length (behind last gateway.now.ledger.book.entries)) }
+{
     let more = list_behind(gateway, last, &mut entries);
-    Ok(Page::new(entries, more))
+    Page::new(entries, more)
 }

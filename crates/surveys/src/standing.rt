@@ -1,5 +1,5 @@
 //! A gateway's report.
-ghost use Rattle.std.specs.Prelude.{◌≡◌, IfOk, is_none, length};
+ghost use Rattle.std.specs.Prelude.{◌≡◌, false, IfOk, IsOk, is_none, length};
 ghost use Rattle.addresses.specs.declared.transport.Protocol.TheVariants.{Icmp, Tcp, Udp};
 ghost use Rattle.bindings.specs.Ports.{is_free_in};
 ghost use Rattle.link.specs.Hearing.{peer_serves};
@@ -66,22 +66,22 @@ fn free_count(gateway: &Gateway, protocol: Protocol, ports: &[Port]) -> usize
         .count()
 }
 
-fn ports_of(gateway: &Gateway) -> Result<PortCounts, NoMemory>
-    ensures owned { IfOk result (λ r. r.owned ≡ length (owned_by gateway.now)) }
-    ensures icmp { IfOk result (λ r. r.free_icmp
-        ≡ free_among (owned_by gateway.now) Icmp gateway.now.ledger.book.entries) }
-    ensures tcp { IfOk result (λ r. r.free_tcp
-        ≡ free_among (owned_by gateway.now) Tcp gateway.now.ledger.book.entries) }
-    ensures udp { IfOk result (λ r. r.free_udp
-        ≡ free_among (owned_by gateway.now) Udp gateway.now.ledger.book.entries) }
+/// How many ports a gateway owns, and on how many of these no entry of each protocol stands.
+fn ports_of(gateway: &Gateway, owned: &[Port]) -> PortCounts
+    ensures owned { result.owned ≡ length owned.now }
+    ensures icmp { result.free_icmp
+        ≡ free_among owned.now Icmp gateway.now.ledger.book.entries }
+    ensures tcp { result.free_tcp
+        ≡ free_among owned.now Tcp gateway.now.ledger.book.entries }
+    ensures udp { result.free_udp
+        ≡ free_among owned.now Udp gateway.now.ledger.book.entries }
 {
-    let ports = gateway.owned()?;
-    Ok(PortCounts {
-        owned: ports.len() as u64,
-        free_icmp: free_count(gateway, Protocol::Icmp, ports.as_slice()) as u64,
-        free_tcp: free_count(gateway, Protocol::Tcp, ports.as_slice()) as u64,
-        free_udp: free_count(gateway, Protocol::Udp, ports.as_slice()) as u64,
-    })
+    PortCounts {
+        owned: owned.len() as u64,
+        free_icmp: free_count(gateway, Protocol::Icmp, owned) as u64,
+        free_tcp: free_count(gateway, Protocol::Tcp, owned) as u64,
+        free_udp: free_count(gateway, Protocol::Udp, owned) as u64,
+    }
 }
 
 fn waiting_of(gateway: &Gateway) -> WaitingCounts
@@ -115,15 +115,37 @@ pub fn gateway_report(gateway: &Gateway) -> Result<GatewayReport, NoMemory>
         ≡ free_among (owned_by gateway.now) Udp gateway.now.ledger.book.entries) }
     ensures waiting_pair { IfOk result (λ r. r.waiting.pair ≡ pair_count gateway.now.kept) }
     ensures waiting_hop { IfOk result (λ r. r.waiting.next_hop ≡ hop_count gateway.now.kept) }
+    // Where it owns none, no memory is taken.
+    ensures unsynced { is_synced gateway.now.ledger.book.stage ≡ false → IsOk result }
 {
-    let ports = ports_of(gateway)?;
-    Ok(GatewayReport {
+    let owned = gateway.owned()?;
+    Ok(report_with(gateway, owned.as_slice()))
+}
+
+/// A gateway's state, by the ports that it owns.
+fn report_with(gateway: &Gateway, owned: &[Port]) -> GatewayReport
+    ensures moment { result.moment ≡ gateway.now.moment }
+    ensures synced { result.synced ≡ is_synced gateway.now.ledger.book.stage }
+    ensures away { result.away ≡ gateway.now.away }
+    ensures peer { result.peer ≡ peer_seen gateway.now }
+    ensures pairs { CountsEntries gateway.now.ledger.book.entries result.pairs }
+    ensures owned { result.ports.owned ≡ length owned.now }
+    ensures free_icmp { result.ports.free_icmp
+        ≡ free_among owned.now Icmp gateway.now.ledger.book.entries }
+    ensures free_tcp { result.ports.free_tcp
+        ≡ free_among owned.now Tcp gateway.now.ledger.book.entries }
+    ensures free_udp { result.ports.free_udp
+        ≡ free_among owned.now Udp gateway.now.ledger.book.entries }
+    ensures waiting_pair { result.waiting.pair ≡ pair_count gateway.now.kept }
+    ensures waiting_hop { result.waiting.next_hop ≡ hop_count gateway.now.kept }
+{
+    GatewayReport {
         moment: gateway.moment(),
         synced: gateway.synced(),
         away: gateway.is_away(),
         peer: peer_of(gateway),
         pairs: pairs_of(gateway),
-        ports,
+        ports: ports_of(gateway, owned),
         waiting: waiting_of(gateway),
-    })
+    }
 }

@@ -5,7 +5,9 @@ pub returns-in-Init-clause-done : goal.returns-in-Init-clause-done
 returns-in-Init-clause-done g c h = rw c.in-Init.is (is_0 _ c.init.ensures.status h)
 
 pub returns-in-Check-clause-done : goal.returns-in-Check-clause-done
-returns-in-Check-clause-done g c h = rw c.in-Check.is (is_0 _ c.look_at.ensures.status h)
+returns-in-Check-clause-done g c h =
+    let none = is_0 _ c.look_at.ensures.status h in
+    rw c.in-Check.is (none, c.look_at.ensures.checked none)
 
 pub returns-in-Gate-clause-done : goal.returns-in-Gate-clause-done
 returns-in-Gate-clause-done g c h =

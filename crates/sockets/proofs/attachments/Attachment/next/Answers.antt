@@ -15,5 +15,5 @@ returns-in-Ok-Some-clause-hears g c =
       losses = c.self.inside.losses;
     } in
     subst (λ (x : Attached g.row.C.Denot). Hears g.C.Conduit.came x c.judge.new.self (brought c.judge.result c.judge.new.room)) c.self.view_is
-    (hears_one g.C.Conduit.came a _ (arrival (take c.in-Ok-Some.arrived.count c.receive.new.room) c.in-Ok-Some.arrived.sender) _
+    (hears_one g.C.Conduit.came a _ (arrival (take c.in-Ok-Some.arrived.count c.receive-found.new.room) c.in-Ok-Some.arrived.sender) _
     (search rules) c.judge.ensures.far c.judge.ensures.told c.judge.ensures.counted)

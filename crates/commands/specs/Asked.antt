@@ -1,0 +1,19 @@
+-- What words ask for, as the crates below have it.
+use Rattle.std.specs.Prelude.{Bool, true, false}
+use Rattle.command_line.specs.declared.words.Form.{Form as Written}
+use Rattle.command_line.specs.declared.words.Form.TheVariants as written
+use Rattle.gate.specs.declared.asking.Form.{Form}
+use Rattle.gate.specs.declared.asking.Form.TheVariants.{Plain, Json, Prometheus}
+use Rattle.journal.specs.declared.lines.Format.{Format}
+use Rattle.journal.specs.declared.lines.Format.TheVariants.{Text, Pairs}
+
+-- how records are written
+abbrev pub format_of : Bool → Format
+format_of true = Pairs
+format_of false = Text
+
+-- how a report is written
+abbrev pub form_of : Written → Form
+form_of written.Plain = Plain
+form_of written.Json = Json
+form_of written.Prometheus = Prometheus

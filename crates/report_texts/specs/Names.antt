@@ -1,0 +1,47 @@
+-- The names of things in texts.
+use Rattle.std.specs.Prelude.{ℕ, Bool, true, false, List, codes}
+use Rattle.addresses.specs.declared.transport.Protocol.{Protocol}
+use Rattle.addresses.specs.declared.transport.Protocol.TheVariants.{Icmp, Tcp, Udp}
+use Rattle.nat_types.specs.declared.pairs.EntryState.{EntryState}
+use Rattle.nat_types.specs.declared.pairs.EntryState.TheVariants.{Pending, Doomed, Live, Closing, Held}
+use Rattle.journal.specs.declared.origins.Origin.{Origin}
+use Rattle.journal.specs.declared.origins.Origin.TheVariants.{Inside, Outside, Link, Own}
+
+abbrev pub origin_name : Origin → List ℕ
+origin_name Inside = codes "inside"
+origin_name Outside = codes "outside"
+origin_name Link = codes "link"
+origin_name Own = codes "own"
+
+abbrev pub state_name : EntryState → List ℕ
+state_name Pending = codes "pending"
+state_name Doomed = codes "doomed"
+state_name Live = codes "live"
+state_name Closing = codes "closing"
+state_name Held = codes "held"
+
+-- as wide as all names
+abbrev pub protocol_name : Protocol → List ℕ
+protocol_name Icmp = codes "icmp    "
+protocol_name Tcp = codes "tcp     "
+protocol_name Udp = codes "udp     "
+
+-- what is counted of a place
+abbrev pub traffic_name : Origin → List ℕ
+traffic_name Inside = codes "frames   inside "
+traffic_name Outside = codes "frames   outside"
+traffic_name Link = codes "link    "
+traffic_name Own = codes "words   "
+
+-- a cable that is in, or out
+abbrev pub cable_name : Bool → List ℕ
+cable_name true = codes "in"
+cable_name false = codes "out"
+
+abbrev pub synced_name : Bool → List ℕ
+synced_name true = codes "synced"
+synced_name false = codes "not synced"
+
+abbrev pub serving_name : Bool → List ℕ
+serving_name true = codes "serves"
+serving_name false = codes "doesn't serve"
