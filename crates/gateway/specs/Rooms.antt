@@ -54,9 +54,9 @@ records_need count = record { frames = 2 * count; notes = 4 * count; pairs = 2 *
 abbrev pub waiting_needs : Forwarder → Needs
 waiting_needs f = record all_for_pairs { notes = length f.core.table.entries + all_for_pairs.notes }
 
--- a datagram: the other gateway may have begun anew, and each record is taken
-abbrev pub datagram_needs : Forwarder → Needs
-datagram_needs f = record {
+-- a datagram whose header names a greater boot: the other gateway may have begun anew, and each record is taken; any other needs its records alone
+abbrev pub restart_needs : Forwarder → Needs
+restart_needs f = record {
   frames = (waiting_needs f).frames + (records_need RECORDS_IN_A_DATAGRAM).frames;
   notes = (waiting_needs f).notes + (records_need RECORDS_IN_A_DATAGRAM).notes;
   pairs = (waiting_needs f).pairs + (records_need RECORDS_IN_A_DATAGRAM).pairs;

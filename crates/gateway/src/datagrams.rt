@@ -1,6 +1,9 @@
 //! A datagram of the other gateway.
-ghost use Rattle.std.specs.Prelude.{◌≡◌, ◌≤◌, ℕ, [], true, length, vec_capacity, if◌then◌else◌};
-ghost use Rattle.link.specs.Link.{free_places, occupied, taking};
+ghost use Rattle.std.specs.Prelude.{◌≡◌, ◌≤◌, ℕ, [], Ok, false, true, length, vec_capacity};
+ghost use Rattle.std.specs.Prelude.{if◌then◌else◌};
+ghost use Rattle.link.specs.declared.datagrams.Datagram.{Datagram};
+ghost use Rattle.link.specs.declared.datagrams.TheConstants.{RECORDS_IN_A_DATAGRAM};
+ghost use Rattle.link.specs.Link.{free_places, is_restart, occupied, taking};
 ghost use Rattle.link.specs.Reading.{reading};
 ghost use Rattle.spec_binding.specs.Resets.{restart_batch};
 ghost use Rattle.bindings.specs.Ports.{key_count};
@@ -10,7 +13,7 @@ ghost use Rattle.spec_step.specs.Parts.{datagram_taken, reset as reset_of};
 ghost use Rattle.spec_step.specs.Steps.{outcome_heard};
 ghost use Rattle.forwarder.specs.Forwarder.{scene_on, shown_of};
 ghost use Rattle.forwarder.specs.Room.{HasRoomFor, Spends, places_for_answers};
-ghost use Rattle.gateway.specs.Rooms.{datagram_needs, waiting_needs};
+ghost use Rattle.gateway.specs.Rooms.{records_need, restart_needs, waiting_needs};
 
 use crate::records::take_records;
 use arrayvec::ArrayVec;
@@ -76,8 +79,9 @@ fn reset_where(
     }
 }
 
-/// Takes a datagram, or drops it. `list` is an empty list with room for all packets that wait.
-pub(crate) fn take_datagram(
+/// Takes a datagram that may begin a session anew, or drops it. `list` is an empty list with room
+/// for all packets that wait.
+pub(crate) fn take_first(
     forwarder: &mut Forwarder,
     page: &mut OutputBuffer,
     bytes: &[u8],
@@ -88,7 +92,7 @@ pub(crate) fn take_datagram(
     requires moment { IsMoment forwarder.old.moment }
     requires places { forwarder.old.link.capacity
         ≡ link_places forwarder.old.core.table.zero forwarder.old.core.table.one }
-    requires room { HasRoomFor (datagram_needs forwarder.old) forwarder.old page.old }
+    requires room { HasRoomFor (restart_needs forwarder.old) forwarder.old page.old }
     ensures scene { scene_on forwarder.new page.new
         ≡ datagram_taken (scene_on forwarder.old page.old) bytes.now }
     ensures outcome { result ≡ outcome_heard (taking forwarder.old.link (reading bytes.now)) }
@@ -99,6 +103,32 @@ pub(crate) fn take_datagram(
     match forwarder.link.take_into(bytes, now, &mut records) {
         Ok(restarted) => {
             reset_where(forwarder, page, restarted, list);
+            take_records(forwarder, page, records.as_slice());
+            Outcome::Done
+        }
+        Err(_fault) => Outcome::Dropped(Reason::BadDatagram),
+    }
+}
+
+/// Takes a datagram that can't begin a session anew, or drops it.
+pub(crate) fn take_further(
+    forwarder: &mut Forwarder,
+    page: &mut OutputBuffer,
+    bytes: &[u8],
+) -> Outcome
+    requires further { (d : Datagram) → reading bytes.now ≡ Ok d
+        → is_restart forwarder.old.link d ≡ false }
+    requires moment { IsMoment forwarder.old.moment }
+    requires room { HasRoomFor (records_need RECORDS_IN_A_DATAGRAM) forwarder.old page.old }
+    ensures scene { scene_on forwarder.new page.new
+        ≡ datagram_taken (scene_on forwarder.old page.old) bytes.now }
+    ensures outcome { result ≡ outcome_heard (taking forwarder.old.link (reading bytes.now)) }
+    ensures datagrams { page.new.room.datagrams ≡ page.old.room.datagrams }
+{
+    let now = forwarder.moment;
+    let mut records = ArrayVec::new();
+    match forwarder.link.take_into(bytes, now, &mut records) {
+        Ok(_restarted) => {
             take_records(forwarder, page, records.as_slice());
             Outcome::Done
         }

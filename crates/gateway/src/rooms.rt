@@ -1,7 +1,7 @@
 //! The memory that a step takes before it begins.
 ghost use Rattle.std.specs.Prelude.{◌≡◌, ◌≤◌, OnOk, IfOk, length, vec_capacity, []};
 ghost use Rattle.forwarder.specs.Forwarder.{scene_on};
-ghost use Rattle.gateway.specs.Rooms.{datagram_needs, room_for, tick_needs, waiting_needs};
+ghost use Rattle.gateway.specs.Rooms.{restart_needs, room_for, tick_needs, waiting_needs};
 ghost use Rattle.gateway.specs.Rooms.{most_entries, most_on_a_page, most_pairs};
 
 use crate::NoMemory;
@@ -46,8 +46,11 @@ const RECORD_FRAMES: usize = PACKET_FRAMES * RECORDS_IN_A_DATAGRAM;
 /// ends.
 const RECORD_NOTES: usize = (1 + PACKET_NOTES) * RECORDS_IN_A_DATAGRAM;
 
+/// The new pairs of a datagram's records at most: each may be one, and end the wait of a packet.
+pub(crate) const RECORD_PAIRS: usize = 2 * RECORDS_IN_A_DATAGRAM;
+
 /// For so many new pairs a core is made ready, at most.
-pub(crate) const MOST_PAIRS: usize = WAITING + 2 * RECORDS_IN_A_DATAGRAM;
+pub(crate) const MOST_PAIRS: usize = WAITING + RECORD_PAIRS;
 
 const ENDPOINTS: [Endpoint; MOST_PAIRS] = [ANY_ENDPOINT; MOST_PAIRS];
 
@@ -70,6 +73,13 @@ pub(crate) const OVER_ROOM: Room = Room {
     frames: PACKET_FRAMES,
     datagrams: 1,
     notes: 0,
+};
+
+/// What a datagram asks room for that can't begin a session anew: its records.
+pub(crate) const RECORDS_ROOM: Room = Room {
+    frames: RECORD_FRAMES,
+    datagrams: 1,
+    notes: RECORD_NOTES,
 };
 
 /// What the stop of both routers asks room for.
@@ -102,9 +112,9 @@ pub(crate) fn word_room(forwarder: &Forwarder) -> Room
     }
 }
 
-/// What a datagram asks room for: what the other gateway's beginning anew does, and its records.
-pub(crate) fn datagram_room(forwarder: &Forwarder) -> Room
-    ensures { result ≡ room_for (datagram_needs forwarder.now) }
+/// What a datagram asks room for that may begin a session anew: what that does, and its records.
+pub(crate) fn restart_room(forwarder: &Forwarder) -> Room
+    ensures { result ≡ room_for (restart_needs forwarder.now) }
 {
     Room {
         frames: WAITING_FRAMES + RECORD_FRAMES,

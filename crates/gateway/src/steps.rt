@@ -1,6 +1,7 @@
 //! A whole step: the memory that it takes, its event's own parts, and the datagram at its end.
-ghost use Rattle.std.specs.Prelude.{◌≡◌, ◌≤◌, IfOk, IsOk, OnErr, OnOk, length, true};
-ghost use Rattle.link.specs.Link.{taking};
+ghost use Rattle.std.specs.Prelude.{◌≡◌, ◌≤◌, IfOk, IsOk, Ok, OnErr, OnOk, false, length, true};
+ghost use Rattle.link.specs.declared.datagrams.Datagram.{Datagram};
+ghost use Rattle.link.specs.Link.{is_restart, taking};
 ghost use Rattle.link.specs.Reading.{reading};
 ghost use Rattle.vrrp_states.specs.Table.{IsMoment};
 ghost use Rattle.spec_step.specs.declared.events.Event.TheVariants.{Stop as StopEvent};
@@ -18,11 +19,11 @@ ghost use Rattle.gateway.specs.Rooms.{is_of_side, most_datagrams};
 
 use crate::NoMemory;
 use crate::arrivals::take_reading;
-use crate::datagrams::take_datagram;
+use crate::datagrams::{take_first, take_further};
 use crate::ends::{end_other, end_tick};
 use crate::rooms::{
-    END_ROOM, FRAME_ROOM, MOST_PAIRS, OVER_ROOM, STOP_ROOM, WAITING, datagram_room, list_for,
-    make_ready, tick_room, word_room,
+    END_ROOM, FRAME_ROOM, MOST_PAIRS, OVER_ROOM, RECORD_PAIRS, RECORDS_ROOM, STOP_ROOM, WAITING,
+    list_for, make_ready, restart_room, tick_room, word_room,
 };
 use crate::ticks::{take_stop, take_tick};
 use crate::turns::plug;
@@ -67,6 +68,56 @@ fn frame_came(
     }
 }
 
+/// A datagram that may begin a session anew: there is to be room for all that follows from that.
+#[cold]
+fn first_came(
+    alloc: Global,
+    forwarder: &mut Forwarder,
+    page: &mut OutputBuffer,
+    bytes: &[u8],
+) -> Result<Outcome, NoMemory>
+    requires moment { IsMoment forwarder.old.moment }
+    requires places { forwarder.old.link.capacity
+        ≡ link_places forwarder.old.core.table.zero forwarder.old.core.table.one }
+    ensures outcome { IfOk result (λ o. o
+        ≡ outcome_heard (taking forwarder.old.link (reading bytes.now))) }
+    ensures does { OnOk result (scene_on forwarder.new page.new
+        ≡ datagram_taken (scene_on forwarder.old page.old) bytes.now) }
+    ensures datagrams { OnOk result (1 ≤ page.new.room.datagrams) }
+    ensures err { OnErr result (scene_on forwarder.new page.new
+        ≡ scene_on forwarder.old page.old) }
+{
+    let room = restart_room(forwarder);
+    match list_for(alloc, forwarder) {
+        Ok(list) => {
+            make_ready(forwarder, page, room, MOST_PAIRS)?;
+            Ok(take_first(forwarder, page, bytes, list))
+        }
+        Err(fault) => Err(fault),
+    }
+}
+
+/// Any other datagram: its records need room alone, and no list.
+fn further_came(
+    forwarder: &mut Forwarder,
+    page: &mut OutputBuffer,
+    bytes: &[u8],
+) -> Result<Outcome, NoMemory>
+    requires further { (d : Datagram) → reading bytes.now ≡ Ok d
+        → is_restart forwarder.old.link d ≡ false }
+    requires moment { IsMoment forwarder.old.moment }
+    ensures outcome { IfOk result (λ o. o
+        ≡ outcome_heard (taking forwarder.old.link (reading bytes.now))) }
+    ensures does { OnOk result (scene_on forwarder.new page.new
+        ≡ datagram_taken (scene_on forwarder.old page.old) bytes.now) }
+    ensures datagrams { OnOk result (1 ≤ page.new.room.datagrams) }
+    ensures err { OnErr result (scene_on forwarder.new page.new
+        ≡ scene_on forwarder.old page.old) }
+{
+    make_ready(forwarder, page, RECORDS_ROOM, RECORD_PAIRS)?;
+    Ok(take_further(forwarder, page, bytes))
+}
+
 #[cold]
 fn datagram_came(
     alloc: Global,
@@ -85,13 +136,10 @@ fn datagram_came(
     ensures err { OnErr result (scene_on forwarder.new page.new
         ≡ scene_on forwarder.old page.old) }
 {
-    let room = datagram_room(forwarder);
-    match list_for(alloc, forwarder) {
-        Ok(list) => {
-            make_ready(forwarder, page, room, MOST_PAIRS)?;
-            Ok(take_datagram(forwarder, page, bytes, list))
-        }
-        Err(fault) => Err(fault),
+    if forwarder.link.may_restart(bytes) {
+        first_came(alloc, forwarder, page, bytes)
+    } else {
+        further_came(forwarder, page, bytes)
     }
 }
 

@@ -4,7 +4,7 @@ use Rattle.link.specs.Reading.{reading}
 use Rattle.forwarder.specs.Forwarder.{scene_on}
 use Rattle.gateway.proofs.Hearing.{unheard-is}
 use Rattle.gateway.proofs.Taking.{count-most}
-use Rattle.gateway.proofs.datagrams.take_datagram.Goals as goal
+use Rattle.gateway.proofs.datagrams.take_first.Goals as goal
 
 pub take_records-requires-clause-places : goal.take_records-requires-clause-places
 take_records-requires-clause-places c =
